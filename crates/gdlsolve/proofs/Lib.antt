@@ -1,0 +1,4 @@
+pub mod Ending
+pub mod Filling
+pub mod OneReply
+pub mod WholeInput

@@ -1,0 +1,59 @@
+-- The reply to the bytes that were read is the reply to the whole input.
+use Rattle.std.proofs.Common.{ℕ, ◌-◌, ◌≡◌, ◌≢◌, ◌≤◌, ◌<◌, ◌⊎◌, inl, inr, List, [], ◌∷◌, ◌++◌, length, drop, refl, sym, ap, subst, ◌∙◌, arith, Bool, true, false, append-nil, drop_of_length-le, drop_at, length-append, rules}
+use Rattle.std.specs.Prelude.{Option, Some, None, nat_lt}
+use Rattle.std.specs.Io.KnownBytes.{Consumes, IsAtEnd}
+use Rattle.kif.specs.Tree.{Trees}
+use Rattle.kif.specs.Reading.{Reads, Fault, too_long, fault_in, fault_where, or_else, text_limit, first_fault, first_unclosed}
+use Rattle.kif.specs.Lexical.{spots}
+use Rattle.kif.specs.Refusal.{fault_text}
+use Rattle.kif.specs.declared.fault.KifFault.{KifFault}
+use Rattle.kif.specs.declared.fault.KifFault.TheVariants as faults
+use Rattle.gdlsolve.specs.declared.command.Command.{Command}
+use Rattle.gdlsolve.specs.Input.{read_limit, IsInput, IsReadFrom, RepliesTo}
+use Rattle.gdlsolve.specs.Replies.{Reply, refusal, RefusesText, IsReply}
+use Rattle.gdlsolve.proofs.OneReply.{named, named_of}
+
+below_is_true : (m n : ℕ) → m < n → nat_lt m n ≡ true
+below_is_true m n h = search (rules, h)
+
+is_too_long : (bytes : List ℕ) → text_limit < length bytes → fault_in bytes ≡ Some too_long
+is_too_long bytes h =
+    ap (λ b. or_else (fault_where b too_long) (or_else (first_fault 0 (spots bytes)) (first_unclosed (spots bytes))))
+    (below_is_true text_limit (length bytes) h)
+
+-- the reply to bytes that are too long says so
+refuses_long : (command : Command) (bytes : List ℕ) (reply : Reply) → text_limit < length bytes → IsReply command bytes reply
+    → reply ≡ refusal (fault_text faults.TooLong)
+refuses_long command bytes reply h (inl p) =
+    let name = named_of bytes p.0 p.1 p.2 in
+    let both : Some name.fault ≡ Some too_long = sym name.stands ∙ is_too_long bytes h in
+    let one : name.fault ≡ too_long = cc in
+    p.3 ∙ ap (λ e. refusal (fault_text e)) (name.same ∙ ap named one)
+refuses_long command bytes reply h (inr p) = absurd (let short = p.1.short in omega arith)
+
+-- so it is the reply to all that begins with them
+longer_too : (command : Command) (bytes rest : List ℕ) (reply : Reply) → text_limit < length bytes → IsReply command bytes reply
+    → IsReply command (bytes ++ rest) reply
+longer_too command bytes rest reply h p =
+    let long : text_limit < length (bytes ++ rest) = omega (arith, length-append bytes rest) in
+    inl (faults.TooLong, (λ e. cc), is_too_long (bytes ++ rest) long, refuses_long command bytes reply h p)
+
+pub replies_to : (command : Command) (old left : Option (List ℕ)) (bytes : List ℕ) (reply : Reply)
+    → IsReadFrom old left bytes → IsReply command bytes reply → RepliesTo command old left reply
+replies_to command None left bytes reply read p = (bytes, tt, p)
+replies_to command (Some whole) None bytes reply read p = absurd read.consumed
+replies_to command (Some whole) (Some left) bytes reply read p = go (nat_lt (length bytes) read_limit) refl
+  where
+    go : (b : Bool) → nat_lt (length bytes) read_limit ≡ b → RepliesTo command (Some whole) (Some left) reply
+    go true e =
+        let less : length bytes < read_limit = search (rules, e) in
+        let none = read.ended less in
+        let same : bytes ≡ whole = sym (append-nil bytes) ∙ ap (λ (l : List ℕ). bytes ++ l) (sym none) ∙ sym read.consumed in
+        let size : length whole ≤ read_limit = omega (arith, less, ap (λ (l : List ℕ). length l) same) in
+        (bytes, (same, none ∙ sym (drop_of_length-le whole size)), p)
+    go false e =
+        let full : length bytes ≡ read_limit = omega (arith, read.within, let above : read_limit ≤ length bytes = search (rules, e) in above) in
+        let rest : left ≡ drop read_limit whole =
+            sym (drop_at bytes left read_limit full) ∙ ap (λ (l : List ℕ). drop read_limit l) (sym read.consumed) in
+        let long : text_limit < length bytes = omega (arith, full) in
+        (whole, (refl, rest), subst (λ (l : List ℕ). IsReply command l reply) (sym read.consumed) (longer_too command bytes left reply long p))

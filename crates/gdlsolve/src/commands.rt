@@ -1,0 +1,130 @@
+// The command line: from words to a command, and from a run to its exit status.
+ghost use Rattle.std.specs.Prelude.{◌≡◌, ◌≢◌, ◌≤◌, IfOk, IfErr};
+ghost use Rattle.std.specs.Io.KnownBytes.{Keeps};
+ghost use Rattle.gdlsolve.specs.Exits.{exit_status, Replied};
+
+use crate::command::{Command, RunFault, Status};
+use crate::running::{run, write_out};
+use clap::error::ErrorKind;
+use std::alloc::{AllocError, Global};
+use std::io::{Read, Write};
+
+/// The exit status of an answer, and of help.
+const ANSWERED: u8 = 0;
+
+/// The exit status of a command line that is no command.
+const MISUSED: u8 = 1;
+
+/// The exit status of a refusal.
+const REFUSED: u8 = 2;
+
+/// The exit status of want of memory.
+const STARVED: u8 = 3;
+
+/// The exit status of a reader or a writer that failed.
+const BROKEN: u8 = 4;
+
+/// What the words ask for.
+#[derive(Drop)]
+enum Request {
+    /// A command to run.
+    Run(Command),
+    /// A text for the output.
+    Help(clap::Error),
+    /// A text for the errors, since the words are no command.
+    Misuse(clap::Error),
+}
+
+/// The commands and their options.
+fn grammar<'a>(alloc: Global) -> Result<clap::Command<'a>, AllocError> {
+    let show = clap::Command::new(alloc, "show")
+        .about("Write the canonical text of each tree, one a line");
+    clap::Command::new(alloc, "gdlsolve")
+        .about("Read the rules of a game on standard input, and answer on standard output")
+        .no_binary_name(true)
+        .subcommand_required(true)
+        .subcommand(show)
+}
+
+/// The request that the words make.
+fn request_of<'a>(alloc: Global, words: &'a [&'a str]) -> Result<Request, clap::Error> {
+    let mut grammar = grammar(alloc)?;
+    match grammar.try_get_matches_from_mut(words) {
+        Ok(matches) => match matches.subcommand_name() {
+            Some("show") => Ok(Request::Run(Command::Show)),
+            _ => Ok(Request::Misuse(grammar.error(ErrorKind::MissingSubcommand, "no command")?)),
+        },
+        Err(error) => match error.kind() {
+            ErrorKind::OutOfMemory => Err(error),
+            ErrorKind::DisplayHelp => Ok(Request::Help(error)),
+            _ => Ok(Request::Misuse(error)),
+        },
+    }
+}
+
+/// Writes the text of help to the output.
+fn write_help<W: Write>(alloc: Global, help: &clap::Error, output: &mut W) -> Result<Status, RunFault>
+    ensures status { IfOk result (λ status. status ≡ Status.Answer) }
+    ensures silent { IfErr result (λ fault. fault ≢ RunFault.Write → Keeps (W.contents output.old) (W.contents output.new)) }
+{
+    let Ok(text) = format!(in alloc; "{help}") else {
+        return Err(RunFault::Memory);
+    };
+    write_out(output, text.as_bytes())?;
+    Ok(Status::Answer)
+}
+
+/// The exit status of a run, whose fault is told to the errors.
+fn status_of<E: Write>(ended: Result<Status, RunFault>, errors: &mut E) -> u8
+    ensures { result ≡ exit_status ended }
+{
+    match ended {
+        Ok(Status::Answer) => ANSWERED,
+        Ok(Status::Refused) => REFUSED,
+        Err(fault) => {
+            let _ = writeln!(errors, "{fault}");
+            match fault {
+                RunFault::Memory => STARVED,
+                RunFault::Read | RunFault::Write => BROKEN,
+            }
+        }
+    }
+}
+
+/// Does what the words ask for, which are the arguments without the program's name, and answers the exit
+/// status: 0 for an answer or help, 1 for words that are no command, 2 for a refusal, 3 for want of memory,
+/// 4 where the input or the output failed.
+///
+/// The words are read before the input. What goes to the errors is for people, and a fault in writing it is
+/// passed over.
+pub fn main_with<T: AllocGlobal, R: Read, W: Write, E: Write>(
+    rt: &T,
+    words: &[&str],
+    input: &mut R,
+    output: &mut W,
+    errors: &mut E,
+) -> u8
+    ensures statuses { result ≤ 4 }
+    ensures misused { result ≡ 1 → Keeps (R.remaining input.old) (R.remaining input.new) × Keeps (W.contents output.old) (W.contents output.new) }
+    ensures refused { result ≡ 2
+        → Replied Status.Refused (R.remaining input.old) (R.remaining input.new) (W.contents output.old) (W.contents output.new) }
+    ensures starved { result ≡ 3 → Keeps (W.contents output.old) (W.contents output.new) }
+{
+    let Ok(request) = request_of(rt.alloc(), words) else {
+        return status_of(Err(RunFault::Memory), errors);
+    };
+    match request {
+        Request::Run(command) => {
+            let ended = run(rt, &command, input, output);
+            status_of(ended, errors)
+        }
+        Request::Help(text) => {
+            let ended = write_help(rt.alloc(), &text, output);
+            status_of(ended, errors)
+        }
+        Request::Misuse(text) => {
+            let _ = write!(errors, "{text}");
+            MISUSED
+        }
+    }
+}

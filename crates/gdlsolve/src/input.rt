@@ -1,0 +1,62 @@
+// The bytes of the input.
+ghost use Rattle.std.specs.Prelude.{◌≡◌, ◌≢◌, ◌+◌, ◌≤◌, ◌<◌, length, take, drop, vec_len, IfOk, IfErr};
+ghost use Rattle.std.specs.Io.KnownBytes.{Consumes, IsAtEnd};
+ghost use Rattle.gdlsolve.specs.Input.{IsReadFrom};
+
+use crate::command::RunFault;
+use std::alloc::{AllocError, Global};
+use std::io::Read;
+
+/// How many bytes are read at most: one more than a text may have, so that a longer one shows.
+const READ_LIMIT: usize = 1_048_577;
+
+/// Room for so many bytes.
+fn room_for(alloc: Global, size: usize) -> Result<Vec<u8>, AllocError>
+    ensures { IfOk result (λ room. vec_len room ≡ size) }
+{
+    vec![in alloc; 0u8; size]
+}
+
+/// One read into the room from `at` on, and how many bytes it gave.
+fn read_at<R: Read>(input: &mut R, room: &mut [u8], at: usize) -> Result<usize, RunFault>
+    requires { at < length room.old }
+    ensures front { take at room.new ≡ take at room.old }
+    ensures within { IfOk result (λ count. at + count ≤ length room.new) }
+    ensures consumed { IfOk result (λ count. Consumes (R.remaining input.old) (R.remaining input.new) (take count (drop at room.new))) }
+    ensures ended { IfOk result (λ count. count ≡ 0 → IsAtEnd (R.remaining input.new)) }
+    ensures fault { IfErr result (λ fault. fault ≡ RunFault.Read) }
+{
+    input.read(&mut room[at..]).map_err(|_| RunFault::Read)
+}
+
+/// Reads until the room is full or the input ends, and answers how many bytes that gave.
+fn fill<R: Read>(input: &mut R, room: &mut [u8]) -> Result<usize, RunFault>
+    ensures within { IfOk result (λ filled. filled ≤ length room.new) }
+    ensures consumed { IfOk result (λ filled. Consumes (R.remaining input.old) (R.remaining input.new) (take filled room.new)) }
+    ensures ended { IfOk result (λ filled. filled < length room.new → IsAtEnd (R.remaining input.new)) }
+    ensures fault { IfErr result (λ fault. fault ≡ RunFault.Read) }
+{
+    let mut filled = 0;
+    while filled < room.len() {
+        let count = read_at(input, room, filled)?;
+        if count == 0 {
+            return Ok(filled);
+        }
+        filled += count;
+    }
+    Ok(filled)
+}
+
+/// Reads the input to its end, or to the limit. `Memory` comes before the first read, and `Read` at the
+/// first read that fails.
+pub(crate) fn read_input<R: Read>(alloc: Global, input: &mut R) -> Result<Vec<u8>, RunFault>
+    ensures whole { IfOk result (λ bytes. IsReadFrom (R.remaining input.old) (R.remaining input.new) bytes.items) }
+    ensures faults { IfErr result (λ fault. fault ≢ RunFault.Write) }
+{
+    let Ok(mut bytes) = room_for(alloc, READ_LIMIT) else {
+        return Err(RunFault::Memory);
+    };
+    let filled = fill(input, &mut bytes)?;
+    bytes.truncate(filled);
+    Ok(bytes)
+}
