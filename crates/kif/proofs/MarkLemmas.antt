@@ -1,14 +1,14 @@
 -- The marks of a tree, and its text.
-use Rattle.std.proofs.Common.{ℕ, suc, append_assoc, ◌≡◌, ◌≢◌, ◌+◌, ◌*◌, ◌<◌, Bool, true, false, cond, not, List, [], ◌∷◌, ◌++◌, map, refl, sym, ap, ◌∙◌, arith}
+use Rattle.std.proofs.Common.{ℕ, ◌≡◌, ◌≢◌, ◌*◌, ◌<◌, Bool, true, false, cond, not, List, [], ◌∷◌, ◌++◌, map, refl, sym, ap, ◌∙◌, arith}
 use Rattle.std.specs.Prelude.{⊤}
 use Rattle.std.proofs.lemmas.Bool.Decides.{nat_tests}
 use Rattle.std.proofs.lemmas.List.{map-append}
 use Rattle.std.specs.Ordering.{nat_cmp, ordering_then}
 use Rattle.std.specs.Cmp.Lexicographic.{slice_cmp}
 use Rattle.std.specs.declared.cmp.Ordering.{Ordering}
-use Rattle.std.specs.declared.cmp.Ordering.TheVariants.{Less, Equal, Greater}
+use Rattle.std.specs.declared.cmp.Ordering.TheVariants.{Less, Greater}
 use Rattle.kif.specs.Tree.{Tree, name, list, Trees, no_trees, tree, text, parts_text, further_text, printed_cmp}
-use Rattle.kif.specs.Lexical.{is_name_byte, is_capital, AreNameBytes, IsName, HasNames, HaveNames}
+use Rattle.kif.specs.Lexical.{is_name_byte, is_capital, AreNameBytes, HasNames, HaveNames}
 use Rattle.kif.proofs.Equality.{both}
 use Rattle.kif.specs.Marks.{name_mark, compared_bytes, marks, parts_marks, further_marks, marked_cmp}
 

@@ -1,5 +1,5 @@
 -- Lists of marks that are compared from their fronts.
-use Rattle.std.proofs.Common.{ℕ, zero, suc, append_assoc, ◌≡◌, ◌≢◌, ◌+◌, ◌-◌, ◌*◌, ◌%◌, ◌<◌, ◌≤◌, List, [], ◌∷◌, ◌++◌, map, take, drop, length, length-append, length-drop, get_or, refl, sym, ap, ◌∙◌, arith}
+use Rattle.std.proofs.Common.{ℕ, zero, suc, append_assoc, ◌≡◌, ◌≢◌, ◌+◌, ◌-◌, ◌%◌, ◌<◌, ◌≤◌, List, [], ◌∷◌, ◌++◌, map, take, drop, length, length-append, length-drop, get_or, refl, sym, ap, ◌∙◌, arith}
 use Rattle.std.proofs.lemmas.Bool.Decides.{nat_tests}
 use Rattle.std.proofs.lemmas.Cmp.{nat_cmp_total, tied_itself}
 use Rattle.std.proofs.lemmas.Map.Lookups.{exact_bytes}
@@ -8,7 +8,7 @@ use Rattle.std.specs.Cmp.Lexicographic.{slice_cmp}
 use Rattle.std.specs.declared.cmp.Ordering.{Ordering}
 use Rattle.std.specs.declared.cmp.Ordering.TheVariants.{Less, Equal, Greater}
 use Rattle.kif.specs.declared.expr.Expr.{Expr}
-use Rattle.kif.specs.Tree.{Tree, list, Trees, no_trees, tree, trees_of}
+use Rattle.kif.specs.Tree.{Tree, list, Trees, trees_of}
 use Rattle.kif.specs.View.{tree_of, trees_in}
 use Rattle.kif.specs.Marks.{name_mark, marks, parts_marks, further_marks, Orders, Begins}
 use Rattle.kif.proofs.Writing.{parts_from}
@@ -34,7 +34,7 @@ apart xs ys c d a b h k e = record {
   law = λ r s.
       ap (λ (m : List ℕ). slice_cmp nat_cmp (m ++ a ∷ r) (ys ++ b ∷ s)) h.split
       ∙ ap (λ (m : List ℕ). slice_cmp nat_cmp ((c ∷ h.rest) ++ a ∷ r) (m ++ b ∷ s)) k.split
-      ∙ settled (nat_cmp c d) _ _ (other_mark c d e)
+      ∙ settled (nat_cmp c d) _ _ (other_mark c d e);
 }
 
 pub orders_as : (o p : Ordering) (xs ys us vs : List ℕ) (a b : ℕ) → o ≡ p → us ≡ xs → vs ≡ ys → Orders p xs a ys b → Orders o us a vs b
@@ -43,7 +43,7 @@ orders_as o p xs ys us vs a b e f g h = record {
       ap (λ (m : List ℕ). slice_cmp nat_cmp (m ++ a ∷ r) (vs ++ b ∷ s)) f
       ∙ ap (λ (m : List ℕ). slice_cmp nat_cmp (xs ++ a ∷ r) (m ++ b ∷ s)) g
       ∙ h.law r s
-      ∙ ap (λ (q : Ordering). ordering_then q (slice_cmp nat_cmp r s)) (sym e)
+      ∙ ap (λ (q : Ordering). ordering_then q (slice_cmp nat_cmp r s)) (sym e);
 }
 
 -- the opening bracket of both
@@ -68,7 +68,7 @@ by_front : (p : ℕ) (xs ys : List ℕ) (a b : ℕ) → a % 2 ≡ 0 → b % 2 �
     → (p < length xs → p < length ys → get_or xs p 0 ≢ get_or ys p 0)
     → p ≤ length xs → p ≤ length ys
     → (r s : List ℕ) → slice_cmp nat_cmp (map name_mark xs ++ a ∷ r) (map name_mark ys ++ b ∷ s)
-        ≡ ordering_then (nat_cmp (mark_of xs p a) (mark_of ys p b)) (slice_cmp nat_cmp r s)
+    ≡ ordering_then (nat_cmp (mark_of xs p a) (mark_of ys p b)) (slice_cmp nat_cmp r s)
 by_front zero [] [] a b m n e d h k r s = refl
 by_front zero [] (y ∷ ys) a b m n e d h k r s = settled (nat_cmp a (name_mark y)) _ _ (other_mark a (name_mark y) (λ f. absurd (omega arith)))
 by_front zero (x ∷ xs) [] a b m n e d h k r s = settled (nat_cmp (name_mark x) b) _ _ (other_mark (name_mark x) b (λ f. absurd (omega arith)))
@@ -81,7 +81,7 @@ by_front (suc p) (x ∷ xs) (y ∷ ys) a b m n e d h k r s =
     let first : x ≡ y = cc in
     let more : take p xs ≡ take p ys = cc in
     ap (λ (o : Ordering). ordering_then o (slice_cmp nat_cmp (map name_mark xs ++ a ∷ r) (map name_mark ys ++ b ∷ s)))
-        (ap (λ (c : ℕ). nat_cmp (name_mark c) (name_mark y)) first ∙ same_mark (name_mark y))
+    (ap (λ (c : ℕ). nat_cmp (name_mark c) (name_mark y)) first ∙ same_mark (name_mark y))
     ∙ by_front p xs ys a b m n more (λ i j. d (omega arith) (omega arith)) (omega arith) (omega arith) r s
 
 -- two names that have p bytes in common, by the marks behind those
@@ -115,7 +115,7 @@ parts_left t ts = ap (λ (l : List ℕ). marks t ++ l) (further_left ts)
 
 left_as : (xs ys us vs : List ℕ) → xs ≡ us → ys ≡ vs → Left (80 ∷ xs) (80 ∷ ys) us vs
 left_as xs ys us vs e f = record {
-  law = λ r s. ap (λ (m : List ℕ). slice_cmp nat_cmp (m ++ r) (ys ++ s)) e ∙ ap (λ (m : List ℕ). slice_cmp nat_cmp (us ++ r) (m ++ s)) f
+  law = λ r s. ap (λ (m : List ℕ). slice_cmp nat_cmp (m ++ r) (ys ++ s)) e ∙ ap (λ (m : List ℕ). slice_cmp nat_cmp (us ++ r) (m ++ s)) f;
 }
 
 -- two lists that are both empty, or both not
@@ -162,20 +162,20 @@ pub part_same : (xs ys us vs p q l m : List ℕ) (a b : ℕ) (o : Ordering) → 
     → o ≡ Equal → Left xs ys us vs
 part_same xs ys us vs p q l m a b o left e f h same = record {
   law = λ r s. parts_law xs ys us vs p q l m a b o left e f h r s
-      ∙ ap (λ (n : Ordering). ordering_then n (slice_cmp nat_cmp (us ++ r) (vs ++ s))) same
+      ∙ ap (λ (n : Ordering). ordering_then n (slice_cmp nat_cmp (us ++ r) (vs ++ s))) same;
 }
 
 pub part_decides : (xs ys us vs p q l m : List ℕ) (a b c d : ℕ) (o : Ordering) → Left xs ys l m → l ≡ p ++ a ∷ us → m ≡ q ++ b ∷ vs → Orders o p a q b
     → o ≢ Equal → Orders o xs c ys d
 part_decides xs ys us vs p q l m a b c d o left e f h other = record {
-  law = λ r s. parts_law xs ys us vs p q l m a b o left e f h (c ∷ r) (d ∷ s) ∙ settled o _ _ other
+  law = λ r s. parts_law xs ys us vs p q l m a b o left e f h (c ∷ r) (d ∷ s) ∙ settled o _ _ other;
 }
 
 pub all_same : (xs ys l m : List ℕ) (a b : ℕ) → Left xs ys l m → l ≡ [] → m ≡ [] → Orders (nat_cmp a b) xs a ys b
 all_same xs ys l m a b left e f = record {
   law = λ r s. left.law (a ∷ r) (b ∷ s)
       ∙ ap (λ (n : List ℕ). slice_cmp nat_cmp (n ++ a ∷ r) (m ++ b ∷ s)) e
-      ∙ ap (λ (n : List ℕ). slice_cmp nat_cmp (a ∷ r) (n ++ b ∷ s)) f
+      ∙ ap (λ (n : List ℕ). slice_cmp nat_cmp (a ∷ r) (n ++ b ∷ s)) f;
 }
 
 last_same : (xs ys : List ℕ) (a b : ℕ) → xs ++ a ∷ [] ≡ ys ++ b ∷ [] → a ≡ b

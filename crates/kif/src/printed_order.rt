@@ -5,19 +5,18 @@ ghost use Rattle.kif.specs.Lexical.{HasNames};
 ghost use Rattle.kif.specs.View.{is_name_tree, tree_of, trees_in};
 ghost use Rattle.kif.specs.Marks.{Begins, Orders, compared_bytes, marked_cmp, marks, name_mark, parts_marks};
 
+use crate::expr::Expr;
 use std::alloc::Allocator;
 use std::cmp::Ordering;
 
-use crate::expr::Expr;
-
-// A bracket, a space or the end of a text is compared as twice its byte.
+// A bracket or a space is compared as twice its byte, and the end of a text comes before all marks.
 const END: u16 = 0;
 
-const SPACE: u16 = 64;
+const SPACE: u16 = 2 * (b' ' as u16);
 
-const OPENING: u16 = 80;
+const OPENING: u16 = 2 * (b'(' as u16);
 
-const CLOSING: u16 = 82;
+const CLOSING: u16 = 2 * (b')' as u16);
 
 /// The order of two trees by the bytes of their canonical texts; a text that begins another comes
 /// first.

@@ -17,18 +17,18 @@ pub order_of_parts-returns-in_default : goal.order_of_parts-returns-in_default
 order_of_parts-returns-in_default g t c =
     let i = c.loop-index.index in
     let part = part_left c.args.xs.now i c.mark_behind-part_next.result c.index-xs-index.result (omega arith) c.index-xs-index.is
-        c.mark_behind-part_next.ensures.more c.mark_behind-part_next.ensures.last in
+    c.mark_behind-part_next.ensures.more c.mark_behind-part_next.ensures.last in
     let other = part_left c.args.ys.now i c.mark_behind-other_next.result c.index-ys-index.result (omega arith) c.index-ys-index.is
-        c.mark_behind-other_next.ensures.more c.mark_behind-other_next.ensures.last in
+    c.mark_behind-other_next.ensures.more c.mark_behind-other_next.ensures.last in
     part_decides _ _ _ _ _ _ _ _ _ _ _ _ _ c.loop-index.invariant.left part other c.order_of_trees.ensures c.in_default.not-Equal
 
 pub order_of_parts-loop-index-preserved : goal.order_of_parts-loop-index-preserved
 order_of_parts-loop-index-preserved g t c =
     let i = c.loop-index.index in
     let part = part_left c.args.xs.now i c.mark_behind-part_next.result c.index-xs-index.result (omega arith) c.index-xs-index.is
-        c.mark_behind-part_next.ensures.more c.mark_behind-part_next.ensures.last in
+    c.mark_behind-part_next.ensures.more c.mark_behind-part_next.ensures.last in
     let other = part_left c.args.ys.now i c.mark_behind-other_next.result c.index-ys-index.result (omega arith) c.index-ys-index.is
-        c.mark_behind-other_next.ensures.more c.mark_behind-other_next.ensures.last in
+    c.mark_behind-other_next.ensures.more c.mark_behind-other_next.ensures.last in
     let next = next_same _ _ _ _ _ c.order_of_trees.ensures c.in-Equal.is in
     record {
       x_more = in_step _ _ _ _ _ c.mark_behind-part_next.ensures.more c.mark_behind-other_next.ensures.last next;

@@ -11,7 +11,7 @@ returns c =
     orders_as _ _ _ _ _ _ _ _ c.cmp.ensures
     (ap (map name_mark) (sym c.compared_bytes-x.ensures)) (ap (map name_mark) (sym c.compared_bytes-y.ensures))
     (names_order p x y c.args.x_next c.args.y_next _ _ c.requires.x_ends c.requires.y_ends
-        c.common_length-same.ensures.same c.common_length-same.ensures.longest
-        c.common_length-same.ensures.x_within c.common_length-same.ensures.y_within
-        (mark_is x p c.args.x_next _ c.mark_at.ensures.inside c.mark_at.ensures.behind)
-        (mark_is y p c.args.y_next _ c.mark_at-2.ensures.inside c.mark_at-2.ensures.behind))
+    c.common_length-same.ensures.same c.common_length-same.ensures.longest
+    c.common_length-same.ensures.x_within c.common_length-same.ensures.y_within
+    (mark_is x p c.args.x_next _ c.mark_at.ensures.inside c.mark_at.ensures.behind)
+    (mark_is y p c.args.y_next _ c.mark_at-2.ensures.inside c.mark_at-2.ensures.behind))
