@@ -9,16 +9,16 @@ use Rattle.kif.proofs.Comments.{others_stay}
 use Rattle.kif.proofs.Visible.{length-visible, seen_if_at, at_if_seen}
 use Rattle.kif.proofs.Here.{IsRunIn, IsTokenIn, IsPlace, first_place, next_place, Here, none, one, here}
 
-abbrev spot : ℕ → Token → Spot
+abbrev pub spot : ℕ → Token → Spot
 spot o k = record { at = o; token = k }
 
 -- a byte of a kind that 0 is not stands within the text
-within_if_seen : (kind : ℕ → Bool) (v : List ℕ) (o : ℕ) → kind 0 ≡ false → kind (get_or v o 0) ≡ true → o < length v
+pub within_if_seen : (kind : ℕ → Bool) (v : List ℕ) (o : ℕ) → kind 0 ≡ false → kind (get_or v o 0) ≡ true → o < length v
 within_if_seen kind [] o e h = absurd cc
 within_if_seen kind (b ∷ bs) zero e h = omega arith
 within_if_seen kind (b ∷ bs) (suc o) e h = let r = within_if_seen kind bs o e h in omega arith
 
-token_within : (v : List ℕ) (o : ℕ) (k : Token) → IsTokenIn v o k → o < length v
+pub token_within : (v : List ℕ) (o : ℕ) (k : Token) → IsTokenIn v o k → o < length v
 token_within v o opening t = within_if_seen is_opening v o refl t
 token_within v o closing t = within_if_seen is_closing v o refl t
 token_within v o (word w) t = within_if_seen is_name_byte v o refl (t.1.names o (omega arith) t.1.further)
@@ -125,7 +125,7 @@ among_token v s o after (b ∷ bs) p h = go (here v o after b bs p) (among_token
     go (none e u) later = later (subst (λ (l : List Spot). IsAmong l s) (spots_by o after b bs [] e) h)
     go (one k e t u) later = first k t later (subst (λ (l : List Spot). IsAmong l s) (spots_by o after b bs (k ∷ []) e) h)
 
-le_or_same : (o p : ℕ) → o ≤ p → (p ≡ o) ⊎ (suc o ≤ p)
+pub le_or_same : (o p : ℕ) → o ≤ p → (p ≡ o) ⊎ (suc o ≤ p)
 le_or_same zero zero h = inl refl
 le_or_same zero (suc p) h = inr (omega arith)
 le_or_same (suc o) zero h = absurd (omega arith)
