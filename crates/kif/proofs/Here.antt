@@ -165,7 +165,7 @@ word_here v o b bs p e = go (some_front (b ∷ bs)).0 (some_front (b ∷ bs)).1
         ends = ap is_name_byte (back (o + suc n) (suc n) refl) ∙ f.ends;
       },
       front_is (suc n) (b ∷ bs) f ∙ ap (λ (l : List ℕ). map lower (take (suc n) l)) (sym p.rest)
-      ∙ ap (λ (m : ℕ). map lower (take m (drop o v))) (same (suc n)),
+          ∙ ap (λ (m : ℕ). map lower (take m (drop o v))) (same (suc n)),
     )
 
 pub here : (v : List ℕ) (o : ℕ) (after : Bool) (b : ℕ) (bs : List ℕ) → IsPlace v o after (b ∷ bs) → Here v o (token_here after b bs)

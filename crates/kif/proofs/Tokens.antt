@@ -73,8 +73,8 @@ run_bytes text o end r =
     let b = length-drop o text in
     same_take (end - o) (drop o (visible text)) (drop o text) (omega arith)
     (λ k h. get_or-drop o (visible text) k 0
-      ∙ sym (same (o + k) (r.names (o + k) (omega arith) (let f = r.further in omega arith)))
-      ∙ sym (get_or-drop o text k 0))
+    ∙ sym (same (o + k) (r.names (o + k) (omega arith) (let f = r.further in omega arith)))
+    ∙ sym (get_or-drop o text k 0))
   where
     same : (k : ℕ) → IsAt is_name_byte text k → get_or text k 0 ≡ get_or (visible text) k 0
     same k h = sym (others_stay text k h.outside)
