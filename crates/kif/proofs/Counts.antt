@@ -1,11 +1,10 @@
 -- How many lists are open at an offset, from one byte to the next.
-use Rattle.std.proofs.Common.{ℕ, zero, suc, ◌+◌, ◌≡◌, ◌<◌, ◌≤◌, Bool, true, false, cond, List, [], ◌∷◌, take, length, get_or, refl, sym, ap, ◌∙◌, arith, eqb-true}
-use Rattle.std.specs.Prelude.{count_by, ℤ, pos, ◌-ℤ◌, ◌==◌}
+use Rattle.std.proofs.Common.{ℕ, suc, ◌+◌, ◌≡◌, ◌<◌, Bool, true, false, List, take, length, get_or, refl, ap, ◌∙◌, arith}
+use Rattle.std.specs.Prelude.{count_by, pos, ◌-ℤ◌}
 use Rattle.std.proofs.lemmas.Bool.Decides.{nat_tests}
 use Rattle.std.proofs.lemmas.Int.{ints}
 use Rattle.std.proofs.lemmas.List.Sums.{count_by_more_yes, count_by_more_no}
-use Rattle.kif.specs.Lexical.{is_name_byte, is_space, Token, opening, closing, word, stray}
-use Rattle.kif.specs.Reading.{open_after}
+use Rattle.kif.specs.Lexical.{is_name_byte, Token, opening, closing, word, stray}
 use Rattle.kif.specs.Offsets.{is_opening, is_closing, is_stray}
 use Rattle.kif.proofs.Here.{IsTokenIn, token_byte}
 use Rattle.kif.proofs.Tokens.{token_within}

@@ -1,5 +1,5 @@
 -- Of the faults at single tokens, the walk over the tokens finds the one of least offset.
-use Rattle.std.proofs.Common.{ℕ, zero, suc, pred, ◌+◌, ◌-◌, ◌≡◌, ◌<◌, ◌≤◌, ◌⊎◌, inl, inr, Bool, true, false, nat_lt, List, [], ◌∷◌, ◌++◌, map, take, drop, length, get_or, refl, sym, ap, subst, ◌∙◌, arith, eqb-true, length-drop, length-take, Option, Some, None}
+use Rattle.std.proofs.Common.{ℕ, zero, suc, ◌+◌, ◌-◌, ◌≡◌, ◌<◌, ◌≤◌, ◌⊎◌, inl, inr, Bool, true, false, nat_lt, List, [], ◌∷◌, map, take, drop, length, refl, sym, ap, subst, ◌∙◌, arith, eqb-true, length-drop, length-take, Option, Some, None}
 use Rattle.std.specs.Prelude.{◌==◌}
 use Rattle.std.proofs.lemmas.Bool.Decides.{nat_tests}
 use Rattle.std.proofs.lemmas.List.{length-map}
@@ -7,8 +7,8 @@ use Rattle.kif.specs.Lexical.{is_name_byte, lower, Token, opening, closing, word
 use Rattle.kif.specs.Reading.{open_limit, name_limit, Fault, too_long, bad_byte, too_deep, unclosed, unopened, name_too_long, or_else, is_zero, open_after, fault_where, fault_of, first_fault}
 use Rattle.kif.specs.Offsets.{offset}
 use Rattle.kif.proofs.Here.{IsRunIn, IsTokenIn, IsPlace, next_place, in_place, Here, none, one, here}
-use Rattle.kif.proofs.Tokens.{spot, within_if_seen, token_within, spots_by, le_or_same}
-use Rattle.kif.proofs.Counts.{opened, closed, AreOpen, IsStep, opens, shuts, token_step, no_step}
+use Rattle.kif.proofs.Tokens.{within_if_seen, token_within, spots_by, le_or_same}
+use Rattle.kif.proofs.Counts.{AreOpen, IsStep, opens, shuts, token_step, no_step}
 
 -- the fault stands at a token
 abbrev pub IsFaultIn : List ℕ → Fault → Type 0

@@ -1,5 +1,5 @@
 -- The walk over the tokens finds the first bracket that nothing closes.
-use Rattle.std.proofs.Common.{ℕ, zero, suc, ◌+◌, ◌-◌, ◌≡◌, ◌<◌, ◌≤◌, ◌⊎◌, inl, inr, Bool, true, false, List, [], ◌∷◌, map, drop, length, refl, sym, ap, subst, ◌∙◌, arith, length-drop, Option, Some, None}
+use Rattle.std.proofs.Common.{ℕ, zero, suc, ◌+◌, ◌≡◌, ◌<◌, ◌≤◌, ◌⊎◌, inl, inr, Bool, true, false, List, [], ◌∷◌, length, refl, sym, ap, subst, arith, length-drop, Option, Some, None}
 use Rattle.kif.specs.Lexical.{is_name_byte, Token, opening, closing, word, stray, Spot, token_here, tokens_of, spots_at}
 use Rattle.kif.specs.Reading.{Fault, unclosed, or_else, fault_where, never_closed, unclosed_at, first_unclosed}
 use Rattle.kif.proofs.Here.{IsTokenIn, IsPlace, next_place, in_place, Here, none, one, here}

@@ -1,14 +1,14 @@
 -- The fault of a text is the first that stands in it.
-use Rattle.std.proofs.Common.{ℕ, zero, suc, ◌+◌, ◌≡◌, ◌<◌, ◌≤◌, ◌⊎◌, inl, inr, Bool, true, false, nat_lt, List, length, refl, sym, ap, subst, ◌∙◌, arith, Option, Some, None}
+use Rattle.std.proofs.Common.{ℕ, zero, suc, ◌≡◌, ◌<◌, ◌≤◌, ◌⊎◌, inl, inr, Bool, true, false, nat_lt, List, length, refl, sym, ap, subst, ◌∙◌, arith, Option, Some, None}
 use Rattle.std.proofs.lemmas.Bool.Decides.{nat_tests}
-use Rattle.kif.specs.Lexical.{visible, opening, closing, word, stray, spots}
+use Rattle.kif.specs.Lexical.{visible, opening, closing, stray, spots}
 use Rattle.kif.specs.Tree.{Trees}
 use Rattle.kif.specs.Reading.{text_limit, Reads, Fault, too_long, bad_byte, too_deep, unclosed, unopened, name_too_long, or_else, fault_where, first_fault, first_unclosed, fault_in}
 use Rattle.kif.specs.Offsets.{stage, offset, Stands, Precedes, IsFirstFault}
 use Rattle.kif.proofs.Visible.{length-visible}
 use Rattle.kif.proofs.Here.{first_place}
 use Rattle.kif.proofs.Tokens.{run_in, run_at, token_in, token_at}
-use Rattle.kif.proofs.Counts.{AreOpen, opened, closed, open_of_difference, difference_of_open, same_of_difference, difference_of_same}
+use Rattle.kif.proofs.Counts.{opened, closed, open_of_difference, difference_of_open, same_of_difference, difference_of_same}
 use Rattle.kif.proofs.FirstFault.{IsFaultIn, IsFirstIn, IsFoundFrom, walk_faults}
 use Rattle.kif.proofs.LeftOpen.{IsLeftOpen, IsFirstLeft, IsLeftFrom, walk_left}
 use Rattle.kif.proofs.Faults.{reads_if_no_fault, no_fault_if_reads}

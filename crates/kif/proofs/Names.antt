@@ -1,9 +1,9 @@
 -- The names of what a text stands for are lawful.
-use Rattle.std.proofs.Common.{ℕ, suc, ◌+◌, ◌≡◌, Bool, true, false, cond, ◌==◌, List, [], ◌∷◌, ◌++◌, map, refl, sym, ap, subst, ◌∙◌, arith}
+use Rattle.std.proofs.Common.{ℕ, suc, ◌+◌, ◌≡◌, Bool, true, false, cond, ◌==◌, List, [], ◌∷◌, ◌++◌, map, refl, sym, subst, ◌∙◌, arith}
 use Rattle.std.specs.Prelude.{⊤}
 use Rattle.std.proofs.lemmas.Bool.Decides.{nat_tests}
 use Rattle.kif.specs.Tree.{Tree, name, list, Trees, no_trees, tree}
-use Rattle.kif.specs.Lexical.{is_name_byte, is_capital, is_space, is_lower_name_byte, lower, name_front, visible, Token, opening, closing, word, stray, token_here, Spot, spots_at, tokens_of, tokens, AreNameBytes, IsName, HasNames, HaveNames}
+use Rattle.kif.specs.Lexical.{is_name_byte, is_capital, is_space, is_lower_name_byte, lower, name_front, visible, Token, opening, closing, word, stray, spots_at, tokens_of, AreNameBytes, IsName, HasNames, HaveNames}
 use Rattle.kif.specs.Reading.{tree_tokens, trees_tokens, Reads}
 use Rattle.kif.proofs.Grammar.{list_tokens, more_tokens, append_none}
 
