@@ -1,83 +1,216 @@
--- The names of the trees that a text stands for.
-use Rattle.std.proofs.Common.{ℕ, zero, suc, ◌≡◌, Bool, true, false, cond, List, [], ◌∷◌, ◌++◌, map, refl, subst, arith}
-use Rattle.std.specs.Prelude.{⊤, All, ◌==◌}
+-- The fault of a text is the first that stands in it.
+use Rattle.std.proofs.Common.{ℕ, zero, suc, ◌≡◌, ◌<◌, ◌≤◌, ◌⊎◌, inl, inr, Bool, true, false, nat_lt, List, length, refl, sym, ap, subst, ◌∙◌, arith, Option, Some, None}
 use Rattle.std.proofs.lemmas.Bool.Decides.{nat_tests}
-use Rattle.kif.specs.Tree.{Tree, name, list, Trees, no_trees, tree, trees_of}
-use Rattle.kif.specs.Lexical.{is_space, is_name_byte, is_lower_name_byte, lower, name_front, visible, Token, opening, closing, word, stray, token_here, Spot, spots_at, tokens_of, AreNameBytes, IsName, HasNames, HaveNames}
-use Rattle.kif.specs.Reading.{tree_tokens, trees_tokens, Reads}
+use Rattle.kif.specs.Lexical.{visible, opening, closing, stray, spots}
+use Rattle.kif.specs.Tree.{Trees}
+use Rattle.kif.specs.Reading.{text_limit, Reads, Fault, too_long, bad_byte, too_deep, unclosed, unopened, name_too_long, or_else, fault_where, first_fault, first_unclosed, fault_in}
+use Rattle.kif.specs.Offsets.{stage, offset, Stands, Precedes, IsFirstFault}
+use Rattle.kif.proofs.Visible.{length-visible}
+use Rattle.kif.proofs.Here.{first_place}
+use Rattle.kif.proofs.Tokens.{run_in, run_at, token_in, token_at}
+use Rattle.kif.proofs.Counts.{opened, closed, open_of_difference, difference_of_open, same_of_difference, difference_of_same}
+use Rattle.kif.proofs.FirstFault.{IsFaultIn, IsFirstIn, IsFoundFrom, walk_faults}
+use Rattle.kif.proofs.LeftOpen.{IsLeftOpen, IsFirstLeft, IsLeftFrom, walk_left}
+use Rattle.kif.proofs.Faults.{reads_if_no_fault, no_fault_if_reads}
 
--- a word is a name
-abbrev HasName : Token → Type 0
-HasName opening = ⊤
-HasName closing = ⊤
-HasName (word w) = IsName w
-HasName stray = ⊤
+-- the two ways to say which faults stand
 
-abbrev AllHaveNames : List Token → Type 0
-AllHaveNames [] = ⊤
-AllHaveNames (k ∷ ks) = HasName k × AllHaveNames ks
+left_in : (text : List ℕ) (o : ℕ) → Stands text (unclosed o) → IsLeftOpen (visible text) o
+left_in text o s = record {
+  it = token_in text o opening s.0;
+  never = λ p l w same. s.1 p l (let size = length-visible text in omega arith)
+      (difference_of_same (opened (visible text) p) (closed (visible text) p) (opened (visible text) o) (closed (visible text) o) same);
+}
 
-lowered : (b : ℕ) → is_name_byte b ≡ true → is_lower_name_byte (lower b) ≡ true
-lowered b h = grind (arith, nat_tests)
+left_stands : (text : List ℕ) (o : ℕ) → IsLeftOpen (visible text) o → Stands text (unclosed o)
+left_stands text o i = (
+  token_at text o opening i.it,
+  λ p l w e. i.never p l (let size = length-visible text in omega arith)
+      (same_of_difference (opened (visible text) p) (closed (visible text) p) (opened (visible text) o) (closed (visible text) o) e),
+)
 
-front_named : (bs : List ℕ) → AreNameBytes (name_front bs)
-front_named [] = tt
-front_named (b ∷ bs) = go (is_name_byte b) refl (front_named bs)
+fault_in_text : (text : List ℕ) (f : Fault) → stage f ≡ 1 → Stands text f → IsFaultIn (visible text) f
+fault_in_text text too_long e s = absurd (omega arith)
+fault_in_text text (bad_byte o) e s = token_in text o stray s
+fault_in_text text (too_deep o) e s = (token_in text o opening s.0, open_of_difference (opened (visible text) o) (closed (visible text) o) 100 s.1)
+fault_in_text text (unopened o) e s = (token_in text o closing s.0, open_of_difference (opened (visible text) o) (closed (visible text) o) 0 s.1)
+fault_in_text text (name_too_long o) e s = (s.0, run_in text o s.0 s.1, s.2)
+fault_in_text text (unclosed o) e s = absurd (omega arith)
+
+fault_stands : (text : List ℕ) (f : Fault) → IsFaultIn (visible text) f → (stage f ≡ 1) × Stands text f
+fault_stands text too_long i = absurd i
+fault_stands text (bad_byte o) i = (refl, token_at text o stray i)
+fault_stands text (too_deep o) i = (refl, (token_at text o opening i.0, difference_of_open (opened (visible text) o) (closed (visible text) o) 100 i.1))
+fault_stands text (unopened o) i = (refl, (token_at text o closing i.0, difference_of_open (opened (visible text) o) (closed (visible text) o) 0 i.1))
+fault_stands text (name_too_long o) i = (refl, (i.0, run_at text o i.0 i.1, i.2))
+fault_stands text (unclosed o) i = absurd i
+
+-- what each part of the walk says of the whole text
+
+-- no fault of an earlier stage stands
+record IsPast (text : List ℕ) (n : ℕ) : Type 0 where
+  none_before : (g : Fault) → Stands text g → stage g < n → ⊥
+
+short_is_past : (text : List ℕ) → nat_lt text_limit (length text) ≡ false → IsPast text 1
+short_is_past text e = record { none_before = go }
   where
-    go : (c : Bool) → is_name_byte b ≡ c → AreNameBytes (name_front bs) → AreNameBytes (cond c (lower b ∷ name_front bs) [])
-    go true e h = (lowered b e, h)
-    go false e h = tt
+    go : (g : Fault) → Stands text g → stage g < 1 → ⊥
+    go too_long s l = grind (arith, nat_tests)
+    go (bad_byte o) s l = absurd (omega arith)
+    go (too_deep o) s l = absurd (omega arith)
+    go (unopened o) s l = absurd (omega arith)
+    go (name_too_long o) s l = absurd (omega arith)
+    go (unclosed o) s l = absurd (omega arith)
 
-word_named : (b : ℕ) (bs : List ℕ) → is_name_byte b ≡ true → IsName (name_front (b ∷ bs))
-word_named b bs h = rw h (lowered b h, front_named bs)
-
-bracket_named : (c d s : Bool) → AllHaveNames (cond c (opening ∷ []) (cond d (closing ∷ []) (cond s [] (stray ∷ []))))
-bracket_named true d s = (tt, tt)
-bracket_named false true s = (tt, tt)
-bracket_named false false true = tt
-bracket_named false false false = (tt, tt)
-
-here_named : (after : Bool) (b : ℕ) (bs : List ℕ) → AllHaveNames (token_here after b bs)
-here_named after b bs = go (is_name_byte b) after refl
+walked_is_past : (text : List ℕ) → IsPast text 1 → IsFoundFrom (visible text) 0 None → IsPast text 2
+walked_is_past text p h = record { none_before = λ g s l. go g s (stage g) refl l }
   where
-    go : (c a : Bool) → is_name_byte b ≡ c
-        → AllHaveNames (cond c (cond a [] (word (name_front (b ∷ bs)) ∷ [])) (cond (b == 40) (opening ∷ []) (cond (b == 41) (closing ∷ []) (cond (is_space b) [] (stray ∷ [])))))
-    go true true e = tt
-    go true false e = (word_named b bs e, tt)
-    go false a e = bracket_named (b == 40) (b == 41) (is_space b)
+    go : (g : Fault) → Stands text g → (n : ℕ) → stage g ≡ n → n < 2 → ⊥
+    go g s zero e l = p.none_before g s (omega arith)
+    go g s (suc zero) e l = h g (fault_in_text text g e s) (omega arith)
+    go g s (suc (suc n)) e l = absurd (omega arith)
 
-spots_more : (o : ℕ) (ks : List Token) (ss : List Spot) → AllHaveNames ks → AllHaveNames (tokens_of ss)
-    → AllHaveNames (tokens_of (map (λ t. record { at = o; token = t }) ks ++ ss))
-spots_more o [] ss h k = k
-spots_more o (t ∷ ks) ss h k = (h.0, spots_more o ks ss h.1 k)
+first_at_token : (text : List ℕ) (f : Fault) → IsPast text 1 → IsFirstIn (visible text) 0 f → IsFirstFault text f
+first_at_token text f p i =
+    let s = fault_stands text f i.it in
+    record { stands = s.1; first = λ g t b. go g t s.0 b }
+  where
+    go : (g : Fault) → Stands text g → stage f ≡ 1 → Precedes g f → ⊥
+    go g t e (inl l) = p.none_before g t (omega arith)
+    go g t e (inr b) =
+        let m = i.least g (fault_in_text text g (b.0 ∙ e) t) (omega arith) in
+        let l = b.1 in
+        absurd (omega arith)
 
-spots_named : (o : ℕ) (after : Bool) (bs : List ℕ) → AllHaveNames (tokens_of (spots_at o after bs))
-spots_named o after [] = tt
-spots_named o after (b ∷ bs) =
-    spots_more o (token_here after b bs) (spots_at (suc o) (is_name_byte b) bs) (here_named after b bs) (spots_named (suc o) (is_name_byte b) bs)
+left_last : (text : List ℕ) (g : Fault) → Stands text g → stage g ≡ 2 → IsLeftOpen (visible text) (offset g)
+left_last text too_long s e = absurd (omega arith)
+left_last text (bad_byte o) s e = absurd (omega arith)
+left_last text (too_deep o) s e = absurd (omega arith)
+left_last text (unopened o) s e = absurd (omega arith)
+left_last text (name_too_long o) s e = absurd (omega arith)
+left_last text (unclosed o) s e = left_in text o s
 
-front_of : (ks ls : List Token) → AllHaveNames (ks ++ ls) → AllHaveNames ks
-front_of [] ls h = tt
-front_of (k ∷ ks) ls h = (h.0, front_of ks ls h.1)
+first_left : (text : List ℕ) (f : Fault) → IsPast text 2 → IsFirstLeft (visible text) 0 f → IsFirstFault text f
+first_left text f p i = subst (IsFirstFault text) (sym i.same) (record { stands = left_stands text i.place i.it; first = go })
+  where
+    go : (g : Fault) → Stands text g → Precedes g (unclosed i.place) → ⊥
+    go g t (inl l) = p.none_before g t l
+    go g t (inr b) =
+        let m = i.least (offset g) (left_last text g t b.0) (omega arith) in
+        let l = b.1 in
+        absurd (omega arith)
 
-back_of : (ks ls : List Token) → AllHaveNames (ks ++ ls) → AllHaveNames ls
-back_of [] ls h = h
-back_of (k ∷ ks) ls h = back_of ks ls h.1
+none_left : (text : List ℕ) → IsPast text 2 → IsLeftFrom (visible text) 0 None → (g : Fault) → Stands text g → ⊥
+none_left text p h g s = go (stage g) refl
+  where
+    two : (f : Fault) → stage f ≤ 2
+    two too_long = omega arith
+    two (bad_byte o) = omega arith
+    two (too_deep o) = omega arith
+    two (unopened o) = omega arith
+    two (name_too_long o) = omega arith
+    two (unclosed o) = omega arith
 
-mutual
-  tree_named : (t : Tree) → AllHaveNames (tree_tokens t) → HasNames t
-  tree_named (name n) h = h.0
-  tree_named (list ts) h = trees_named ts (front_of (trees_tokens ts) (closing ∷ []) h.1)
+    go : (n : ℕ) → stage g ≡ n → ⊥
+    go zero e = p.none_before g s (omega arith)
+    go (suc zero) e = p.none_before g s (omega arith)
+    go (suc (suc zero)) e = h (offset g) (left_last text g s e) (omega arith)
+    go (suc (suc (suc n))) e = let l = two g in absurd (omega arith)
 
-  trees_named : (ts : Trees) → AllHaveNames (trees_tokens ts) → HaveNames ts
-  trees_named no_trees h = tt
-  trees_named (tree t ts) h =
-      (tree_named t (front_of (tree_tokens t) (trees_tokens ts) h), trees_named ts (back_of (tree_tokens t) (trees_tokens ts) h))
+-- the walk's answer, and that no other fault stands at that offset
+record IsNamedFault (text : List ℕ) (f : Fault) : Type 0 where
+  it : IsFirstFault text f
+  only : (g : Fault) → Stands text g → stage g ≡ stage f → offset g ≡ offset f → g ≡ f
 
-pub reading_named : (text : List ℕ) (ts : Trees) → Reads text ts → HaveNames ts
-reading_named text ts h = trees_named ts (subst AllHaveNames h.same_tokens (spots_named 0 false (visible text)))
+abbrev IsNamed : List ℕ → Option Fault → Type 0
+IsNamed text None = (g : Fault) → Stands text g → ⊥
+IsNamed text (Some f) = IsNamedFault text f
 
-pub each_named : (ts : List Tree) → HaveNames (trees_of ts) → All HasNames ts
-each_named [] h k d below = absurd (omega arith)
-each_named (t ∷ ts) h zero d below = h.0
-each_named (t ∷ ts) h (suc k) d below = each_named ts h.1 k d (omega arith)
+same_length_fault : (g : Fault) → stage g ≡ 0 → g ≡ too_long
+same_length_fault too_long e = refl
+same_length_fault (bad_byte o) e = absurd (omega arith)
+same_length_fault (too_deep o) e = absurd (omega arith)
+same_length_fault (unopened o) e = absurd (omega arith)
+same_length_fault (name_too_long o) e = absurd (omega arith)
+same_length_fault (unclosed o) e = absurd (omega arith)
+
+same_left_fault : (g : Fault) (p : ℕ) → stage g ≡ 2 → offset g ≡ p → g ≡ unclosed p
+same_left_fault too_long p e f = absurd (omega arith)
+same_left_fault (bad_byte o) p e f = absurd (omega arith)
+same_left_fault (too_deep o) p e f = absurd (omega arith)
+same_left_fault (unopened o) p e f = absurd (omega arith)
+same_left_fault (name_too_long o) p e f = absurd (omega arith)
+same_left_fault (unclosed o) p e f = ap unclosed f
+
+named_long : (text : List ℕ) → nat_lt text_limit (length text) ≡ true → IsNamedFault text too_long
+named_long text e = record {
+  it = record { stands = far (length text) e; first = λ g s b. go g b };
+  only = λ g s d f. same_length_fault g d;
+}
+  where
+    far : (n : ℕ) → nat_lt 1048576 n ≡ true → 1048576 < n
+    far n h = grind (arith, nat_tests)
+
+    go : (g : Fault) → Precedes g too_long → ⊥
+    go g (inl l) = absurd (omega arith)
+    go g (inr b) = let l = b.1 in absurd (omega arith)
+
+named_left : (text : List ℕ) (r : Option Fault) → IsPast text 2 → IsLeftFrom (visible text) 0 r → IsNamed text r
+named_left text None p h = none_left text p h
+named_left text (Some f) p h = record {
+  it = first_left text f p h;
+  only = λ g s d e. same_left_fault g h.place (d ∙ ap stage h.same) (e ∙ ap offset h.same) ∙ sym h.same;
+}
+
+named_token : (text : List ℕ) (r : Option Fault) → IsPast text 1 → IsFoundFrom (visible text) 0 r → IsNamed text (or_else r (first_unclosed (spots text)))
+named_token text None p h =
+    named_left text (first_unclosed (spots text)) (walked_is_past text p h) (walk_left (visible text) 0 false (visible text) (first_place (visible text)))
+named_token text (Some f) p h = record {
+  it = first_at_token text f p h;
+  only = λ g s d e. h.only g (fault_in_text text g (d ∙ (fault_stands text f h.it).0) s) e;
+}
+
+named : (text : List ℕ) → IsNamed text (fault_in text)
+named text = go (nat_lt text_limit (length text)) refl
+  where
+    go : (b : Bool) → nat_lt text_limit (length text) ≡ b → IsNamed text (or_else (fault_where b too_long) (or_else (first_fault 0 (spots text)) (first_unclosed (spots text))))
+    go true e = named_long text e
+    go false e = named_token text (first_fault 0 (spots text)) (short_is_past text e) (walk_faults (visible text) 0 false (visible text) 0 (first_place (visible text)) refl)
+
+pub first_if_fault : (text : List ℕ) (f : Fault) → fault_in text ≡ Some f → IsFirstFault text f
+first_if_fault text f e = let n = subst (IsNamed text) e (named text) in n.it
+
+pub none_stands : (text : List ℕ) (f : Fault) → fault_in text ≡ None → Stands text f → ⊥
+none_stands text f e = subst (IsNamed text) e (named text) f
+
+neither_less : (a b : ℕ) → (a < b → ⊥) → (b < a → ⊥) → a ≡ b
+neither_less zero zero h k = refl
+neither_less zero (suc b) h k = absurd (h (omega arith))
+neither_less (suc a) zero h k = absurd (k (omega arith))
+neither_less (suc a) (suc b) h k = ap suc (neither_less a b (λ l. h (omega arith)) (λ l. k (omega arith)))
+
+pub fault_if_first : (text : List ℕ) (f : Fault) → IsFirstFault text f → fault_in text ≡ Some f
+fault_if_first text f i = go (fault_in text) (named text)
+  where
+    go : (r : Option Fault) → IsNamed text r → r ≡ Some f
+    go None n = absurd (n f i.stands)
+    go (Some g) n =
+        let d : stage f ≡ stage g = neither_less (stage f) (stage g) (λ l. n.it.first f i.stands (inl l)) (λ l. i.first g n.it.stands (inl l)) in
+        let e : offset f ≡ offset g = neither_less (offset f) (offset g) (λ l. n.it.first f i.stands (inr (d, l))) (λ l. i.first g n.it.stands (inr (sym d, l))) in
+        ap Some (sym (n.only f i.stands d e))
+
+pub one_fault : (text : List ℕ) (f g : Fault) → IsFirstFault text f → IsFirstFault text g → f ≡ g
+one_fault text f g i j = same f g (sym (fault_if_first text f i) ∙ fault_if_first text g j)
+  where
+    same : (x y : Fault) → Some x ≡ Some y → x ≡ y
+    same x y h = cc
+
+pub one_of_two : (text : List ℕ) → ((ts : Trees) × Reads text ts) ⊎ ((f : Fault) × IsFirstFault text f)
+one_of_two text = go (fault_in text) refl
+  where
+    go : (r : Option Fault) → fault_in text ≡ r → ((ts : Trees) × Reads text ts) ⊎ ((f : Fault) × IsFirstFault text f)
+    go None e = inl (reads_if_no_fault text e)
+    go (Some f) e = inr (f, first_if_fault text f e)
+
+pub not_both : (text : List ℕ) (ts : Trees) (f : Fault) → Reads text ts → Stands text f → ⊥
+not_both text ts f r = none_stands text f (no_fault_if_reads text ts r)

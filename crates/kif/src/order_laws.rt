@@ -1,10 +1,9 @@
-// The laws of the orders of trees, and of the names in a text.
-ghost use Rattle.std.specs.Prelude.{All, List, ℕ, ◌≡◌};
+// The laws of the orders of trees.
+ghost use Rattle.std.specs.Prelude.{◌≡◌};
 ghost use Rattle.std.specs.Cmp.{IsTotalOrder};
 ghost use Rattle.std.specs.declared.cmp.Ordering.TheVariants.{Equal};
-ghost use Rattle.kif.specs.Tree.{Tree, Trees, printed_cmp, trees_of};
-ghost use Rattle.kif.specs.Lexical.{HasNames, HaveNames};
-ghost use Rattle.kif.specs.Reading.{Reads};
+ghost use Rattle.kif.specs.Tree.{Tree, printed_cmp};
+ghost use Rattle.kif.specs.Lexical.{HasNames};
 ghost use Rattle.kif.specs.Marks.{marked_cmp};
 
 /// Printed order is a total order, in which two trees are equal exactly if they are one tree, where
@@ -20,10 +19,4 @@ pub fn printed_order_is_a_total_order()
 pub fn order_is_a_total_order()
     ensures total { IsTotalOrder marked_cmp }
     ensures printed { (t u : Tree) → HasNames t → HasNames u → marked_cmp t u ≡ printed_cmp t u }
-{}
-
-/// The names of the trees that a text stands for are of name bytes, without capitals.
-pub fn texts_have_names()
-    ensures together { (text : List ℕ) (ts : Trees) → Reads text ts → HaveNames ts }
-    ensures each { (text : List ℕ) (ts : List Tree) → Reads text (trees_of ts) → All HasNames ts }
 {}

@@ -7,7 +7,8 @@ use std::fmt::Display;
 use std::io::Write;
 
 /// Adds the line of a refusal to the text: `refused`, the fault as it is displayed, and a line feed.
-/// After an error, which is want of memory, the text may hold a beginning of the line.
+/// An error is want of memory, where the fault's own display does not fail, and then the text may
+/// hold a beginning of the line.
 pub fn add_refusal<A: Allocator, F: Display>(
     fault: &F,
     text: &mut Vec<u8, A>,
