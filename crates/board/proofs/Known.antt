@@ -42,8 +42,8 @@ pub known_on : (ws ws' : List ℕ) (ks : List Book) (id : ℕ) (k w : Book) (i :
     → (seen k i ≡ upper ws i → seen w i ≡ upper ws i) → Any (Knows ws i) ks → Any (Knows ws' i) (set ks id w)
 known_on ws ws' ks id k w i at same live mine a = dite (ℕ_discrete a.0 id)
     (λ e. let is : a.1 ≡ k = some-injective a.1 k (sym (any_at (Knows ws i) ks a) ∙ (ap (get_elem? ks) e ∙ at)) in
-        let k_knows : Knows ws i k = subst (Knows ws i) is a.4 in
-        any_here (Knows ws' i) ks id k w at (live k_knows.0, mine k_knows.1 ∙ sym same))
+    let k_knows : Knows ws i k = subst (Knows ws i) is a.4 in
+    any_here (Knows ws' i) ks id k w at (live k_knows.0, mine k_knows.1 ∙ sym same))
     (λ ne. any_there (Knows ws' i) (set ks id w) a.0 a.1 (set_else ks id a.0 w ne ∙ any_at (Knows ws i) ks a) (a.4.0, a.4.1 ∙ sym same))
 
 -- two seats become one, which knows the word where either did
@@ -56,10 +56,10 @@ known_both ws ks id other k l b z i apart at from live live' mine its a =
     let found = any_at (Knows ws i) ks a in
     dite (ℕ_discrete a.0 id)
     (λ e. let is : a.1 ≡ k = some-injective a.1 k (sym found ∙ (ap (get_elem? ks) e ∙ at)) in
-        let k_knows : Knows ws i k = subst (Knows ws i) is a.4 in
-        any_there (Knows ws i) final id b here (live k_knows.0, mine k_knows.1))
+    let k_knows : Knows ws i k = subst (Knows ws i) is a.4 in
+    any_there (Knows ws i) final id b here (live k_knows.0, mine k_knows.1))
     (λ ne. dite (ℕ_discrete a.0 other)
     (λ e. let is : a.1 ≡ l = some-injective a.1 l (sym found ∙ (ap (get_elem? ks) e ∙ from)) in
-        let l_knows : Knows ws i l = subst (Knows ws i) is a.4 in
-        any_there (Knows ws i) final id b here (live' l_knows.0, its l_knows.1))
+    let l_knows : Knows ws i l = subst (Knows ws i) is a.4 in
+    any_there (Knows ws i) final id b here (live' l_knows.0, its l_knows.1))
     (λ ne'. any_there (Knows ws i) final a.0 a.1 (set_else (set ks id b) other a.0 z ne' ∙ (set_else ks id a.0 b ne ∙ found)) a.4))

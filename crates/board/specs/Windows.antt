@@ -1,5 +1,5 @@
 -- What a result of a window tells, and what narrower windows leave of it.
-use Rattle.std.specs.Prelude.{◌≡◌, ℕ, ◌+◌, ◌-◌, ◌≤◌, min, max}
+use Rattle.std.specs.Prelude.{ℕ, ◌+◌, ◌-◌, ◌≤◌, min, max}
 use Rattle.board.specs.Books.{seen, joined}
 use Rattle.board.specs.declared.book.Setup.{Setup}
 use Rattle.board.specs.declared.book.Book.{Book}

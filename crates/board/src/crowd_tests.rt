@@ -70,7 +70,10 @@ fn two_threads_are_handed_each_task_once(rt: HostRuntime) -> Result<(), Fail> {
                 ensures { IsSeatOf lent.entry.now result.0 × ((book result.0).hand ≡ []) × ((book result.0).marked ≡ true) × ((book result.0).shares ≡ 2147483648) }
             { roll(lent, second, (seed % 7 * 40, seed % 4 * 60)) },
         );
-        assert!(rt; early & late == 0 && early | late == 65535, "the tasks at seed {seed}");
+        assert!(rt;
+            early & late == 0 && early | late == 65535,
+            "the tasks at seed {seed}"
+        );
         let seat = first.join(second, &board);
         assert!(rt; board.finish(seat) == (6, 6), "the answer at seed {seed}");
     }

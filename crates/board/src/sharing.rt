@@ -44,9 +44,7 @@ impl<V: Values> Seat<V> {
         requires seats { IsSeatOf on.now self × IsSeatOf on.now other }
         ensures seat { IsSeatOf on.now result }
         ensures book { book result ≡ joined (book self) (book other) }
-        ensures narrower {
-            IsNarrower (book self) (book result) × IsNarrower (book other) (book result)
-        }
+        ensures narrower { IsNarrower (book self) (book result) × IsNarrower (book other) (book result) }
     {
         let Seat {
             mut place,

@@ -1,7 +1,7 @@
 use Rattle.std.proofs.Common.{rules, ◌≡◌, ◌+◌, ◌-◌, ◌%◌, ◌<◌, length, slice_index, ap, arith}
 use Rattle.board.specs.Boards.{kept, table_of}
 use Rattle.board.specs.Books.{seen}
-use Rattle.board.specs.Seats.{book, task_own, task_reply}
+use Rattle.board.specs.Seats.{book}
 use Rattle.board.specs.Windows.{Answers}
 use Rattle.board.proofs.Opened.{task_in}
 use Rattle.board.proofs.crowd_tests.work.Goals as goal

@@ -1,5 +1,5 @@
-use Rattle.std.proofs.Common.{rules, ◌≡◌, ◌<◌, ◌≤◌, length, sym, ◌∙◌, arith}
-use Rattle.board.specs.Values.{task_count, starts_from}
+use Rattle.std.proofs.Common.{rules, ◌≡◌, length, sym, arith}
+use Rattle.board.specs.Values.{starts_from}
 use Rattle.board.proofs.Numbers.{starts_long, end_is, begin_is, place_at}
 use Rattle.board.proofs.parts.Board.place_of.Goals as goal
 

@@ -1,4 +1,4 @@
-use Rattle.std.proofs.Common.{◌≡◌, ℕ, ◌-◌, ◌<◌, ◌≤◌, List, length, slice_index}
+use Rattle.std.proofs.Common.{ℕ, ◌-◌, ◌<◌, ◌≤◌, List, length, slice_index}
 use Rattle.board.proofs.parts.Board.place_of.Given as goal
 
 abbrev pub decreases-halves : goal.decreases-halves

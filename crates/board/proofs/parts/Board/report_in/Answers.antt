@@ -1,5 +1,4 @@
-use Rattle.std.proofs.Common.{rules, ap}
-use Rattle.board.specs.declared.book.Book.{Book}
+use Rattle.std.proofs.Common.{ap}
 use Rattle.board.proofs.Nested.{settles_lowered}
 use Rattle.board.proofs.parts.Board.report_in.Goals as goal
 
