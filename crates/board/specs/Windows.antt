@@ -1,6 +1,6 @@
 -- What a result of a window tells, and what narrower windows leave of it.
-use Rattle.std.specs.Prelude.{ℕ, ◌+◌, ◌-◌, ◌≤◌, min, max}
-use Rattle.board.specs.Books.{seen, joined}
+use Rattle.std.specs.Prelude.{◌≡◌, ℕ, ◌+◌, ◌-◌, ◌≤◌, min, max}
+use Rattle.board.specs.Books.{seen, first_book, right_part, joined}
 use Rattle.board.specs.declared.book.Setup.{Setup}
 use Rattle.board.specs.declared.book.Book.{Book}
 
@@ -21,14 +21,23 @@ OlderWindowsServe = (k w : Book) (margin i v r : ℕ) → IsNarrower k w
     × ((lo hi : ℕ) → Answers v (max lo (k.best - margin)) (min hi (seen k i)) r → Answers v (max lo (w.best - margin)) (min hi (seen w i)) r)
     × (seen k i + margin ≤ k.best → seen w i + margin ≤ w.best)
 
--- the bounds of the results in the book l, of an inner board, are no narrower than what the book k of the outer board
--- knows of move i, or than those that the inner board was opened with
-abbrev pub IsWithin : Setup → Book → ℕ → Setup → Book → Type 0
-IsWithin outer k i inner l = (l.low ≤ max inner.low (k.best - outer.margin)) × (min inner.high (seen k i) ≤ l.high)
+-- the results in the book l, of an inner board, were found with bounds no narrower than low and high, or than those
+-- that it was opened with
+abbrev pub IsWithin : ℕ → ℕ → Setup → Book → Type 0
+IsWithin low high inner l = (l.low ≤ max inner.low low) × (min inner.high high ≤ l.high)
 
--- An inner board was opened with a window of move i that the outer seat k had, and its results were cut by what the
--- outer seat a knew. Its answer r is one for the outer task, of the value v, once both outer seats are joined and the
--- window is read again (w).
+-- So it is at the opening. It stays so where low and high become narrower, where a result is reported that was cut by
+-- them, for the new seat of a split, and where two seats are joined.
+abbrev pub InnerBoundsStay : Type 0
+InnerBoundsStay = (inner : Setup) (low high : ℕ)
+    → IsWithin low high inner (first_book inner)
+    × ((k : Book) (low' high' : ℕ) → low ≤ low' → high' ≤ high → IsWithin low high inner k → IsWithin low' high' inner k)
+    × ((k l : Book) → l.low ≡ max k.low low → l.high ≡ min k.high high → IsWithin low high inner k → IsWithin low high inner l)
+    × ((k : Book) → k.setup ≡ inner → IsWithin low high inner (right_part k))
+    × ((k l : Book) → IsWithin low high inner k → IsWithin low high inner l → IsWithin low high inner (joined k l))
+
+-- An inner board was opened for a task of the value v, and low and high are the narrowest bounds that its workers saw.
+-- What it answers is a result for the task in each window that is no wider than those bounds and the opening.
 abbrev pub InnerAnswersServe : Type 0
-InnerAnswersServe = (outer inner : Setup) (k a l w : Book) (i v r : ℕ) → IsNarrower (joined k a) w → IsWithin outer a i inner l
-    → inner.low ≤ k.best - outer.margin → seen k i ≤ inner.high → Answers v l.low l.high r → Answers v (w.best - outer.margin) (seen w i) r
+InnerAnswersServe = (inner : Setup) (l : Book) (v low high low' high' r : ℕ) → IsWithin low high inner l
+    → low ≤ low' → high' ≤ high → inner.low ≤ low' → high' ≤ inner.high → Answers v l.low l.high r → Answers v low' high' r

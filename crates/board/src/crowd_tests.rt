@@ -62,12 +62,16 @@ fn two_threads_are_handed_each_task_once(rt: HostRuntime) -> Result<(), Fail> {
         let ((first, early), (second, late)) = join(
             &rt,
             move ||
-                requires { IsSeatOf lent.now first × ((book first).hand ≡ []) × ((book first).shares ≡ 2147483648) }
-                ensures { IsSeatOf lent.entry.now result.0 × ((book result.0).hand ≡ []) × ((book result.0).marked ≡ true) × ((book result.0).shares ≡ 2147483648) }
+                requires { IsSeatOf lent.now first × ((book first).hand ≡ [])
+                    × ((book first).shares ≡ 2147483648) }
+                ensures { IsSeatOf lent.entry.now result.0 × ((book result.0).hand ≡ [])
+                    × ((book result.0).marked ≡ true) × ((book result.0).shares ≡ 2147483648) }
             { roll(lent, first, (seed % 5 * 50, seed % 3 * 80)) },
             move ||
-                requires { IsSeatOf lent.now second × ((book second).hand ≡ []) × ((book second).shares ≡ 2147483648) }
-                ensures { IsSeatOf lent.entry.now result.0 × ((book result.0).hand ≡ []) × ((book result.0).marked ≡ true) × ((book result.0).shares ≡ 2147483648) }
+                requires { IsSeatOf lent.now second × ((book second).hand ≡ [])
+                    × ((book second).shares ≡ 2147483648) }
+                ensures { IsSeatOf lent.entry.now result.0 × ((book result.0).hand ≡ [])
+                    × ((book result.0).marked ≡ true) × ((book result.0).shares ≡ 2147483648) }
             { roll(lent, second, (seed % 7 * 40, seed % 4 * 60)) },
         );
         assert!(rt;
@@ -85,7 +89,8 @@ fn work<V: Values>(board: &Board<V>, mut seat: Seat<V>, values: &[u8]) -> (Seat<
     requires seat { IsSeatOf board.now seat }
     requires hand { (book seat).hand ≡ [] }
     requires long { moves (setup_on board.now) ≤ length values.now }
-    requires table { (i j : ℕ) → i < length values.now → V.value i j ≡ pos (slice_index values.now i % 7) }
+    requires table { (i j : ℕ) → i < length values.now
+        → V.value i j ≡ pos (slice_index values.now i % 7) }
     ensures seat { IsSeatOf board.now result.0 }
     ensures hand { (book result.0).hand ≡ [] }
     ensures marked { (book result.0).marked ≡ true }
@@ -126,7 +131,8 @@ fn on_one_thread<V: Values>(
     requires some { 0 < moves }
     requires few { moves ≤ 65536 }
     requires long { moves ≤ length values.now }
-    requires table { (i j : ℕ) → i < length values.now → V.value i j ≡ pos (slice_index values.now i % 7) }
+    requires table { (i j : ℕ) → i < length values.now
+        → V.value i j ≡ pos (slice_index values.now i % 7) }
 {
     let replies = single_replies(alloc, moves)?;
     let (board, seat) = Board::<V>::new(alloc, replies.as_slice(), -1, 101, true)?;
