@@ -1,10 +1,9 @@
-use Rattle.std.proofs.Common.{rules, ◌≡◌, ◌-◌, ◌≤◌, ℕ, subst, arith}
+use Rattle.std.proofs.Common.{rules, ◌-◌, ℕ, subst, arith}
 use Rattle.board.specs.Boards.{kept}
-use Rattle.board.specs.Books.{seen, joined}
+use Rattle.board.specs.Books.{seen}
 use Rattle.board.specs.Windows.{Answers, IsNarrower}
 use Rattle.board.specs.Seats.{book, setup_on, task_own}
-use Rattle.board.specs.declared.book.Book.{Book}
-use Rattle.board.proofs.Nested.{joined_narrower, still_held, inner_serve}
+use Rattle.board.proofs.Nested.{still_held, inner_serve}
 use Rattle.board.proofs.nested_tests.answer.Goals as goal
 
 pub report-requires-clause-task : goal.report-requires-clause-task

@@ -1,4 +1,4 @@
-use Rattle.std.proofs.Common.{rules, ◌≡◌, ◌+◌, ◌-◌, ◌≤◌, min, max, ap, ◌∙◌, arith}
+use Rattle.std.proofs.Common.{rules, ◌≡◌, ◌+◌, ◌-◌, min, max, ap, ◌∙◌, arith}
 use Rattle.board.specs.Boards.{kept}
 use Rattle.board.specs.Books.{seen}
 use Rattle.board.specs.Windows.{IsWithin}
