@@ -1,5 +1,8 @@
 -- The walk to the first item that fails a test.
-use Rattle.std.proofs.Common.{ℕ, suc, ◌+◌, ◌<◌, ◌≤◌, ◌≡◌, Bool, true, false, cond, List, [], ◌∷◌, Option, Some, None, length, drop, get_or, refl, sym, ap, ◌∙◌, arith}
+use Rattle.std.specs.Prelude.{All}
+use Rattle.std.proofs.Common.{ℕ, suc, ◌+◌, ◌<◌, ◌≤◌, ◌≡◌, Bool, true, false, cond, List, [], ◌∷◌, Option, Some, None, length, drop, get_or, refl, sym, ap, ◌∙◌, subst, arith}
+use Rattle.std.proofs.lemmas.List.{length-map, get_or-map}
+use Rattle.std.proofs.lemmas.List.Elements.{All-get_or}
 use Rattle.kif.specs.Tree.{Tree}
 use Rattle.kif.specs.View.{tree_of, trees_in}
 use Rattle.kif.specs.declared.expr.Expr.{Expr}
@@ -30,3 +33,9 @@ found_later fault fails es i e b h same f =
 pub found_nowhere : {A : Type 0} (fault : ℕ → Fault) (fails : Tree → Bool) (es : List (Expr A)) (i : ℕ) → IsBehind fault fails es i → length es ≤ i
     → first_failing fault fails 1 (trees_in es) ≡ None
 found_nowhere fault fails es i b h = b ∙ ap (first_failing fault fails (i + 1)) (no_parts es i h)
+
+-- what holds of each item holds of the one at i
+pub held_at : {A : Type 0} (P : Tree → Type 0) (es : List (Expr A)) (i : ℕ) (e : Expr A) → All P (trees_in es) → i < length es → e ≡ get_or es i e → P (tree_of e)
+held_at {A} P es i e h lt same =
+    let size = length-map es (tree_of {A = A}) in
+    subst P (get_or-map (tree_of {A = A}) es i e (tree_of e) lt ∙ ap (tree_of {A = A}) (sym same)) (All-get_or P (trees_in es) i (tree_of e) (omega arith) h)
