@@ -4,6 +4,7 @@ ghost use Rattle.kif.specs.Tree.{Tree};
 ghost use Rattle.rules.specs.Clause.{Alternative, Relation, relation_of};
 ghost use Rattle.rules.specs.Dependence.{Depends, DependsDirectly, IsAcyclic, IsAmong, IsFixed, has_edge, dependences, is_fixed};
 ghost use Rattle.rules.specs.Items.{alternatives};
+ghost use Rattle.rules.specs.Lawful.{IsLawful};
 ghost use Rattle.rules.specs.Order.{rank, relations_in_order};
 ghost use Rattle.rules.specs.Safety.{is_safe};
 ghost use Rattle.rules.specs.Profile.{HasNoFault};
@@ -33,4 +34,11 @@ pub fn acyclic_sets_are_ranked()
         → (p q : Relation) → DependsDirectly rules p q → rank rules q < rank rules p }
     ensures listed { (rules : List Alternative) (rule : Alternative) → IsAmong rule rules
         → IsAmong (relation_of rule.head) (relations_in_order rules) }
+{}
+
+/// A list of items has no fault exactly where it is a lawful description: each item has its form and
+/// places, the limits are kept, each alternative is safe, nothing depends on itself, the dependences
+/// of heads are allowed, and there is a role.
+pub fn lawful_items_have_no_fault()
+    ensures { (items : List Tree) → HasNoFault items ↔ IsLawful items }
 {}
