@@ -184,7 +184,7 @@ safety_found rule s = names_found (variables_in rule.head.terms ++ needed rule.b
 
 -- Limits.
 
-limits_said : (n : ℕ) (before : List Tree) (t : Tree) → limit_passed n before t ≡ None → (n ≡ 4097 → ⊥) × KeepsLimits t × (length (with_new before (role_in t)) ≤ 8)
+pub limits_said : (n : ℕ) (before : List Tree) (t : Tree) → limit_passed n before t ≡ None → (n ≡ 4097 → ⊥) × KeepsLimits t × (length (with_new before (role_in t)) ≤ 8)
 limits_said n before t h = go (n == 4097) (nat_lt 32 (count_different (variables t))) (nat_lt 64 (length (item_alternatives t))) (nat_lt 8 (length (with_new before (role_in t)))) refl refl refl refl h
   where
     go : (a b c d : Bool) → (n == 4097) ≡ a → nat_lt 32 (count_different (variables t)) ≡ b → nat_lt 64 (length (item_alternatives t)) ≡ c → nat_lt 8 (length (with_new before (role_in t))) ≡ d
@@ -203,7 +203,7 @@ limits_said n before t h = go (n == 4097) (nat_lt 32 (count_different (variables
         low : (m k : ℕ) → nat_lt m k ≡ false → k ≤ m
         low m k h = grind (arith, nat_tests)
 
-limits_found : (n : ℕ) (before : List Tree) (t : Tree) → (n ≡ 4097 → ⊥) → KeepsLimits t → length (with_new before (role_in t)) ≤ 8 → limit_passed n before t ≡ None
+pub limits_found : (n : ℕ) (before : List Tree) (t : Tree) → (n ≡ 4097 → ⊥) → KeepsLimits t → length (with_new before (role_in t)) ≤ 8 → limit_passed n before t ≡ None
 limits_found n before t d k l =
     rw (differs (n == 4097) refl, within 32 (count_different (variables t)) k.variables, within 64 (length (item_alternatives t)) k.alternatives, within 8 (length (with_new before (role_in t))) l) refl
   where
@@ -232,7 +232,7 @@ pub record KeepLimits (n : ℕ) (before ts : List Tree) : Type 0 where
   pub each : (t : Tree) → IsAmong t ts → KeepsLimits t
   pub few_roles : length (roles_from before ts) ≤ 8
 
-none_too_many : (n : ℕ) (o : Option Limit) (rest : Option Fault) → or_else (too_many_at n o) rest ≡ None → (o ≡ None) × (rest ≡ None)
+pub none_too_many : (n : ℕ) (o : Option Limit) (rest : Option Fault) → or_else (too_many_at n o) rest ≡ None → (o ≡ None) × (rest ≡ None)
 none_too_many n None rest h = (refl, h)
 none_too_many n (Some l) rest h = absurd cc
 
@@ -358,7 +358,7 @@ rests_never rules p r none q d = ((λ e. none (zero, subst (λ (x : Relation). D
 
 -- The whole.
 
-all_pass : (fault : ℕ → Fault) (fails : Tree → Bool) (n : ℕ) (items : List Tree) → ((t : Tree) → IsAmong t items → fails t ≡ false) → first_failing fault fails n items ≡ None
+pub all_pass : (fault : ℕ → Fault) (fails : Tree → Bool) (n : ℕ) (items : List Tree) → ((t : Tree) → IsAmong t items → fails t ≡ false) → first_failing fault fails n items ≡ None
 all_pass fault fails n [] h = refl
 all_pass fault fails n (t ∷ ts) h = rw (h t (inl refl)) (all_pass fault fails (suc n) ts (λ u a. h u (inr a)))
 
@@ -370,10 +370,10 @@ then_false : (a b : Bool) → (a && b) ≡ false → a ≡ true → b ≡ false
 then_false true b h e = h
 then_false false b h e = absurd cc
 
-word_is : (w : List ℕ) (n : ℕ) (p : Relation) → is_word w n p ≡ true → p ≡ relation w n
+pub word_is : (w : List ℕ) (n : ℕ) (p : Relation) → is_word w n p ≡ true → p ≡ relation w n
 word_is w n p h = let k = both (name_eq p.word w) (p.arity == n) h in let e = name_eq_yes p.word w k.0 in let f = eqb-true p.arity n k.1 in λ i. record { word = e i; arity = f i }
 
-is_the_word : (w : List ℕ) (n : ℕ) (p : Relation) → p ≡ relation w n → is_word w n p ≡ true
+pub is_the_word : (w : List ℕ) (n : ℕ) (p : Relation) → p ≡ relation w n → is_word w n p ≡ true
 is_the_word w n p e = subst (λ (q : Relation). is_word w n q ≡ true) (sym e) (true_and (name_eq w w) (n == n) (name_eq_self w) (eq-eqb n n refl))
 
 -- the relations that may not rest on moves, and those that rest on fixed relations alone
@@ -462,12 +462,12 @@ acyclic_found items acyclic t a =
     (λ e. acyclic (relation_of (item_head t)) (zero, subst (λ (x : Relation). DependsDirectly (alternatives items) (relation_of (item_head t)) x) e d))
     (λ c. acyclic (relation_of (item_head t)) (suc c.0, (q, d, c.1))))
 
-safe_each : (rs : List Alternative) → are_safe rs ≡ true → (rule : Alternative) → IsAmong rule rs → is_safe rule ≡ true
+pub safe_each : (rs : List Alternative) → are_safe rs ≡ true → (rule : Alternative) → IsAmong rule rs → is_safe rule ≡ true
 safe_each [] h rule a = absurd a
 safe_each (r ∷ rs) h rule (inl e) = ap is_safe e ∙ (both (is_safe r) (are_safe rs) h).0
 safe_each (r ∷ rs) h rule (inr a) = safe_each rs (both (is_safe r) (are_safe rs) h).1 rule a
 
-each_safe : (rs : List Alternative) → ((rule : Alternative) → IsAmong rule rs → is_safe rule ≡ true) → are_safe rs ≡ true
+pub each_safe : (rs : List Alternative) → ((rule : Alternative) → IsAmong rule rs → is_safe rule ≡ true) → are_safe rs ≡ true
 each_safe [] h = refl
 each_safe (r ∷ rs) h = true_and (is_safe r) (are_safe rs) (h r (inl refl)) (each_safe rs (λ rule a. h rule (inr a)))
 

@@ -63,3 +63,52 @@ RestsBadly rules t =
 
 abbrev pub Each : (Tree → Type 0) → List Tree → Type 0
 Each P items = (t : Tree) → IsAmong t items → P t
+
+-- the limits of the whole list and of each item
+pub record AllKeepLimits (items : List Tree) : Type 0 where
+  pub few_items : length items ≤ 4096
+  pub each : Each KeepsLimits items
+  pub few_roles : length (roles items) ≤ 8
+
+-- item n passes the limit, where the roles up to it are these
+abbrev pub PassesWith : List Tree → ℕ → Tree → Limit → Type 0
+PassesWith rs n t rules_limit = n ≡ 4097
+PassesWith rs n t variables_limit = 32 < count_different (variables t)
+PassesWith rs n t alternatives_limit = 64 < length (item_alternatives t)
+PassesWith rs n t roles_limit = 8 < length rs
+
+-- the same, by the roles of the items up to it
+abbrev pub Passes : List Tree → ℕ → Tree → Limit → Type 0
+Passes items n t l = PassesWith (roles (take n items)) n t l
+
+abbrev pub limit_place : Limit → ℕ
+limit_place rules_limit = 0
+limit_place variables_limit = 1
+limit_place alternatives_limit = 2
+limit_place roles_limit = 3
+
+-- item n is the first that passes a limit, and this is the first that it passes
+pub record IsFirstOver (items : List Tree) (n : ℕ) (l : Limit) : Type 0 where
+  pub place : ℕ
+  pub number : n ≡ suc place
+  pub item : Tree
+  pub here : StandsAt items place item
+  pub passes : Passes items n item l
+  pub sooner : (m : Limit) → limit_place m < limit_place l → Passes items n item m → ⊥
+  pub before : (k : ℕ) (t : Tree) (m : Limit) → k < place → StandsAt items k t → Passes items (suc k) t m → ⊥
+
+-- the fault, with no earlier one
+abbrev pub HasFault : List Tree → Fault → Type 0
+HasFault items (bad_form n) = IsFirst (λ t. HasForm t → ⊥) items n
+HasFault items (bad_keyword n) = Each HasForm items × IsFirst (λ t. UsesWordsWell t → ⊥) items n
+HasFault items (too_many n l) = Each HasForm items × Each UsesWordsWell items × IsFirstOver items n l
+HasFault items (not_safe n) = Each HasForm items × Each UsesWordsWell items × AllKeepLimits items × IsFirst (λ t. IsSafeItem t → ⊥) items n
+HasFault items (recursive n) =
+    Each HasForm items × Each UsesWordsWell items × AllKeepLimits items × Each IsSafeItem items
+    × IsFirst (RestsOnItself (alternatives items)) items n
+HasFault items (bad_dependence n) =
+    Each HasForm items × Each UsesWordsWell items × AllKeepLimits items × Each IsSafeItem items
+    × IsAcyclic (alternatives items) × IsFirst (RestsBadly (alternatives items)) items n
+HasFault items no_role =
+    Each HasForm items × Each UsesWordsWell items × AllKeepLimits items × Each IsSafeItem items
+    × IsAcyclic (alternatives items) × RestsWell (alternatives items) × (roles items ≡ [])
