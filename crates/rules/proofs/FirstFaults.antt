@@ -15,7 +15,7 @@ use Rattle.rules.proofs.Equality.{relation_eq_yes, relation_eq_self}
 use Rattle.rules.proofs.Tests.{or_cases, or_left, or_right, not_true, not_false}
 use Rattle.rules.proofs.Accepted.{none_fails, not_not, fixed_tested, body_found, straight_acyclic}
 use Rattle.rules.proofs.Closure.{table_sound, table_complete}
-use Rattle.rules.proofs.Lawfulness.{words_said, words_found, safety_said, safety_found, safe_each, each_safe, some_body_said, word_is, is_the_word, all_pass, rests_said, limits_said, limits_found}
+use Rattle.rules.proofs.Lawfulness.{words_said, words_found, safety_said, safety_found, safe_each, each_safe, some_body_said, word_is, is_the_word, all_pass, rests_said, rests_found, limits_said, limits_found, many_said, many_found, acyclic_found}
 
 -- The first item that fails a test.
 
@@ -69,15 +69,18 @@ first_found fault fails n (u ∷ us) (suc k) t s f b =
 named_said : (fault : ℕ → Fault) (fails : Tree → Bool) (P : Tree → Type 0) (items : List Tree) (f : Fault) → ((t : Tree) → fails t ≡ true → P t) → ((t : Tree) → fails t ≡ false → P t → ⊥)
     → first_failing fault fails 1 items ≡ Some f → (n : ℕ) × (f ≡ fault n) × IsFirst P items n
 named_said fault fails P items f holds never h =
-    let r = first_said fault fails 1 items f h in
-    (1 + r.place, r.fault_is, record {
-      place = r.place;
-      number = (let z : 1 + r.place ≡ suc r.place = omega arith in z);
-      item = r.item;
-      here = r.here;
-      has = holds r.item r.failing;
-      before = λ k t lt s p. never t (r.before k t lt s) p;
-    })
+    let r = first_said fault fails 1 items f h in (
+      1 + r.place,
+      r.fault_is,
+      record {
+        place = r.place;
+        number = (let z : 1 + r.place ≡ suc r.place = omega arith in z);
+        item = r.item;
+        here = r.here;
+        has = holds r.item r.failing;
+        before = λ k t lt s p. never t (r.before k t lt s) p;
+      },
+    )
 
 named_found : (fault : ℕ → Fault) (fails : Tree → Bool) (P : Tree → Type 0) (items : List Tree) (n : ℕ) → ((t : Tree) → P t → fails t ≡ true) → ((t : Tree) → (P t → ⊥) → fails t ≡ false)
     → IsFirst P items n → first_failing fault fails 1 items ≡ Some (fault n)
@@ -371,3 +374,197 @@ over_found n rs (u ∷ us) (suc k) t l s p b =
   where
     shift : (i : ℕ) → suc n + i ≡ n + suc i
     shift i = omega arith
+
+-- The law.
+
+or_some : (a b : Option Fault) (f : Fault) → or_else a b ≡ Some f → (a ≡ Some f) ⊎ ((a ≡ None) × (b ≡ Some f))
+or_some None b f h = inr (refl, h)
+or_some (Some g) b f h = inl h
+
+abbrev after_words : List Tree → Option Fault
+after_words items =
+    or_else (first_too_many 1 [] items)
+    (or_else (first_failing not_safe is_unsafe 1 items)
+    (or_else (first_failing recursive (is_recursive (dependences (alternatives items))) 1 items)
+    (or_else (first_failing bad_dependence (depends_badly (dependences (alternatives items)) (alternatives items)) 1 items)
+    (none_of (roles items)))))
+
+forms_each : (items : List Tree) → first_failing bad_form (λ (t : Tree). not (is_item t)) 1 items ≡ None → Each HasForm items
+forms_each items h t a = not_not _ (none_fails bad_form (λ (u : Tree). not (is_item u)) 1 items h t a)
+
+words_each : (items : List Tree) → first_failing bad_keyword misuses_word 1 items ≡ None → Each UsesWordsWell items
+words_each items h t a = words_said t (none_fails bad_keyword misuses_word 1 items h t a)
+
+limits_all : (items : List Tree) → first_too_many 1 [] items ≡ None → AllKeepLimits items
+limits_all items h =
+    let k = many_said 1 [] items (omega arith) (omega arith) h in
+    let few = k.few in
+    record { few_items = omega arith; each = k.each; few_roles = k.few_roles }
+
+safe_all : (items : List Tree) → first_failing not_safe is_unsafe 1 items ≡ None → Each IsSafeItem items
+safe_all items h t a = safe_item t (none_fails not_safe is_unsafe 1 items h t a)
+
+over_law : (items : List Tree) (f : Fault) → first_too_many 1 [] items ≡ Some f → (n : ℕ) × (l : Limit) × (f ≡ too_many n l) × IsFirstOver items n l
+over_law items f h =
+    let r = over_said 1 [] items f h in
+    let shift : (k : ℕ) → 1 + k ≡ suc k = λ k. omega arith in (
+      1 + r.place,
+      r.limit,
+      r.fault_is,
+      record {
+        place = r.place;
+        number = shift r.place;
+        item = r.item;
+        here = r.here;
+        passes = subst (λ (m : ℕ). PassesWith (roles (take m items)) (1 + r.place) r.item r.limit) (sym (shift r.place)) r.passes.passes;
+        sooner = λ m lt p. r.passes.sooner m lt (subst (λ (k : ℕ). PassesWith (roles (take k items)) (1 + r.place) r.item m) (shift r.place) p);
+        before = λ k t m lt s p. r.before k t m lt s (subst (λ (j : ℕ). PassesWith (roles (take (suc k) items)) j t m) (sym (shift k)) p);
+      },
+    )
+
+law_over : (items : List Tree) (n : ℕ) (l : Limit) → IsFirstOver items n l → first_too_many 1 [] items ≡ Some (too_many n l)
+law_over items n l i =
+    let shift : (k : ℕ) → 1 + k ≡ suc k = λ k. omega arith in
+    let number : n ≡ 1 + i.place = i.number ∙ sym (shift i.place) in
+    over_found 1 [] items i.place i.item l i.here
+    (record {
+      passes = subst (λ (m : ℕ). PassesWith (roles (take (suc i.place) items)) m i.item l) number (subst (λ (m : ℕ). PassesWith (roles (take m items)) n i.item l) i.number i.passes);
+      sooner = λ m lt p. i.sooner m lt (subst (λ (k : ℕ). PassesWith (roles (take k items)) n i.item m) (sym i.number) (subst (λ (k : ℕ). PassesWith (roles (take (suc i.place) items)) k i.item m) (sym number) p));
+    })
+    (λ j u m lt s p. i.before j u m lt s (subst (λ (k : ℕ). PassesWith (roles (take (suc j) items)) k u m) (shift j) p))
+    ∙ ap (λ (m : ℕ). Some (too_many m l)) (sym number)
+
+last_said : (rs : List Tree) (f : Fault) → none_of rs ≡ Some f → (f ≡ no_role) × (rs ≡ [])
+last_said [] f h = ((let s : f ≡ no_role = cc in s), refl)
+last_said (r ∷ rs) f h = absurd cc
+
+pub fault_said : (items : List Tree) (f : Fault) → fault_in items ≡ Some f → HasFault items f
+fault_said items f e = forms (or_some (first_failing bad_form (λ (t : Tree). not (is_item t)) 1 items) (or_else (first_failing bad_keyword misuses_word 1 items) (after_words items)) f e)
+  where
+    forms : (first_failing bad_form (λ (t : Tree). not (is_item t)) 1 items ≡ Some f) ⊎ ((first_failing bad_form (λ (t : Tree). not (is_item t)) 1 items ≡ None)
+        × (or_else (first_failing bad_keyword misuses_word 1 items) (after_words items) ≡ Some f)) → HasFault items f
+    forms (inl h) =
+        let r = named_said bad_form (λ (t : Tree). not (is_item t)) (λ (t : Tree). HasForm t → ⊥) items f form_yes form_never h in
+        subst (HasFault items) (sym r.1) r.2
+    forms (inr h) = places (or_some (first_failing bad_keyword misuses_word 1 items) (after_words items) f h.1) (forms_each items h.0)
+      where
+        places : (first_failing bad_keyword misuses_word 1 items ≡ Some f) ⊎ ((first_failing bad_keyword misuses_word 1 items ≡ None) × (after_words items ≡ Some f)) → Each HasForm items → HasFault items f
+        places (inl h') have =
+            let r = named_said bad_keyword misuses_word (λ (t : Tree). UsesWordsWell t → ⊥) items f words_yes (λ t m d. d (words_said t m)) h' in
+            subst (HasFault items) (sym r.1) (have, r.2)
+        places (inr h') have = many (or_some (first_too_many 1 [] items) _ f h'.1) (words_each items h'.0)
+          where
+            many : (first_too_many 1 [] items ≡ Some f) ⊎ ((first_too_many 1 [] items ≡ None)
+                × (or_else (first_failing not_safe is_unsafe 1 items)
+                (or_else (first_failing recursive (is_recursive (dependences (alternatives items))) 1 items)
+                (or_else (first_failing bad_dependence (depends_badly (dependences (alternatives items)) (alternatives items)) 1 items)
+                (none_of (roles items)))) ≡ Some f)) → Each UsesWordsWell items → HasFault items f
+            many (inl k) placed = let r = over_law items f k in subst (HasFault items) (sym r.2) (have, placed, r.3)
+            many (inr k) placed = risks (or_some (first_failing not_safe is_unsafe 1 items) _ f k.1) (limits_all items k.0)
+              where
+                risks : (first_failing not_safe is_unsafe 1 items ≡ Some f) ⊎ ((first_failing not_safe is_unsafe 1 items ≡ None)
+                    × (or_else (first_failing recursive (is_recursive (dependences (alternatives items))) 1 items)
+                    (or_else (first_failing bad_dependence (depends_badly (dependences (alternatives items)) (alternatives items)) 1 items)
+                    (none_of (roles items))) ≡ Some f)) → AllKeepLimits items → HasFault items f
+                risks (inl x) keep =
+                    let r = named_said not_safe is_unsafe (λ (t : Tree). IsSafeItem t → ⊥) items f unsafe_yes (λ t m d. d (safe_item t m)) x in
+                    subst (HasFault items) (sym r.1) (have, placed, keep, r.2)
+                risks (inr x) keep = cycles (or_some (first_failing recursive (is_recursive (dependences (alternatives items))) 1 items) _ f x.1) (safe_all items x.0)
+                  where
+                    cycles : (first_failing recursive (is_recursive (dependences (alternatives items))) 1 items ≡ Some f)
+                        ⊎ ((first_failing recursive (is_recursive (dependences (alternatives items))) 1 items ≡ None)
+                        × (or_else (first_failing bad_dependence (depends_badly (dependences (alternatives items)) (alternatives items)) 1 items) (none_of (roles items)) ≡ Some f))
+                        → Each IsSafeItem items → HasFault items f
+                    cycles (inl y) safe =
+                        let r = named_said recursive (is_recursive (dependences (alternatives items))) (RestsOnItself (alternatives items)) items f (itself_yes (alternatives items))
+                        (λ t m d. let back = itself_back (alternatives items) t d in absurd cc) y in
+                        subst (HasFault items) (sym r.1) (have, placed, keep, safe, r.2)
+                    cycles (inr y) safe =
+                        badly (or_some (first_failing bad_dependence (depends_badly (dependences (alternatives items)) (alternatives items)) 1 items) (none_of (roles items)) f y.1) (straight_acyclic items y.0)
+                      where
+                        badly : (first_failing bad_dependence (depends_badly (dependences (alternatives items)) (alternatives items)) 1 items ≡ Some f)
+                            ⊎ ((first_failing bad_dependence (depends_badly (dependences (alternatives items)) (alternatives items)) 1 items ≡ None) × (none_of (roles items) ≡ Some f))
+                            → IsAcyclic (alternatives items) → HasFault items f
+                        badly (inl z) acyclic =
+                            let r = named_said bad_dependence (depends_badly (dependences (alternatives items)) (alternatives items)) (RestsBadly (alternatives items)) items f (badly_yes (alternatives items) acyclic)
+                            (λ t m d. let back = badly_back (alternatives items) acyclic t d in absurd cc) z in
+                            subst (HasFault items) (sym r.1) (have, placed, keep, safe, acyclic, r.2)
+                        badly (inr z) acyclic =
+                            let r = last_said (roles items) f z.1 in
+                            subst (HasFault items) (sym r.0) (
+                              have,
+                              placed,
+                              keep,
+                              safe,
+                              acyclic,
+                              rests_said items acyclic (none_fails bad_dependence (depends_badly (dependences (alternatives items)) (alternatives items)) 1 items z.0),
+                              r.1,
+                            )
+
+forms_none : (items : List Tree) → Each HasForm items → first_failing bad_form (λ (t : Tree). not (is_item t)) 1 items ≡ None
+forms_none items h = all_pass bad_form (λ (t : Tree). not (is_item t)) 1 items (λ t a. ap not (h t a))
+
+words_none : (items : List Tree) → Each UsesWordsWell items → first_failing bad_keyword misuses_word 1 items ≡ None
+words_none items h = all_pass bad_keyword misuses_word 1 items (λ t a. words_found t (h t a))
+
+limits_none : (items : List Tree) → AllKeepLimits items → first_too_many 1 [] items ≡ None
+limits_none items k = let few = k.few_items in many_found 1 [] items (record { few = omega arith; each = k.each; few_roles = k.few_roles })
+
+safe_none : (items : List Tree) → Each IsSafeItem items → first_failing not_safe is_unsafe 1 items ≡ None
+safe_none items h = all_pass not_safe is_unsafe 1 items (λ t a. item_safe t (h t a))
+
+straight_none : (items : List Tree) → IsAcyclic (alternatives items) → first_failing recursive (is_recursive (dependences (alternatives items))) 1 items ≡ None
+straight_none items h = all_pass recursive (is_recursive (dependences (alternatives items))) 1 items (acyclic_found items h)
+
+-- a test that a property does not hold
+false_of : (b : Bool) (Q : Type 0) → (b ≡ true → Q) → (Q → ⊥) → b ≡ false
+false_of true Q h d = absurd (d (h refl))
+false_of false Q h d = refl
+
+pub fault_found : (items : List Tree) (f : Fault) → HasFault items f → fault_in items ≡ Some f
+fault_found items (bad_form n) h =
+    rw (named_found bad_form (λ (t : Tree). not (is_item t)) (λ (t : Tree). HasForm t → ⊥) items n (λ t d. decided_no (not (is_item t)) (HasForm t) (λ e. not_not _ e) d)
+    (λ t d. false_of (not (is_item t)) (HasForm t → ⊥) (form_yes t) d) h) refl
+fault_found items (bad_keyword n) h =
+    rw (
+      forms_none items h.0,
+      named_found bad_keyword misuses_word (λ (t : Tree). UsesWordsWell t → ⊥) items n (λ t d. decided_no (misuses_word t) (UsesWordsWell t) (words_said t) d)
+          (λ t d. false_of (misuses_word t) (UsesWordsWell t → ⊥) (words_yes t) d) h.1,
+    ) refl
+fault_found items (too_many n l) h = rw (forms_none items h.0, words_none items h.1, law_over items n l h.2) refl
+fault_found items (not_safe n) h =
+    rw (
+      forms_none items h.0,
+      words_none items h.1,
+      limits_none items h.2,
+      named_found not_safe is_unsafe (λ (t : Tree). IsSafeItem t → ⊥) items n (λ t d. decided_no (is_unsafe t) (IsSafeItem t) (safe_item t) d) (λ t d. false_of (is_unsafe t) (IsSafeItem t → ⊥) (unsafe_yes t) d) h.3,
+    ) refl
+fault_found items (recursive n) h =
+    rw (
+      forms_none items h.0,
+      words_none items h.1,
+      limits_none items h.2,
+      safe_none items h.3,
+      named_found recursive (is_recursive (dependences (alternatives items))) (RestsOnItself (alternatives items)) items n (itself_back (alternatives items))
+          (λ t d. false_of (is_recursive (dependences (alternatives items)) t) (RestsOnItself (alternatives items) t) (itself_yes (alternatives items) t) d) h.4,
+    ) refl
+fault_found items (bad_dependence n) h =
+    rw (
+      forms_none items h.0,
+      words_none items h.1,
+      limits_none items h.2,
+      safe_none items h.3,
+      straight_none items h.4,
+      named_found bad_dependence (depends_badly (dependences (alternatives items)) (alternatives items)) (RestsBadly (alternatives items)) items n (badly_back (alternatives items) h.4)
+          (λ t d. false_of (depends_badly (dependences (alternatives items)) (alternatives items) t) (RestsBadly (alternatives items) t) (badly_yes (alternatives items) h.4 t) d) h.5,
+    ) refl
+fault_found items no_role h =
+    rw (
+      forms_none items h.0,
+      words_none items h.1,
+      limits_none items h.2,
+      safe_none items h.3,
+      straight_none items h.4,
+      all_pass bad_dependence (depends_badly (dependences (alternatives items)) (alternatives items)) 1 items (rests_found items h.4 h.5),
+      h.6,
+    ) refl

@@ -1,5 +1,5 @@
 // The laws of the definitions.
-ghost use Rattle.std.specs.Prelude.{◌≡◌, ◌<◌, ◌↔◌, List, true};
+ghost use Rattle.std.specs.Prelude.{◌≡◌, ◌<◌, ◌↔◌, List, Some, true};
 ghost use Rattle.kif.specs.Tree.{Tree};
 ghost use Rattle.rules.specs.Clause.{Alternative, Relation, relation_of};
 ghost use Rattle.rules.specs.Dependence.{Depends, DependsDirectly, IsAcyclic, IsAmong, IsFixed, has_edge, dependences, is_fixed};
@@ -7,7 +7,8 @@ ghost use Rattle.rules.specs.Items.{alternatives};
 ghost use Rattle.rules.specs.Lawful.{IsLawful};
 ghost use Rattle.rules.specs.Order.{rank, relations_in_order};
 ghost use Rattle.rules.specs.Safety.{is_safe};
-ghost use Rattle.rules.specs.Profile.{HasNoFault};
+ghost use Rattle.rules.specs.Faults.{HasFault};
+ghost use Rattle.rules.specs.Profile.{Fault, HasNoFault, fault_in};
 
 /// What rests on something that rests on a third rests on that third.
 pub fn dependence_is_transitive()
@@ -41,4 +42,10 @@ pub fn acyclic_sets_are_ranked()
 /// of heads are allowed, and there is a role.
 pub fn lawful_items_have_no_fault()
     ensures { (items : List Tree) → HasNoFault items ↔ IsLawful items }
+{}
+
+/// The fault of a list of items is the one that its definition names: the first item that has it,
+/// where no item has an earlier kind of fault.
+pub fn the_fault_is_the_first()
+    ensures { (items : List Tree) (f : Fault) → (fault_in items ≡ Some f) ↔ HasFault items f }
 {}
