@@ -1,5 +1,5 @@
 -- Directed graphs: nodes are the numbers below some number, and arrows lead from node to node.
-use Rattle.std.specs.Prelude.{ℕ, zero, suc, ◌-◌, ◌<◌, ◌≤◌, ◌≡◌, ◌≢◌, List, length, slice_index, slice_index_or}
+use Rattle.std.specs.Prelude.{ℕ, zero, suc, ◌-◌, ◌<◌, ◌≤◌, ◌≡◌, ◌≢◌, ◌⊎◌, ◌↔◌, Bool, true, false, List, length, slice_index, slice_index_or, Contains}
 use Rattle.rules.specs.declared.graph.Arrow.{Arrow}
 
 abbrev pub arrow_at : List Arrow → ℕ → Arrow
@@ -34,3 +34,14 @@ pub record AreLinked (arrows : List Arrow) (ends before : List ℕ) : Type 0 whe
   pub before_own : (i : ℕ) → i < length arrows → 0 < slice_index before i
       → (arrow_at arrows (slice_index before i - 1)).from ≡ (arrow_at arrows i).from
   pub before_gap : (i k : ℕ) → i < length arrows → slice_index before i ≤ k → k < i → (arrow_at arrows k).from ≢ (arrow_at arrows i).from
+
+-- p is one of the starts, or some start reaches it
+pub record IsReachedFrom (arrows : List Arrow) (starts : List ℕ) (p : ℕ) : Type 0 where
+  pub start : ℕ
+  pub is_start : Contains starts start
+  pub leads : (start ≡ p) ⊎ Reaches arrows start p
+
+-- the marks of n nodes say which are reached from the starts
+pub record AreMarks (arrows : List Arrow) (starts : List ℕ) (n : ℕ) (marks : List Bool) : Type 0 where
+  pub length_is : length marks ≡ n
+  pub exact : (p : ℕ) → p < n → (slice_index_or marks p false ≡ true) ↔ IsReachedFrom arrows starts p

@@ -1,7 +1,7 @@
 //! Directed graphs over numbers.
 
-ghost use Rattle.std.specs.Prelude.{ℕ, ◌≡◌, ◌<◌, [], ◌∷◌, ◌++◌, length, replicate, vec_len, IfOk, OnOk, OnErr};
-ghost use Rattle.rules.specs.Graph.{AreLinked};
+ghost use Rattle.std.specs.Prelude.{ℕ, ◌≡◌, ◌<◌, [], ◌∷◌, ◌++◌, length, replicate, vec_len, IfOk, OnOk, OnErr, All, slice_set, slice_index_or, false, true, if◌then◌else◌};
+ghost use Rattle.rules.specs.Graph.{AreLinked, AreMarks};
 
 use std::alloc::{AllocError, Global};
 
@@ -49,4 +49,42 @@ impl Graph {
         self.ends[from] = self.arrows.len();
         Ok(())
     }
+
+    /// Marks the nodes that are among the starts or are reached from one.
+    pub fn reached(&self, alloc: Global, starts: &[usize]) -> Result<Vec<bool>, AllocError>
+        requires { All (λ start. start < vec_len self.now.ends) starts.now }
+        ensures { IfOk result (λ marks. AreMarks self.now.arrows.items starts.now (vec_len self.now.ends) marks.items) }
+    {
+        let mut marks = vec![in alloc; false; self.ends.len()]?;
+        let mut ends = self.ends.clone()?;
+        let mut pending: Vec<usize> = Vec::new(alloc);
+        for start in starts {
+            mark(&mut marks, &mut pending, *start)?;
+        }
+        while !pending.is_empty() {
+            let node = pending[pending.len() - 1];
+            let end = ends[node];
+            if end == 0 {
+                let _ = pending.pop();
+                continue;
+            }
+            mark(&mut marks, &mut pending, self.arrows[end - 1].to)?;
+            ends[node] = self.before[end - 1];
+        }
+        Ok(marks)
+    }
+}
+
+/// Marks a node, and notes it behind the pending ones if it was not marked.
+fn mark(marks: &mut Vec<bool>, pending: &mut Vec<usize>, node: usize) -> Result<(), AllocError>
+    requires { node < vec_len marks.old }
+    ensures marked { OnOk result (marks.new.items ≡ slice_set marks.old.items node true) }
+    ensures noted { OnOk result (pending.new.items
+        ≡ (if slice_index_or marks.old.items node false then pending.old.items else pending.old.items ++ node ∷ [])) }
+{
+    if !marks[node] {
+        marks[node] = true;
+        pending.push(node)?;
+    }
+    Ok(())
 }
