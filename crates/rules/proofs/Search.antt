@@ -10,7 +10,7 @@ use Rattle.std.proofs.lemmas.List.Sums.{sum_by-set, get_or-le-sum_by}
 use Rattle.std.proofs.Math.ListN.{get_or-append}
 use Rattle.std.proofs.Math.Seq.{get_or-append_seam}
 use Rattle.rules.specs.declared.graph.Arrow.{Arrow}
-use Rattle.rules.specs.Graph.{arrow_at, Leads, ReachesIn, Reaches, AreLinked, IsReachedFrom, AreMarks}
+use Rattle.rules.specs.Graph.{arrow_at, Leads, ReachesIn, Reaches, AreLinked, IsReachedFrom, AreMarks, Stands}
 use Rattle.rules.proofs.GraphLemmas.{same_or, last_or}
 
 -- Chains of arrows.
@@ -29,10 +29,6 @@ reached_on arrows starts p q r l = record { start = r.start; is_start = r.is_sta
     go : (r.start ≡ p) ⊎ Reaches arrows r.start p → (r.start ≡ q) ⊎ Reaches arrows r.start q
     go (inl e) = inr (zero, subst (λ (x : ℕ). Leads arrows x q) (sym e) l)
     go (inr c) = inr (reaches_then arrows c.0 r.start p q c.1 l)
-
--- the number stands somewhere in the list
-abbrev pub Stands : List ℕ → ℕ → Type 0
-Stands xs p = (i : ℕ) × (i < length xs) × (get_or xs i 0 ≡ p)
 
 pub stands_more : (xs : List ℕ) (y p : ℕ) → Stands xs p → Stands (xs ++ y ∷ []) p
 stands_more xs y p s = (s.0, grind (arith, length-append, s.1), get_or-append xs (y ∷ []) 0 s.0 s.1 ∙ s.2)
@@ -122,7 +118,7 @@ marked arrows starts n m marks ends pending q q_in r s = record {
     sound p h (inl e) = subst (λ (x : ℕ). IsReachedFrom arrows starts x) (sym e) r
     sound p h (inr mark) = s.sound p h mark
 
-three : (k e : ℕ) → 0 < e → (k < e - 1) ⊎ ((k ≡ e - 1) ⊎ (e ≤ k))
+pub three : (k e : ℕ) → 0 < e → (k < e - 1) ⊎ ((k ≡ e - 1) ⊎ (e ≤ k))
 three k e h = grind arith
 
 pub marked_once : (arrows : List Arrow) (starts : List ℕ) (n m : ℕ) (marks : List Bool) (ends pending : List ℕ) (q : ℕ) → q < n → IsReachedFrom arrows starts q
@@ -370,10 +366,10 @@ looked_at arrows ends0 before starts m marks ends pending node end next target i
     (subst (λ (x : List ℕ). Searching arrows starts (length ends0) m (set marks target true) (set ends node next) x) (sym f)
     (subst (λ (x : ℕ). Searching arrows starts (length ends0) m (set marks target true) (set ends node x) (cond (get_or marks target false) pending (pending ++ target ∷ []))) next_is done))
 
-sum-set : (xs : List ℕ) (i y : ℕ) → i < length xs → sum_by (λ x. x) (set xs i y) + get_or xs i 0 ≡ sum_by (λ x. x) xs + y
+pub sum-set : (xs : List ℕ) (i y : ℕ) → i < length xs → sum_by (λ x. x) (set xs i y) + get_or xs i 0 ≡ sum_by (λ x. x) xs + y
 sum-set xs i y h = sum_by-set (λ (x : ℕ). x) xs i y 0 h
 
-weight-set : (marks : List Bool) (q : ℕ) → q < length marks → sum_by weight (set marks q true) + weight (get_or marks q false) ≡ sum_by weight marks
+pub weight-set : (marks : List Bool) (q : ℕ) → q < length marks → sum_by weight (set marks q true) + weight (get_or marks q false) ≡ sum_by weight marks
 weight-set marks q h = sum_by-set weight marks q true false h ∙ omega arith
 
 noted_work : (b : Bool) (pending : List ℕ) (q : ℕ) → length (cond b pending (pending ++ q ∷ [])) ≤ length pending + weight b

@@ -45,3 +45,18 @@ pub record IsReachedFrom (arrows : List Arrow) (starts : List ℕ) (p : ℕ) : T
 pub record AreMarks (arrows : List Arrow) (starts : List ℕ) (n : ℕ) (marks : List Bool) : Type 0 where
   pub length_is : length marks ≡ n
   pub exact : (p : ℕ) → p < n → (slice_index_or marks p false ≡ true) ↔ IsReachedFrom arrows starts p
+
+-- some node reaches itself
+abbrev pub IsCyclic : List Arrow → Type 0
+IsCyclic arrows = (p : ℕ) × Reaches arrows p p
+
+-- the number stands somewhere in the list
+abbrev pub Stands : List ℕ → ℕ → Type 0
+Stands xs p = (i : ℕ) × (i < length xs) × (slice_index xs i ≡ p)
+
+-- all nodes are listed, and each arrow leads back: from where a node stands to a node before it
+pub record IsOrder (arrows : List Arrow) (n : ℕ) (order : List ℕ) : Type 0 where
+  pub inside : (j : ℕ) → j < length order → slice_index order j < n
+  pub all : (p : ℕ) → p < n → Stands order p
+  pub back : (j k : ℕ) → j < length order → k < length arrows → (arrow_at arrows k).from ≡ slice_index order j
+      → (i : ℕ) × (i < j) × (slice_index order i ≡ (arrow_at arrows k).to)

@@ -76,7 +76,7 @@ impl Graph {
 }
 
 /// Marks a node, and notes it behind the pending ones if it was not marked.
-fn mark(marks: &mut Vec<bool>, pending: &mut Vec<usize>, node: usize) -> Result<(), AllocError>
+pub(crate) fn mark(marks: &mut Vec<bool>, pending: &mut Vec<usize>, node: usize) -> Result<(), AllocError>
     requires { node < vec_len marks.old }
     ensures marked { OnOk result (marks.new.items ≡ slice_set marks.old.items node true) }
     ensures noted { OnOk result (pending.new.items
