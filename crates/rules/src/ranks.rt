@@ -1,8 +1,9 @@
 //! An order of a graph's nodes in which each arrow leads back, and their ranks.
 
-ghost use Rattle.std.specs.Prelude.{ℕ, ◌≡◌, ◌<◌, ◌+◌, [], length, vec_len, IfOk, MatchOption, MatchBool};
+ghost use Rattle.std.specs.Prelude.{ℕ, ◌≡◌, ◌<◌, ◌+◌, ◌^◌, [], length, vec_len, IfOk, MatchOption, MatchBool, slice_index};
 ghost use Rattle.rules.specs.Graph.{IsCyclic, IsOrder};
 ghost use Rattle.rules.specs.Walk.{Walking};
+ghost use Rattle.rules.specs.Ranks.{IsRank, AreRanks};
 
 use crate::graph::{Graph, mark};
 use std::alloc::{AllocError, Global};
@@ -73,4 +74,39 @@ pub fn order_of(graph: &Graph, alloc: Global) -> Result<Option<Vec<usize>>, Allo
         }
     }
     Ok(Some(walk.order))
+}
+
+/// The rank of a node above the ranks of what it leads to.
+fn rank_of(graph: &Graph, ranks: &[usize], node: usize, floor: usize) -> usize
+    requires node { node < vec_len graph.now.ends }
+    requires ranks { length ranks.now ≡ vec_len graph.now.ends }
+    requires small { (p : ℕ) → slice_index ranks.now p < 2 ^ 63 }
+    ensures { IsRank graph.now.arrows.items ranks.now floor node result }
+{
+    let mut rank = floor;
+    let mut end = graph.ends[node];
+    while end > 0 {
+        rank = rank.max(ranks[graph.arrows[end - 1].to] + 1);
+        end = graph.before[end - 1];
+    }
+    rank
+}
+
+/// The rank of each node: 0 if it rests on nothing, at least 1 if `rests` says that it rests on
+/// anything, and above the ranks of all that it leads to. The order is one in which arrows lead back.
+pub fn ranks_of(
+    graph: &Graph,
+    alloc: Global,
+    order: &[usize],
+    rests: &[bool],
+) -> Result<Vec<usize>, AllocError>
+    requires order { IsOrder graph.now.arrows.items (vec_len graph.now.ends) order.now }
+    requires rests { length rests.now ≡ vec_len graph.now.ends }
+    ensures { IfOk result (λ ranks. AreRanks graph.now.arrows.items rests.now ranks.items) }
+{
+    let mut ranks = vec![in alloc; 0; graph.ends.len()]?;
+    for node in order {
+        ranks[*node] = rank_of(graph, &ranks, *node, usize::from(rests[*node]));
+    }
+    Ok(ranks)
 }
