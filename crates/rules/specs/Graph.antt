@@ -60,3 +60,6 @@ pub record IsOrder (arrows : List Arrow) (n : ℕ) (order : List ℕ) : Type 0 w
   pub all : (p : ℕ) → p < n → Stands order p
   pub back : (j k : ℕ) → j < length order → k < length arrows → (arrow_at arrows k).from ≡ slice_index order j
       → (i : ℕ) × (i < j) × (slice_index order i ≡ (arrow_at arrows k).to)
+
+abbrev pub turned_arrow : Arrow → Arrow
+turned_arrow arrow = record { from = arrow.to; to = arrow.from }

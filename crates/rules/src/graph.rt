@@ -1,7 +1,7 @@
 //! Directed graphs over numbers.
 
-ghost use Rattle.std.specs.Prelude.{ℕ, ◌≡◌, ◌<◌, [], ◌∷◌, ◌++◌, length, replicate, vec_len, IfOk, OnOk, OnErr, All, slice_set, slice_index_or, false, true, if◌then◌else◌};
-ghost use Rattle.rules.specs.Graph.{AreLinked, AreMarks};
+ghost use Rattle.std.specs.Prelude.{ℕ, ◌≡◌, ◌<◌, map, [], ◌∷◌, ◌++◌, length, replicate, vec_len, IfOk, OnOk, OnErr, All, slice_set, slice_index_or, false, true, if◌then◌else◌};
+ghost use Rattle.rules.specs.Graph.{AreLinked, AreMarks, turned_arrow};
 
 use std::alloc::{AllocError, Global};
 
@@ -48,6 +48,31 @@ impl Graph {
         self.before.push(self.ends[from])?;
         self.ends[from] = self.arrows.len();
         Ok(())
+    }
+
+    /// The graph of these arrows.
+    pub fn of(alloc: Global, nodes: usize, arrows: &[Arrow]) -> Result<Self, AllocError>
+        requires { All (λ arrow. (arrow.from < nodes) × (arrow.to < nodes)) arrows.now }
+        ensures nodes { IfOk result (λ graph. vec_len graph.ends ≡ nodes) }
+        ensures arrows { IfOk result (λ graph. graph.arrows.items ≡ arrows.now) }
+    {
+        let mut graph = Graph::new(alloc, nodes)?;
+        for arrow in arrows {
+            graph.add(arrow.from, arrow.to)?;
+        }
+        Ok(graph)
+    }
+
+    /// The graph with each arrow turned round.
+    pub fn turned(&self, alloc: Global) -> Result<Self, AllocError>
+        ensures nodes { IfOk result (λ graph. vec_len graph.ends ≡ vec_len self.now.ends) }
+        ensures arrows { IfOk result (λ graph. graph.arrows.items ≡ map turned_arrow self.now.arrows.items) }
+    {
+        let mut graph = Graph::new(alloc, self.ends.len())?;
+        for arrow in &self.arrows {
+            graph.add(arrow.to, arrow.from)?;
+        }
+        Ok(graph)
     }
 
     /// Marks the nodes that are among the starts or are reached from one.
