@@ -40,10 +40,10 @@ reaches_back arrows zero p q l = (zero, leads_back_turned arrows p q l)
 reaches_back arrows (suc m) p q c =
     let r = reaches_back arrows m c.0 q c.2 in reaches_then arrows r.0 q c.0 p r.1 (leads_back_turned arrows p c.0 c.1)
 
-contains_stands : (xs : List ℕ) (p : ℕ) → Contains xs p → Stands xs p
+pub contains_stands : (xs : List ℕ) (p : ℕ) → Contains xs p → Stands xs p
 contains_stands xs p c = (c.0, c.1, sym (get_or_default_zero xs c.0 p c.1) ∙ c.2)
 
-stands_contains : (xs : List ℕ) (p : ℕ) → Stands xs p → Contains xs p
+pub stands_contains : (xs : List ℕ) (p : ℕ) → Stands xs p → Contains xs p
 stands_contains xs p s = (s.0, s.1, get_or_default_zero xs s.0 p s.1 ∙ s.2)
 
 pub marked_inside : (marks : List Bool) (p : ℕ) → get_or marks p false ≡ true → p < length marks
