@@ -250,10 +250,11 @@ entries_rising : (n : ℕ) (name : ℕ → Relation) (rules : List Alternative) 
     → ((number : ℕ) → count_by (λ (e : Entry). e.number == number) es ≤ 1) → AreFar es → Rising (relation_cmp rules) (map (λ (e : Entry). name e.number) es)
 unfolding AreFar
 entries_rising n name rules different [] all once far = tt
-entries_rising n name rules different (e ∷ es) all once far =
-    ((λ q i. first q (map_among (λ (x : Entry). name x.number) es q i)),
-    entries_rising n name rules different es (All-tail (IsEntry n name rules) e es all) (λ number. (let a = once number in let b = counted_more number e es in omega (arith, a, b)))
-    (λ i j d h k. far (suc i) (suc j) d (omega (arith, h)) (omega (arith, k))))
+entries_rising n name rules different (e ∷ es) all once far = (
+  (λ q i. first q (map_among (λ (x : Entry). name x.number) es q i)),
+  entries_rising n name rules different es (All-tail (IsEntry n name rules) e es all) (λ number. (let a = once number in let b = counted_more number e es in omega (arith, a, b)))
+      (λ i j d h k. far (suc i) (suc j) d (omega (arith, h)) (omega (arith, k))),
+)
   where
     here : IsEntry n name rules e
     here = All-head (IsEntry n name rules) e es all

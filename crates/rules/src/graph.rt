@@ -134,7 +134,11 @@ fn places_of(alloc: Global, marks: &[bool]) -> Result<Vec<usize>, AllocError>
 }
 
 /// Marks a node, and notes it behind the pending ones if it was not marked.
-pub(crate) fn mark(marks: &mut Vec<bool>, pending: &mut Vec<usize>, node: usize) -> Result<(), AllocError>
+pub(crate) fn mark(
+    marks: &mut Vec<bool>,
+    pending: &mut Vec<usize>,
+    node: usize,
+) -> Result<(), AllocError>
     requires { node < vec_len marks.old }
     ensures marked { OnOk result (marks.new.items ≡ slice_set marks.old.items node true) }
     ensures noted { OnOk result (pending.new.items
