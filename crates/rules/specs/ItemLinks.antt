@@ -57,3 +57,7 @@ pub record IsLinked (n : ℕ) (name : ℕ → Relation) (item : Tree) (link : Li
 pub record AreLinks (n : ℕ) (name : ℕ → Relation) (items : List Tree) (links : List Links) : Type 0 where
   pub length_is : length links ≡ length items
   pub each : (k : ℕ) (t : Tree) (l : Links) → k < length items → IsLinked n name (slice_index_or items k t) (slice_index_or links k l)
+
+-- the bounds of the numbers are those of their relations
+abbrev pub AreBounds : ℕ → (ℕ → Relation) → List Bound → Type 0
+AreBounds n name bounds = (i : ℕ) → i < n → slice_index_or bounds i Free ≡ bound_of (name i)
