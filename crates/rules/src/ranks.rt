@@ -110,3 +110,6 @@ pub fn ranks_of(
     }
     Ok(ranks)
 }
+
+#[cfg(test)]
+mod tests;
