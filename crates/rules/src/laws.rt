@@ -5,7 +5,8 @@ ghost use Rattle.rules.specs.Clause.{Alternative, Relation, relation_of};
 ghost use Rattle.rules.specs.Dependence.{Depends, DependsDirectly, IsAcyclic, IsAmong, IsFixed, has_edge, dependences, is_fixed};
 ghost use Rattle.rules.specs.Items.{alternatives};
 ghost use Rattle.rules.specs.Lawful.{IsLawful};
-ghost use Rattle.rules.specs.Order.{rank, relations_in_order};
+ghost use Rattle.rules.specs.Listed.{HasLawfulNames, IsOrderOfHeads};
+ghost use Rattle.rules.specs.Order.{rank, rank_by, relations_in_order};
 ghost use Rattle.rules.specs.Safety.{is_safe};
 ghost use Rattle.rules.specs.Faults.{HasFault};
 ghost use Rattle.rules.specs.Profile.{Fault, HasNoFault, fault_in};
@@ -33,6 +34,8 @@ pub fn acyclic_sets_are_ranked()
     ensures fixed { (rules : List Alternative) → IsAcyclic rules → (p : Relation) → (is_fixed rules p ≡ true) ↔ IsFixed rules p }
     ensures rank { (rules : List Alternative) → IsAcyclic rules
         → (p q : Relation) → DependsDirectly rules p q → rank rules q < rank rules p }
+    ensures equation { (rules : List Alternative) → IsAcyclic rules
+        → (p : Relation) → rank rules p ≡ rank_by (λ q. rank rules q) rules p }
     ensures listed { (rules : List Alternative) (rule : Alternative) → IsAmong rule rules
         → IsAmong (relation_of rule.head) (relations_in_order rules) }
 {}
@@ -48,4 +51,15 @@ pub fn lawful_items_have_no_fault()
 /// where no item has an earlier kind of fault.
 pub fn the_fault_is_the_first()
     ensures { (items : List Tree) (f : Fault) → (fault_in items ≡ Some f) ↔ HasFault items f }
+{}
+
+/// The list of relations rises strictly by place, rank, name and number of arguments, and has each
+/// relation that heads an alternative, once, and no other.
+pub fn relations_stand_in_order()
+    ensures { (rules : List Alternative) → IsOrderOfHeads rules (relations_in_order rules) }
+{}
+
+/// All that an accepted list of items speaks of has lawful names, and it has 1 to 8 roles.
+pub fn accepted_items_have_lawful_names()
+    ensures { (items : List Tree) → HasNoFault items → HasLawfulNames items }
 {}
