@@ -67,9 +67,15 @@ fn marks_what_leads_to_a_goal(rt: HostRuntime) -> Result<(), Fail> {
     ];
     let graph = Graph::of(rt.alloc(), 5, &arrows)?;
     let marks = graph.leading(rt.alloc(), &[false, true, false, false, false])?;
-    assert_eq!(rt; marks.as_slice(), [true, true, true, true, false].as_slice());
+    assert_eq!(rt;
+        marks.as_slice(),
+        [true, true, true, true, false].as_slice()
+    );
     let marks = graph.reached(rt.alloc(), &[0])?;
-    assert_eq!(rt; marks.as_slice(), [true, true, true, false, false].as_slice());
+    assert_eq!(rt;
+        marks.as_slice(),
+        [true, true, true, false, false].as_slice()
+    );
     Ok(())
 }
 
@@ -100,8 +106,14 @@ fn names_the_first_item_that_leads_back(rt: HostRuntime) -> Result<(), Fail> {
     let bounds = [Bound::Free, Bound::FixedOnly, Bound::NoMove];
     let on_moves = [false, true, false];
     let moving = [false, false, false];
-    assert_eq!(rt; first_bad_dependence(&bounds, &on_moves, &moving, &links), Some(3));
-    assert_eq!(rt; first_bad_dependence(&bounds, &moving, &on_moves, &links), None);
+    assert_eq!(rt;
+        first_bad_dependence(&bounds, &on_moves, &moving, &links),
+        Some(3)
+    );
+    assert_eq!(rt;
+        first_bad_dependence(&bounds, &moving, &on_moves, &links),
+        None
+    );
     Ok(())
 }
 
@@ -128,7 +140,7 @@ fn puts_relations_in_order(rt: HostRuntime) -> Result<(), Fail> {
         entry(false, 2, b"a", 0, 1),
         entry(false, 1, b"b", 2, 2),
         entry(false, 1, b"b", 1, 3),
-        entry(false, 1, b"ab", 3, 4)
+        entry(false, 1, b"ab", 3, 4),
     ]?;
     let numbers = numbers_in_order(rt.alloc(), entries)?;
     assert_eq!(rt; numbers.as_slice(), [4, 3, 2, 1, 0].as_slice());
