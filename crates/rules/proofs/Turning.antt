@@ -1,13 +1,11 @@
 -- Arrows turned round, and the places of marks.
-use Rattle.std.proofs.Common.{ℕ, zero, suc, ◌≡◌, ◌+◌, ◌<◌, ◌≤◌, ◌⊎◌, ◌↔◌, inl, inr, Bool, true, false, List, [], ◌∷◌, ◌++◌, map, length, get_or, refl, sym, ◌∙◌, ap, subst, arith, length-append}
+use Rattle.std.proofs.Common.{ℕ, zero, suc, ◌≡◌, ◌<◌, ◌⊎◌, inl, inr, Bool, true, false, List, [], ◌∷◌, map, length, get_or, refl, sym, ◌∙◌, ap, subst, arith}
 use Rattle.std.specs.Prelude.{Contains}
 use Rattle.std.proofs.lemmas.List.{length-map}
 use Rattle.std.proofs.lemmas.Grind.{get_or_default_zero}
-use Rattle.std.proofs.Math.ListN.{get_or-append}
 use Rattle.rules.specs.declared.graph.Arrow.{Arrow}
 use Rattle.rules.specs.Graph.{arrow_at, Leads, ReachesIn, Reaches, IsReachedFrom, AreMarks, Stands, turned_arrow, IsLeading, AreLeading, ArePlaces}
-use Rattle.rules.proofs.GraphLemmas.{last_or}
-use Rattle.rules.proofs.Search.{reaches_then, stands_more, stands_last}
+use Rattle.rules.proofs.Search.{reaches_then}
 
 arrow_turned : (arrows : List Arrow) (k : ℕ) → arrow_at (map turned_arrow arrows) k ≡ turned_arrow (arrow_at arrows k)
 arrow_turned [] k = refl

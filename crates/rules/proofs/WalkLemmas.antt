@@ -6,10 +6,10 @@ use Rattle.std.proofs.lemmas.List.{get_or-set_same, get_or-set_other, length-set
 use Rattle.std.proofs.Math.ListN.{get_or-append}
 use Rattle.std.proofs.Math.Seq.{get_or-append_seam}
 use Rattle.rules.specs.declared.graph.Arrow.{Arrow}
-use Rattle.rules.specs.Graph.{arrow_at, Leads, ReachesIn, Reaches, AreLinked, Stands, IsCyclic, IsOrder}
+use Rattle.rules.specs.Graph.{arrow_at, Leads, Reaches, AreLinked, Stands, IsCyclic, IsOrder}
 use Rattle.rules.specs.Walk.{Walking}
 use Rattle.rules.proofs.GraphLemmas.{same_or, last_or}
-use Rattle.rules.proofs.Search.{mark_here, mark_stays, mark_cases, mark_again, stands_more, stands_last, stands_cases, three, weight, work, sum-set, weight-set, IsTop, is_top, read_nat, read_arrow}
+use Rattle.rules.proofs.Search.{mark_stays, mark_cases, mark_again, stands_more, stands_last, stands_cases, three, weight, work, sum-set, weight-set, IsTop, is_top, read_nat, read_arrow}
 
 not_both : (b : Bool) → b ≡ true → b ≡ false → ⊥
 not_both b e f = absurd cc

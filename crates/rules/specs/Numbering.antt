@@ -3,7 +3,7 @@ use Rattle.std.specs.Prelude.{ℕ, ◌<◌, ◌≡◌, ◌↔◌, Bool, true, fa
 use Rattle.rules.specs.declared.graph.Arrow.{Arrow}
 use Rattle.rules.specs.Clause.{Literal, Alternative, Relation, relation_of, atom_of}
 use Rattle.rules.specs.Dependence.{IsAmong, is_distinct, DependsDirectly}
-use Rattle.rules.specs.Graph.{arrow_at, Stands}
+use Rattle.rules.specs.Graph.{arrow_at}
 
 -- an arrow leads from the number of p to the number of q
 pub record LeadsBetween (name : ℕ → Relation) (arrows : List Arrow) (p q : Relation) : Type 0 where

@@ -1,4 +1,4 @@
-use Rattle.std.proofs.Common.{arith, ◌∙◌, refl, length, ℕ, subst, sym}
+use Rattle.std.proofs.Common.{arith, refl, ℕ, subst, sym}
 use Rattle.rules.specs.Graph.{IsOrder}
 use Rattle.rules.proofs.WalkLemmas.{ordered}
 use Rattle.rules.proofs.ranks.order_of.Goals as goal

@@ -1,4 +1,4 @@
-use Rattle.std.proofs.Common.{refl, rules}
+use Rattle.std.proofs.Common.{refl}
 use Rattle.rules.proofs.RankLemmas.{risen}
 use Rattle.rules.proofs.ranks.rank_of.Goals as goal
 

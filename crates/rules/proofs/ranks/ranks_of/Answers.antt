@@ -1,7 +1,6 @@
-use Rattle.std.proofs.Common.{sym, subst, ℕ, ◌∙◌, refl}
+use Rattle.std.proofs.Common.{subst, ℕ, ◌∙◌, refl}
 use mir.Val.{bool_byte}
 use Rattle.rules.specs.Graph.{IsOrder}
-use Rattle.rules.specs.Ranks.{IsRank}
 use Rattle.rules.proofs.RankLemmas.{ranked_more, all_ranked, same_rank, byte_floor}
 use Rattle.rules.proofs.ranks.ranks_of.Goals as goal
 

@@ -1,4 +1,4 @@
-use Rattle.std.proofs.Common.{ap, ◌∙◌, sym, arith, ℕ, ◌<◌, ◌+◌, ◌≡◌, length, rules, List, subst, refl}
+use Rattle.std.proofs.Common.{◌∙◌, ◌<◌, length, rules}
 use Rattle.rules.proofs.WalkLemmas.{newest_node, newest_arrow, passed_at, passed_work, cyclic_at, seen_at, seen_work, finished_pop}
 use Rattle.rules.proofs.ranks.visit.Goals as goal
 

@@ -1,4 +1,4 @@
-use Rattle.std.proofs.Common.{◌∙◌, ap, ℕ, ◌+◌, ◌≡◌, ◌++◌, ◌∷◌, [], List, set, length, arith, rules, length-append}
+use Rattle.std.proofs.Common.{◌∙◌, ap, ℕ, ◌+◌, ◌≡◌, set, length, arith, length-append}
 use Rattle.std.proofs.lemmas.Grind.{common_steps}
 use Rattle.rules.proofs.GraphLemmas.{added}
 use Rattle.rules.proofs.graph.Graph.add.Goals as goal

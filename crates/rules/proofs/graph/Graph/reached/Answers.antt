@@ -1,5 +1,4 @@
-use Rattle.std.proofs.Common.{ap, ◌∙◌, sym, arith, ℕ, ◌<◌, ◌+◌, ◌≡◌, length, rules, List, subst, refl}
-use Rattle.std.proofs.lemmas.Grind.{common_steps}
+use Rattle.std.proofs.Common.{◌∙◌, arith, ℕ, ◌<◌, length, rules, List, subst, refl}
 use Rattle.rules.proofs.Search.{look, looked_at, work_falls, closed_pop, started_more, before_inside, all_marked_at, Searching}
 use Rattle.rules.proofs.graph.Graph.reached.Goals as goal
 
