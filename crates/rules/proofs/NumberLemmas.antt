@@ -1,15 +1,16 @@
 -- Names by number: finding one, and adding one.
-use Rattle.std.proofs.Common.{ℕ, suc, zero, ◌≡◌, ◌+◌, ◌<◌, ◌≤◌, ◌⊎◌, inl, inr, Bool, true, false, cond, not, List, [], ◌∷◌, ◌++◌, length, map, refl, sym, ◌∙◌, ap, subst, arith, Option, Some, None, ltb, ◌&&◌, ◌||◌}
-use Rattle.std.specs.Prelude.{MatchOption, ◌≢◌, nat_eq, slice_index_or, position}
+use Rattle.std.proofs.Common.{ℕ, suc, zero, ◌≡◌, ◌+◌, ◌<◌, ◌≤◌, ◌⊎◌, inl, inr, Bool, true, false, cond, not, List, [], ◌∷◌, ◌++◌, length, map, refl, sym, ◌∙◌, ap, subst, arith, Option, Some, None, ltb, ◌&&◌, ◌||◌, ◌==◌, eqb-true, eq-eqb, drop, get_or}
+use Rattle.std.specs.Prelude.{MatchOption, ◌≢◌, nat_eq, slice_index, slice_index_or, position}
 use Rattle.std.specs.Cmp.Lexicographic.{pointwise, same_text, other_text}
 use Rattle.std.specs.List.{position_from, list_any}
 use Rattle.std.proofs.lemmas.Iterator.Adapters.{position_from-zero}
 use Rattle.std.proofs.lemmas.List.Quantifiers.{position-Some}
-use Rattle.std.proofs.lemmas.List.{map-append, append-nil, length-map}
+use Rattle.std.proofs.lemmas.List.{map-append, append-nil, length-map, drop-append-le}
 use Rattle.kif.specs.Tree.{name_eq}
 use Rattle.kif.proofs.Equality.{name_eq_yes, name_eq_self}
 use Rattle.rules.specs.Safety.{is_name_in}
-use Rattle.rules.specs.Numbers.{Begins, word_at, with_word, AreDifferent}
+use Rattle.rules.specs.Numbers.{Begins, word_at, with_word, AreDifferent, is_number_in, with_number}
+use Rattle.rules.specs.Adding.{StandOnce}
 use Rattle.rules.proofs.Tests.{or_cases, or_left, or_right, decide}
 
 not_here : (b : Bool) (i : ℕ) (o : Option ℕ) → cond b (Some i) o ≡ None → (b ≡ false) × (o ≡ None)
@@ -109,5 +110,83 @@ with_word-Begins ws w = go (is_name_in w ws)
 at_end : (k n : ℕ) → k < suc n → (k < n) ⊎ (k ≡ n)
 at_end k n h = grind arith
 
+-- what a list with one more at its end has at a number
+last_or_before : {A : Type 0} (xs : List A) (x d : A) (k : ℕ) → k < length (xs ++ x ∷ []) → ((k < length xs) × (get_or (xs ++ x ∷ []) k d ≡ get_or xs k d)) ⊎ ((k ≡ length xs) × (get_or (xs ++ x ∷ []) k d ≡ x))
+last_or_before [] x d zero h = inr (refl, refl)
+last_or_before [] x d (suc k) h = absurd (let bad : ⊥ = omega (arith, h) in bad)
+last_or_before (y ∷ ys) x d zero h = inl (omega arith, refl)
+last_or_before (y ∷ ys) x d (suc k) h = go (last_or_before ys x d k (omega (arith, h)))
+  where
+    go : ((k < length ys) × (get_or (ys ++ x ∷ []) k d ≡ get_or ys k d)) ⊎ ((k ≡ length ys) × (get_or (ys ++ x ∷ []) k d ≡ x))
+        → ((suc k < length (y ∷ ys)) × (get_or ((y ∷ ys) ++ x ∷ []) (suc k) d ≡ get_or (y ∷ ys) (suc k) d)) ⊎ ((suc k ≡ length (y ∷ ys)) × (get_or ((y ∷ ys) ++ x ∷ []) (suc k) d ≡ x))
+    go (inl e) = inl (let f = e.0 in omega (arith, f), e.1)
+    go (inr e) = inr (ap (λ (n : ℕ). suc n) e.0, e.1)
+
+-- a list of different things, with one more at its end
+pub more_different : {A : Type 0} (xs : List A) (x d : A) → ((k : ℕ) → k < length xs → get_or xs k d ≡ x → ⊥)
+    → ((i j : ℕ) → i < length xs → j < length xs → get_or xs i d ≡ get_or xs j d → i ≡ j)
+    → (i j : ℕ) → i < length (xs ++ x ∷ []) → j < length (xs ++ x ∷ []) → get_or (xs ++ x ∷ []) i d ≡ get_or (xs ++ x ∷ []) j d → i ≡ j
+more_different xs x d none old i j h k e = go (last_or_before xs x d i h) (last_or_before xs x d j k)
+  where
+    go : ((i < length xs) × (get_or (xs ++ x ∷ []) i d ≡ get_or xs i d)) ⊎ ((i ≡ length xs) × (get_or (xs ++ x ∷ []) i d ≡ x))
+        → ((j < length xs) × (get_or (xs ++ x ∷ []) j d ≡ get_or xs j d)) ⊎ ((j ≡ length xs) × (get_or (xs ++ x ∷ []) j d ≡ x)) → i ≡ j
+    go (inl a) (inl b) = old i j a.0 b.0 (sym a.1 ∙ e ∙ b.1)
+    go (inl a) (inr b) = absurd (none i a.0 (sym a.1 ∙ e ∙ b.1))
+    go (inr a) (inl b) = absurd (none j b.0 (sym b.1 ∙ sym e ∙ a.1))
+    go (inr a) (inr b) = a.0 ∙ sym b.0
+
+pub true_or_false : (b : Bool) → b ≡ true → b ≡ false → ⊥
+true_or_false b e f = let g = sym e ∙ f in absurd cc
+
+pub with_word-AreDifferent : (ws : List (List ℕ)) (w : List ℕ) → AreDifferent ws → AreDifferent (with_word ws w)
+with_word-AreDifferent ws w old = go (is_name_in w ws) refl
+  where
+    go : (b : Bool) → is_name_in w ws ≡ b → AreDifferent (cond b ws (ws ++ w ∷ []))
+    go true e = old
+    go false e = more_different ws w [] (λ k h same. true_or_false (is_name_in w ws) (is_in ws w k h same) e) old
+
 pub counted : {K : Type 0} (items : K → List ℕ) (ks : List K) (ws : List (List ℕ)) → map items ks ≡ ws → length ks ≡ length ws
 counted items ks ws e = sym (length-map ks items) ∙ ap length e
+
+-- The same of numbers.
+
+never_number : (x i : ℕ) (xs : List ℕ) → position_from (λ y. x == y) i xs ≡ None → is_number_in x xs ≡ false
+never_number x i [] e = refl
+never_number x i (y ∷ ys) e =
+    let h = not_here (x == y) i (position_from (λ z. x == z) (i + 1) ys) e in or_none (x == y) (is_number_in x ys) h.0 (never_number x (i + 1) ys h.1)
+
+number_in : (x : ℕ) (xs : List ℕ) (k : ℕ) → k < length xs → slice_index xs k ≡ x → is_number_in x xs ≡ true
+number_in x [] k h e = absurd (let bad : ⊥ = omega (arith, h) in bad)
+number_in x (y ∷ ys) zero h e = or_left (x == y) (is_number_in x ys) (eq-eqb x y (sym e))
+number_in x (y ∷ ys) (suc k) h e = or_right (x == y) (is_number_in x ys) (number_in x ys k (omega (arith, h)) e)
+
+-- what a search for a number has told
+pub seen_number : (xs : List ℕ) (x : ℕ) (r : Option ℕ) → r ≡ position (λ y. x == y) xs
+    → MatchOption r (is_number_in x xs ≡ false) (λ k. (k < length xs) × (slice_index xs k ≡ x) × (is_number_in x xs ≡ true))
+seen_number xs x None e = never_number x 0 xs (sym (position_from-zero (λ y. x == y) xs) ∙ sym e)
+seen_number xs x (Some k) e =
+    let f = position-Some (λ y. x == y) xs k 0 (sym e) in
+    let same : slice_index xs k ≡ x = sym (eqb-true x (slice_index xs k) f.1) in
+    (f.0, same, number_in x xs k f.0 same)
+
+pub number_there : (xs : List ℕ) (from x : ℕ) → is_number_in x (drop from xs) ≡ true → with_number from xs x ≡ xs
+number_there xs from x h = ap (λ (b : Bool). cond b xs (xs ++ x ∷ [])) h
+
+pub number_new : (xs : List ℕ) (from x : ℕ) → is_number_in x (drop from xs) ≡ false → with_number from xs x ≡ xs ++ x ∷ []
+number_new xs from x h = ap (λ (b : Bool). cond b xs (xs ++ x ∷ [])) h
+
+pub with_number-Begins : (from : ℕ) (xs : List ℕ) (x : ℕ) → Begins xs (with_number from xs x)
+with_number-Begins from xs x = go (is_number_in x (drop from xs))
+  where
+    go : (b : Bool) → Begins xs (cond b xs (xs ++ x ∷ []))
+    go true = ([], sym (append-nil xs))
+    go false = (x ∷ [], refl)
+
+pub with_number-StandOnce : (from : ℕ) (xs : List ℕ) (x : ℕ) → from ≤ length xs → StandOnce (drop from xs) → StandOnce (drop from (with_number from xs x))
+with_number-StandOnce from xs x h old = go (is_number_in x (drop from xs)) refl
+  where
+    go : (b : Bool) → is_number_in x (drop from xs) ≡ b → StandOnce (drop from (cond b xs (xs ++ x ∷ [])))
+    go true e = old
+    go false e =
+        subst (λ (ys : List ℕ). StandOnce ys) (sym (drop-append-le from xs (x ∷ []) h))
+        (more_different (drop from xs) x 0 (λ k l same. true_or_false (is_number_in x (drop from xs)) (number_in x (drop from xs) k l same) e) old)

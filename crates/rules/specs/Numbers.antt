@@ -1,5 +1,5 @@
 -- Lists that grow, and names by number.
-use Rattle.std.specs.Prelude.{ℕ, ◌≡◌, ◌<◌, cond, List, [], ◌∷◌, ◌++◌, length, slice_index_or}
+use Rattle.std.specs.Prelude.{ℕ, ◌≡◌, ◌<◌, cond, drop, Bool, false, ◌==◌, ◌||◌, List, [], ◌∷◌, ◌++◌, length, slice_index_or}
 use Rattle.rules.specs.Safety.{is_name_in}
 
 -- what ys is xs and then more
@@ -17,3 +17,11 @@ with_word words w = cond (is_name_in w words) words (words ++ w ∷ [])
 -- different numbers are different names
 abbrev pub AreDifferent : List (List ℕ) → Type 0
 AreDifferent words = (i j : ℕ) → i < length words → j < length words → word_at words i ≡ word_at words j → i ≡ j
+
+abbrev pub is_number_in : ℕ → List ℕ → Bool
+is_number_in x [] = false
+is_number_in x (y ∷ ys) = (x == y) || is_number_in x ys
+
+-- numbers with one more, if it does not stand from a place on already
+abbrev pub with_number : ℕ → List ℕ → ℕ → List ℕ
+with_number from xs x = cond (is_number_in x (drop from xs)) xs (xs ++ x ∷ [])
