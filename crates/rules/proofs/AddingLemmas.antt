@@ -1,16 +1,22 @@
 -- Additions to the lists in memory.
 use Rattle.std.proofs.Common.{ℕ, suc, zero, ◌≡◌, ◌+◌, ◌-◌, ◌<◌, ◌≤◌, ◌⊎◌, inl, inr, Bool, true, false, cond, List, [], ◌∷◌, ◌++◌, length, map, take, drop, refl, sym, ◌∙◌, ap, subst, arith, get_or, append_assoc, length-append}
-use Rattle.std.specs.Prelude.{slice_index, slice_index_or}
+use Rattle.std.specs.Prelude.{slice_index, slice_index_or, slice_range}
 use Rattle.std.proofs.lemmas.List.{append-nil}
 use Rattle.kif.specs.Tree.{Tree, name, list, tree, trees_of}
 use Rattle.rules.specs.declared.clauses.Part.{Part}
 use Rattle.rules.specs.declared.clauses.Part.TheVariants as parts
-use Rattle.rules.specs.Clause.{is_variable}
+use Rattle.rules.specs.declared.clauses.Atom.{Atom}
+use Rattle.rules.specs.declared.clauses.Literal.{Literal}
+use Rattle.rules.specs.declared.signatures.Signature.{Signature}
+use Rattle.rules.specs.Clause as said
+use Rattle.rules.specs.Clause.{is_variable, positive, negative, count_trees}
+use Rattle.rules.specs.Signatures.{no_signature, signature_at, with_signature}
 use Rattle.rules.specs.Safety.{is_name_in}
 use Rattle.rules.specs.Numbers.{Begins, word_at, with_word, AreDifferent, is_number_in, with_number}
-use Rattle.rules.specs.Store.{Data, variable_name, with_part, terms_before}
-use Rattle.rules.specs.Adding.{Extends, Grows, StandOnce, IsSorted, AreSorted, Spells, Adds, MakesPart, BeginsList}
+use Rattle.rules.specs.Store.{Data, variable_name, with_part, terms_before, relation_at, atom_of, literal_of, literal_at, no_literal}
+use Rattle.rules.specs.Adding.{Extends, Grows, StandOnce, IsSorted, AreSorted, Spells, Adds, MakesPart, BeginsList, NumbersRelation, StandsFor, AddsAtom, LiteralStandsFor, AddsLiteral}
 use Rattle.rules.proofs.NumberLemmas.{with_word-Begins, with_word-AreDifferent, with_number-Begins, with_number-StandOnce}
+use Rattle.rules.proofs.SignatureLemmas.{with_signature-Begins, with_signature-AreDifferent}
 
 -- Lists that grow.
 
@@ -211,3 +217,128 @@ adds_list from a b c w n ts long constant l x =
 
 pub longer : (from k : ℕ) (a b : Data) → Grows from a b → k ≤ length a.variables → k ≤ length b.variables
 longer from k a b g h = begins_long a.variables b.variables k g.extends.variables h
+
+-- Relations and atoms.
+
+grows_signature : (from : ℕ) (a b : Data) (s : Signature) → b ≡ record a { signatures = with_signature a.signatures s } → Grows from a b
+grows_signature from a b s e =
+    subst (λ (d : Data). Grows from a d) (sym e)
+    (record {
+      extends = record { words = begins_refl a.words; signatures = with_signature-Begins a.signatures s; variables = begins_refl a.variables; parts = begins_refl a.parts; literals = begins_refl a.literals };
+      words = λ h. h;
+      signatures = with_signature-AreDifferent a.signatures s;
+      variables = λ h. h;
+    })
+
+pub numbers_relation : (from : ℕ) (a b c : Data) (s r n : ℕ) (w : List ℕ) → b ≡ record a { words = with_word a.words w } → (s < length b.words) × (word_at b.words s ≡ w)
+    → c ≡ record b { signatures = with_signature b.signatures (record { word = s; arity = n }) } → (r < length c.signatures) × (signature_at c.signatures r ≡ record { word = s; arity = n })
+    → NumbersRelation from a c r (record { word = w; arity = n })
+numbers_relation from a b c s r n w e (in_words, same_word) f (in_signatures, same_signature) =
+    let grown = grows_signature from b c (record { word = s; arity = n }) f in
+    let at : (later : Data) → Extends c later → signature_at later.signatures r ≡ record { word = s; arity = n } =
+    λ later x. begins_at c.signatures later.signatures r no_signature x.signatures in_signatures ∙ same_signature in
+    let words : (later : Data) → Extends c later → Begins b.words later.words = λ later x. begins_trans _ _ _ grown.extends.words x.words in
+    record {
+      grows = grows_trans from a b c (grows_word from a b w e) grown;
+      within = λ later x. begins_less c.signatures later.signatures r x.signatures in_signatures;
+      named = λ later x. subst (λ (g : Signature). g.word < length later.words) (sym (at later x)) (begins_less b.words later.words s (words later x) in_words);
+      same = λ later x.
+      ap (λ (g : Signature). relation_of_signature later g) (at later x)
+      ∙ ap (λ (v : List ℕ). record { word = v; arity = n }) (begins_at b.words later.words s [] (words later x) in_words ∙ same_word);
+    }
+  where
+    relation_of_signature : Data → Signature → said.Relation
+    relation_of_signature later g = record { word = word_at later.words g.word; arity = g.arity }
+
+parts_between : (xs ys zs ws : List Part) → ws ≡ (xs ++ ys) ++ zs → (i j : ℕ) → i ≡ length xs → j ≡ length (xs ++ ys) → slice_range ws i j ≡ ys
+parts_between xs ys zs ws e i j f g =
+    let long = length-append xs ys in
+    let span : j - i ≡ length ys = omega (arith, f, g, long) in
+    ap (λ (us : List Part). slice_range us i j) e
+    ∙ ap (λ (n : ℕ). take (j - n) (drop n ((xs ++ ys) ++ zs))) f
+    ∙ ap (λ (us : List Part). take (j - length xs) (drop (length xs) us)) (append_assoc xs ys zs)
+    ∙ ap (λ (us : List Part). take (j - length xs) us) (drop_parts xs (ys ++ zs))
+    ∙ ap (λ (n : ℕ). take n (ys ++ zs)) (ap (λ (n : ℕ). j - n) (sym f) ∙ span)
+    ∙ take_parts ys zs
+  where
+    drop_parts : (us vs : List Part) → drop (length us) (us ++ vs) ≡ vs
+    drop_parts [] vs = refl
+    drop_parts (u ∷ us) vs = drop_parts us vs
+
+    take_parts : (us vs : List Part) → take (length us) (us ++ vs) ≡ us
+    take_parts [] vs = refl
+    take_parts (u ∷ us) vs = ap (λ (ps : List Part). u ∷ ps) (take_parts us vs)
+
+pub count_trees-length : (ts : List Tree) → count_trees (trees_of ts) ≡ length ts
+count_trees-length [] = refl
+count_trees-length (t ∷ ts) = ap (λ (n : ℕ). suc n) (count_trees-length ts)
+
+pub adds_atom : (from : ℕ) (a b c : Data) (r n i j : ℕ) (w : List ℕ) (ts : List Tree) → n ≡ length ts → NumbersRelation from a b r (record { word = w; arity = n })
+    → Adds from b c ts → i ≡ length b.parts → j ≡ length c.parts
+    → AddsAtom from a c (record { relation = r; terms = record { from = i; to = j } }) (record { word = w; terms = trees_of ts })
+adds_atom from a b c r n i j w ts long number x f g =
+    let up : (later : Data) → Extends c later → Extends b later = λ later e. extends_trans b c later x.grows.extends e in
+    let behind : (later : Data) → Extends c later → slice_range later.parts i j ≡ x.added =
+    λ later e. parts_between b.parts x.added e.parts.0 later.parts (e.parts.1 ∙ ap (λ (ps : List Part). ps ++ e.parts.0) x.behind) i j f (g ∙ ap length x.behind) in
+    let arity : (later : Data) → Extends c later → relation_at later r ≡ record { word = w; arity = n } = λ later e. number.same later (up later e) in
+    record {
+      grows = grows_trans from a b c number.grows x.grows;
+      stands = λ later e. record {
+        relation = number.within later (up later e);
+        word = number.named later (up later e);
+        same_relation = arity later e ∙ ap (λ (k : ℕ). record { word = w; arity = k }) (long ∙ sym (count_trees-length ts));
+        order = (let h = begins_long b.parts c.parts (length b.parts) x.grows.extends.parts (omega arith) in omega (arith, f, g, h));
+        within = (let h = begins_long c.parts later.parts (length c.parts) e.parts (omega arith) in omega (arith, g, h));
+        same =
+        ap (λ (v : List ℕ). record { word = v; terms = trees_of (terms_before later from (slice_range later.parts i j) []) }) (ap (λ (q : said.Relation). q.word) (arity later e))
+        ∙ ap (λ (us : List Tree). record { word = w; terms = trees_of us })
+        (ap (λ (ps : List Part). terms_before later from ps []) (behind later e) ∙ x.spells.terms later e [] ∙ append-nil ts);
+        sorted = subst (λ (ps : List Part). AreSorted later from ps) (sym (behind later e)) (x.spells.sorted later e);
+      };
+    }
+
+-- Literals.
+
+grows_literal : (from : ℕ) (a b : Data) (l : Literal) → b ≡ record a { literals = a.literals ++ l ∷ [] } → Grows from a b
+grows_literal from a b l e =
+    subst (λ (d : Data). Grows from a d) (sym e)
+    (record {
+      extends = record { words = begins_refl a.words; signatures = begins_refl a.signatures; variables = begins_refl a.variables; parts = begins_refl a.parts; literals = (l ∷ [], refl) };
+      words = λ h. h;
+      signatures = λ h. h;
+      variables = λ h. h;
+    })
+
+last_literal : (ls : List Literal) (l d : Literal) (n : ℕ) → n ≡ length ls → (n < length (ls ++ l ∷ [])) × (slice_index_or (ls ++ l ∷ []) n d ≡ l)
+last_literal ls l d n e = subst (λ (k : ℕ). (k < length (ls ++ l ∷ [])) × (slice_index_or (ls ++ l ∷ []) k d ≡ l)) (sym e) (go ls)
+  where
+    go : (ks : List Literal) → (length ks < length (ks ++ l ∷ [])) × (slice_index_or (ks ++ l ∷ []) (length ks) d ≡ l)
+    go [] = (omega arith, refl)
+    go (k ∷ ks) = (let h = (go ks).0 in omega (arith, h), (go ks).1)
+
+abbrev pub literal_said : Bool → said.Atom → said.Literal
+literal_said is_negated a = cond is_negated (negative a) (positive a)
+
+literal_said-atom : (b : Bool) (a : said.Atom) → said.atom_of (literal_said b a) ≡ a
+literal_said-atom true a = refl
+literal_said-atom false a = refl
+
+pub adds_literal : (from : ℕ) (a b c : Data) (x : Atom) (atom : said.Atom) (n : ℕ) (is_negated : Bool) → AddsAtom from a b x atom → n ≡ length b.literals
+    → c ≡ record b { literals = b.literals ++ record { atom = x; is_negated = is_negated } ∷ [] } → AddsLiteral from a c n (literal_said is_negated atom)
+adds_literal from a b c x atom n is_negated y e f =
+    let l : Literal = record { atom = x; is_negated = is_negated } in
+    let grown = grows_literal from b c l f in
+    let here : (n < length c.literals) × (slice_index_or c.literals n no_literal ≡ l) =
+    subst (λ (d : Data). (n < length d.literals) × (slice_index_or d.literals n no_literal ≡ l)) (sym f) (last_literal b.literals l no_literal n e) in
+    let at : (later : Data) → Extends c later → slice_index_or later.literals n no_literal ≡ l =
+    λ later g. begins_at c.literals later.literals n no_literal g.literals here.0 ∙ here.1 in
+    let stand : (later : Data) → Extends c later → StandsFor from later x atom = λ later g. y.stands later (extends_trans b c later grown.extends g) in
+    record {
+      grows = grows_trans from a b c y.grows grown;
+      stands = λ later g. record {
+        within = begins_less c.literals later.literals n g.literals here.0;
+        atom = subst (λ (k : Literal). StandsFor from later k.atom (said.atom_of (literal_said is_negated atom))) (sym (at later g))
+        (subst (λ (q : said.Atom). StandsFor from later x q) (sym (literal_said-atom is_negated atom)) (stand later g));
+        same = ap (λ (k : Literal). literal_of later from k) (at later g) ∙ ap (λ (q : said.Atom). literal_said is_negated q) (stand later g).same;
+      };
+    }

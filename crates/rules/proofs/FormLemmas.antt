@@ -5,7 +5,7 @@ use Rattle.kif.specs.View.{tree_of, trees_in}
 use Rattle.kif.specs.declared.expr.Expr.{Expr}
 use Rattle.kif.proofs.Equality.{both}
 use Rattle.rules.specs.Clause.{is_variable}
-use Rattle.rules.specs.Items.{is_name, is_constant, is_connective, is_term, are_terms, begins_compound, is_literal, are_literals}
+use Rattle.rules.specs.Items.{is_name, is_constant, is_connective, is_term, are_terms, begins_compound, is_atom, atom_in, is_literal, are_literals}
 use Rattle.rules.proofs.Tests.{not_true}
 
 -- what holds of each tree of a list holds of one
@@ -27,3 +27,6 @@ compound_word w (tree t rest) h = constant_word w (both (is_constant w) (are_ter
 pub compound_terms : (w : List ℕ) (rest : Trees) → is_term (list (tree (name w) rest)) ≡ true → are_terms rest ≡ true
 compound_terms w no_trees h = refl
 compound_terms w (tree t rest) h = (both (is_name w) (are_terms (tree t rest)) (both (is_constant w) (are_terms (tree (name w) (tree t rest))) h).1).1
+
+pub atom_terms : (w : List ℕ) (rest : Trees) → is_atom (list (tree (name w) rest)) ≡ true → are_terms rest ≡ true
+atom_terms w rest h = (both (is_constant w && not (is_connective w)) (are_terms rest) h).1

@@ -1,10 +1,13 @@
 -- Relations by number: adding one.
-use Rattle.std.proofs.Common.{ℕ, suc, zero, ◌≡◌, ◌<◌, Bool, true, false, cond, ◌&&◌, ◌||◌, List, [], ◌∷◌, ◌++◌, length, refl, sym, ap, arith}
+use Rattle.std.proofs.Common.{ℕ, suc, zero, ◌≡◌, ◌<◌, Bool, true, false, cond, ◌&&◌, ◌||◌, List, [], ◌∷◌, ◌++◌, length, refl, sym, ap, subst, arith, eq-eqb}
 use Rattle.std.specs.List.{list_any}
 use Rattle.std.proofs.lemmas.List.{append-nil}
 use Rattle.rules.specs.declared.signatures.Signature.{Signature}
 use Rattle.rules.specs.Numbers.{Begins}
-use Rattle.rules.specs.Signatures.{signature_eq, is_signature_in, with_signature}
+use Rattle.rules.specs.Adding.{AreDifferentSignatures}
+use Rattle.rules.proofs.NumberLemmas.{more_different, true_or_false}
+use Rattle.rules.proofs.Tests.{or_left, or_right}
+use Rattle.rules.specs.Signatures.{signature_eq, no_signature, signature_at, is_signature_in, with_signature}
 
 any-is_signature_in : (eq : Signature → Signature → Bool) → ((s t : Signature) → eq s t ≡ signature_eq s t) → (ss : List Signature) (s : Signature)
     → list_any (eq s) ss ≡ is_signature_in s ss
@@ -22,3 +25,18 @@ with_signature-Begins ss s = go (is_signature_in s ss)
     go : (b : Bool) → Begins ss (cond b ss (ss ++ s ∷ []))
     go true = ([], sym (append-nil ss))
     go false = (s ∷ [], refl)
+
+signature_eq-self : (s : Signature) → signature_eq s s ≡ true
+signature_eq-self s = cc (eq-eqb s.word s.word refl, eq-eqb s.arity s.arity refl)
+
+signature_in : (s : Signature) (ss : List Signature) (k : ℕ) → k < length ss → signature_at ss k ≡ s → is_signature_in s ss ≡ true
+signature_in s [] k h e = absurd (let bad : ⊥ = omega (arith, h) in bad)
+signature_in s (t ∷ ts) zero h e = or_left (signature_eq s t) (is_signature_in s ts) (subst (λ (u : Signature). signature_eq s u ≡ true) (sym e) (signature_eq-self s))
+signature_in s (t ∷ ts) (suc k) h e = or_right (signature_eq s t) (is_signature_in s ts) (signature_in s ts k (omega (arith, h)) e)
+
+pub with_signature-AreDifferent : (ss : List Signature) (s : Signature) → AreDifferentSignatures ss → AreDifferentSignatures (with_signature ss s)
+with_signature-AreDifferent ss s old = go (is_signature_in s ss) refl
+  where
+    go : (b : Bool) → is_signature_in s ss ≡ b → AreDifferentSignatures (cond b ss (ss ++ s ∷ []))
+    go true e = old
+    go false e = more_different ss s no_signature (λ k h same. true_or_false (is_signature_in s ss) (signature_in s ss k h same) e) old

@@ -80,7 +80,44 @@ pub record StandsFor (from : ℕ) (d : Data) (a : Atom) (atom : said.Atom) : Typ
   pub same : atom_of d from a ≡ atom
   pub sorted : AreSorted d from (slice_range d.parts a.terms.from a.terms.to)
 
+-- the number stands for the relation, whatever comes behind it
+pub record NumbersRelation (from : ℕ) (old new : Data) (r : ℕ) (relation : said.Relation) : Type 0 where
+  pub grows : Grows from old new
+  pub within : (later : Data) → Extends new later → r < length later.signatures
+  pub named : (later : Data) → Extends new later → (signature_at later.signatures r).word < length later.words
+  pub same : (later : Data) → Extends new later → relation_at later r ≡ relation
+
 -- the atom was added, and stays whatever comes behind it
 pub record AddsAtom (from : ℕ) (old new : Data) (a : Atom) (atom : said.Atom) : Type 0 where
   pub grows : Grows from old new
   pub stands : (later : Data) → Extends new later → StandsFor from later a atom
+
+-- the number stands for the literal
+pub record LiteralStandsFor (from : ℕ) (d : Data) (n : ℕ) (l : said.Literal) : Type 0 where
+  pub within : n < length d.literals
+  pub atom : StandsFor from d (slice_index_or d.literals n no_literal).atom (said.atom_of l)
+  pub same : literal_at d from n ≡ l
+
+-- the literal was added, and stays whatever comes behind it
+pub record AddsLiteral (from : ℕ) (old new : Data) (n : ℕ) (l : said.Literal) : Type 0 where
+  pub grows : Grows from old new
+  pub stands : (later : Data) → Extends new later → LiteralStandsFor from later n l
+
+-- the numbers stand for the literals, one by one
+abbrev pub StandForEach : ℕ → Data → List ℕ → List said.Literal → Type 0
+StandForEach from d [] [] = Unit {0}
+StandForEach from d [] (l ∷ ls) = ⊥
+StandForEach from d (n ∷ ns) [] = ⊥
+StandForEach from d (n ∷ ns) (l ∷ ls) = LiteralStandsFor from d n l × StandForEach from d ns ls
+
+-- the same of lists of them
+abbrev pub StandForLists : ℕ → Data → List (List ℕ) → List (List said.Literal) → Type 0
+StandForLists from d [] [] = Unit {0}
+StandForLists from d [] (r ∷ rs) = ⊥
+StandForLists from d (ns ∷ lists) [] = ⊥
+StandForLists from d (ns ∷ lists) (r ∷ rs) = StandForEach from d ns r × StandForLists from d lists rs
+
+-- the literals of the readings were added, and the lists of their numbers stand for the readings
+pub record Spreads (from : ℕ) (old new : Data) (lists : List (List ℕ)) (readings : List (List said.Literal)) : Type 0 where
+  pub grows : Grows from old new
+  pub stand : (later : Data) → Extends new later → StandForLists from later lists readings

@@ -1,16 +1,16 @@
 // The lists in memory that a description is written to.
-ghost use Rattle.std.specs.Prelude.{◌≡◌, ◌≤◌, ◌<◌, ◌+◌, ◌++◌, ◌∷◌, [], true, length, map, drop, slice_index, IfOk, OnOk, MatchOption, position, false, ◌==◌};
+ghost use Rattle.std.specs.Prelude.{◌≡◌, ◌≤◌, ◌<◌, ◌+◌, ◌++◌, ◌∷◌, [], true, length, map, drop, slice_index, IfOk, OnOk, MatchOption, position, false, ◌==◌, if◌then◌else◌};
 ghost use Rattle.kif.specs.Tree.{name, trees_of};
 ghost use Rattle.kif.specs.View.{tree_of, trees_in};
-ghost use Rattle.rules.specs.Items.{is_term, are_terms};
-ghost use Rattle.rules.specs.Adding.{Adds, MakesPart, BeginsList};
-ghost use Rattle.rules.specs.Clause.{is_variable};
+ghost use Rattle.rules.specs.Items.{is_term, are_terms, is_atom, atom_in};
+ghost use Rattle.rules.specs.Adding.{Adds, MakesPart, BeginsList, NumbersRelation, AddsAtom, AddsLiteral};
+ghost use Rattle.rules.specs.Clause.{is_variable, positive, negative};
 ghost use Rattle.rules.specs.Numbers.{word_at, with_word, with_number, is_number_in};
 ghost use Rattle.rules.specs.StoreView.{data_of};
 
-use crate::clauses::{Literal, Part};
+use crate::clauses::{Atom, Literal, Part, Span};
 use crate::forms::split_word;
-use crate::signatures::Signatures;
+use crate::signatures::{Signature, Signatures};
 use crate::symbols::Symbols;
 use kif::Expr;
 use std::alloc::{AllocError, Allocator, Global};
@@ -127,6 +127,82 @@ impl Store {
             self.add_term(from, term)?;
         }
         Ok(())
+    }
+
+    /// The number of the relation of a word and so many terms.
+    fn relation(&mut self, from: usize, word: &[u8], arity: usize) -> Result<usize, AllocError>
+        ensures { IfOk result (λ r. NumbersRelation from (data_of self.old) (data_of self.new) r (record { word = word.now; arity = arity })) }
+    {
+        let word = self.symbol(word)?;
+        let relation = self.signatures.intern(Signature { word, arity })?;
+        Ok(relation)
+    }
+
+    /// Adds the atom of a word and terms.
+    fn add_atom_of<A: Allocator>(
+        &mut self,
+        from: usize,
+        word: &[u8],
+        terms: &[Expr<A>],
+    ) -> Result<Atom, AllocError>
+        requires variables { from ≤ length (data_of self.old).variables }
+        requires terms { are_terms (trees_of (trees_in terms.now)) ≡ true }
+        ensures { IfOk result (λ atom. AddsAtom from (data_of self.old) (data_of self.new) atom (record { word = word.now; terms = trees_of (trees_in terms.now) })) }
+    {
+        let relation = self.relation(from, word, terms.len())?;
+        let begin = self.parts.len();
+        self.add_terms(from, terms)?;
+        let end = self.parts.len();
+        Ok(Atom {
+            relation,
+            terms: Span {
+                from: begin,
+                to: end,
+            },
+        })
+    }
+
+    /// Adds an atom.
+    pub(crate) fn add_atom<A: Allocator>(&mut self, from: usize, e: &Expr<A>) -> Result<Atom, AllocError>
+        requires variables { from ≤ length (data_of self.old).variables }
+        requires atom { is_atom (tree_of e.now) ≡ true }
+        ensures { IfOk result (λ atom. AddsAtom from (data_of self.old) (data_of self.new) atom (atom_in (tree_of e.now))) }
+    {
+        let (word, terms) = split_atom(e);
+        self.add_atom_of(from, word, terms)
+    }
+
+    /// Adds a literal, and tells its number.
+    fn add_literal<A: Allocator>(
+        &mut self,
+        from: usize,
+        e: &Expr<A>,
+        is_negated: bool,
+    ) -> Result<usize, AllocError>
+        requires variables { from ≤ length (data_of self.old).variables }
+        requires atom { is_atom (tree_of e.now) ≡ true }
+        ensures { IfOk result (λ n. AddsLiteral from (data_of self.old) (data_of self.new) n
+            (if is_negated then negative (atom_in (tree_of e.now)) else positive (atom_in (tree_of e.now)))) }
+    {
+        let atom = self.add_atom(from, e)?;
+        let number = self.literals.len();
+        self.literals.push(Literal { atom, is_negated })?;
+        Ok(number)
+    }
+}
+
+/// The word of an atom, and its terms.
+fn split_atom<A: Allocator>(e: &Expr<A>) -> (&[u8], &[Expr<A>])
+    requires { is_atom (tree_of e.now) ≡ true }
+    ensures atom { atom_in (tree_of e.now) ≡ record { word = result.0.now; terms = trees_of (trees_in result.1.now) } }
+    ensures terms { are_terms (trees_of (trees_in result.1.now)) ≡ true }
+{
+    match e {
+        Expr::Name(word) => (word, &[]),
+        Expr::List(parts) => match split_word(parts) {
+            None => unreachable!(),
+            Some((word, terms)) => (word, terms),
+        },
     }
 }
 
