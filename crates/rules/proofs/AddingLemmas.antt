@@ -1,5 +1,5 @@
 -- Additions to the lists in memory.
-use Rattle.std.proofs.Common.{ℕ, suc, zero, ◌≡◌, ◌+◌, ◌-◌, ◌<◌, ◌≤◌, ◌⊎◌, inl, inr, Bool, true, false, cond, List, [], ◌∷◌, ◌++◌, length, map, take, drop, refl, sym, ◌∙◌, ap, subst, arith, get_or, append_assoc, length-append}
+use Rattle.std.proofs.Common.{ℕ, suc, zero, ◌≡◌, ◌+◌, ◌-◌, ◌<◌, ◌≤◌, Bool, true, false, cond, List, [], ◌∷◌, ◌++◌, length, take, drop, refl, sym, ◌∙◌, ap, subst, arith, get_or, append_assoc, length-append}
 use Rattle.std.specs.Prelude.{slice_index, slice_index_or, slice_range}
 use Rattle.std.proofs.lemmas.List.{append-nil}
 use Rattle.kif.specs.Tree.{Tree, name, list, tree, trees_of}
@@ -11,10 +11,9 @@ use Rattle.rules.specs.declared.signatures.Signature.{Signature}
 use Rattle.rules.specs.Clause as said
 use Rattle.rules.specs.Clause.{is_variable, positive, negative, count_trees}
 use Rattle.rules.specs.Signatures.{no_signature, signature_at, with_signature}
-use Rattle.rules.specs.Safety.{is_name_in}
-use Rattle.rules.specs.Numbers.{Begins, word_at, with_word, AreDifferent, is_number_in, with_number}
-use Rattle.rules.specs.Store.{Data, variable_name, with_part, terms_before, relation_at, atom_of, literal_of, literal_at, no_literal}
-use Rattle.rules.specs.Adding.{Extends, Grows, StandOnce, IsSorted, AreSorted, Spells, Adds, MakesPart, BeginsList, NumbersRelation, StandsFor, AddsAtom, LiteralStandsFor, AddsLiteral}
+use Rattle.rules.specs.Numbers.{Begins, word_at, with_word, with_number}
+use Rattle.rules.specs.Store.{Data, variable_name, with_part, terms_before, relation_at, literal_of, no_literal}
+use Rattle.rules.specs.Adding.{Extends, Grows, AreSorted, Spells, Adds, MakesPart, BeginsList, NumbersRelation, StandsFor, AddsAtom, AddsLiteral}
 use Rattle.rules.proofs.NumberLemmas.{with_word-Begins, with_word-AreDifferent, with_number-Begins, with_number-StandOnce}
 use Rattle.rules.proofs.SignatureLemmas.{with_signature-Begins, with_signature-AreDifferent}
 
@@ -114,10 +113,10 @@ pub spells_both : (from : ℕ) (a b : Data) (ps qs : List Part) (ts us : List Tr
 spells_both from a b ps qs ts us x s t =
     record {
       terms = λ later e behind.
-      before_append later from ps qs behind
-      ∙ ap (λ (vs : List Tree). terms_before later from ps vs) (t.terms later e behind)
-      ∙ s.terms later (extends_trans a b later x e) (us ++ behind)
-      ∙ sym (append_assoc ts us behind);
+          before_append later from ps qs behind
+          ∙ ap (λ (vs : List Tree). terms_before later from ps vs) (t.terms later e behind)
+          ∙ s.terms later (extends_trans a b later x e) (us ++ behind)
+          ∙ sym (append_assoc ts us behind);
       sorted = λ later e. sorted_append later from ps qs (s.sorted later (extends_trans a b later x e)) (t.sorted later e);
     }
 
@@ -144,10 +143,11 @@ variable_part from a b c s v w h e f (in_words, same_word) (in_variables, same_s
       grows = grows_trans from a b c (grows_word from a b w e) grown;
       same_parts = ap (λ (d : Data). d.parts) f ∙ ap (λ (d : Data). d.parts) e;
       term = λ later x behind. ap (λ (n : List ℕ). name n ∷ behind) (same later x);
-      sorted = λ later x.
-      (begins_less c.variables later.variables (from + v) x.variables in_variables,
-      subst (λ (n : ℕ). n < length later.words) (sym (at later x)) (begins_less b.words later.words s (begins_trans _ _ _ grown.extends.words x.words) in_words),
-      subst (λ (n : List ℕ). is_variable n ≡ true) (sym (same later x)) variable);
+      sorted = λ later x. (
+        begins_less c.variables later.variables (from + v) x.variables in_variables,
+        subst (λ (n : ℕ). n < length later.words) (sym (at later x)) (begins_less b.words later.words s (begins_trans _ _ _ grown.extends.words x.words) in_words),
+        subst (λ (n : List ℕ). is_variable n ≡ true) (sym (same later x)) variable,
+      );
     }
 
 pub constant_part : (from : ℕ) (a b : Data) (s : ℕ) (w : List ℕ) → b ≡ record a { words = with_word a.words w } → (s < length b.words) × (word_at b.words s ≡ w) → is_variable w ≡ false
@@ -183,8 +183,8 @@ begins_list from a b c s n w e (in_words, same_word) f =
       symbol = s;
       behind = ap (λ (d : Data). d.parts) f ∙ ap (λ (d : Data). d.parts ++ parts.List s n ∷ []) e;
       named = λ later x.
-      let y = begins_trans _ _ _ grown.extends.words x.words in
-      (begins_less b.words later.words s y in_words, begins_at b.words later.words s [] y in_words ∙ same_word);
+          let y = begins_trans _ _ _ grown.extends.words x.words in
+          (begins_less b.words later.words s y in_words, begins_at b.words later.words s [] y in_words ∙ same_word);
     }
 
 take_front : (ts us : List Tree) → take (length ts) (ts ++ us) ≡ ts
@@ -204,14 +204,14 @@ adds_list from a b c w n ts long constant l x =
       behind = x.behind ∙ ap (λ (ps : List Part). ps ++ x.added) l.behind ∙ append_assoc a.parts (parts.List l.symbol n ∷ []) x.added;
       spells = record {
         terms = λ later e behind.
-        ap (λ (vs : List Tree). with_part later from (parts.List l.symbol n) vs) (x.spells.terms later e behind)
-        ∙ ap (λ (k : ℕ). with_part later from (parts.List l.symbol k) (ts ++ behind)) long
-        ∙ ap (λ (vs : List Tree). list (tree (name (word_at later.words l.symbol)) (trees_of vs)) ∷ drop (length ts) (ts ++ behind)) (take_front ts behind)
-        ∙ ap (λ (vs : List Tree). list (tree (name (word_at later.words l.symbol)) (trees_of ts)) ∷ vs) (drop_front ts behind)
-        ∙ ap (λ (v : List ℕ). list (tree (name v) (trees_of ts)) ∷ behind) (l.named later (extends_trans b c later x.grows.extends e)).1;
+            ap (λ (vs : List Tree). with_part later from (parts.List l.symbol n) vs) (x.spells.terms later e behind)
+            ∙ ap (λ (k : ℕ). with_part later from (parts.List l.symbol k) (ts ++ behind)) long
+            ∙ ap (λ (vs : List Tree). list (tree (name (word_at later.words l.symbol)) (trees_of vs)) ∷ drop (length ts) (ts ++ behind)) (take_front ts behind)
+            ∙ ap (λ (vs : List Tree). list (tree (name (word_at later.words l.symbol)) (trees_of ts)) ∷ vs) (drop_front ts behind)
+            ∙ ap (λ (v : List ℕ). list (tree (name v) (trees_of ts)) ∷ behind) (l.named later (extends_trans b c later x.grows.extends e)).1;
         sorted = λ later e.
-        let k = l.named later (extends_trans b c later x.grows.extends e) in
-        ((k.0, subst (λ (v : List ℕ). is_variable v ≡ false) (sym k.1) constant), x.spells.sorted later e);
+            let k = l.named later (extends_trans b c later x.grows.extends e) in
+            ((k.0, subst (λ (v : List ℕ). is_variable v ≡ false) (sym k.1) constant), x.spells.sorted later e);
       };
     }
 
@@ -243,8 +243,8 @@ numbers_relation from a b c s r n w e (in_words, same_word) f (in_signatures, sa
       within = λ later x. begins_less c.signatures later.signatures r x.signatures in_signatures;
       named = λ later x. subst (λ (g : Signature). g.word < length later.words) (sym (at later x)) (begins_less b.words later.words s (words later x) in_words);
       same = λ later x.
-      ap (λ (g : Signature). relation_of_signature later g) (at later x)
-      ∙ ap (λ (v : List ℕ). record { word = v; arity = n }) (begins_at b.words later.words s [] (words later x) in_words ∙ same_word);
+          ap (λ (g : Signature). relation_of_signature later g) (at later x)
+          ∙ ap (λ (v : List ℕ). record { word = v; arity = n }) (begins_at b.words later.words s [] (words later x) in_words ∙ same_word);
     }
   where
     relation_of_signature : Data → Signature → said.Relation
@@ -290,9 +290,9 @@ adds_atom from a b c r n i j w ts long number x f g =
         order = (let h = begins_long b.parts c.parts (length b.parts) x.grows.extends.parts (omega arith) in omega (arith, f, g, h));
         within = (let h = begins_long c.parts later.parts (length c.parts) e.parts (omega arith) in omega (arith, g, h));
         same =
-        ap (λ (v : List ℕ). record { word = v; terms = trees_of (terms_before later from (slice_range later.parts i j) []) }) (ap (λ (q : said.Relation). q.word) (arity later e))
-        ∙ ap (λ (us : List Tree). record { word = w; terms = trees_of us })
-        (ap (λ (ps : List Part). terms_before later from ps []) (behind later e) ∙ x.spells.terms later e [] ∙ append-nil ts);
+            ap (λ (v : List ℕ). record { word = v; terms = trees_of (terms_before later from (slice_range later.parts i j) []) }) (ap (λ (q : said.Relation). q.word) (arity later e))
+            ∙ ap (λ (us : List Tree). record { word = w; terms = trees_of us })
+            (ap (λ (ps : List Part). terms_before later from ps []) (behind later e) ∙ x.spells.terms later e [] ∙ append-nil ts);
         sorted = subst (λ (ps : List Part). AreSorted later from ps) (sym (behind later e)) (x.spells.sorted later e);
       };
     }
@@ -338,7 +338,7 @@ adds_literal from a b c x atom n is_negated y e f =
       stands = λ later g. record {
         within = begins_less c.literals later.literals n g.literals here.0;
         atom = subst (λ (k : Literal). StandsFor from later k.atom (said.atom_of (literal_said is_negated atom))) (sym (at later g))
-        (subst (λ (q : said.Atom). StandsFor from later x q) (sym (literal_said-atom is_negated atom)) (stand later g));
+            (subst (λ (q : said.Atom). StandsFor from later x q) (sym (literal_said-atom is_negated atom)) (stand later g));
         same = ap (λ (k : Literal). literal_of later from k) (at later g) ∙ ap (λ (q : said.Atom). literal_said is_negated q) (stand later g).same;
       };
     }

@@ -1,11 +1,11 @@
 -- What the form of a tree says of its parts.
-use Rattle.std.proofs.Common.{ℕ, suc, zero, ◌<◌, ◌≤◌, ◌+◌, Bool, true, false, not, ◌&&◌, ◌≡◌, List, [], ◌∷◌, length, refl, sym, ap, ◌∙◌, arith, get_or, map}
+use Rattle.std.proofs.Common.{ℕ, suc, zero, ◌<◌, Bool, true, false, not, ◌&&◌, ◌≡◌, List, [], ◌∷◌, length, refl, sym, ap, ◌∙◌, arith, get_or}
 use Rattle.kif.specs.Tree.{Tree, name, list, Trees, no_trees, tree, trees_of}
 use Rattle.kif.specs.View.{tree_of, trees_in}
 use Rattle.kif.specs.declared.expr.Expr.{Expr}
 use Rattle.kif.proofs.Equality.{both}
 use Rattle.rules.specs.Clause.{is_variable}
-use Rattle.rules.specs.Items.{is_name, is_constant, is_connective, is_term, are_terms, begins_compound, is_atom, atom_in, is_literal, are_literals}
+use Rattle.rules.specs.Items.{is_name, is_constant, is_connective, is_term, are_terms, is_atom, is_one_atom}
 use Rattle.rules.proofs.Tests.{not_true}
 
 -- what holds of each tree of a list holds of one
@@ -30,3 +30,15 @@ compound_terms w (tree t rest) h = (both (is_name w) (are_terms (tree t rest)) (
 
 pub atom_terms : (w : List ℕ) (rest : Trees) → is_atom (list (tree (name w) rest)) ≡ true → are_terms rest ≡ true
 atom_terms w rest h = (both (is_constant w && not (is_connective w)) (are_terms rest) h).1
+
+pub one_atom_there : {A : Type 0} (es : List (Expr A)) → is_one_atom (trees_of (trees_in es)) ≡ true → 0 < length es
+one_atom_there [] h = absurd cc
+one_atom_there (e ∷ es) h = omega arith
+
+pub one_atom_alone : {A : Type 0} (es : List (Expr A)) (e : Expr A) → is_one_atom (trees_of (trees_in es)) ≡ true → e ≡ get_or es 0 e → trees_in es ≡ tree_of e ∷ []
+one_atom_alone [] e h same = absurd cc
+one_atom_alone (d ∷ []) e h same = ap (λ x. tree_of x ∷ []) (sym same)
+one_atom_alone (d ∷ (c ∷ es)) e h same = absurd cc
+
+pub one_atom_is : {A : Type 0} (es : List (Expr A)) (e : Expr A) → is_one_atom (trees_of (trees_in es)) ≡ true → trees_in es ≡ tree_of e ∷ [] → is_atom (tree_of e) ≡ true
+one_atom_is es e h alone = sym (ap (λ (ts : List Tree). is_one_atom (trees_of ts)) alone) ∙ h

@@ -1,6 +1,6 @@
 -- Names by number: finding one, and adding one.
-use Rattle.std.proofs.Common.{ℕ, suc, zero, ◌≡◌, ◌+◌, ◌<◌, ◌≤◌, ◌⊎◌, inl, inr, Bool, true, false, cond, not, List, [], ◌∷◌, ◌++◌, length, map, refl, sym, ◌∙◌, ap, subst, arith, Option, Some, None, ltb, ◌&&◌, ◌||◌, ◌==◌, eqb-true, eq-eqb, drop, get_or}
-use Rattle.std.specs.Prelude.{MatchOption, ◌≢◌, nat_eq, slice_index, slice_index_or, position}
+use Rattle.std.proofs.Common.{ℕ, suc, zero, ◌≡◌, ◌+◌, ◌<◌, ◌≤◌, ◌⊎◌, inl, inr, Bool, true, false, cond, List, [], ◌∷◌, ◌++◌, length, map, refl, sym, ◌∙◌, ap, subst, arith, Option, Some, None, ◌&&◌, ◌||◌, ◌==◌, eqb-true, eq-eqb, drop, get_or}
+use Rattle.std.specs.Prelude.{MatchOption, ◌≢◌, nat_eq, slice_index, position}
 use Rattle.std.specs.Cmp.Lexicographic.{pointwise, same_text, other_text}
 use Rattle.std.specs.List.{position_from, list_any}
 use Rattle.std.proofs.lemmas.Iterator.Adapters.{position_from-zero}
@@ -11,7 +11,7 @@ use Rattle.kif.proofs.Equality.{name_eq_yes, name_eq_self}
 use Rattle.rules.specs.Safety.{is_name_in}
 use Rattle.rules.specs.Numbers.{Begins, word_at, with_word, AreDifferent, is_number_in, with_number}
 use Rattle.rules.specs.Adding.{StandOnce}
-use Rattle.rules.proofs.Tests.{or_cases, or_left, or_right, decide}
+use Rattle.rules.proofs.Tests.{or_left, or_right}
 
 not_here : (b : Bool) (i : ℕ) (o : Option ℕ) → cond b (Some i) o ≡ None → (b ≡ false) × (o ≡ None)
 not_here true i o e = absurd cc

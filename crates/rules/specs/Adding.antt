@@ -1,16 +1,15 @@
 -- What an addition to the lists in memory leaves, and what it adds.
-use Rattle.std.specs.Prelude.{ℕ, ◌+◌, ◌<◌, ◌≤◌, ◌≡◌, Bool, true, false, List, [], ◌∷◌, ◌++◌, length, map, drop, slice_index, slice_index_or, slice_range}
+use Rattle.std.specs.Prelude.{ℕ, ◌+◌, ◌<◌, ◌≤◌, ◌≡◌, true, false, List, [], ◌∷◌, ◌++◌, length, drop, slice_index, slice_index_or, slice_range}
 use Rattle.kif.specs.Tree.{Tree, name}
 use Rattle.rules.specs.declared.clauses.Part.{Part}
 use Rattle.rules.specs.declared.clauses.Part.TheVariants as parts
 use Rattle.rules.specs.declared.clauses.Atom.{Atom}
-use Rattle.rules.specs.declared.clauses.Literal.{Literal}
 use Rattle.rules.specs.declared.signatures.Signature.{Signature}
 use Rattle.rules.specs.Clause as said
 use Rattle.rules.specs.Clause.{is_variable, relation_of}
 use Rattle.rules.specs.Numbers.{Begins, word_at, AreDifferent}
 use Rattle.rules.specs.Signatures.{signature_at}
-use Rattle.rules.specs.Store.{Data, variable_name, with_part, terms_before, relation_at, atom_of, literal_of, literal_at, no_literal}
+use Rattle.rules.specs.Store.{Data, variable_name, with_part, terms_before, relation_at, atom_of, literal_at, no_literal}
 
 -- each list is as before, with more behind it
 pub record Extends (old new : Data) : Type 0 where

@@ -1,5 +1,5 @@
 -- Relations by number.
-use Rattle.std.specs.Prelude.{ℕ, Bool, true, false, cond, ◌&&◌, ◌||◌, ◌==◌, List, [], ◌∷◌, ◌++◌, slice_index_or}
+use Rattle.std.specs.Prelude.{ℕ, Bool, false, cond, ◌&&◌, ◌||◌, ◌==◌, List, [], ◌∷◌, ◌++◌, slice_index_or}
 use Rattle.rules.specs.declared.signatures.Signature.{Signature}
 
 abbrev pub signature_eq : Signature → Signature → Bool

@@ -1,5 +1,5 @@
 -- Terms, atoms and literals in flat lists, and what they stand for.
-use Rattle.std.specs.Prelude.{ℕ, ◌+◌, ◌<◌, ◌≤◌, ◌≡◌, Bool, true, false, cond, List, [], ◌∷◌, ◌++◌, length, map, take, drop, slice_index, slice_index_or, slice_range}
+use Rattle.std.specs.Prelude.{ℕ, ◌+◌, false, cond, List, [], ◌∷◌, take, drop, slice_index, slice_index_or, slice_range}
 use Rattle.kif.specs.Tree.{Tree, name, list, tree, trees_of}
 use Rattle.rules.specs.declared.clauses.Part.{Part}
 use Rattle.rules.specs.declared.clauses.Part.TheVariants as parts

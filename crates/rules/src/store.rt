@@ -163,7 +163,11 @@ impl Store {
     }
 
     /// Adds an atom.
-    pub(crate) fn add_atom<A: Allocator>(&mut self, from: usize, e: &Expr<A>) -> Result<Atom, AllocError>
+    pub(crate) fn add_atom<A: Allocator>(
+        &mut self,
+        from: usize,
+        e: &Expr<A>,
+    ) -> Result<Atom, AllocError>
         requires variables { from ≤ length (data_of self.old).variables }
         requires atom { is_atom (tree_of e.now) ≡ true }
         ensures { IfOk result (λ atom. AddsAtom from (data_of self.old) (data_of self.new) atom (atom_in (tree_of e.now))) }
@@ -173,7 +177,7 @@ impl Store {
     }
 
     /// Adds a literal, and tells its number.
-    fn add_literal<A: Allocator>(
+    pub(crate) fn add_literal<A: Allocator>(
         &mut self,
         from: usize,
         e: &Expr<A>,

@@ -21,9 +21,16 @@ add_term-unreachable-requires g t c =
 pub add_term-add_terms-requires : goal.add_term-add_terms-requires
 add_term-add_terms-requires g t c κs within =
     let h = tree_is_word _ _ _ _ _ c.in-List.is c.deref-in-List.ensures.value c.in-Some.ensures in
-    let k = rest_smaller _ _ _ h in
-    (omega (arith, k, c.decreases), (within, (longer c.args.from _ _ _ c.in_ok-begin_list-in-Some.ensures.grows c.requires.variables,
-    compound_terms c.in-Some.word.now (trees_of (trees_in c.in-Some.terms.now)) (sym (ap is_term h) ∙ c.requires.term))))
+    let k = rest_smaller _ _ _ h in (
+      omega (arith, k, c.decreases),
+      (
+        within,
+        (
+          longer c.args.from _ _ _ c.in_ok-begin_list-in-Some.ensures.grows c.requires.variables,
+          compound_terms c.in-Some.word.now (trees_of (trees_in c.in-Some.terms.now)) (sym (ap is_term h) ∙ c.requires.term),
+        ),
+      ),
+    )
 
 pub add_term-returns-in_ok-begin_list-in-Some : goal.add_term-returns-in_ok-begin_list-in-Some
 add_term-returns-in_ok-begin_list-in-Some g t c =
@@ -35,9 +42,16 @@ add_term-returns-in_ok-begin_list-in-Some g t c =
 
 pub add_terms-add_term-requires : goal.add_terms-add_term-requires
 add_terms-add_term-requires g t c κs within =
-    let k = part_smaller _ _ _ c.loop-term-test.true c.term-item.is in
-    (omega (arith, k, c.decreases), (within, (longer c.args.from _ _ _ c.loop-term.invariant.grows c.requires.variables,
-    one_of_all are_terms is_term (λ t ts. refl) c.args.terms.now c.loop-term.term-index c.term-item.result c.loop-term-test.true c.term-item.is c.requires.terms)))
+    let k = part_smaller _ _ _ c.loop-term-test.true c.term-item.is in (
+      omega (arith, k, c.decreases),
+      (
+        within,
+        (
+          longer c.args.from _ _ _ c.loop-term.invariant.grows c.requires.variables,
+          one_of_all are_terms is_term (λ t ts. refl) c.args.terms.now c.loop-term.term-index c.term-item.result c.loop-term-test.true c.term-item.is c.requires.terms,
+        ),
+      ),
+    )
 
 pub add_terms-loop-term-preserved : goal.add_terms-loop-term-preserved
 add_terms-loop-term-preserved g t c =

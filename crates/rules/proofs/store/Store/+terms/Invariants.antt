@@ -1,4 +1,4 @@
-use Rattle.std.proofs.Common.{◌≡◌, take}
+use Rattle.std.proofs.Common.{take}
 use Rattle.kif.specs.View.{tree_of, trees_in}
 use Rattle.rules.specs.StoreView.{data_of}
 use Rattle.rules.specs.Adding.{Adds}

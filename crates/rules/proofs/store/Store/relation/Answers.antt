@@ -1,6 +1,5 @@
 use Rattle.std.proofs.Common.{ap, List}
 use Rattle.rules.specs.declared.signatures.Signature.{Signature}
-use Rattle.rules.specs.Store.{Data}
 use Rattle.rules.specs.StoreView.{data_of}
 use Rattle.rules.proofs.AddingLemmas.{numbers_relation}
 use Rattle.rules.proofs.store.Store.relation.Goals as goal
