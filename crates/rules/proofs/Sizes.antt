@@ -26,3 +26,6 @@ part_smaller (d ∷ es) (suc i) e h same = let k = part_smaller es i e (omega ar
 -- the parts behind the word of a list are smaller than the list
 pub rest_smaller : (t : Tree) (w : List ℕ) (rest : List Tree) → t ≡ list (tree (name w) (trees_of rest)) → trees_size rest < tree_size t
 rest_smaller t w rest e = let k = ap tree_size e in omega (arith, k)
+
+pub list_smaller : (t : Tree) (ts : List Tree) → t ≡ list (trees_of ts) → trees_size ts < tree_size t
+list_smaller t ts e = let k = ap tree_size e in omega (arith, k)

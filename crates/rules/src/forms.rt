@@ -4,7 +4,10 @@ ghost use Rattle.std.specs.List.{list_all};
 ghost use Rattle.kif.specs.Tree.{name, name_eq, tree, trees_of};
 ghost use Rattle.kif.specs.Lexical.{is_lower_name_byte};
 ghost use Rattle.kif.specs.View.{tree_of, trees_in};
+ghost use Rattle.rules.specs.Clause.{is_variable};
 ghost use Rattle.rules.specs.Items.{is_name, is_constant, is_connective, begins_compound, is_term, are_terms, is_atom, is_one_atom, is_literal, are_literals, is_item, head_tree, body_trees};
+ghost use Rattle.rules.specs.First.{IsFirstFailing};
+ghost use Rattle.rules.specs.Profile.{bad_form};
 ghost use Rattle.rules.specs.Connectives.{IsConnectiveOf};
 ghost use Rattle.rules.specs.Parts.{HasNoWord};
 
@@ -42,11 +45,17 @@ fn is_lawful_name(bytes: &[u8]) -> bool
     }
 }
 
+pub(crate) fn is_variable_name(bytes: &[u8]) -> bool
+    ensures { result ≡ is_variable bytes.now }
+{
+    matches!(bytes, [b'?', ..])
+}
+
 /// Whether the bytes are a name that is no variable.
 fn is_lawful_constant(bytes: &[u8]) -> bool
     ensures { result ≡ is_constant bytes.now }
 {
-    is_lawful_name(bytes) && !matches!(bytes, [b'?', ..])
+    is_lawful_name(bytes) && !is_variable_name(bytes)
 }
 
 /// Whether the bytes may stand in front of the terms of an atom.
@@ -208,4 +217,16 @@ pub(crate) fn is_item_tree<A: Allocator>(e: &Expr<A>) -> bool
 {
     let (head, body) = split_item(e);
     is_atom_tree(head) && are_literal_trees(body)
+}
+
+/// The number of the first tree that is no item. Trees are numbered from 1.
+pub(crate) fn first_bad_form<A: Allocator>(items: &[Expr<A>]) -> Option<usize>
+    ensures { IsFirstFailing bad_form (λ t. not (is_item t)) (trees_in items.now) result }
+{
+    for (index, item) in items.iter().enumerate() {
+        if !is_item_tree(item) {
+            return Some(index + 1);
+        }
+    }
+    None
 }
