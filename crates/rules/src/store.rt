@@ -62,6 +62,13 @@ impl Store {
         Ok(number)
     }
 
+    /// How many variables there are.
+    pub(crate) fn count_variables(&self) -> usize
+        ensures { result ≡ length (data_of self.now).variables }
+    {
+        self.variables.len()
+    }
+
     fn push_part(&mut self, part: Part) -> Result<(), AllocError>
         ensures { OnOk result (data_of self.new ≡ record (data_of self.old) { parts = (data_of self.old).parts ++ part ∷ [] }) }
     {
