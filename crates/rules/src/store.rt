@@ -1,15 +1,19 @@
 // The lists in memory that a description is written to.
-ghost use Rattle.std.specs.Prelude.{◌≡◌, ◌≤◌, ◌<◌, ◌+◌, ◌++◌, ◌∷◌, [], true, length, map, drop, slice_index, IfOk, OnOk, MatchOption, position, false, ◌==◌, if◌then◌else◌};
+ghost use Rattle.std.specs.Prelude.{◌≡◌, ◌≤◌, ◌<◌, ◌+◌, ◌++◌, ◌∷◌, [], true, length, map, drop, slice_index, slice_range, IfOk, OnOk, MatchOption, position, false, ◌==◌, if◌then◌else◌};
 ghost use Rattle.kif.specs.Tree.{name, trees_of};
 ghost use Rattle.kif.specs.View.{tree_of, trees_in};
 ghost use Rattle.rules.specs.Items.{is_term, are_terms, is_atom, atom_in};
 ghost use Rattle.rules.specs.Adding.{Adds, MakesPart, BeginsList, NumbersRelation, AddsAtom, AddsLiteral};
-ghost use Rattle.rules.specs.Clause.{is_variable, positive, negative};
+ghost use Rattle.rules.specs.Clause.{positive, negative};
 ghost use Rattle.rules.specs.Numbers.{word_at, with_word, with_number, is_number_in};
 ghost use Rattle.rules.specs.StoreView.{data_of};
+ghost use Rattle.rules.specs.Marks.{literal_in};
+ghost use Rattle.rules.specs.Dependence.{is_distinct};
+ghost use Rattle.rules.specs.Signatures.{signature_at};
+ghost use Rattle.rules.specs.Store.{relation_at};
 
 use crate::clauses::{Atom, Literal, Part, Span};
-use crate::forms::split_word;
+use crate::forms::{is_same_name, is_variable_name, split_word};
 use crate::signatures::{Signature, Signatures};
 use crate::symbols::Symbols;
 use kif::Expr;
@@ -67,6 +71,33 @@ impl Store {
         ensures { result ≡ length (data_of self.now).variables }
     {
         self.variables.len()
+    }
+
+    /// A literal by its number.
+    pub(crate) fn literal(&self, number: usize) -> Literal
+        requires { number < length (data_of self.now).literals }
+        ensures { result ≡ literal_in (data_of self.now) number }
+    {
+        self.literals[number]
+    }
+
+    /// The parts that stand in a place.
+    pub(crate) fn parts_at(&self, place: Span) -> &[Part]
+        requires order { place.from ≤ place.to }
+        requires within { place.to ≤ length (data_of self.now).parts }
+        ensures { result.now ≡ slice_range (data_of self.now).parts place.from place.to }
+    {
+        &self.parts[place.from..place.to]
+    }
+
+    /// Whether a relation is `distinct` with two arguments.
+    pub(crate) fn is_distinct(&self, relation: usize) -> bool
+        requires relation { relation < length (data_of self.now).signatures }
+        requires word { (signature_at (data_of self.now).signatures relation).word < length (data_of self.now).words }
+        ensures { result ≡ is_distinct (relation_at (data_of self.now) relation) }
+    {
+        let signature = self.signatures.as_slice()[relation];
+        is_same_name(self.symbols.name(signature.word), b"distinct") && signature.arity == 2
     }
 
     fn push_part(&mut self, part: Part) -> Result<(), AllocError>
@@ -215,12 +246,6 @@ fn split_atom<A: Allocator>(e: &Expr<A>) -> (&[u8], &[Expr<A>])
             Some((word, terms)) => (word, terms),
         },
     }
-}
-
-fn is_variable_name(name: &[u8]) -> bool
-    ensures { result ≡ is_variable name.now }
-{
-    matches!(name, [b'?', ..])
 }
 
 /// The first place of a number in a list, as the list's own search tells it.
