@@ -61,3 +61,11 @@ AreInside from d (n ∷ ns) = ((n < length d.literals) × IsInside from d (liter
 -- every variable of the head, of a negated literal or of a `distinct` is bound
 abbrev pub is_safe_by : ℕ → Data → Atom → List ℕ → Bool
 is_safe_by many d head body = all_marked (with_marks (replicate many false) (bound_numbers d body)) (atom_numbers d head ++ needed_numbers d body)
+
+abbrev pub AreAllInside : ℕ → Data → List (List ℕ) → Type 0
+AreAllInside from d [] = Unit {0}
+AreAllInside from d (b ∷ bodies) = AreInside from d b × AreAllInside from d bodies
+
+abbrev pub are_safe_by : ℕ → Data → Atom → List (List ℕ) → Bool
+are_safe_by many d head [] = true
+are_safe_by many d head (b ∷ bodies) = is_safe_by many d head b && are_safe_by many d head bodies
