@@ -1,0 +1,1 @@
+use Rattle.rules.proofs.roles.excess_of.Goals as goal
