@@ -138,8 +138,14 @@ added arrows ends before p q p_in q_in l arrows' ends' before' e f g =
   where
     old : Linked (length arrows) (length ends) (λ k. (arrow_at arrows k).from) (λ k. (arrow_at arrows k).to) (λ r. get_or ends r 0) (λ i. get_or before i 0)
     old = record {
-      from_in = l.from_in; to_in = l.to_in; end_in = l.end_in; end_own = l.end_own; end_gap = l.end_gap;
-      before_in = l.before_in; before_own = l.before_own; before_gap = l.before_gap;
+      from_in = l.from_in;
+      to_in = l.to_in;
+      end_in = l.end_in;
+      end_own = l.end_own;
+      end_gap = l.end_gap;
+      before_in = l.before_in;
+      before_own = l.before_own;
+      before_gap = l.before_gap;
     }
 
     earlier : (k : ℕ) → k < length arrows → arrow_at arrows' k ≡ arrow_at arrows k

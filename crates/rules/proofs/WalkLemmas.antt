@@ -71,8 +71,19 @@ rooted arrows n m seen done ends pending order m_in idle w seen' pending' e f =
 
     more : Walking arrows n m seen' done ends pending' order → get_or seen' m false ≡ true → Walking arrows n (m + 1) seen' done ends pending' order
     more u last = record {
-      seen_are = u.seen_are; done_are = u.done_are; ends_are = u.ends_are; end_in = u.end_in; end_own = u.end_own; pending_in = u.pending_in; chain = u.chain;
-      waiting = u.waiting; passed = u.passed; started = λ p h. started p (last_or p m h); listed = u.listed; inside = u.inside; back = u.back;
+      seen_are = u.seen_are;
+      done_are = u.done_are;
+      ends_are = u.ends_are;
+      end_in = u.end_in;
+      end_own = u.end_own;
+      pending_in = u.pending_in;
+      chain = u.chain;
+      waiting = u.waiting;
+      passed = u.passed;
+      started = λ p h. started p (last_or p m h);
+      listed = u.listed;
+      inside = u.inside;
+      back = u.back;
     }
       where
         started : (p : ℕ) → (p < m) ⊎ (p ≡ m) → get_or seen' p false ≡ true

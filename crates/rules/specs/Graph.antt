@@ -63,3 +63,19 @@ pub record IsOrder (arrows : List Arrow) (n : ℕ) (order : List ℕ) : Type 0 w
 
 abbrev pub turned_arrow : Arrow → Arrow
 turned_arrow arrow = record { from = arrow.to; to = arrow.from }
+
+-- p is a goal, or reaches one
+pub record IsLeading (arrows : List Arrow) (goals : List Bool) (p : ℕ) : Type 0 where
+  pub goal : ℕ
+  pub is_goal : slice_index_or goals goal false ≡ true
+  pub leads : (p ≡ goal) ⊎ Reaches arrows p goal
+
+-- the marks say which nodes are goals or reach one
+pub record AreLeading (arrows : List Arrow) (goals marks : List Bool) : Type 0 where
+  pub length_is : length marks ≡ length goals
+  pub exact : (p : ℕ) → p < length goals → (slice_index_or marks p false ≡ true) ↔ IsLeading arrows goals p
+
+-- the places that are marked, and no others
+pub record ArePlaces (marks : List Bool) (places : List ℕ) : Type 0 where
+  pub sound : (i : ℕ) → i < length places → slice_index_or marks (slice_index places i) false ≡ true
+  pub complete : (p : ℕ) → slice_index_or marks p false ≡ true → Stands places p

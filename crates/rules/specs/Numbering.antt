@@ -46,3 +46,13 @@ pub record AreBodyNumbers (n : ℕ) (name : ℕ → Relation) (rules : List Alte
   pub inside : (i : ℕ) → i < length body → slice_index_or body i 0 < n
   pub sound : (i : ℕ) → i < length body → IsInBodies rules (name (slice_index_or body i 0))
   pub complete : (q : Relation) → IsInBodies rules q → (i : ℕ) × (i < length body) × (name (slice_index_or body i 0) ≡ q)
+
+-- the tests of the numbers are the test of their relations
+abbrev pub AreTests : ℕ → (ℕ → Relation) → (Relation → Bool) → List Bool → Type 0
+AreTests n name test goals = (i : ℕ) → i < n → slice_index_or goals i false ≡ test (name i)
+
+-- some number of the list is marked
+pub record IsAnyMarked (marks : List Bool) (body : List ℕ) : Type 0 where
+  pub place : ℕ
+  pub inside : place < length body
+  pub marked : slice_index_or marks (slice_index_or body place 0) false ≡ true

@@ -1,7 +1,7 @@
 //! Directed graphs over numbers.
 
-ghost use Rattle.std.specs.Prelude.{ℕ, ◌≡◌, ◌<◌, map, [], ◌∷◌, ◌++◌, length, replicate, vec_len, IfOk, OnOk, OnErr, All, slice_set, slice_index_or, false, true, if◌then◌else◌};
-ghost use Rattle.rules.specs.Graph.{AreLinked, AreMarks, turned_arrow};
+ghost use Rattle.std.specs.Prelude.{ℕ, ◌≡◌, ◌<◌, ◌↔◌, IsTrue, map, [], ◌∷◌, ◌++◌, length, replicate, vec_len, IfOk, OnOk, OnErr, All, slice_set, slice_index_or, false, true, if◌then◌else◌};
+ghost use Rattle.rules.specs.Graph.{AreLinked, AreMarks, turned_arrow, IsReachedFrom, AreLeading, ArePlaces};
 
 use std::alloc::{AllocError, Global};
 
@@ -98,10 +98,47 @@ impl Graph {
         }
         Ok(marks)
     }
+
+    /// Marks the nodes that are goals or reach one.
+    pub fn leading(&self, alloc: Global, goals: &[bool]) -> Result<Vec<bool>, AllocError>
+        requires { length goals.now ≡ vec_len self.now.ends }
+        ensures { IfOk result (λ marks. AreLeading self.now.arrows.items goals.now marks.items) }
+    {
+        let turned = self.turned(alloc)?;
+        let places = places_of(alloc, goals)?;
+        turned.reached(alloc, &places)
+    }
+
+    /// Whether the head is among some nodes, or one of them reaches it.
+    pub fn leads_back(&self, alloc: Global, head: usize, body: &[usize]) -> Result<bool, AllocError>
+        requires head { head < vec_len self.now.ends }
+        requires body { All (λ node. node < vec_len self.now.ends) body.now }
+        ensures { IfOk result (λ leads. IsTrue leads ↔ IsReachedFrom self.now.arrows.items body.now head) }
+    {
+        let marks = self.reached(alloc, body)?;
+        Ok(marks[head])
+    }
+}
+
+/// The places of the marks.
+fn places_of(alloc: Global, marks: &[bool]) -> Result<Vec<usize>, AllocError>
+    ensures { IfOk result (λ places. ArePlaces marks.now places.items) }
+{
+    let mut places = Vec::new(alloc);
+    for (place, is_marked) in marks.iter().enumerate() {
+        if *is_marked {
+            places.push(place)?;
+        }
+    }
+    Ok(places)
 }
 
 /// Marks a node, and notes it behind the pending ones if it was not marked.
-pub(crate) fn mark(marks: &mut Vec<bool>, pending: &mut Vec<usize>, node: usize) -> Result<(), AllocError>
+pub(crate) fn mark(
+    marks: &mut Vec<bool>,
+    pending: &mut Vec<usize>,
+    node: usize,
+) -> Result<(), AllocError>
     requires { node < vec_len marks.old }
     ensures marked { OnOk result (marks.new.items ≡ slice_set marks.old.items node true) }
     ensures noted { OnOk result (pending.new.items

@@ -28,8 +28,8 @@ fn visit(graph: &Graph, walk: &mut Walk, root: usize) -> Result<bool, AllocError
     requires idle { walk.old.pending.items ≡ [] }
     ensures { IfOk result (λ ended. MatchBool ended
         (Walking graph.now.arrows.items (vec_len graph.now.ends) (root + 1)
-            walk.new.seen.items walk.new.done.items walk.new.ends.items [] walk.new.order.items
-            × (walk.new.pending.items ≡ []))
+        walk.new.seen.items walk.new.done.items walk.new.ends.items [] walk.new.order.items
+        × (walk.new.pending.items ≡ []))
         (IsCyclic graph.now.arrows.items)) }
 {
     mark(&mut walk.seen, &mut walk.pending, root)?;

@@ -27,8 +27,8 @@ loop-pending-smaller c =
 pub loop-start-preserved : goal.loop-start-preserved
 loop-start-preserved c = record {
   searching = started_more _ _ _ _ _ _ _ c.loop-start-test.true (omega (arith, c.requires c.loop-start.start-index 0 c.loop-start-test.true, c.args.self.now.ends.ok.0))
-  (subst (λ (x : List ℕ). Searching c.args.self.now.arrows.items c.args.starts.now (length c.args.self.now.ends.items) c.loop-start.start-index c.loop-start.marks.items x c.loop-start.pending.items) refl c.loop-start.invariant.searching)
-  _ _ c.in_ok-mark.ensures.marked c.in_ok-mark.ensures.noted;
+      (subst (λ (x : List ℕ). Searching c.args.self.now.arrows.items c.args.starts.now (length c.args.self.now.ends.items) c.loop-start.start-index c.loop-start.marks.items x c.loop-start.pending.items) refl c.loop-start.invariant.searching)
+      _ _ c.in_ok-mark.ensures.marked c.in_ok-mark.ensures.noted;
   ends_are = c.loop-start.invariant.ends_are;
 }
 
