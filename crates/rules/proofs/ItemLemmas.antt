@@ -11,7 +11,7 @@ use Rattle.rules.specs.Spread.{lists_of}
 use Rattle.rules.specs.Store.{Data}
 use Rattle.rules.specs.Adding.{Extends, StandOnce, AddsAtom, Spreads, StandsFor, StandForLists}
 use Rattle.rules.specs.ItemView.{ItemStandsFor, ReadsItem}
-use Rattle.rules.proofs.AddingLemmas.{extends_trans}
+use Rattle.rules.proofs.AddingLemmas.{extends_trans, begins_long}
 
 pub item_atom : (t h : Tree) → head_tree t ≡ h → is_item t ≡ true → is_atom h ≡ true
 item_atom t h e i = ap is_atom (sym e) ∙ (both (is_atom (head_tree t)) (are_literals (body_trees t)) i).0
@@ -29,6 +29,7 @@ reads_item a b c i t h ts head body from to x s =
       extends = extends_trans a b c x.grows.extends s.grows.extends;
       words = λ d. s.grows.words (x.grows.words d);
       signatures = λ d. s.grows.signatures (x.grows.signatures d);
+      order = (let k = begins_long a.variables c.variables (length a.variables) (extends_trans a b c x.grows.extends s.grows.extends).variables (omega arith) in omega (arith, k, from, to));
       to = to;
       once = s.grows.variables (x.grows.variables (subst (λ (n : ℕ). StandOnce (drop n a.variables)) (sym from) (none_once a.variables)));
       stands = λ later e. record {

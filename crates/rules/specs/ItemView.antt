@@ -1,5 +1,5 @@
 -- An item in memory, and what it stands for.
-use Rattle.std.specs.Prelude.{ℕ, ◌≡◌, List, length, drop}
+use Rattle.std.specs.Prelude.{ℕ, ◌≡◌, ◌≤◌, List, length, drop}
 use Rattle.kif.specs.Tree.{Tree}
 use Rattle.rules.specs.declared.items.Item.{Item}
 use Rattle.rules.specs.Items.{item_head, body_trees, readings_of_all}
@@ -18,6 +18,7 @@ pub record ReadsItem (old new : Data) (i : Item) (t : Tree) : Type 0 where
   pub extends : Extends old new
   pub words : AreDifferent old.words → AreDifferent new.words
   pub signatures : AreDifferentSignatures old.signatures → AreDifferentSignatures new.signatures
+  pub order : i.variables.from ≤ i.variables.to
   pub to : i.variables.to ≡ length new.variables
   pub once : StandOnce (drop i.variables.from new.variables)
   pub stands : (later : Data) → Extends new later → ItemStandsFor later i t
