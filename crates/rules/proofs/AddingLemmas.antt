@@ -15,7 +15,7 @@ use Rattle.rules.specs.Numbers.{Begins, word_at, with_word, with_number}
 use Rattle.rules.specs.Store.{Data, variable_name, with_part, terms_before, relation_at, literal_of, no_literal}
 use Rattle.rules.specs.Adding.{Extends, Grows, AreSorted, Spells, Adds, MakesPart, BeginsList, NumbersRelation, StandsFor, AddsAtom, AddsLiteral}
 use Rattle.rules.proofs.NumberLemmas.{with_word-Begins, with_word-AreDifferent, with_number-Begins, with_number-StandOnce}
-use Rattle.rules.proofs.SignatureLemmas.{with_signature-Begins, with_signature-AreDifferent}
+use Rattle.rules.proofs.SignatureLemmas.{with_signature-Begins, with_signature-AreDifferent, with_signature-named}
 
 -- Lists that grow.
 
@@ -54,7 +54,7 @@ extends_trans a b c x y =
     }
 
 pub grows_refl : (from : ℕ) (d : Data) → Grows from d d
-grows_refl from d = record { extends = extends_refl d; words = λ h. h; signatures = λ h. h; variables = λ h. h }
+grows_refl from d = record { extends = extends_refl d; words = λ h. h; signatures = λ h. h; named = λ h. h; variables = λ h. h }
 
 pub grows_trans : (from : ℕ) (a b c : Data) → Grows from a b → Grows from b c → Grows from a c
 grows_trans from a b c x y =
@@ -62,6 +62,7 @@ grows_trans from a b c x y =
       extends = extends_trans a b c x.extends y.extends;
       words = λ h. y.words (x.words h);
       signatures = λ h. y.signatures (x.signatures h);
+      named = λ h. y.named (x.named h);
       variables = λ h. y.variables (x.variables h);
     }
 
@@ -72,6 +73,7 @@ grows_word from a b w e =
       extends = record { words = with_word-Begins a.words w; signatures = begins_refl a.signatures; variables = begins_refl a.variables; parts = begins_refl a.parts; literals = begins_refl a.literals };
       words = with_word-AreDifferent a.words w;
       signatures = λ h. h;
+      named = λ h r k. begins_less a.words (with_word a.words w) _ (with_word-Begins a.words w) (h r k);
       variables = λ h. h;
     })
 
@@ -82,13 +84,14 @@ grows_variable from a b s h e =
       extends = record { words = begins_refl a.words; signatures = begins_refl a.signatures; variables = with_number-Begins from a.variables s; parts = begins_refl a.parts; literals = begins_refl a.literals };
       words = λ h. h;
       signatures = λ h. h;
+      named = λ h. h;
       variables = with_number-StandOnce from a.variables s h;
     })
 
 pub grows_part : (from : ℕ) (a b : Data) (p : Part) → b ≡ record a { parts = a.parts ++ p ∷ [] } → Grows from a b
 grows_part from a b p e =
     subst (λ (d : Data). Grows from a d) (sym e)
-    (record { extends = record { words = begins_refl a.words; signatures = begins_refl a.signatures; variables = begins_refl a.variables; parts = (p ∷ [], refl); literals = begins_refl a.literals }; words = λ h. h; signatures = λ h. h; variables = λ h. h })
+    (record { extends = record { words = begins_refl a.words; signatures = begins_refl a.signatures; variables = begins_refl a.variables; parts = (p ∷ [], refl); literals = begins_refl a.literals }; words = λ h. h; signatures = λ h. h; named = λ h. h; variables = λ h. h })
 
 -- Terms.
 
@@ -220,13 +223,14 @@ longer from k a b g h = begins_long a.variables b.variables k g.extends.variable
 
 -- Relations and atoms.
 
-grows_signature : (from : ℕ) (a b : Data) (s : Signature) → b ≡ record a { signatures = with_signature a.signatures s } → Grows from a b
-grows_signature from a b s e =
+grows_signature : (from : ℕ) (a b : Data) (s : Signature) → s.word < length a.words → b ≡ record a { signatures = with_signature a.signatures s } → Grows from a b
+grows_signature from a b s there e =
     subst (λ (d : Data). Grows from a d) (sym e)
     (record {
       extends = record { words = begins_refl a.words; signatures = with_signature-Begins a.signatures s; variables = begins_refl a.variables; parts = begins_refl a.parts; literals = begins_refl a.literals };
       words = λ h. h;
       signatures = with_signature-AreDifferent a.signatures s;
+      named = λ h. with_signature-named a.signatures s (length a.words) there h;
       variables = λ h. h;
     })
 
@@ -234,7 +238,7 @@ pub numbers_relation : (from : ℕ) (a b c : Data) (s r n : ℕ) (w : List ℕ) 
     → c ≡ record b { signatures = with_signature b.signatures (record { word = s; arity = n }) } → (r < length c.signatures) × (signature_at c.signatures r ≡ record { word = s; arity = n })
     → NumbersRelation from a c r (record { word = w; arity = n })
 numbers_relation from a b c s r n w e (in_words, same_word) f (in_signatures, same_signature) =
-    let grown = grows_signature from b c (record { word = s; arity = n }) f in
+    let grown = grows_signature from b c (record { word = s; arity = n }) in_words f in
     let at : (later : Data) → Extends c later → signature_at later.signatures r ≡ record { word = s; arity = n } =
     λ later x. begins_at c.signatures later.signatures r no_signature x.signatures in_signatures ∙ same_signature in
     let words : (later : Data) → Extends c later → Begins b.words later.words = λ later x. begins_trans _ _ _ grown.extends.words x.words in
@@ -306,6 +310,7 @@ grows_literal from a b l e =
       extends = record { words = begins_refl a.words; signatures = begins_refl a.signatures; variables = begins_refl a.variables; parts = begins_refl a.parts; literals = (l ∷ [], refl) };
       words = λ h. h;
       signatures = λ h. h;
+      named = λ h. h;
       variables = λ h. h;
     })
 

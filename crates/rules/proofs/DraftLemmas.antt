@@ -93,6 +93,7 @@ adds_safe old new i l t r alternatives links head body rests =
       extends = r.extends;
       words = r.words;
       signatures = r.signatures;
+      named = r.named;
       item = i;
       link = l;
       stands = r.stands;
@@ -176,6 +177,7 @@ draft_more old new ts t o a =
     record {
       words = a.words o.words;
       signatures = a.signatures o.signatures;
+      named = a.named o.named;
       alternatives = λ later x.
       let s = a.stands later x in
       subst (λ (ns : List Numbered). StandForAlternatives later ns (alternatives (ts ++ t ∷ []))) (sym a.alternatives)

@@ -29,6 +29,7 @@ reads_item a b c i t h ts head body from to x s =
       extends = extends_trans a b c x.grows.extends s.grows.extends;
       words = λ d. s.grows.words (x.grows.words d);
       signatures = λ d. s.grows.signatures (x.grows.signatures d);
+      named = λ d. s.grows.named (x.grows.named d);
       order = (let k = begins_long a.variables c.variables (length a.variables) (extends_trans a b c x.grows.extends s.grows.extends).variables (omega arith) in omega (arith, k, from, to));
       to = to;
       once = s.grows.variables (x.grows.variables (subst (λ (n : ℕ). StandOnce (drop n a.variables)) (sym from) (none_once a.variables)));

@@ -111,7 +111,7 @@ at_end : (k n : ℕ) → k < suc n → (k < n) ⊎ (k ≡ n)
 at_end k n h = grind arith
 
 -- what a list with one more at its end has at a number
-last_or_before : {A : Type 0} (xs : List A) (x d : A) (k : ℕ) → k < length (xs ++ x ∷ []) → ((k < length xs) × (get_or (xs ++ x ∷ []) k d ≡ get_or xs k d)) ⊎ ((k ≡ length xs) × (get_or (xs ++ x ∷ []) k d ≡ x))
+pub last_or_before : {A : Type 0} (xs : List A) (x d : A) (k : ℕ) → k < length (xs ++ x ∷ []) → ((k < length xs) × (get_or (xs ++ x ∷ []) k d ≡ get_or xs k d)) ⊎ ((k ≡ length xs) × (get_or (xs ++ x ∷ []) k d ≡ x))
 last_or_before [] x d zero h = inr (refl, refl)
 last_or_before [] x d (suc k) h = absurd (let bad : ⊥ = omega (arith, h) in bad)
 last_or_before (y ∷ ys) x d zero h = inl (omega arith, refl)

@@ -1,11 +1,11 @@
 -- Relations by number: adding one.
-use Rattle.std.proofs.Common.{ℕ, suc, zero, ◌≡◌, ◌<◌, Bool, true, false, cond, List, [], ◌∷◌, ◌++◌, length, refl, sym, ap, subst, arith, eq-eqb}
+use Rattle.std.proofs.Common.{ℕ, suc, zero, ◌≡◌, ◌<◌, ◌⊎◌, inl, inr, Bool, true, false, cond, List, [], ◌∷◌, ◌++◌, length, refl, sym, ap, subst, arith, eq-eqb}
 use Rattle.std.specs.List.{list_any}
 use Rattle.std.proofs.lemmas.List.{append-nil}
 use Rattle.rules.specs.declared.signatures.Signature.{Signature}
 use Rattle.rules.specs.Numbers.{Begins}
 use Rattle.rules.specs.Adding.{AreDifferentSignatures}
-use Rattle.rules.proofs.NumberLemmas.{more_different, true_or_false}
+use Rattle.rules.proofs.NumberLemmas.{more_different, true_or_false, last_or_before}
 use Rattle.rules.proofs.Tests.{or_left, or_right}
 use Rattle.rules.specs.Signatures.{signature_eq, no_signature, signature_at, is_signature_in, with_signature}
 
@@ -40,3 +40,15 @@ with_signature-AreDifferent ss s old = go (is_signature_in s ss) refl
     go : (b : Bool) → is_signature_in s ss ≡ b → AreDifferentSignatures (cond b ss (ss ++ s ∷ []))
     go true e = old
     go false e = more_different ss s no_signature (λ k h same. true_or_false (is_signature_in s ss) (signature_in s ss k h same) e) old
+
+pub with_signature-named : (ss : List Signature) (s : Signature) (many : ℕ) → s.word < many → ((r : ℕ) → r < length ss → (signature_at ss r).word < many)
+    → (r : ℕ) → r < length (with_signature ss s) → (signature_at (with_signature ss s) r).word < many
+with_signature-named ss s many there old = go (is_signature_in s ss)
+  where
+    at : (r : ℕ) → ((r < length ss) × (signature_at (ss ++ s ∷ []) r ≡ signature_at ss r)) ⊎ ((r ≡ length ss) × (signature_at (ss ++ s ∷ []) r ≡ s)) → (signature_at (ss ++ s ∷ []) r).word < many
+    at r (inl e) = subst (λ (g : Signature). g.word < many) (sym e.1) (old r e.0)
+    at r (inr e) = subst (λ (g : Signature). g.word < many) (sym e.1) there
+
+    go : (b : Bool) → (r : ℕ) → r < length (cond b ss (ss ++ s ∷ [])) → (signature_at (cond b ss (ss ++ s ∷ [])) r).word < many
+    go true r h = old r h
+    go false r h = at r (last_or_before ss s no_signature r h)

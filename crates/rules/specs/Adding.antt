@@ -26,11 +26,16 @@ StandOnce xs = (i j : ℕ) → i < length xs → j < length xs → slice_index x
 abbrev pub AreDifferentSignatures : List Signature → Type 0
 AreDifferentSignatures ss = (i j : ℕ) → i < length ss → j < length ss → signature_at ss i ≡ signature_at ss j → i ≡ j
 
+-- the name of each relation is there
+abbrev pub HaveNames : Data → Type 0
+HaveNames d = (r : ℕ) → r < length d.signatures → (signature_at d.signatures r).word < length d.words
+
 -- more behind each list, where different numbers stay different things
 pub record Grows (from : ℕ) (old new : Data) : Type 0 where
   pub extends : Extends old new
   pub words : AreDifferent old.words → AreDifferent new.words
   pub signatures : AreDifferentSignatures old.signatures → AreDifferentSignatures new.signatures
+  pub named : HaveNames old → HaveNames new
   pub variables : StandOnce (drop from old.variables) → StandOnce (drop from new.variables)
 
 -- a variable stands for a variable of the item, and every other symbol is a constant

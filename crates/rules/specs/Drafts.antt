@@ -17,7 +17,7 @@ use Rattle.rules.specs.Numbers.{AreDifferent}
 use Rattle.rules.specs.Spread.{lists_of}
 use Rattle.rules.specs.Store.{Data, relation_at, atom_of, literal_at}
 use Rattle.rules.specs.StoreView.{data_of}
-use Rattle.rules.specs.Adding.{Extends, AreDifferentSignatures, StandsFor, StandForEach}
+use Rattle.rules.specs.Adding.{Extends, AreDifferentSignatures, HaveNames, StandsFor, StandForEach}
 use Rattle.rules.specs.ItemView.{ItemStandsFor}
 use Rattle.rules.specs.Bodies.{all_named_relations, has_literal}
 
@@ -63,6 +63,7 @@ pub record AddsSafe (old new : Draft) (t : Tree) : Type 0 where
   pub extends : Extends (data_of old.store) (data_of new.store)
   pub words : AreDifferent (data_of old.store).words → AreDifferent (data_of new.store).words
   pub signatures : AreDifferentSignatures (data_of old.store).signatures → AreDifferentSignatures (data_of new.store).signatures
+  pub named : HaveNames (data_of old.store) → HaveNames (data_of new.store)
   pub item : Item
   pub link : Links
   pub stands : (later : Data) → Extends (data_of new.store) later → ItemStandsFor later item t
@@ -113,6 +114,7 @@ rests_on_any t = some_literal_in (readings_of_all (body_trees t))
 pub record IsDraftOf (draft : Draft) (items : List Tree) : Type 0 where
   pub words : AreDifferent (data_of draft.store).words
   pub signatures : AreDifferentSignatures (data_of draft.store).signatures
+  pub named : HaveNames (data_of draft.store)
   pub alternatives : (later : Data) → Extends (data_of draft.store) later → StandForAlternatives later (map numbered draft.alternatives.items) (alternatives items)
   pub links : (later : Data) → Extends (data_of draft.store) later → StandForItems later draft.links.items items
   pub rests : draft.rests.items ≡ map rests_on_any items

@@ -6,7 +6,7 @@ use Rattle.rules.specs.Items.{item_head, body_trees, readings_of_all}
 use Rattle.rules.specs.Numbers.{AreDifferent}
 use Rattle.rules.specs.Spread.{lists_of}
 use Rattle.rules.specs.Store.{Data}
-use Rattle.rules.specs.Adding.{Extends, AreDifferentSignatures, StandOnce, StandsFor, StandForLists}
+use Rattle.rules.specs.Adding.{Extends, AreDifferentSignatures, HaveNames, StandOnce, StandsFor, StandForLists}
 
 -- the item stands for the tree
 pub record ItemStandsFor (d : Data) (i : Item) (t : Tree) : Type 0 where
@@ -18,6 +18,7 @@ pub record ReadsItem (old new : Data) (i : Item) (t : Tree) : Type 0 where
   pub extends : Extends old new
   pub words : AreDifferent old.words → AreDifferent new.words
   pub signatures : AreDifferentSignatures old.signatures → AreDifferentSignatures new.signatures
+  pub named : HaveNames old → HaveNames new
   pub order : i.variables.from ≤ i.variables.to
   pub to : i.variables.to ≡ length new.variables
   pub once : StandOnce (drop i.variables.from new.variables)
