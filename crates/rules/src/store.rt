@@ -4,7 +4,7 @@ ghost use Rattle.kif.specs.Tree.{name, trees_of};
 ghost use Rattle.kif.specs.View.{tree_of, trees_in};
 ghost use Rattle.rules.specs.Items.{is_term, are_terms, is_atom, atom_in};
 ghost use Rattle.rules.specs.Adding.{Adds, MakesPart, BeginsList, NumbersRelation, AddsAtom, AddsLiteral};
-ghost use Rattle.rules.specs.Clause.{positive, negative};
+ghost use Rattle.rules.specs.Clause.{positive, negative, is_word};
 ghost use Rattle.rules.specs.Numbers.{word_at, with_word, with_number, is_number_in};
 ghost use Rattle.rules.specs.StoreView.{data_of};
 ghost use Rattle.rules.specs.Marks.{literal_in};
@@ -88,6 +88,23 @@ impl Store {
         ensures { result.now ≡ slice_range (data_of self.now).parts place.from place.to }
     {
         &self.parts[place.from..place.to]
+    }
+
+    /// How many relations there are.
+    pub(crate) fn count_relations(&self) -> usize
+        ensures { result ≡ length (data_of self.now).signatures }
+    {
+        self.signatures.as_slice().len()
+    }
+
+    /// Whether a relation has this name and this number of arguments.
+    pub(crate) fn is_relation(&self, relation: usize, word: &[u8], arity: usize) -> bool
+        requires relation { relation < length (data_of self.now).signatures }
+        requires word { (signature_at (data_of self.now).signatures relation).word < length (data_of self.now).words }
+        ensures { result ≡ is_word word.now arity (relation_at (data_of self.now) relation) }
+    {
+        let signature = self.signatures.as_slice()[relation];
+        is_same_name(self.symbols.name(signature.word), word) && signature.arity == arity
     }
 
     /// Whether a relation is `distinct` with two arguments.
