@@ -10,13 +10,14 @@ use Rattle.rules.specs.declared.graph.Arrow.{Arrow}
 use Rattle.rules.specs.declared.graph.Graph.{Graph}
 use Rattle.rules.specs.declared.item_links.Links.{Links}
 use Rattle.rules.specs.declared.signatures.Signature.{Signature}
-use Rattle.rules.specs.Graph.{arrow_at}
+use Rattle.rules.specs.Graph.{arrow_at, Leads, Reaches, IsCyclic, IsReachedFrom}
 use Rattle.rules.specs.Numbers.{AreDifferent, word_at}
 use Rattle.rules.specs.Signatures.{signature_at}
 use Rattle.rules.specs.Store.{Data, relation_at}
 use Rattle.rules.specs.Adding.{AreDifferentSignatures, HaveNames}
 use Rattle.rules.specs.Numbering.{IsGraphOf, LeadsBetween, IsInBodies, AreBodyNumbers}
 use Rattle.rules.specs.Drafts.{LinkStandsFor, StandForItems}
+use Rattle.rules.specs.ItemLinks.{IsWithin}
 use Rattle.rules.specs.Arrows.{arrows_from, arrows_in}
 use Rattle.rules.proofs.Tests.{IsAmong-append, IsAmong-append_left, IsAmong-append_right}
 use Rattle.rules.proofs.Accepted.{rule_item, same_head}
@@ -129,34 +130,76 @@ graph_stands d links items words signatures there s =
     record {
       different = same_relations d words signatures there;
       from_in = λ k h.
-      let m = comes d links items (arrow_at arrows k) s (arrow_among arrows k h) in
-      subst (λ (x : ℕ). x < length d.signatures) (sym m.joins.from) m.stands.head_in;
+          let m = comes d links items (arrow_at arrows k) s (arrow_among arrows k h) in
+          subst (λ (x : ℕ). x < length d.signatures) (sym m.joins.from) m.stands.head_in;
       to_in = λ k h.
-      let m = comes d links items (arrow_at arrows k) s (arrow_among arrows k h) in (body_at d m.link m.item (arrow_at arrows k).to m.stands m.joins.to).0;
+          let m = comes d links items (arrow_at arrows k) s (arrow_among arrows k h) in (body_at d m.link m.item (arrow_at arrows k).to m.stands m.joins.to).0;
       sound = λ k h.
-      let m = comes d links items (arrow_at arrows k) s (arrow_among arrows k h) in
-      let b = (body_at d m.link m.item (arrow_at arrows k).to m.stands m.joins.to).1 in
-      record {
-        rule = b.rule;
-        literal = b.literal;
-        is_rule = in_alternatives items m.item b.rule m.among b.is_rule;
-        heads = ap relation_of (same_head (item_head m.item) _ b.rule b.is_rule) ∙ sym m.stands.named ∙ ap (λ (r : ℕ). relation_at d r) (sym m.joins.from);
-        in_body = b.in_body;
-        names = b.names;
-        not_distinct = b.not_distinct;
-      };
+          let m = comes d links items (arrow_at arrows k) s (arrow_among arrows k h) in
+          let b = (body_at d m.link m.item (arrow_at arrows k).to m.stands m.joins.to).1 in
+          record {
+            rule = b.rule;
+            literal = b.literal;
+            is_rule = in_alternatives items m.item b.rule m.among b.is_rule;
+            heads = ap relation_of (same_head (item_head m.item) _ b.rule b.is_rule) ∙ sym m.stands.named ∙ ap (λ (r : ℕ). relation_at d r) (sym m.joins.from);
+            in_body = b.in_body;
+            names = b.names;
+            not_distinct = b.not_distinct;
+          };
       complete = λ p q x.
-      let i = rule_item items x.rule x.is_rule in
-      let m = linked d links items i.0 s i.1 in
-      let in_bodies : IsInBodies (item_alternatives i.0) q = record { rule = x.rule; literal = x.literal; is_rule = i.2; in_body = x.in_body; names = x.names; not_distinct = x.not_distinct } in
-      let c = m.stands.body.complete q in_bodies in
-      let b : ℕ = slice_index_or m.link.body.items c.0 0 in
-      let a : Arrow = record { from = m.link.head; to = b } in
-      let k = among_arrow arrows a (m.all a (to_each m.link.head m.link.body.items b (place_among m.link.body.items c.0 c.1))) in
-      record {
-        place = k.0;
-        inside = k.1;
-        from = ap (λ (y : Arrow). relation_at d y.from) k.2 ∙ m.stands.named ∙ ap relation_of (sym (same_head (item_head i.0) _ x.rule i.2)) ∙ x.heads;
-        to = ap (λ (y : Arrow). relation_at d y.to) k.2 ∙ c.2;
-      };
+          let i = rule_item items x.rule x.is_rule in
+          let m = linked d links items i.0 s i.1 in
+          let in_bodies : IsInBodies (item_alternatives i.0) q = record { rule = x.rule; literal = x.literal; is_rule = i.2; in_body = x.in_body; names = x.names; not_distinct = x.not_distinct } in
+          let c = m.stands.body.complete q in_bodies in
+          let b : ℕ = slice_index_or m.link.body.items c.0 0 in
+          let a : Arrow = record { from = m.link.head; to = b } in
+          let k = among_arrow arrows a (m.all a (to_each m.link.head m.link.body.items b (place_among m.link.body.items c.0 c.1))) in
+          record {
+            place = k.0;
+            inside = k.1;
+            from = ap (λ (y : Arrow). relation_at d y.from) k.2 ∙ m.stands.named ∙ ap relation_of (sym (same_head (item_head i.0) _ x.rule i.2)) ∙ x.heads;
+            to = ap (λ (y : Arrow). relation_at d y.to) k.2 ∙ c.2;
+          };
     }
+
+-- Without cycles no body rests on its head.
+
+contained : (xs : List ℕ) (x k : ℕ) → k < length xs → slice_index_or xs k x ≡ x → IsAmong x xs
+contained [] x k h e = absurd (let bad : ⊥ = omega (arith, h) in bad)
+contained (y ∷ xs) x zero h e = inl (sym e)
+contained (y ∷ xs) x (suc k) h e = inr (contained xs x k (omega (arith, h)) e)
+
+link_arrows : (links : List Links) (l : Links) (k : ℕ) → k < length links → (a : Arrow) → IsAmong a (arrows_from (get_or links k l).head (get_or links k l).body.items) → IsAmong a (arrows_in links)
+link_arrows [] l k h a i = absurd (let bad : ⊥ = omega (arith, h) in bad)
+link_arrows (m ∷ links) l zero h a i = IsAmong-append_left a (arrows_from m.head m.body.items) (arrows_in links) i
+link_arrows (m ∷ links) l (suc k) h a i = IsAmong-append_right a (arrows_from m.head m.body.items) (arrows_in links) (link_arrows links l k (omega (arith, h)) a i)
+
+round : (arrows : List Arrow) (head start : ℕ) → Leads arrows head start → (start ≡ head) ⊎ Reaches arrows start head → Reaches arrows head head
+round arrows head start a (inl e) = (0, subst (λ (x : ℕ). Leads arrows head x) e a)
+round arrows head start a (inr chain) = (suc chain.0, (start, a, chain.1))
+
+first_step : (arrows : List Arrow) (head start : ℕ) → IsAmong {A = Arrow} (record { from = head; to = start }) arrows → Leads arrows head start
+first_step arrows head start h =
+    let p = among_arrow arrows (record { from = head; to = start }) h in
+    record { place = p.0; inside = p.1; from = ap (λ (x : Arrow). x.from) p.2; to = ap (λ (x : Arrow). x.to) p.2 }
+
+pub no_link_reached : (arrows : List Arrow) (links : List Links) → arrows ≡ arrows_in links → (IsCyclic arrows → ⊥)
+    → (k : ℕ) (l : Links) → k < length links → IsReachedFrom arrows (get_or links k l).body.items (get_or links k l).head → ⊥
+no_link_reached arrows links e acyclic k l h r =
+    let m : Links = get_or links k l in
+    let there : IsAmong r.start m.body.items = contained m.body.items r.start r.is_start.0 r.is_start.1 r.is_start.2 in
+    let a = first_step arrows m.head r.start
+    (subst (λ (as' : List Arrow). IsAmong {A = Arrow} (record { from = m.head; to = r.start }) as') (sym e) (link_arrows links l k h (record { from = m.head; to = r.start }) (to_each m.head m.body.items r.start there))) in
+    acyclic (m.head, round arrows m.head r.start a r.leads)
+
+from_in_links : (n : ℕ) (links : List Links) → ((k : ℕ) (l : Links) → k < length links → IsWithin n (get_or links k l)) → (a : Arrow) → IsAmong a (arrows_in links) → a.from < n
+from_in_links n [] w a h = absurd h
+from_in_links n (l ∷ links) w a h = go (IsAmong-append a (arrows_from l.head l.body.items) (arrows_in links) h) (λ k. from_in_links n links (λ j m less. w (suc j) m (omega (arith, less))) a k)
+  where
+    go : IsAmong a (arrows_from l.head l.body.items) ⊎ IsAmong a (arrows_in links) → (IsAmong a (arrows_in links) → a.from < n) → a.from < n
+    go (inl k) next = subst (λ (x : ℕ). x < n) (sym (from_head l.head l.body.items a k).from) (w 0 l (omega arith)).head
+    go (inr k) next = next k
+
+pub arrows_inside : (n : ℕ) (arrows : List Arrow) (links : List Links) → arrows ≡ arrows_in links → ((k : ℕ) (l : Links) → k < length links → IsWithin n (get_or links k l))
+    → (k : ℕ) → k < length arrows → (arrow_at arrows k).from < n
+arrows_inside n arrows links e w k h = from_in_links n links w (arrow_at arrows k) (subst (λ (as' : List Arrow). IsAmong (arrow_at arrows k) as') e (arrow_among arrows k h))

@@ -179,22 +179,22 @@ draft_more old new ts t o a =
       signatures = a.signatures o.signatures;
       named = a.named o.named;
       alternatives = λ later x.
-      let s = a.stands later x in
-      subst (λ (ns : List Numbered). StandForAlternatives later ns (alternatives (ts ++ t ∷ []))) (sym a.alternatives)
-      (subst (λ (as' : List said.Alternative). StandForAlternatives later (map numbered old.alternatives.items ++ numbered_of item) as')
-      (ap (λ (as' : List said.Alternative). alternatives ts ++ as') (sym (append-nil (item_alternatives t))) ∙ sym (alternatives-append ts (t ∷ [])))
-      (alternatives_append later (map numbered old.alternatives.items) (numbered_of item) (alternatives ts) (item_alternatives t) (o.alternatives later (up later x))
-      (numbered_stand later item (item_head t) (lists_of item.bodies.items) (readings_of_all (body_trees t)) s.head s.bodies)));
+          let s = a.stands later x in
+          subst (λ (ns : List Numbered). StandForAlternatives later ns (alternatives (ts ++ t ∷ []))) (sym a.alternatives)
+          (subst (λ (as' : List said.Alternative). StandForAlternatives later (map numbered old.alternatives.items ++ numbered_of item) as')
+          (ap (λ (as' : List said.Alternative). alternatives ts ++ as') (sym (append-nil (item_alternatives t))) ∙ sym (alternatives-append ts (t ∷ [])))
+          (alternatives_append later (map numbered old.alternatives.items) (numbered_of item) (alternatives ts) (item_alternatives t) (o.alternatives later (up later x))
+          (numbered_stand later item (item_head t) (lists_of item.bodies.items) (readings_of_all (body_trees t)) s.head s.bodies)));
       links = λ later x.
-      subst (λ (ls : List Links). StandForItems later ls (ts ++ t ∷ [])) (sym a.links)
-      (items_append later old.links.items (a.link ∷ []) ts (t ∷ []) (o.links later (up later x))
-      (link_later (data_of new.store) later item a.link t x a.linked (a.stands (data_of new.store) (extends_refl (data_of new.store))) (a.stands later x), tt));
+          subst (λ (ls : List Links). StandForItems later ls (ts ++ t ∷ [])) (sym a.links)
+          (items_append later old.links.items (a.link ∷ []) ts (t ∷ []) (o.links later (up later x))
+          (link_later (data_of new.store) later item a.link t x a.linked (a.stands (data_of new.store) (extends_refl (data_of new.store))) (a.stands later x), tt));
       rests =
-      a.rests
-      ∙ ap (λ (bs : List Bool). bs ++ has_literal (lists_of item.bodies.items) ∷ []) o.rests
-      ∙ ap (λ (b : Bool). map rests_on_any ts ++ b ∷ [])
-      (literal_there item.variables.from (data_of new.store) (lists_of item.bodies.items) (readings_of_all (body_trees t)) (a.stands (data_of new.store) (extends_refl (data_of new.store))).bodies)
-      ∙ sym (map-append rests_on_any ts (t ∷ []));
+          a.rests
+          ∙ ap (λ (bs : List Bool). bs ++ has_literal (lists_of item.bodies.items) ∷ []) o.rests
+          ∙ ap (λ (b : Bool). map rests_on_any ts ++ b ∷ [])
+          (literal_there item.variables.from (data_of new.store) (lists_of item.bodies.items) (readings_of_all (body_trees t)) (a.stands (data_of new.store) (extends_refl (data_of new.store))).bodies)
+          ∙ sym (map-append rests_on_any ts (t ∷ []));
     }
 
 -- a draft of the first items, which are safe

@@ -132,17 +132,17 @@ body_numbers d i t s =
     record {
       inside = λ k h. (all_sound i.variables.from d lists rs (slice_index_or numbers k 0) s.bodies (at_among numbers k h)).sound.names.inside;
       sound = λ k h.
-      let m = all_sound i.variables.from d lists rs (slice_index_or numbers k 0) s.bodies (at_among numbers k h) in
-      record {
-        rule = record { head = item_head t; body = m.body };
-        literal = m.sound.literal;
-        is_rule = in_map (item_head t) m.body rs m.among;
-        in_body = m.sound.among;
-        names = sym m.sound.names.same;
-        not_distinct = m.sound.names.no_distinct;
-      };
+          let m = all_sound i.variables.from d lists rs (slice_index_or numbers k 0) s.bodies (at_among numbers k h) in
+          record {
+            rule = record { head = item_head t; body = m.body };
+            literal = m.sound.literal;
+            is_rule = in_map (item_head t) m.body rs m.among;
+            in_body = m.sound.among;
+            names = sym m.sound.names.same;
+            not_distinct = m.sound.names.no_distinct;
+          };
       complete = λ q b.
-      let m = all_complete i.variables.from d lists rs b.rule.body b.literal s.bodies (of_map (item_head t) b.rule rs b.is_rule) b.in_body (subst (λ (x : said.Relation). is_distinct x ≡ false) (sym b.names) b.not_distinct) in
-      let p = among_at numbers m.number m.among in
-      (p.0, p.1, ap (λ (r : ℕ). relation_at d r) p.2 ∙ m.names ∙ b.names);
+          let m = all_complete i.variables.from d lists rs b.rule.body b.literal s.bodies (of_map (item_head t) b.rule rs b.is_rule) b.in_body (subst (λ (x : said.Relation). is_distinct x ≡ false) (sym b.names) b.not_distinct) in
+          let p = among_at numbers m.number m.among in
+          (p.0, p.1, ap (λ (r : ℕ). relation_at d r) p.2 ∙ m.names ∙ b.names);
     }

@@ -20,9 +20,10 @@ pub record Bounded (d : Data) (bounds : List Bound) (n : ℕ) : Type 0 where
 more : {A : Type 0} (xs new : List A) (x d : A) (f : ℕ → A) (n : ℕ) → length xs ≡ n → ((i : ℕ) → i < n → slice_index_or xs i d ≡ f i) → new ≡ xs ++ x ∷ [] → x ≡ f n
     → (length new ≡ n + 1) × ((i : ℕ) → i < n + 1 → slice_index_or new i d ≡ f i)
 more {A} xs new x d f n long each e same =
-    let l : length (xs ++ x ∷ []) ≡ length xs + 1 = length-append xs (x ∷ []) in
-    (ap length e ∙ l ∙ ap (λ (k : ℕ). k + 1) long,
-    λ i h. ap (λ (us : List A). slice_index_or us i d) e ∙ go i (last_or_before xs x d i (omega (arith, h, l, long))))
+    let l : length (xs ++ x ∷ []) ≡ length xs + 1 = length-append xs (x ∷ []) in (
+      ap length e ∙ l ∙ ap (λ (k : ℕ). k + 1) long,
+      λ i h. ap (λ (us : List A). slice_index_or us i d) e ∙ go i (last_or_before xs x d i (omega (arith, h, l, long))),
+    )
   where
     go : (i : ℕ) → ((i < length xs) × (get_or (xs ++ x ∷ []) i d ≡ get_or xs i d)) ⊎ ((i ≡ length xs) × (get_or (xs ++ x ∷ []) i d ≡ x)) → slice_index_or (xs ++ x ∷ []) i d ≡ f i
     go i (inl p) = p.1 ∙ each i (let q = p.0 in omega (arith, q, long))

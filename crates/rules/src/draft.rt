@@ -29,11 +29,7 @@ pub(crate) struct Draft {
 }
 
 /// Adds the alternatives of an item.
-fn add_alternatives(
-    item: Item,
-    place: usize,
-    out: &mut Vec<Alternative>,
-) -> Result<(), AllocError>
+fn add_alternatives(item: Item, place: usize, out: &mut Vec<Alternative>) -> Result<(), AllocError>
     ensures { OnOk result (map numbered out.new.items ≡ map numbered out.old.items ++ numbered_of item) }
 {
     let head = item.head;
@@ -73,10 +69,7 @@ pub(crate) fn add_item<A: Allocator>(
 }
 
 /// Reads all items, up to the first that is not safe.
-pub(crate) fn read_items<A: Allocator>(
-    alloc: Global,
-    items: &[Expr<A>],
-) -> Result<Draft, RuleFault>
+pub(crate) fn read_items<A: Allocator>(alloc: Global, items: &[Expr<A>]) -> Result<Draft, RuleFault>
     requires { AreItems (trees_in items.now) }
     ensures read { IfOk result (λ draft. IsDraftOf draft (trees_in items.now)) }
     ensures safe { OnOk result (first_failing not_safe is_unsafe 1 (trees_in items.now) ≡ None) }
