@@ -1,9 +1,8 @@
 -- How large a tree is.
-use Rattle.std.proofs.Common.{ℕ, zero, suc, ◌+◌, ◌≡◌, ◌<◌, ◌≤◌, List, [], ◌∷◌, length, refl, sym, ap, subst, arith, drop, get_or}
-use Rattle.kif.specs.Tree.{Tree, name, list, Trees, no_trees, tree, list_of, trees_of}
+use Rattle.std.proofs.Common.{ℕ, zero, suc, ◌+◌, ◌≡◌, ◌<◌, List, [], ◌∷◌, length, ap, arith, get_or}
+use Rattle.kif.specs.Tree.{Tree, name, list, Trees, no_trees, tree, trees_of}
 use Rattle.kif.specs.View.{tree_of, trees_in}
 use Rattle.kif.specs.declared.expr.Expr.{Expr}
-use Rattle.kif.proofs.Writing.{parts_from}
 
 abbrev mutual
   pub tree_size : Tree → ℕ

@@ -1,4 +1,4 @@
-use Rattle.std.proofs.Common.{◌∙◌, sym}
+use Rattle.std.proofs.Common.{sym}
 use Rattle.kif.proofs.Equality.{name_eq_yes}
 use Rattle.rules.proofs.forms.connective_of.Goals as goal
 

@@ -1,0 +1,22 @@
+-- The relations that bodies name, by number.
+use Rattle.std.specs.Prelude.{ℕ, Bool, true, false, cond, List, [], ◌∷◌, ◌++◌}
+use Rattle.rules.specs.Dependence.{is_distinct}
+use Rattle.rules.specs.Store.{Data, relation_at}
+use Rattle.rules.specs.Marks.{literal_in}
+
+-- the relation of a literal, which is none of `distinct`
+abbrev pub named_relation : Data → ℕ → List ℕ
+named_relation d n = cond (is_distinct (relation_at d (literal_in d n).atom.relation)) [] ((literal_in d n).atom.relation ∷ [])
+
+abbrev pub named_relations : Data → List ℕ → List ℕ
+named_relations d [] = []
+named_relations d (n ∷ ns) = named_relation d n ++ named_relations d ns
+
+abbrev pub all_named_relations : Data → List (List ℕ) → List ℕ
+all_named_relations d [] = []
+all_named_relations d (b ∷ bodies) = named_relations d b ++ all_named_relations d bodies
+
+abbrev pub has_literal : List (List ℕ) → Bool
+has_literal [] = false
+has_literal ([] ∷ bodies) = has_literal bodies
+has_literal ((n ∷ ns) ∷ bodies) = true

@@ -1,0 +1,25 @@
+-- An item in memory, and what it stands for.
+use Rattle.std.specs.Prelude.{ℕ, ◌≡◌, ◌≤◌, List, length, drop}
+use Rattle.kif.specs.Tree.{Tree}
+use Rattle.rules.specs.declared.items.Item.{Item}
+use Rattle.rules.specs.Items.{item_head, body_trees, readings_of_all}
+use Rattle.rules.specs.Numbers.{AreDifferent}
+use Rattle.rules.specs.Spread.{lists_of}
+use Rattle.rules.specs.Store.{Data}
+use Rattle.rules.specs.Adding.{Extends, AreDifferentSignatures, HaveNames, StandOnce, StandsFor, StandForLists}
+
+-- the item stands for the tree
+pub record ItemStandsFor (d : Data) (i : Item) (t : Tree) : Type 0 where
+  pub head : StandsFor i.variables.from d i.head (item_head t)
+  pub bodies : StandForLists i.variables.from d (lists_of i.bodies.items) (readings_of_all (body_trees t))
+
+-- the tree was written as an item, whose variables are the last; it stays whatever comes behind it
+pub record ReadsItem (old new : Data) (i : Item) (t : Tree) : Type 0 where
+  pub extends : Extends old new
+  pub words : AreDifferent old.words → AreDifferent new.words
+  pub signatures : AreDifferentSignatures old.signatures → AreDifferentSignatures new.signatures
+  pub named : HaveNames old → HaveNames new
+  pub order : i.variables.from ≤ i.variables.to
+  pub to : i.variables.to ≡ length new.variables
+  pub once : StandOnce (drop i.variables.from new.variables)
+  pub stands : (later : Data) → Extends new later → ItemStandsFor later i t

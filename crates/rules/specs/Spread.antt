@@ -1,0 +1,16 @@
+-- Lists of numbers, picked one from each part.
+use Rattle.std.specs.Prelude.{ℕ, List, [], ◌∷◌, ◌++◌, map, Vec}
+
+-- the lists of numbers in memory
+abbrev pub lists_of : {G : Type 0} → List (Vec ℕ G) → List (List ℕ)
+lists_of vs = map (λ v. v.items) vs
+
+-- every list of the second with the numbers before it
+abbrev pub numbers_behind_each : List ℕ → List (List ℕ) → List (List ℕ)
+numbers_behind_each a [] = []
+numbers_behind_each a (b ∷ bs) = (a ++ b) ∷ numbers_behind_each a bs
+
+-- every pick of one of the first and one of the second, the first changing slowest
+abbrev pub number_picks : List (List ℕ) → List (List ℕ) → List (List ℕ)
+number_picks [] bs = []
+number_picks (a ∷ as') bs = numbers_behind_each a bs ++ number_picks as' bs

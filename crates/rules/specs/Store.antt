@@ -1,0 +1,52 @@
+-- Terms, atoms and literals in flat lists, and what they stand for.
+use Rattle.std.specs.Prelude.{ℕ, ◌+◌, false, cond, List, [], ◌∷◌, take, drop, slice_index, slice_index_or, slice_range}
+use Rattle.kif.specs.Tree.{Tree, name, list, tree, trees_of}
+use Rattle.rules.specs.declared.clauses.Part.{Part}
+use Rattle.rules.specs.declared.clauses.Part.TheVariants as parts
+use Rattle.rules.specs.declared.clauses.Atom.{Atom}
+use Rattle.rules.specs.declared.clauses.Literal.{Literal}
+use Rattle.rules.specs.declared.signatures.Signature.{Signature}
+use Rattle.rules.specs.Clause as said
+use Rattle.rules.specs.Clause.{is_variable, positive, negative}
+use Rattle.rules.specs.Numbers.{word_at}
+use Rattle.rules.specs.Signatures.{signature_at}
+
+-- what stands in memory: names, relations, the variables of all items as symbols, terms and literals
+pub record Data : Type 0 where
+  pub words : List (List ℕ)
+  pub signatures : List Signature
+  pub variables : List ℕ
+  pub parts : List Part
+  pub literals : List Literal
+
+-- the name of variable v of an item whose variables stand from a place on
+abbrev pub variable_name : Data → ℕ → ℕ → List ℕ
+variable_name d from v = word_at d.words (slice_index d.variables (from + v))
+
+-- the terms before a part, of which a list takes its own
+abbrev pub with_part : Data → ℕ → Part → List Tree → List Tree
+with_part d from (parts.Variable v) behind = name (variable_name d from v) ∷ behind
+with_part d from (parts.Constant s) behind = name (word_at d.words s) ∷ behind
+with_part d from (parts.List s n) behind = list (tree (name (word_at d.words s)) (trees_of (take n behind))) ∷ drop n behind
+
+-- the terms that parts stand for, with those that stand behind them
+abbrev pub terms_before : Data → ℕ → List Part → List Tree → List Tree
+terms_before d from [] behind = behind
+terms_before d from (p ∷ ps) behind = with_part d from p (terms_before d from ps behind)
+
+abbrev pub relation_at : Data → ℕ → said.Relation
+relation_at d r = record { word = word_at d.words (signature_at d.signatures r).word; arity = (signature_at d.signatures r).arity }
+
+-- the atom that stands for an item whose variables stand from a place on
+abbrev pub atom_of : Data → ℕ → Atom → said.Atom
+atom_of d from a =
+    record { word = (relation_at d a.relation).word; terms = trees_of (terms_before d from (slice_range d.parts a.terms.from a.terms.to) []) }
+
+abbrev pub literal_of : Data → ℕ → Literal → said.Literal
+literal_of d from l = cond l.is_negated (negative (atom_of d from l.atom)) (positive (atom_of d from l.atom))
+
+abbrev pub no_literal : Literal
+no_literal = record { atom = record { relation = 0; terms = record { from = 0; to = 0 } }; is_negated = false }
+
+abbrev pub literal_at : Data → ℕ → ℕ → said.Literal
+literal_at d from n = literal_of d from (slice_index_or d.literals n no_literal)

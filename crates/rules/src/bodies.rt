@@ -1,0 +1,76 @@
+// The relations that the bodies of an item name.
+ghost use Rattle.std.specs.Prelude.{◌≡◌, ◌<◌, ◌++◌, ◌∷◌, [], length, IfOk, OnOk, if◌then◌else◌};
+ghost use Rattle.rules.specs.Bodies.{named_relations, all_named_relations, has_literal};
+ghost use Rattle.rules.specs.Dependence.{is_distinct};
+ghost use Rattle.rules.specs.Marks.{literal_in, IsInside, AreInside, AreAllInside};
+ghost use Rattle.rules.specs.Spread.{lists_of};
+ghost use Rattle.rules.specs.Store.{relation_at};
+ghost use Rattle.rules.specs.StoreView.{data_of};
+
+use crate::items::Item;
+use crate::store::Store;
+use std::alloc::{AllocError, Global};
+
+/// Adds the relation of a literal, unless it is `distinct`.
+fn add_relation(
+    store: &Store,
+    from: usize,
+    number: usize,
+    out: &mut Vec<usize>,
+) -> Result<(), AllocError>
+    requires number { number < length (data_of store.now).literals }
+    requires inside { IsInside from (data_of store.now) (literal_in (data_of store.now) number).atom }
+    ensures { OnOk result (out.new.items ≡ out.old.items
+        ++ (if is_distinct (relation_at (data_of store.now) (literal_in (data_of store.now) number).atom.relation) then [] else (literal_in (data_of store.now) number).atom.relation ∷ [])) }
+{
+    let relation = store.literal(number).atom.relation;
+    if store.is_distinct(relation) {
+        return Ok(());
+    }
+    out.push(relation)?;
+    Ok(())
+}
+
+/// Adds the relations of the literals of a body.
+fn add_relations(
+    store: &Store,
+    from: usize,
+    body: &[usize],
+    out: &mut Vec<usize>,
+) -> Result<(), AllocError>
+    requires { AreInside from (data_of store.now) body.now }
+    ensures { OnOk result (out.new.items ≡ out.old.items ++ named_relations (data_of store.now) body.now) }
+{
+    for number in body {
+        add_relation(store, from, *number, out)?;
+    }
+    Ok(())
+}
+
+/// The relations of the literals of all bodies of an item, each as often as it stands there.
+pub(crate) fn relations_of(
+    alloc: Global,
+    store: &Store,
+    item: &Item,
+) -> Result<Vec<usize>, AllocError>
+    requires { AreAllInside item.now.variables.from (data_of store.now) (lists_of item.now.bodies.items) }
+    ensures { IfOk result (λ out. out.items ≡ all_named_relations (data_of store.now) (lists_of item.now.bodies.items)) }
+{
+    let mut out = Vec::new(alloc);
+    for body in &item.bodies {
+        add_relations(store, item.variables.from, body, &mut out)?;
+    }
+    Ok(out)
+}
+
+/// Whether some body of an item has a literal.
+pub(crate) fn is_resting(item: &Item) -> bool
+    ensures { result ≡ has_literal (lists_of item.now.bodies.items) }
+{
+    for body in &item.bodies {
+        if !body.is_empty() {
+            return true;
+        }
+    }
+    false
+}

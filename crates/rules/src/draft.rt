@@ -1,0 +1,90 @@
+// A rule set that is read item by item.
+ghost use Rattle.std.specs.Prelude.{◌≡◌, ◌++◌, true, map, IfOk, IfErr, OnOk, None};
+ghost use Rattle.kif.specs.View.{tree_of, trees_in};
+ghost use Rattle.rules.specs.Drafts.{numbered, numbered_of, AddsItem, IsDraftOf, IsSafetyFault};
+ghost use Rattle.rules.specs.Items.{is_item};
+ghost use Rattle.rules.specs.Numbers.{AreDifferent};
+ghost use Rattle.rules.specs.Parts.{AreItems};
+ghost use Rattle.rules.specs.Profile.{first_failing, not_safe, is_unsafe};
+ghost use Rattle.rules.specs.StoreView.{data_of};
+
+use crate::bodies::{is_resting, relations_of};
+use crate::clauses::Alternative;
+use crate::fault::RuleFault;
+use crate::item_links::Links;
+use crate::items::{Item, read_item};
+use crate::safety::is_safe_item;
+use crate::store::Store;
+use kif::Expr;
+use std::alloc::{AllocError, Allocator, Global};
+
+/// What was read so far: names, relations and terms, the alternatives, and for each item what its
+/// alternatives join and whether one of them has a literal.
+#[derive(Drop)]
+pub(crate) struct Draft {
+    pub(crate) store: Store,
+    pub(crate) alternatives: Vec<Alternative>,
+    pub(crate) links: Vec<Links>,
+    pub(crate) rests: Vec<bool>,
+}
+
+/// Adds the alternatives of an item.
+fn add_alternatives(item: Item, place: usize, out: &mut Vec<Alternative>) -> Result<(), AllocError>
+    ensures { OnOk result (map numbered out.new.items ≡ map numbered out.old.items ++ numbered_of item) }
+{
+    let head = item.head;
+    let variables = item.variables;
+    for body in item.bodies {
+        out.push(Alternative {
+            item: place,
+            variables,
+            head,
+            body,
+        })?;
+    }
+    Ok(())
+}
+
+/// Adds an item, unless one of its alternatives is not safe.
+pub(crate) fn add_item<A: Allocator>(
+    alloc: Global,
+    draft: &mut Draft,
+    e: &Expr<A>,
+) -> Result<bool, AllocError>
+    requires item { is_item (tree_of e.now) ≡ true }
+    requires words { AreDifferent (data_of draft.old.store).words }
+    ensures { IfOk result (λ is_safe. AddsItem draft.old draft.new (tree_of e.now) is_safe) }
+{
+    let place = draft.links.len();
+    let item = read_item(alloc, &mut draft.store, e)?;
+    if !is_safe_item(alloc, &draft.store, &item)? {
+        return Ok(false);
+    }
+    let body = relations_of(alloc, &draft.store, &item)?;
+    let head = item.head.relation;
+    draft.links.push(Links { head, body })?;
+    draft.rests.push(is_resting(&item))?;
+    add_alternatives(item, place, &mut draft.alternatives)?;
+    Ok(true)
+}
+
+/// Reads all items, up to the first that is not safe.
+pub(crate) fn read_items<A: Allocator>(alloc: Global, items: &[Expr<A>]) -> Result<Draft, RuleFault>
+    requires { AreItems (trees_in items.now) }
+    ensures read { IfOk result (λ draft. IsDraftOf draft (trees_in items.now)) }
+    ensures safe { OnOk result (first_failing not_safe is_unsafe 1 (trees_in items.now) ≡ None) }
+    ensures faults { IfErr result (λ fault. IsSafetyFault (trees_in items.now) fault) }
+{
+    let mut draft = Draft {
+        store: Store::new(alloc),
+        alternatives: Vec::new(alloc),
+        links: Vec::new(alloc),
+        rests: Vec::new(alloc),
+    };
+    for (index, item) in items.iter().enumerate() {
+        if !add_item(alloc, &mut draft, item)? {
+            return Err(RuleFault::Unsafe(index + 1));
+        }
+    }
+    Ok(draft)
+}
