@@ -1,0 +1,1 @@
+// Values, choices and replies over the table.
