@@ -1,3 +1,4 @@
+-- The joint moves of a state, in order.
 use Rattle.std.specs.Prelude.{◌≡◌, ℕ, ◌<◌, ◌++◌, suc, List, [], ◌∷◌, length, map, drop, slice_index, slice_index_or}
 use Rattle.std.specs.List.{flat_map}
 use Rattle.position.specs.Rules.{Turn, picks}

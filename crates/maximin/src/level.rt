@@ -1,9 +1,10 @@
+// A place among the joint moves of a state, and what the search keeps of one turn.
 ghost use Rattle.std.specs.Prelude.{◌≡◌, ◌≢◌, ℕ, ◌+◌, ◌<◌, ◌≤◌, ◌∷◌, [], false, IfOk, slice_get, slice_index_or};
 ghost use Rattle.std.specs.Bool.{OnTrue, OnFalse};
 ghost use Rattle.smallvec.specs.SmallVec.{small_vec_len};
 ghost use Rattle.position.specs.Rules.{is_stuck as stuck, choices, turns_with};
 ghost use Rattle.maximin.specs.Turns.{StandsAt, later};
-ghost use Rattle.maximin.specs.Cursor.{IsCursorOf};
+ghost use Rattle.maximin.specs.Cursor.{IsCursorOf, cursor_capacities};
 ghost use Rattle.maximin.specs.Level.{IsLevelOf};
 
 use position::Game;
@@ -40,6 +41,7 @@ impl Cursor {
         requires places { role < small_vec_len self.old.places }
         ensures joint { self.new.joint.items ≡ slice_set self.old.joint.items role number }
         ensures places { self.new.places.items ≡ slice_set self.old.places.items role place }
+        ensures capacities { cursor_capacities self.new ≡ cursor_capacities self.old }
     {
         self.joint[role] = number;
         self.places[role] = place;
@@ -91,6 +93,7 @@ pub fn start_turns<G: Game>(game: &G, from: &G::Pos, role: usize, own: u32, curs
     requires cursor { IsCursorOf (G.rules game.now).roles cursor.old }
     requires open { stuck (G.rules game.now) (G.state game.now from.now) ≡ false }
     ensures cursor { IsCursorOf (G.rules game.now).roles cursor.new }
+    ensures capacities { cursor_capacities cursor.new ≡ cursor_capacities cursor.old }
     ensures stands { StandsAt (choices (G.rules game.now) (G.state game.now from.now) role own) cursor.new.places.items cursor.new.joint.items }
     ensures first { turns_with (G.rules game.now) (G.state game.now from.now) role own
         ≡ cursor.new.joint.items ∷ later (choices (G.rules game.now) (G.state game.now from.now) role own) cursor.new.places.items }
@@ -116,6 +119,7 @@ pub fn next_turn<G: Game>(
     requires open { stuck (G.rules game.now) (G.state game.now from.now) ≡ false }
     requires stands { StandsAt (choices (G.rules game.now) (G.state game.now from.now) role own) cursor.old.places.items cursor.old.joint.items }
     ensures cursor { IsCursorOf (G.rules game.now).roles cursor.new }
+    ensures capacities { cursor_capacities cursor.new ≡ cursor_capacities cursor.old }
     ensures stands { OnTrue result (StandsAt (choices (G.rules game.now) (G.state game.now from.now) role own) cursor.new.places.items cursor.new.joint.items) }
     ensures next { OnTrue result (later (choices (G.rules game.now) (G.state game.now from.now) role own) cursor.old.places.items
         ≡ cursor.new.joint.items ∷ later (choices (G.rules game.now) (G.state game.now from.now) role own) cursor.new.places.items) }

@@ -1,7 +1,8 @@
+// The search, level by level.
 ghost use Rattle.std.specs.Prelude.{◌≡◌, ◌<◌, ◌≤◌, ◌<ℤ◌, ◌≤ℤ◌, pos, negsuc, false, Some, All, length};
 ghost use Rattle.position.specs.Rules.{is_stuck as stuck};
 ghost use Rattle.position.specs.Value.{Answers, choice_of, reply_of, value, worst};
-ghost use Rattle.maximin.specs.Level.{IsLevelOf};
+ghost use Rattle.maximin.specs.Level.{IsLevelOf, all_capacities};
 
 use crate::level::{Level, next_turn, start_turns, write_joint};
 use position::{Game, is_stuck};
@@ -27,6 +28,7 @@ pub fn value_at<G: Game>(
     requires high { b ≤ℤ pos 101 }
     ensures answers { Answers (value (G.rules game.now) role depth (G.state game.now from.now)) a b result }
     ensures levels { All (IsLevelOf (G.fits game.now) (G.rules game.now).roles) levels.new }
+    ensures capacities { all_capacities (G.capacities game.now) levels.new ≡ all_capacities (G.capacities game.now) levels.old }
 {
     if game.ended(from) {
         return i16::from(game.goal(from, role));
@@ -69,6 +71,7 @@ pub fn worst_at<G: Game>(
     requires high { b ≤ℤ pos 101 }
     ensures answers { Answers (worst (G.rules game.now) role depth (G.state game.now from.now) own) a b result }
     ensures levels { All (IsLevelOf (G.fits game.now) (G.rules game.now).roles) levels.new }
+    ensures capacities { all_capacities (G.capacities game.now) levels.new ≡ all_capacities (G.capacities game.now) levels.old }
 {
     let (first, rest) = levels.split_at_mut(1);
     let level = &mut first[0];
@@ -97,6 +100,7 @@ pub fn choice_at<G: Game>(
     requires levels { All (IsLevelOf (G.fits game.now) (G.rules game.now).roles) levels.old }
     ensures choice { result ≡ choice_of (G.rules game.now) role depth (G.state game.now from.now) }
     ensures levels { All (IsLevelOf (G.fits game.now) (G.rules game.now).roles) levels.new }
+    ensures capacities { all_capacities (G.capacities game.now) levels.new ≡ all_capacities (G.capacities game.now) levels.old }
 {
     if depth == 0 || game.ended(from) || is_stuck(game, from) {
         return None;
@@ -135,6 +139,7 @@ pub fn reply_at<G: Game>(
     ensures reply { reply_of (G.rules game.now) role depth (G.state game.now from.now) own ≡ Some out.new.items }
     ensures out { out.new.capacity ≡ out.old.capacity }
     ensures levels { All (IsLevelOf (G.fits game.now) (G.rules game.now).roles) levels.new }
+    ensures capacities { all_capacities (G.capacities game.now) levels.new ≡ all_capacities (G.capacities game.now) levels.old }
 {
     let (first, rest) = levels.split_at_mut(1);
     let level = &mut first[0];

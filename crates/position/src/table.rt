@@ -15,10 +15,10 @@ pub struct Table {
     ghost at_most_100: { EachIndex worth (λ k. slice_index worth k ≤ 100) },
 }
 
-/// Nothing is chosen yet, or a cell is, from 1 on.
+/// Nothing is chosen yet, which is 0, or a cell is, counted from 1.
 #[derive(Drop)]
 pub struct Chosen {
-    cell: u8,
+    pub cell: u8,
 }
 
 impl Game for Table {

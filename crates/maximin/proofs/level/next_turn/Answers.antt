@@ -61,6 +61,7 @@ loop-other-preserved-in-Some-option_at g c =
         joint = ap length c.put-in-Some-option_at.ensures.joint ∙ simp length-set moves;
         places = ap length c.put-in-Some-option_at.ensures.places ∙ simp length-set places;
       };
+      capacities = c.put-in-Some-option_at.ensures.capacities ∙ c.loop-other.invariant.capacities;
       wrapped = wrapped_more lists n c.args.cursor.now.places.items c.args.cursor.now.joint.items c.loop-other.cursor.places.items c.loop-other.cursor.joint.items
           c.in-Some-option_at.first c.put-in-Some-option_at.new.self.places.items c.put-in-Some-option_at.new.self.joint.items c.loop-other.other (omega arith)
           (omega arith) (omega arith) c.put-in-Some-option_at.ensures.places c.put-in-Some-option_at.ensures.joint

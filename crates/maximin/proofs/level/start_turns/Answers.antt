@@ -21,6 +21,7 @@ loop-other-preserved g c =
               joint = ap length w.put.ensures.joint ∙ simp length-set moves;
               places = ap length w.put.ensures.places ∙ simp length-set places;
             };
+            capacities = w.put.ensures.capacities ∙ c.loop-other.invariant.capacities;
             first = first_more lists c.loop-other.other c.loop-other.cursor.places.items c.loop-other.cursor.joint.items w.in-Some.first
                 w.put.new.self.places.items w.put.new.self.joint.items
                 (omega arith) (omega arith) w.put.ensures.places w.put.ensures.joint (sym w.in-Some.is ∙ c.option_at.ensures) c.loop-other.invariant.first;

@@ -6,10 +6,11 @@ use Rattle.std.specs.Int.{int_min, int_max}
 use Rattle.position.specs.Rules.{choices}
 use Rattle.position.specs.Value.{Answers, value, worst, least}
 use Rattle.maximin.specs.Turns.{later}
-use Rattle.maximin.specs.Level.{IsLevelOf}
+use Rattle.maximin.specs.Cursor.{cursor_capacities}
+use Rattle.maximin.specs.Level.{IsLevelOf, level_capacities}
 use Rattle.maximin.proofs.Windows.{raised_most, raised_seen, raised_now, raised_above, cut_above, lowered_least, lowered_most, lowered_end, cut_below, least_head, start_least, start_most, lowered_below, le_z_true, le_z_false}
 use Rattle.maximin.proofs.Values.{IsOpen, worst_le_value, value_reached, turn_known}
-use Rattle.maximin.proofs.Parts.{All-first_and_rest}
+use Rattle.maximin.proofs.Parts.{All-first_and_rest, joined, all_kept}
 use Rattle.position.proofs.LegalMoves.{legal_known, legal_place, legal_count, none_past}
 use Rattle.maximin.proofs.search.+search.Goals as goal
 use Rattle.maximin.proofs.search.+search.Goals.{worst_at-then-upper-a-via-then-upper-a, worst_at-then-upper-a-via-else-upper-a+then-not-next_turn}
@@ -85,6 +86,7 @@ value_at-loop-own-preserved g t c =
     (rw here.1 at (worst_le_value rules c.args.role c.args.depth state c.loop-own.place free here.0)) c.loop-own.invariant.at_most c.worst_at.ensures.answers in
     record {
       levels = c.worst_at.ensures.levels;
+      capacities = c.worst_at.ensures.capacities ∙ c.loop-own.invariant.capacities;
       deep = omega arith;
       in_list = omega (arith, here.0);
       above = rw raised (raised_above a best r c.loop-own.invariant.above);
@@ -127,6 +129,8 @@ worst_at-loop-upper-init g t c =
     record {
       level = record { position = rw (c.split_at_mut-first.ensures.by_index.0 0 c.index-first-0.result (omega arith)) first.position; cursor = c.start_turns.ensures.cursor };
       rest = λ k d below. rw (c.split_at_mut-first.ensures.by_index.1 k d) (c.requires.levels (1 + k) d (omega arith));
+      capacities = refl;
+      rest_capacities = refl;
       deep = omega arith;
       stands = c.start_turns.ensures.stands;
       above = omega (arith, ints);
@@ -205,6 +209,8 @@ worst_at-loop-upper-preserved g t c =
     record {
       level = record { position = c.step.ensures.fits; cursor = c.next_turn.ensures.cursor };
       rest = c.value_at.ensures.levels;
+      capacities = joined _ _ _ _ c.next_turn.ensures.capacities c.step.ensures.capacities ∙ c.loop-upper.invariant.capacities;
+      rest_capacities = c.value_at.ensures.capacities ∙ c.loop-upper.invariant.rest_capacities;
       deep = omega arith;
       stands = c.if-not-next_turn.ensures.stands;
       above = le_z_false _ a c.if-upper-a.false;
@@ -213,3 +219,25 @@ worst_at-loop-upper-preserved g t c =
       part = omega (arith, next, c.loop-upper.invariant.part);
       at_most = rw lowered (lowered_most all (worth joint) left a upper r (rw next at c.loop-upper.invariant.at_most) answers);
     }
+
+pub worst_at-returns-then-upper-a-clause-capacities : goal.worst_at-returns-then-upper-a-clause-capacities
+worst_at-returns-then-upper-a-clause-capacities g t c =
+    let capacities = g.G.Game.capacities c.args.game.now in
+    let split = c.split_at_mut-first.ensures in
+    let old = get_or c.split_at_mut-first.result.0.now 0 c.index-first-0.result in
+    let now = c.loop-upper.level in
+    let begun : level_capacities capacities now ≡ level_capacities capacities old =
+        c.loop-upper.invariant.capacities
+        ∙ joined (cursor_capacities c.start_turns.new.cursor) (cursor_capacities old.cursor) (capacities old.position) (capacities old.position) c.start_turns.ensures.capacities refl in
+    let rest = c.value_at.ensures.capacities ∙ c.loop-upper.invariant.rest_capacities in
+    elim c.then-upper-a.branch [
+      | worst_at-then-upper-a-via-then-upper-a w ↦ rw w.levels-is
+          (all_kept (level_capacities capacities) c.args.levels.now c.split_at_mut-first.result.0.now c.split_at_mut-first.result.1.now c.value_at.new.levels
+          (record { position = c.step.new.q; cursor = now.cursor }) c.index-first-0.result split.value split.front_len
+          (joined (cursor_capacities now.cursor) (cursor_capacities now.cursor) (capacities c.step.new.q) (capacities now.position) refl c.step.ensures.capacities ∙ begun) rest)
+      | worst_at-then-upper-a-via-else-upper-a+then-not-next_turn w ↦ rw w.levels-is
+          (all_kept (level_capacities capacities) c.args.levels.now c.split_at_mut-first.result.0.now c.split_at_mut-first.result.1.now c.value_at.new.levels
+          (record { position = c.step.new.q; cursor = w.next_turn.new.cursor }) c.index-first-0.result split.value split.front_len
+          (joined (cursor_capacities w.next_turn.new.cursor) (cursor_capacities now.cursor) (capacities c.step.new.q) (capacities now.position)
+          w.next_turn.ensures.capacities c.step.ensures.capacities ∙ begun) rest)
+    ]

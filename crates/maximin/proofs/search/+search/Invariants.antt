@@ -4,7 +4,7 @@ use Rattle.std.specs.Int.{int_min, int_max}
 use Rattle.position.specs.Rules.{choices}
 use Rattle.position.specs.Value.{value, worst, least}
 use Rattle.maximin.specs.Turns.{StandsAt, later}
-use Rattle.maximin.specs.Level.{IsLevelOf}
+use Rattle.maximin.specs.Level.{IsLevelOf, level_capacities, all_capacities}
 use Rattle.maximin.proofs.search.+search.Given as goal
 
 abbrev pub decreases-value_at : goal.decreases-value_at
@@ -20,6 +20,7 @@ invariant-value_at-loop-own g l =
     let state = g.G.Game.state l.game l.from in
     record {
       levels : All (IsLevelOf (g.G.Game.fits l.game) rules.roles) l.levels;
+      capacities : all_capacities (g.G.Game.capacities l.game) l.levels ≡ all_capacities (g.G.Game.capacities l.game) l.initial.levels;
       deep : length l.levels ≡ length l.initial.levels;
       in_list : l.place ≤ length (rules.legal state l.role);
       above : l.a ≤ℤ l.best;
@@ -44,6 +45,8 @@ invariant-worst_at-loop-upper g l =
     record {
       level : IsLevelOf (g.G.Game.fits l.game) rules.roles l.level;
       rest : All (IsLevelOf (g.G.Game.fits l.game) rules.roles) l.rest;
+      capacities : level_capacities (g.G.Game.capacities l.game) l.level ≡ level_capacities (g.G.Game.capacities l.game) l.initial.level;
+      rest_capacities : all_capacities (g.G.Game.capacities l.game) l.rest ≡ all_capacities (g.G.Game.capacities l.game) l.initial.rest;
       deep : l.depth ≤ length l.rest;
       stands : StandsAt lists l.level.cursor.places.items l.level.cursor.joint.items;
       above : l.a <ℤ l.upper;

@@ -51,6 +51,7 @@ loop-own-preserved g c =
     let same = to_z-of_z w16 c.worst_at-worst.result fits in
     record {
       levels = c.worst_at-worst.ensures.levels;
+      capacities = c.worst_at-worst.ensures.capacities ∙ c.loop-own.invariant.capacities;
       deep = omega arith;
       in_list = omega (arith, here.0);
       is_best = elim c.if-worst-best.branch [

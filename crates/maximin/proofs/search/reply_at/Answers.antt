@@ -1,15 +1,16 @@
-use Rattle.std.proofs.Common.{ℕ, ◌+◌, ◌∷◌, List, arith, refl, ◌∙◌, w16, rules as facts}
+use Rattle.std.proofs.Common.{◌≡◌, ℕ, ◌+◌, ◌∷◌, List, get_or, arith, refl, ◌∙◌, w16, rules as facts}
 use Rattle.std.proofs.lemmas.Int.{to_z-of_z}
 use mir.Val.{SFits, to_z}
 use Rattle.std.specs.Prelude.{negsuc}
 use Rattle.position.specs.Rules.{choices, turns_with}
 use Rattle.position.specs.Value.{Answers, value, worst}
 use Rattle.maximin.specs.Turns.{later}
-use Rattle.maximin.specs.Level.{IsLevelOf}
+use Rattle.maximin.specs.Cursor.{cursor_capacities}
+use Rattle.maximin.specs.Level.{IsLevelOf, level_capacities}
 use Rattle.maximin.proofs.Values.{turn_known}
 use Rattle.maximin.proofs.Bounds.{worst_at_most}
 use Rattle.maximin.proofs.Windows.{lt_z_true, lt_z_false}
-use Rattle.maximin.proofs.Parts.{All-first_and_rest}
+use Rattle.maximin.proofs.Parts.{All-first_and_rest, joined, all_kept}
 use Rattle.maximin.proofs.Reply.{IsFirstAt, first_start, first_lowered, first_kept, first_next, first_end}
 use Rattle.maximin.proofs.search.reply_at.Goals as goal
 use Rattle.maximin.proofs.search.reply_at.Goals.{then-worth-upper, else-worth-upper}
@@ -27,6 +28,8 @@ loop-upper-init g c =
     record {
       level = record { position = rw (c.split_at_mut-first.ensures.by_index.0 0 c.index-first-0.result (omega arith)) first.position; cursor = c.start_turns.ensures.cursor };
       rest = λ k d below. rw (c.split_at_mut-first.ensures.by_index.1 k d) (c.requires.levels (1 + k) d (omega arith));
+      capacities = refl;
+      rest_capacities = refl;
       deep = omega arith;
       capacity = refl;
       stands = c.start_turns.ensures.stands;
@@ -100,6 +103,8 @@ loop-upper-preserved g c =
     record {
       level = record { position = c.step.ensures.fits; cursor = c.next_turn.ensures.cursor };
       rest = c.value_at-worth.ensures.levels;
+      capacities = joined _ _ _ _ c.next_turn.ensures.capacities c.step.ensures.capacities ∙ c.loop-upper.invariant.capacities;
+      rest_capacities = c.value_at-worth.ensures.capacities ∙ c.loop-upper.invariant.rest_capacities;
       deep = omega arith;
       capacity = elim c.if-worth-upper.branch [
         | then-worth-upper w ↦ rw w.out-is (w.write_joint.ensures.capacity ∙ c.loop-upper.invariant.capacity)
@@ -109,3 +114,18 @@ loop-upper-preserved g c =
       is_first = first_next worth turns all joint behind (to_z w16 c.if-worth-upper.upper-bits) c.if-worth-upper.out.items
           c.next_turn.new.cursor.joint.items (later lists c.next_turn.new.cursor.places.items) c.if-not-next_turn.ensures.next at;
     }
+
+pub returns-then-not-next_turn-clause-capacities : goal.returns-then-not-next_turn-clause-capacities
+returns-then-not-next_turn-clause-capacities g c =
+    let capacities = g.G.Game.capacities c.args.game.now in
+    let split = c.split_at_mut-first.ensures in
+    let old = get_or c.split_at_mut-first.result.0.now 0 c.index-first-0.result in
+    let now = c.loop-upper.level in
+    let begun : level_capacities capacities now ≡ level_capacities capacities old =
+        c.loop-upper.invariant.capacities
+        ∙ joined (cursor_capacities c.start_turns.new.cursor) (cursor_capacities old.cursor) (capacities old.position) (capacities old.position) c.start_turns.ensures.capacities refl in
+    all_kept (level_capacities capacities) c.args.levels.now c.split_at_mut-first.result.0.now c.split_at_mut-first.result.1.now
+    c.value_at-worth.new.levels (record { position = c.step.new.q; cursor = c.next_turn.new.cursor }) c.index-first-0.result split.value split.front_len
+    (joined (cursor_capacities c.next_turn.new.cursor) (cursor_capacities now.cursor) (capacities c.step.new.q) (capacities now.position)
+    c.next_turn.ensures.capacities c.step.ensures.capacities ∙ begun)
+    (c.value_at-worth.ensures.capacities ∙ c.loop-upper.invariant.rest_capacities)

@@ -3,7 +3,7 @@ use Rattle.std.specs.Prelude.{All}
 use Rattle.position.specs.Rules.{choices, turns_with, Turn}
 use Rattle.position.specs.Value.{value, worst}
 use Rattle.maximin.specs.Turns.{StandsAt, later}
-use Rattle.maximin.specs.Level.{IsLevelOf}
+use Rattle.maximin.specs.Level.{IsLevelOf, level_capacities, all_capacities}
 use Rattle.maximin.proofs.Reply.{IsFirst}
 use Rattle.maximin.proofs.search.reply_at.Given as goal
 
@@ -16,6 +16,8 @@ invariant-loop-upper g l =
     record {
       level : IsLevelOf (g.G.Game.fits l.game) rules.roles l.level;
       rest : All (IsLevelOf (g.G.Game.fits l.game) rules.roles) l.rest;
+      capacities : level_capacities (g.G.Game.capacities l.game) l.level ≡ level_capacities (g.G.Game.capacities l.game) l.initial.level;
+      rest_capacities : all_capacities (g.G.Game.capacities l.game) l.rest ≡ all_capacities (g.G.Game.capacities l.game) l.initial.rest;
       deep : l.depth ≤ length l.rest;
       capacity : l.out.capacity ≡ l.fn.out.capacity;
       stands : StandsAt lists l.level.cursor.places.items l.level.cursor.joint.items;
