@@ -1,0 +1,120 @@
+use Rattle.std.proofs.Common.{true, false, ◌≡◌, ℕ, ◌+◌, ◌-◌, ◌<◌, ◌≤◌, Bool, List, [], ◌∷◌, length, zero, suc, refl, ◌∙◌, arith, get_or, inl, inr}
+use Rattle.std.proofs.lemmas.Int.{ints, clamps}
+use Rattle.std.proofs.lemmas.Bool.{cases_lt}
+use Rattle.std.proofs.lemmas.Bool.Decides.{nat_tests}
+use Rattle.std.specs.Prelude.{ℤ, pos, negsuc, ◌<ℤ◌, ◌≤ℤ◌, ◌==◌, ◌||◌, ◌⊎◌, if◌then◌else◌, find, Option, None, slice_get}
+use Rattle.position.specs.Rules.{Rules, State, is_stuck}
+use Rattle.position.specs.Value.{Answers, value, worst, choice_of}
+use Rattle.maximin.proofs.Values.{IsOpen, value_reached, worst_le_value}
+
+-- the best of the moves before `place` stands at `chosen`, and is better than each move before it
+pub record IsBest (worth : ℕ → ℕ) (place : ℕ) (best : ℤ) (chosen : ℕ) : Type 0 where
+  pub seen : (k : ℕ) → k < place → pos (worth k) ≤ℤ best
+  pub reached : 0 < place → pos (worth chosen) ≡ best
+  pub before : 0 < place → chosen < place
+  pub first : (k : ℕ) → k < chosen → pos (worth k) <ℤ best
+  pub none : place ≡ 0 → best ≡ negsuc 0
+  pub low : negsuc 0 ≤ℤ best
+  pub high : best <ℤ pos 101
+
+pub best_none : (worth : ℕ → ℕ) → IsBest worth 0 (negsuc 0) 0
+best_none worth = record {
+  seen = λ k lt. absurd (omega arith);
+  reached = λ lt. absurd (omega arith);
+  before = λ lt. absurd (omega arith);
+  first = λ k lt. absurd (omega arith);
+  none = λ _. refl;
+  low = omega (arith, ints);
+  high = omega (arith, ints);
+}
+
+-- a move that is better than the best becomes the best
+pub best_raised : (worth : ℕ → ℕ) (place : ℕ) (best r : ℤ) (chosen : ℕ) → worth place ≤ 100 → Answers (worth place) best (pos 101) r → best <ℤ r
+    → IsBest worth place best chosen → IsBest worth (place + 1) r place
+best_raised worth place best r chosen few h more old =
+    let bottom = h.at_least in
+    let top = h.at_most in
+    let same : pos (worth place) ≡ r = omega (arith, ints, clamps) in
+    record {
+      seen = λ k lt. elim (cases_lt k place) [
+        | inl before ↦ let seen = old.seen k before in omega (arith, ints)
+        | inr here ↦ let at : k ≡ place = omega arith in rw at (omega (arith, ints))
+      ];
+      reached = λ _. same;
+      before = λ _. omega arith;
+      first = λ k lt. let seen = old.seen k lt in omega (arith, ints);
+      none = λ e. absurd (omega arith);
+      low = let l = old.low in omega (arith, ints);
+      high = omega (arith, ints);
+    }
+
+-- a move that is not better leaves the best
+pub best_kept : (worth : ℕ → ℕ) (place : ℕ) (best r : ℤ) (chosen : ℕ) → worth place ≤ 100 → Answers (worth place) best (pos 101) r → r ≤ℤ best
+    → IsBest worth place best chosen → IsBest worth (place + 1) best chosen
+best_kept worth place best r chosen few h less old =
+    let bottom = h.at_least in
+    let here : pos (worth place) ≤ℤ best = omega (arith, ints, clamps) in
+    let some : 0 < place = elim (cases_lt 0 place) [ inl above ↦ above | inr not_above ↦ let none = old.none (omega arith) in absurd (omega (arith, ints)) ] in
+    record {
+      seen = λ k lt. elim (cases_lt k place)
+          [ inl before ↦ old.seen k before | inr last ↦ let at : k ≡ place = omega arith in rw at here ];
+      reached = λ _. old.reached some;
+      before = λ _. let b = old.before some in omega arith;
+      first = old.first;
+      none = λ e. absurd (omega arith);
+      low = old.low;
+      high = old.high;
+    }
+
+-- the first element that passes
+pub find_first : (p : ℕ → Bool) (xs : List ℕ) (i : ℕ) → i < length xs → p (get_or xs i 0) ≡ true → ((k : ℕ) → k < i → p (get_or xs k 0) ≡ false) → find p xs ≡ slice_get xs i
+find_first p [] i inside here before = absurd (omega arith)
+find_first p (x ∷ xs) zero inside here before = rw here refl
+find_first p (x ∷ xs) (suc i) inside here before =
+    let not_first : p x ≡ false = before 0 (omega arith) in
+    rw not_first (find_first p xs i (omega arith) here (λ k lt. before (suc k) (omega arith)))
+
+abbrev pub worst_at_place : Rules → ℕ → ℕ → State → ℕ → ℕ
+worst_at_place g role depth s k = worst g role (depth - 1) s (get_or (g.legal s role) k 0)
+
+best_is_value : (g : Rules) (role depth : ℕ) (s : State) (place : ℕ) (best : ℤ) (chosen : ℕ) → IsOpen g depth s → role < g.roles → place ≡ length (g.legal s role)
+    → IsBest (worst_at_place g role depth s) place best chosen → (chosen < length (g.legal s role)) × (worst_at_place g role depth s chosen ≡ value g role depth s)
+best_is_value g role depth s place best chosen h known all is =
+    let top = value_reached g role depth s h known in
+    let some : 0 < place = omega (arith, top.1) in
+    let inside : chosen < length (g.legal s role) = omega (arith, is.before some) in
+    let part = worst_le_value g role depth s chosen h inside in
+    let seen = is.seen top.0 (omega (arith, top.1)) in
+    let reached = is.reached some in
+    let same = top.2 in
+    (inside, omega (arith, ints))
+
+either_false : (b c : Bool) (x y : Option ℕ) → b ≡ false → c ≡ false → (if b || c then x else y) ≡ y
+either_false b c x y e f = rw (e, f) refl
+
+either_true : (b c : Bool) (x y : Option ℕ) → (b ≡ true) ⊎ (c ≡ true) → (if b || c then x else y) ≡ x
+either_true true c x y h = refl
+either_true false true x y h = refl
+either_true false false x y h = elim h [ inl e ↦ cc | inr e ↦ cc ]
+
+pub choice_none : (g : Rules) (role depth : ℕ) (s : State) → (g.ended s ≡ true) ⊎ (is_stuck g s ≡ true) → choice_of g role depth s ≡ None
+choice_none g role zero s h = refl
+choice_none g role (suc depth) s h = either_true (g.ended s) (is_stuck g s) None _ h
+
+pub choice_found : (g : Rules) (role depth : ℕ) (s : State) (place : ℕ) (best : ℤ) (chosen : ℕ) → IsOpen g depth s → role < g.roles → place ≡ length (g.legal s role)
+    → IsBest (worst_at_place g role depth s) place best chosen → choice_of g role depth s ≡ slice_get (g.legal s role) chosen
+choice_found g role zero s place best chosen h known all is = absurd (h.turn refl)
+choice_found g role (suc depth) s place best chosen h known all is =
+    let at = best_is_value g role (suc depth) s place best chosen h known all is in
+    let same : suc depth - 1 ≡ depth = omega arith in
+    let here : worst g role depth s (get_or (g.legal s role) chosen 0) ≡ value g role (suc depth) s = rw same at at.1 in
+    let before : (k : ℕ) → k < chosen → worst g role depth s (get_or (g.legal s role) k 0) < value g role (suc depth) s =
+    λ k lt. let less = rw same at (is.first k lt) in let reached = rw same at (is.reached (omega (arith, at.0))) in omega (arith, ints) in
+    either_false (g.ended s) (is_stuck g s) None _ h.going h.free ∙ (find_first (λ m. worst g role depth s m == value g role (suc depth) s) (g.legal s role) chosen at.0
+    (test_true _ _ here) (λ k lt. test_false _ _ (before k lt)))
+  where
+    test_true : (x y : ℕ) → x ≡ y → (x == y) ≡ true
+    test_true x y e = grind (arith, nat_tests)
+
+    test_false : (x y : ℕ) → x < y → (x == y) ≡ false
+    test_false x y e = grind (arith, nat_tests)

@@ -1,0 +1,9 @@
+pub mod TurnLemmas
+pub mod Choices
+pub mod CursorSteps
+pub mod Windows
+pub mod Values
+pub mod Parts
+pub mod Best
+pub mod Bounds
+pub mod Reply

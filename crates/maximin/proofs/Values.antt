@@ -1,0 +1,71 @@
+use Rattle.std.proofs.Common.{◌≡◌, ◌≢◌, ℕ, ◌-◌, ◌<◌, ◌≤◌, ◌^◌, true, false, List, [], length, zero, suc, refl, sym, ◌∙◌, arith, get_or, inl, inr}
+use Rattle.std.specs.Prelude.{All, map, Option, Some, slice_get}
+use Rattle.std.proofs.lemmas.Grind.{common_steps}
+use Rattle.std.proofs.lemmas.List.{get_or-map}
+use Rattle.std.proofs.lemmas.Bool.{cases_eq}
+use Rattle.position.specs.Rules.{Rules, State, Turn, is_stuck, choices, IsTurn}
+use Rattle.position.specs.Value.{value, worst, greatest}
+use Rattle.maximin.specs.Turns.{StandsAt}
+use Rattle.maximin.proofs.Windows.{le_greatest, greatest_reached}
+use Rattle.maximin.proofs.Choices.{length-choices, choices_own, choices_other, legal_some}
+
+-- a state that is not ended, nor stuck, with a turn to come
+pub record IsOpen (g : Rules) (depth : ℕ) (s : State) : Type 0 where
+  pub turn : depth ≢ 0
+  pub going : g.ended s ≡ false
+  pub free : is_stuck g s ≡ false
+
+-- the worst of each own move
+abbrev pub worsts : Rules → ℕ → ℕ → State → List ℕ
+worsts g role depth s = map (λ m. worst g role (depth - 1) s m) (g.legal s role)
+
+pub value_open : (g : Rules) (role depth : ℕ) (s : State) → IsOpen g depth s → value g role depth s ≡ greatest (worsts g role depth s)
+value_open g role zero s h = absurd (h.turn refl)
+value_open g role (suc depth) s h =
+    let same : suc depth - 1 ≡ depth = omega arith in
+    rw (same, h.going, h.free) refl
+
+pub value_ended : (g : Rules) (role depth : ℕ) (s : State) → g.ended s ≡ true → value g role depth s ≡ g.goal s role
+value_ended g role zero s h = rw h refl
+value_ended g role (suc depth) s h = rw h refl
+
+length-map-all : (f : ℕ → ℕ) (xs : List ℕ) → length (map f xs) ≡ length xs
+length-map-all f xs = grind (arith, common_steps)
+
+pub worst_le_value : (g : Rules) (role depth : ℕ) (s : State) (k : ℕ) → IsOpen g depth s → k < length (g.legal s role)
+    → worst g role (depth - 1) s (get_or (g.legal s role) k 0) ≤ value g role depth s
+worst_le_value g role depth s k h inside =
+    let below = le_greatest (worsts g role depth s) k (omega (arith, length-map-all (λ m. worst g role (depth - 1) s m) (g.legal s role))) in
+    rw (value_open g role depth s h) (rw (get_or-map (λ m. worst g role (depth - 1) s m) (g.legal s role) k 0 0 inside) at below)
+
+pub value_reached : (g : Rules) (role depth : ℕ) (s : State) → IsOpen g depth s → role < g.roles
+    → (k : ℕ) × (k < length (g.legal s role)) × (worst g role (depth - 1) s (get_or (g.legal s role) k 0) ≡ value g role depth s)
+value_reached g role depth s h known =
+    let count = length-map-all (λ m. worst g role (depth - 1) s m) (g.legal s role) in
+    let some : 0 < length (g.legal s role) = legal_some g s role h.free known in
+    let at = greatest_reached (worsts g role depth s) (omega arith) in
+    let inside : at.0 < length (g.legal s role) = omega (arith, at.1) in
+    (at.0, inside, rw (value_open g role depth s h) (rw (get_or-map (λ m. worst g role (depth - 1) s m) (g.legal s role) at.0 0 0 inside) at at.2))
+
+-- a cursor's joint move is a move of each role
+pub turn_known : (g : Rules) (s : State) (role own : ℕ) (places : List ℕ) (joint : Turn) → StandsAt (choices g s role own) places joint
+    → own < g.moves role → ((q : ℕ) → q < g.roles → All (λ m. m < g.moves q) (g.legal s q)) → IsTurn g joint
+turn_known g s role own places joint h known within = record {
+  of_each_role = h.move_for_each ∙ length-choices g s role own;
+  each_known = λ q below.
+      let count = length-choices g s role own in
+      let at = h.at_place q (omega arith) in
+      let inside = h.in_list q (omega arith) in
+      rw at (either q below (get_or places q 0) inside);
+}
+  where
+    either : (q : ℕ) → q < g.roles → (k : ℕ) → k < length (get_or (choices g s role own) q []) → get_or (get_or (choices g s role own) q []) k 0 < g.moves q
+    either q below k inside = elim (cases_eq q role) [
+      | inl same ↦
+          let list = choices_own g s role own q below same in
+          let first : k ≡ 0 = omega (arith, rw list at inside) in
+          rw (list, first, same) known
+      | inr other ↦
+          let list = choices_other g s role own q below other in
+          rw list (within q below k 0 (rw list at inside))
+    ]

@@ -1,0 +1,31 @@
+use Rattle.std.proofs.Common.{◌≡◌, ℕ, ◌≤◌, ◌∷◌, length}
+use Rattle.std.specs.Prelude.{All}
+use Rattle.position.specs.Rules.{choices, turns_with, Turn}
+use Rattle.position.specs.Value.{value, worst}
+use Rattle.maximin.specs.Turns.{StandsAt, later}
+use Rattle.maximin.specs.Level.{IsLevelOf, level_capacities, all_capacities}
+use Rattle.maximin.proofs.Reply.{IsFirst}
+use Rattle.maximin.proofs.search.reply_at.Given as goal
+
+abbrev pub invariant-loop-upper : goal.invariant-loop-upper
+invariant-loop-upper g l =
+    let rules = g.G.Game.rules l.game in
+    let state = g.G.Game.state l.game l.from in
+    let lists = choices rules state l.role l.own in
+    let worth : Turn → ℕ = λ j. value rules l.role l.depth (rules.after state j) in
+    record {
+      level : IsLevelOf (g.G.Game.fits l.game) rules.roles l.level;
+      rest : All (IsLevelOf (g.G.Game.fits l.game) rules.roles) l.rest;
+      capacities : level_capacities (g.G.Game.capacities l.game) l.level ≡ level_capacities (g.G.Game.capacities l.game) l.initial.level;
+      rest_capacities : all_capacities (g.G.Game.capacities l.game) l.rest ≡ all_capacities (g.G.Game.capacities l.game) l.initial.rest;
+      deep : l.depth ≤ length l.rest;
+      capacity : l.out.capacity ≡ l.fn.out.capacity;
+      stands : StandsAt lists l.level.cursor.places.items l.level.cursor.joint.items;
+      is_first : IsFirst worth (turns_with rules state l.role l.own) (worst rules l.role l.depth state l.own)
+          (l.level.cursor.joint.items ∷ later lists l.level.cursor.places.items) l.upper l.out.items;
+    }
+
+abbrev pub decreases-loop-upper : goal.decreases-loop-upper
+decreases-loop-upper g l =
+    let rules = g.G.Game.rules l.game in
+    length (later (choices rules (g.G.Game.state l.game l.from) l.role l.own) l.level.cursor.places.items)

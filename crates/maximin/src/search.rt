@@ -1,0 +1,159 @@
+// The search, level by level.
+ghost use Rattle.std.specs.Prelude.{◌≡◌, ◌<◌, ◌≤◌, ◌<ℤ◌, ◌≤ℤ◌, pos, negsuc, false, Some, All, length};
+ghost use Rattle.position.specs.Rules.{is_stuck as stuck};
+ghost use Rattle.position.specs.Value.{Answers, choice_of, reply_of, value, worst};
+ghost use Rattle.maximin.specs.Level.{IsLevelOf, all_capacities};
+
+use crate::level::{Level, next_turn, start_turns, write_joint};
+use position::{Game, is_stuck};
+use propnet::Joint;
+
+/// The value of a state within a window.
+#[cycle(search)]
+pub fn value_at<G: Game>(
+    game: &G,
+    from: &G::Pos,
+    role: usize,
+    depth: usize,
+    a: i16,
+    b: i16,
+    levels: &mut [Level<G::Pos>],
+) -> i16
+    requires fits { G.fits game.now from.now }
+    requires role { role < (G.rules game.now).roles }
+    requires deep { depth ≤ length levels.old }
+    requires levels { All (IsLevelOf (G.fits game.now) (G.rules game.now).roles) levels.old }
+    requires low { negsuc 1 ≤ℤ a }
+    requires order { a <ℤ b }
+    requires high { b ≤ℤ pos 101 }
+    ensures answers { Answers (value (G.rules game.now) role depth (G.state game.now from.now)) a b result }
+    ensures levels { All (IsLevelOf (G.fits game.now) (G.rules game.now).roles) levels.new }
+    ensures capacities { all_capacities (G.capacities game.now) levels.new ≡ all_capacities (G.capacities game.now) levels.old }
+{
+    if game.ended(from) {
+        return i16::from(game.goal(from, role));
+    }
+    if depth == 0 || is_stuck(game, from) {
+        return 0;
+    }
+    let mut best = a;
+    let mut place = 0;
+    while let Some(own) = game.legal(from, role, place) {
+        best = best.max(worst_at(game, from, role, own, depth - 1, best, b, levels));
+        if best >= b {
+            return best;
+        }
+        place += 1;
+    }
+    best
+}
+
+/// The least value of a state that can follow where the role plays `own`, within a window.
+#[cycle(search)]
+pub fn worst_at<G: Game>(
+    game: &G,
+    from: &G::Pos,
+    role: usize,
+    own: u32,
+    depth: usize,
+    a: i16,
+    b: i16,
+    levels: &mut [Level<G::Pos>],
+) -> i16
+    requires fits { G.fits game.now from.now }
+    requires role { role < (G.rules game.now).roles }
+    requires own { own < (G.rules game.now).moves role }
+    requires open { stuck (G.rules game.now) (G.state game.now from.now) ≡ false }
+    requires deep { depth < length levels.old }
+    requires levels { All (IsLevelOf (G.fits game.now) (G.rules game.now).roles) levels.old }
+    requires low { negsuc 1 ≤ℤ a }
+    requires order { a <ℤ b }
+    requires high { b ≤ℤ pos 101 }
+    ensures answers { Answers (worst (G.rules game.now) role depth (G.state game.now from.now) own) a b result }
+    ensures levels { All (IsLevelOf (G.fits game.now) (G.rules game.now).roles) levels.new }
+    ensures capacities { all_capacities (G.capacities game.now) levels.new ≡ all_capacities (G.capacities game.now) levels.old }
+{
+    let (first, rest) = levels.split_at_mut(1);
+    let level = &mut first[0];
+    start_turns(game, from, role, own, &mut level.cursor);
+    let mut upper = b;
+    loop {
+        game.step(from, &level.cursor.joint, &mut level.position);
+        upper = upper.min(value_at(game, &level.position, role, depth, a, upper, rest));
+        if upper <= a || !next_turn(game, from, role, own, &mut level.cursor) {
+            return upper;
+        }
+    }
+}
+
+/// The first move of the role that attains the value of the state.
+pub fn choice_at<G: Game>(
+    game: &G,
+    from: &G::Pos,
+    role: usize,
+    depth: usize,
+    levels: &mut [Level<G::Pos>],
+) -> Option<u32>
+    requires fits { G.fits game.now from.now }
+    requires role { role < (G.rules game.now).roles }
+    requires deep { depth ≤ length levels.old }
+    requires levels { All (IsLevelOf (G.fits game.now) (G.rules game.now).roles) levels.old }
+    ensures choice { result ≡ choice_of (G.rules game.now) role depth (G.state game.now from.now) }
+    ensures levels { All (IsLevelOf (G.fits game.now) (G.rules game.now).roles) levels.new }
+    ensures capacities { all_capacities (G.capacities game.now) levels.new ≡ all_capacities (G.capacities game.now) levels.old }
+{
+    if depth == 0 || game.ended(from) || is_stuck(game, from) {
+        return None;
+    }
+    let mut best = -1;
+    let mut chosen = 0;
+    let mut place = 0;
+    while let Some(own) = game.legal(from, role, place) {
+        let worst = worst_at(game, from, role, own, depth - 1, best, 101, levels);
+        if worst > best {
+            best = worst;
+            chosen = place;
+        }
+        place += 1;
+    }
+    game.legal(from, role, chosen)
+}
+
+/// Writes the first joint move that leaves the least value where the role plays `own`.
+pub fn reply_at<G: Game>(
+    game: &G,
+    from: &G::Pos,
+    role: usize,
+    own: u32,
+    depth: usize,
+    levels: &mut [Level<G::Pos>],
+    out: &mut Joint,
+)
+    requires fits { G.fits game.now from.now }
+    requires role { role < (G.rules game.now).roles }
+    requires own { own < (G.rules game.now).moves role }
+    requires open { stuck (G.rules game.now) (G.state game.now from.now) ≡ false }
+    requires deep { depth < length levels.old }
+    requires levels { All (IsLevelOf (G.fits game.now) (G.rules game.now).roles) levels.old }
+    requires out { (G.rules game.now).roles ≤ out.old.capacity }
+    ensures reply { reply_of (G.rules game.now) role depth (G.state game.now from.now) own ≡ Some out.new.items }
+    ensures out { out.new.capacity ≡ out.old.capacity }
+    ensures levels { All (IsLevelOf (G.fits game.now) (G.rules game.now).roles) levels.new }
+    ensures capacities { all_capacities (G.capacities game.now) levels.new ≡ all_capacities (G.capacities game.now) levels.old }
+{
+    let (first, rest) = levels.split_at_mut(1);
+    let level = &mut first[0];
+    start_turns(game, from, role, own, &mut level.cursor);
+    let mut upper = 101;
+    loop {
+        game.step(from, &level.cursor.joint, &mut level.position);
+        let worth = value_at(game, &level.position, role, depth, -1, upper, rest);
+        if worth < upper {
+            upper = worth;
+            write_joint(&level.cursor.joint, out);
+        }
+        if !next_turn(game, from, role, own, &mut level.cursor) {
+            return;
+        }
+    }
+}

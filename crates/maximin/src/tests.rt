@@ -1,0 +1,209 @@
+// Values, choices and replies over the table.
+ghost use Rattle.std.specs.Prelude.{◌<◌, ◌<ℤ◌, ◌≤ℤ◌, pos, negsuc};
+
+use crate::{Room, choice, first_reply, value_in};
+use position::Game;
+use position::table::{Chosen, Table};
+use propnet::Joint;
+use smallvec::SmallVec;
+use std::alloc::{AllocError, Global};
+use std::sync::atomic::{AtomicUsize, Ordering};
+
+/// A game that counts its steps.
+#[derive(Drop)]
+struct Counted<G> {
+    inner: G,
+    steps: AtomicUsize,
+}
+
+impl<G: Game> Game for Counted<G> {
+    type Pos = G::Pos;
+
+    ghost rules = { λ g. G.rules g.inner };
+
+    ghost role_name = { λ g. G.role_name g.inner };
+
+    ghost move_name = { λ g. G.move_name g.inner };
+
+    ghost fits = { λ g. G.fits g.inner };
+
+    ghost state = { λ g. G.state g.inner };
+
+    ghost capacities = { λ g. G.capacities g.inner };
+
+    fn roles(&self) -> usize {
+        self.inner.roles()
+    }
+
+    fn role_text(&self, role: usize) -> &[u8] {
+        self.inner.role_text(role)
+    }
+
+    fn moves(&self, role: usize) -> usize {
+        self.inner.moves(role)
+    }
+
+    fn move_text(&self, role: usize, number: u32) -> &[u8] {
+        self.inner.move_text(role, number)
+    }
+
+    fn fresh(&self) -> Result<G::Pos, AllocError> {
+        self.inner.fresh()
+    }
+
+    fn ended(&self, p: &G::Pos) -> bool {
+        self.inner.ended(p)
+    }
+
+    fn goal(&self, p: &G::Pos, role: usize) -> u8 {
+        self.inner.goal(p, role)
+    }
+
+    fn legal(&self, p: &G::Pos, role: usize, place: usize) -> Option<u32> {
+        self.inner.legal(p, role, place)
+    }
+
+    fn step(&self, p: &G::Pos, joint: &Joint, q: &mut G::Pos) {
+        self.steps.fetch_add(1, Ordering::SeqCst);
+        self.inner.step(p, joint, q);
+    }
+
+    fn copy(&self, p: &G::Pos, q: &mut G::Pos) {
+        self.inner.copy(p, q);
+    }
+
+    ghost goal_within = { λ g. G.goal_within g.inner };
+
+    ghost moves_within = { λ g. G.moves_within g.inner };
+
+    ghost legal_within = { λ g. G.legal_within g.inner };
+
+    ghost legal_ascending = { λ g. G.legal_ascending g.inner };
+
+    ghost moves_in_printed_order = { λ g. G.moves_in_printed_order g.inner };
+
+    ghost role_names_differ = { λ g. G.role_names_differ g.inner };
+}
+
+/// The value of the start state within a window, found through the bound alone, as in every caller.
+fn value_of<G: Game>(g: &G, alloc: Global, window: (i16, i16)) -> Result<i16, AllocError>
+    requires roles { 0 < (G.rules g.now).roles }
+    requires low { negsuc 1 ≤ℤ window.0 }
+    requires order { window.0 <ℤ window.1 }
+    requires high { window.1 ≤ℤ pos 101 }
+{
+    let mut room = Room::new(alloc, g, 1)?;
+    let start = g.fresh()?;
+    Ok(value_in(g, &start, 0, 1, window.0, window.1, &mut room))
+}
+
+/// The row can be sure of 10 by its first side, and of 30 by its second.
+const LEVEL: Table = Table {
+    worth: [50, 10, 10, 50, 40, 30, 90, 95],
+    ends: [true; 8],
+};
+
+#[test]
+fn each_role_has_its_value_and_choice(rt: HostRuntime) -> Result<(), AllocError> {
+    let mut room = Room::new(rt.alloc(), &LEVEL, 1)?;
+    let start = LEVEL.fresh()?;
+    assert_eq!(rt; value_in(&LEVEL, &start, 0, 1, -1, 101, &mut room), 30);
+    assert_eq!(rt; choice(&LEVEL, &start, 0, 1, &mut room), Some(1));
+    assert_eq!(rt; value_in(&LEVEL, &start, 1, 1, -1, 101, &mut room), 50);
+    assert_eq!(rt; choice(&LEVEL, &start, 1, 1, &mut room), Some(0));
+    assert_eq!(rt; value_in(&LEVEL, &start, 2, 1, -1, 101, &mut room), 10);
+    assert_eq!(rt; choice(&LEVEL, &start, 2, 1, &mut room), Some(0));
+    assert_eq!(rt; value_in(&LEVEL, &start, 0, 0, -1, 101, &mut room), 0);
+    assert_eq!(rt; choice(&LEVEL, &start, 0, 0, &mut room), None);
+    Ok(())
+}
+
+#[test]
+fn first_of_equal_moves_is_chosen(rt: HostRuntime) -> Result<(), AllocError> {
+    let table = Table {
+        worth: [70, 40, 90, 80, 60, 40, 50, 45],
+        ends: [true; 8],
+    };
+    let mut room = Room::new(rt.alloc(), &table, 1)?;
+    let start = table.fresh()?;
+    assert_eq!(rt; value_in(&table, &start, 0, 1, -1, 101, &mut room), 40);
+    assert_eq!(rt; choice(&table, &start, 0, 1, &mut room), Some(0));
+    Ok(())
+}
+
+// Of the row's first side both cell 1 and cell 2 are worth 10. The column's move changes slower than the layer's.
+#[test]
+fn first_of_equal_replies_is_told(rt: HostRuntime) -> Result<(), AllocError> {
+    let mut room = Room::new(rt.alloc(), &LEVEL, 1)?;
+    let start = LEVEL.fresh()?;
+    let mut reply = SmallVec::new(rt.alloc());
+    first_reply(&LEVEL, &start, 0, 0, 1, &mut room, &mut reply);
+    assert_eq!(rt; reply.as_slice(), [0, 0, 1].as_slice());
+    first_reply(&LEVEL, &start, 0, 1, 1, &mut room, &mut reply);
+    assert_eq!(rt; reply.as_slice(), [1, 0, 1].as_slice());
+    first_reply(&LEVEL, &start, 1, 0, 1, &mut room, &mut reply);
+    assert_eq!(rt; reply.as_slice(), [0, 0, 0].as_slice());
+    first_reply(&LEVEL, &start, 2, 0, 1, &mut room, &mut reply);
+    assert_eq!(rt; reply.as_slice(), [1, 1, 0].as_slice());
+    Ok(())
+}
+
+// By its second side the row comes to a cell where the layer has no move, whatever is written there.
+#[test]
+fn stuck_state_is_worth_nothing(rt: HostRuntime) -> Result<(), AllocError> {
+    let table = Table {
+        worth: [20, 20, 20, 20, 90, 90, 90, 90],
+        ends: [true, true, true, true, false, false, false, false],
+    };
+    let mut room = Room::new(rt.alloc(), &table, 3)?;
+    let start = table.fresh()?;
+    assert_eq!(rt; value_in(&table, &start, 0, 3, -1, 101, &mut room), 20);
+    assert_eq!(rt; choice(&table, &start, 0, 3, &mut room), Some(0));
+    let stuck = Chosen { cell: 5 };
+    assert_eq!(rt; table.goal(&stuck, 0), 90);
+    assert_eq!(rt; value_in(&table, &stuck, 0, 3, -1, 101, &mut room), 0);
+    assert_eq!(rt; choice(&table, &stuck, 0, 3, &mut room), None);
+    Ok(())
+}
+
+#[test]
+fn deep_search_of_a_short_game(rt: HostRuntime) -> Result<(), AllocError> {
+    let mut room = Room::new(rt.alloc(), &LEVEL, 64)?;
+    let start = LEVEL.fresh()?;
+    assert_eq!(rt; value_in(&LEVEL, &start, 0, 64, -1, 101, &mut room), 30);
+    assert_eq!(rt; choice(&LEVEL, &start, 0, 64, &mut room), Some(1));
+    let over = Chosen { cell: 8 };
+    assert_eq!(rt; value_in(&LEVEL, &over, 0, 64, -1, 101, &mut room), 95);
+    assert_eq!(rt; value_in(&LEVEL, &over, 0, 0, -1, 101, &mut room), 95);
+    assert_eq!(rt; choice(&LEVEL, &over, 0, 64, &mut room), None);
+    Ok(())
+}
+
+#[test]
+fn answer_in_a_window(rt: HostRuntime) -> Result<(), AllocError> {
+    let above = value_of(&LEVEL, rt.alloc(), (40, 60))?;
+    assert!(rt; 30 <= above && above <= 40);
+    let below = value_of(&LEVEL, rt.alloc(), (10, 20))?;
+    assert!(rt; 20 <= below && below <= 30);
+    assert_eq!(rt; value_of(&LEVEL, rt.alloc(), (29, 31))?, 30);
+    Ok(())
+}
+
+#[test]
+fn narrow_window_steps_less(rt: HostRuntime) -> Result<(), AllocError> {
+    let game = Counted {
+        inner: LEVEL,
+        steps: AtomicUsize::new(0),
+    };
+    assert_eq!(rt; value_of(&game, rt.alloc(), (-1, 101))?, 30);
+    assert_eq!(rt; game.steps.swap(0, Ordering::SeqCst), 8);
+    // The first reply to each side is worth no more than 60 already.
+    let low = value_of(&game, rt.alloc(), (60, 101))?;
+    assert!(rt; 30 <= low && low <= 60);
+    assert_eq!(rt; game.steps.swap(0, Ordering::SeqCst), 2);
+    // The first side is worth 10, so the second is not looked at.
+    let high = value_of(&game, rt.alloc(), (0, 10))?;
+    assert!(rt; 10 <= high && high <= 30);
+    assert_eq!(rt; game.steps.load(Ordering::SeqCst), 4);
+    Ok(())
+}

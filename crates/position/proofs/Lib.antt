@@ -1,0 +1,4 @@
+pub mod Ascending
+pub mod Roles
+pub mod FirstFaults
+pub mod LegalMoves
