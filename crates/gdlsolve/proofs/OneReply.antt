@@ -1,5 +1,5 @@
 -- Each input has one reply.
-use Rattle.std.proofs.Common.{ℕ, ◌≡◌, ◌≢◌, ◌⊎◌, inl, inr, List, refl, sym, ◌∙◌, ap, subst}
+use Rattle.std.proofs.Common.{ℕ, ◌≡◌, ◌≢◌, inl, inr, List, refl, sym, ◌∙◌, ap, subst}
 use Rattle.std.specs.Prelude.{Option, Some, None}
 use Rattle.kif.proofs.Faults.{reads_if_no_fault, no_fault_if_reads, reads_once}
 use Rattle.kif.specs.Tree.{Trees}
@@ -10,7 +10,7 @@ use Rattle.kif.specs.declared.fault.KifFault.{KifFault}
 use Rattle.kif.specs.declared.fault.KifFault.TheVariants as faults
 use Rattle.gdlsolve.specs.declared.command.Command.{Command}
 use Rattle.gdlsolve.specs.declared.command.Command.TheVariants.{Show}
-use Rattle.gdlsolve.specs.Replies.{Reply, answer, refusal, lines_of, IsReplyTo, RefusesText, AnswersTrees, IsReply}
+use Rattle.gdlsolve.specs.Replies.{Reply, answer, refusal, lines_of, IsReplyTo, RefusesText, IsReply}
 
 -- the reader's name for a fault
 abbrev pub named : Fault → KifFault

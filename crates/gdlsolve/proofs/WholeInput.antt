@@ -1,16 +1,13 @@
 -- The reply to the bytes that were read is the reply to the whole input.
-use Rattle.std.proofs.Common.{ℕ, ◌-◌, ◌≡◌, ◌≢◌, ◌≤◌, ◌<◌, ◌⊎◌, inl, inr, List, [], ◌∷◌, ◌++◌, length, drop, refl, sym, ap, subst, ◌∙◌, arith, Bool, true, false, append-nil, drop_of_length-le, drop_at, length-append, rules}
+use Rattle.std.proofs.Common.{ℕ, ◌≡◌, ◌≤◌, ◌<◌, inl, inr, List, ◌++◌, length, drop, refl, sym, ap, subst, ◌∙◌, arith, Bool, true, false, append-nil, drop_of_length-le, drop_at, length-append, rules}
 use Rattle.std.specs.Prelude.{Option, Some, None, nat_lt}
-use Rattle.std.specs.Io.KnownBytes.{Consumes, IsAtEnd}
-use Rattle.kif.specs.Tree.{Trees}
-use Rattle.kif.specs.Reading.{Reads, Fault, too_long, fault_in, fault_where, or_else, text_limit, first_fault, first_unclosed}
+use Rattle.kif.specs.Reading.{too_long, fault_in, fault_where, or_else, text_limit, first_fault, first_unclosed}
 use Rattle.kif.specs.Lexical.{spots}
 use Rattle.kif.specs.Refusal.{fault_text}
-use Rattle.kif.specs.declared.fault.KifFault.{KifFault}
 use Rattle.kif.specs.declared.fault.KifFault.TheVariants as faults
 use Rattle.gdlsolve.specs.declared.command.Command.{Command}
-use Rattle.gdlsolve.specs.Input.{read_limit, IsInput, IsReadFrom, RepliesTo}
-use Rattle.gdlsolve.specs.Replies.{Reply, refusal, RefusesText, IsReply}
+use Rattle.gdlsolve.specs.Input.{read_limit, IsReadFrom, RepliesTo}
+use Rattle.gdlsolve.specs.Replies.{Reply, refusal, IsReply}
 use Rattle.gdlsolve.proofs.OneReply.{named, named_of}
 
 below_is_true : (m n : ℕ) → m < n → nat_lt m n ≡ true
@@ -54,6 +51,6 @@ replies_to command (Some whole) (Some left) bytes reply read p = go (nat_lt (len
     go false e =
         let full : length bytes ≡ read_limit = omega (arith, read.within, let above : read_limit ≤ length bytes = search (rules, e) in above) in
         let rest : left ≡ drop read_limit whole =
-            sym (drop_at bytes left read_limit full) ∙ ap (λ (l : List ℕ). drop read_limit l) (sym read.consumed) in
+        sym (drop_at bytes left read_limit full) ∙ ap (λ (l : List ℕ). drop read_limit l) (sym read.consumed) in
         let long : text_limit < length bytes = omega (arith, full) in
         (whole, (refl, rest), subst (λ (l : List ℕ). IsReply command l reply) (sym read.consumed) (longer_too command bytes left reply long p))

@@ -1,6 +1,6 @@
 -- The exit status of the program.
-use Rattle.std.specs.Prelude.{ℕ, ◌≡◌, List, Option, Result, Ok, Err}
-use Rattle.std.specs.Io.KnownBytes.{Appends, Keeps}
+use Rattle.std.specs.Prelude.{ℕ, List, Option, Result, Ok, Err}
+use Rattle.std.specs.Io.KnownBytes.{Appends}
 use Rattle.gdlsolve.specs.declared.command.Command.{Command}
 use Rattle.gdlsolve.specs.declared.command.Status.{Status}
 use Rattle.gdlsolve.specs.declared.command.Status.TheVariants.{Answer, Refused}

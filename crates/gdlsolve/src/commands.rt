@@ -37,8 +37,9 @@ enum Request {
 
 /// The commands and their options.
 fn grammar<'a>(alloc: Global) -> Result<clap::Command<'a>, AllocError> {
-    let show = clap::Command::new(alloc, "show")
-        .about("Write the canonical text of each tree, one a line");
+    let show = clap::Command::new(alloc, "show").about(
+        "Write the canonical text of each tree, one a line",
+    );
     clap::Command::new(alloc, "gdlsolve")
         .about("Read the rules of a game on standard input, and answer on standard output")
         .no_binary_name(true)
@@ -63,7 +64,11 @@ fn request_of<'a>(alloc: Global, words: &'a [&'a str]) -> Result<Request, clap::
 }
 
 /// Writes the text of help to the output.
-fn write_help<W: Write>(alloc: Global, help: &clap::Error, output: &mut W) -> Result<Status, RunFault>
+fn write_help<W: Write>(
+    alloc: Global,
+    help: &clap::Error,
+    output: &mut W,
+) -> Result<Status, RunFault>
     ensures status { IfOk result (λ status. status ≡ Status.Answer) }
     ensures silent { IfErr result (λ fault. fault ≢ RunFault.Write → Keeps (W.contents output.old) (W.contents output.new)) }
 {

@@ -14,7 +14,6 @@ pub use command::{Command, RunFault, Status};
 pub use commands::main_with;
 pub use laws::each_input_has_one_reply;
 pub use running::run;
-
 use std::alloc::AllocError;
 use std::env;
 use std::process::ExitCode;
@@ -30,7 +29,13 @@ fn ended(rt: &HostRuntime) -> Result<u8, AllocError> {
     for word in owned.iter().skip(1) {
         words.push(word.as_str())?;
     }
-    Ok(main_with(rt, &words, &mut rt.stdin(), &mut rt.stdout(), &mut rt.stderr()))
+    Ok(main_with(
+        rt,
+        &words,
+        &mut rt.stdin(),
+        &mut rt.stdout(),
+        &mut rt.stderr(),
+    ))
 }
 
 fn main(rt: HostRuntime) -> ExitCode {

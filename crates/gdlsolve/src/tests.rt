@@ -20,7 +20,11 @@ fn shows(rt: &HostRuntime, text: &[u8], want: &[u8], exit: u8) -> bool {
     let mut input = text;
     let mut output = Vec::new(rt.alloc());
     let ended = run(rt, &Command::Show, &mut input, &mut output);
-    let wanted = if exit == 0 { Status::Answer } else { Status::Refused };
+    let wanted = if exit == 0 {
+        Status::Answer
+    } else {
+        Status::Refused
+    };
     let by_run = ended == Ok(wanted) && output.as_slice() == want;
     let (status, output, errors) = told(rt, &["show"], text);
     by_run && status == exit && output.as_slice() == want && errors.is_empty()
@@ -104,7 +108,10 @@ fn a_text_has_at_most_1048576_bytes(rt: HostRuntime) -> Result<(), Fail> {
     let mut output = Vec::new(rt.alloc());
     assert!(rt; run(&rt, &Command::Show, &mut input, &mut output) == Ok(Status::Refused));
     assert!(rt; output.as_slice() == b"refused K1 TooLong\n".as_slice());
-    assert!(rt; input == b"(".as_slice(), "what is behind the limit stays unread");
+    assert!(rt;
+        input == b"(".as_slice(),
+        "what is behind the limit stays unread"
+    );
     Ok(())
 }
 
@@ -119,10 +126,19 @@ fn help_is_an_answer(rt: HostRuntime) {
 #[test]
 fn words_that_are_no_command_are_told(rt: HostRuntime) {
     let none: [&str; 0] = [];
-    let lists: [&[&str]; 5] = [&none, &["list"], &["show", "it"], &["show", "--all"], &["--all", "show"]];
+    let lists: [&[&str]; 5] = [
+        &none,
+        &["list"],
+        &["show", "it"],
+        &["show", "--all"],
+        &["--all", "show"],
+    ];
     for words in lists {
         let (status, output, errors) = told(&rt, words, b"(a)");
-        assert!(rt; status == 1 && output.is_empty() && !errors.is_empty(), "at {words:?}");
+        assert!(rt;
+            status == 1 && output.is_empty() && !errors.is_empty(),
+            "at {words:?}"
+        );
     }
 }
 
@@ -132,11 +148,16 @@ fn a_reader_that_fails_is_told(rt: HostRuntime) {
         let mut input = Torn::new(b"(a) (b)", reads);
         let mut output = Vec::new(rt.alloc());
         let ended = run(&rt, &Command::Show, &mut input, &mut output);
-        assert!(rt; ended == Err(RunFault::Read) && output.is_empty(), "after {reads}");
+        assert!(rt;
+            ended == Err(RunFault::Read) && output.is_empty(),
+            "after {reads}"
+        );
         let mut input = Torn::new(b"(a) (b)", reads);
         let mut errors = Vec::new(rt.alloc());
         let status = main_with(&rt, &["show"], &mut input, &mut output, &mut errors);
-        assert!(rt; status == 4 && output.is_empty() && errors.as_slice() == b"read fault\n".as_slice());
+        assert!(rt;
+            status == 4 && output.is_empty() && errors.as_slice() == b"read fault\n".as_slice()
+        );
     }
 }
 
@@ -158,8 +179,14 @@ fn a_writer_that_fails_is_told(rt: HostRuntime) {
         let mut input = b"(a) (b c)".as_slice();
         let mut errors = Vec::new(rt.alloc());
         let status = main_with(&rt, &["show"], &mut input, &mut output, &mut errors);
-        assert!(rt; status == 4 && errors.as_slice() == b"write fault\n".as_slice(), "at {room}");
-        assert!(rt; output.taken() == &line[..room], "a beginning is written, at {room}");
+        assert!(rt;
+            status == 4 && errors.as_slice() == b"write fault\n".as_slice(),
+            "at {room}"
+        );
+        assert!(rt;
+            output.taken() == &line[..room],
+            "a beginning is written, at {room}"
+        );
     }
     let mut output = Full::new(rt.alloc(), 10);
     let mut input = b"(a) (b c)".as_slice();
