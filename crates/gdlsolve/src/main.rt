@@ -14,17 +14,15 @@ pub use command::{Command, RunFault, Status};
 pub use commands::main_with;
 pub use laws::each_input_has_one_reply;
 pub use running::run;
-use std::alloc::AllocError;
-use std::env;
+use std::io::ErrorKind;
 use std::process::ExitCode;
+use std::{env, io};
 
-/// The exit status of the program, or want of memory for its words.
-fn ended(rt: &HostRuntime) -> Result<u8, AllocError> {
+/// The exit status of the program. Its words are read first, and fail for want of memory, or where one of
+/// them is no UTF-8.
+fn ended(rt: &HostRuntime) -> io::Result<u8> {
     let alloc = rt.alloc();
-    let Ok(given) = env::args(rt) else {
-        return Err(AllocError);
-    };
-    let owned: Vec<String> = given.collect(alloc)?;
+    let owned: Vec<String> = env::args(rt)?.collect(alloc)?;
     let mut words = Vec::new(alloc);
     for word in owned.iter().skip(1) {
         words.push(word.as_str())?;
@@ -39,5 +37,17 @@ fn ended(rt: &HostRuntime) -> Result<u8, AllocError> {
 }
 
 fn main(rt: HostRuntime) -> ExitCode {
-    ExitCode::from(ended(&rt).unwrap_or(3))
+    match ended(&rt) {
+        Ok(status) => ExitCode::from(status),
+        Err(fault) => {
+            let starved = fault.kind() == ErrorKind::OutOfMemory;
+            let words = if starved {
+                "no memory"
+            } else {
+                "a word is no UTF-8"
+            };
+            let _ = eprintln!(rt; "{words}");
+            ExitCode::from(if starved { 3 } else { 1 })
+        }
+    }
 }
