@@ -11,7 +11,8 @@ ghost use Rattle.ground.specs.Kept.{HasRightInstance, HeadsKept};
 ghost use Rattle.ground.specs.Listing.{Instance, listing, fixed_listing, roles_listed, bases_listed, inputs_listed};
 ghost use Rattle.ground.specs.Substitution.{are_ground};
 ghost use Rattle.ground.specs.Matching.{rows};
-ghost use Rattle.ground.specs.Numbers.{AreDistinct, StandInOrder};
+ghost use Rattle.ground.specs.InOrder.{AreDistinct};
+ghost use Rattle.ground.specs.Numbers.{StandInOrder};
 ghost use Rattle.ground.specs.Listed.{IsKeptInstance, IsWellFormed};
 
 /// An atom holds exactly when some alternative, and some map from its variables to ground terms, make
