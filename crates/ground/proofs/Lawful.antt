@@ -12,12 +12,12 @@ use Rattle.rules.proofs.Tests.{not_true, IsAmong-append, IsAmong-append_left, Is
 use Rattle.rules.proofs.Walks.{IsHead, along_dependence}
 use Rattle.ground.specs.Substitution.{Map, is_ground, are_ground, substitute, substitute_all, atom_under, literal_under, IsLawful, IsLawfulTerm}
 use Rattle.ground.specs.Meaning.{Source, now, does, distinct, ordinary, source_of, atom1, atom2, HoldsAlways, IsRole, IsBase, IsInput, IsDerived}
-use Rattle.ground.specs.Kept.{Keeps, HeadsKept}
+use Rattle.ground.specs.Kept.{Keeps, HeadsKept, PossibleIf, IsPossible}
 use Rattle.ground.specs.Listed.{IsWellFormed}
 use Rattle.ground.proofs.Derivations.{relation-under, derived_direct, derived_heads}
 use Rattle.ground.proofs.KeptLaw.{IsSorted, sorted_at, kept_by_a_rule}
 use Rattle.ground.proofs.ListedLaw.{constant_stays, ground_all_under, safe_head}
-use Rattle.ground.proofs.Possible.{IsPossible, PossibleIf, now_is, does_is, source_decide, always_kept, fixed_below, keeps_possible}
+use Rattle.ground.proofs.Possible.{now_is, does_is, source_decide, always_kept, fixed_below, keeps_possible}
 use Rattle.ground.proofs.Steps.{possible_plain}
 
 -- A term under a map to terms is a term, and then what it has for each variable is one.
