@@ -1,19 +1,15 @@
-// The laws of the meaning of rules, of kept instances and of their listing.
-
-ghost use Rattle.std.specs.Prelude.{[], ◌≡◌, ◌↔◌, List, Bool, IsTrue};
+// The laws of the meaning of rules, and of kept instances.
+ghost use Rattle.std.specs.Prelude.{◌≡◌, ◌↔◌, List, Bool, true, IsTrue};
+ghost use Rattle.kif.specs.Lexical.{HasNames};
 ghost use Rattle.kif.specs.Tree.{Tree};
-ghost use Rattle.rules.specs.Clause.{Atom, Literal, Alternative};
-ghost use Rattle.rules.specs.Dependence.{IsAcyclic, IsAmong};
-ghost use Rattle.rules.specs.Items.{alternatives};
+ghost use Rattle.rules.specs.Clause.{Atom, Alternative, tree_of};
+ghost use Rattle.rules.specs.Dependence.{IsAcyclic};
+ghost use Rattle.rules.specs.Items.{alternatives, is_term};
 ghost use Rattle.rules.specs.Profile.{HasNoFault};
-ghost use Rattle.ground.specs.Meaning.{State, Joint, Holds, IsDerived, IsRight, IsWithinBase, IsWithinInput, IsRole, IsBase, IsInput, source_of, ordinary};
+ghost use Rattle.ground.specs.Meaning.{State, Joint, Holds, IsDerived, IsRight, IsWithinBase, IsWithinInput, IsRole, IsBase, IsInput};
 ghost use Rattle.ground.specs.Kept.{HasRightInstance, HeadsKept};
-ghost use Rattle.ground.specs.Listing.{Instance, listing, fixed_listing, roles_listed, bases_listed, inputs_listed};
-ghost use Rattle.ground.specs.Substitution.{are_ground};
-ghost use Rattle.ground.specs.Matching.{rows};
-ghost use Rattle.ground.specs.InOrder.{AreDistinct};
-ghost use Rattle.ground.specs.Numbers.{StandInOrder};
-ghost use Rattle.ground.specs.Listed.{IsKeptInstance, IsWellFormed};
+ghost use Rattle.ground.specs.Substitution.{IsLawful, IsLawfulTerm};
+ghost use Rattle.ground.specs.Listed.{IsWellFormed};
 
 /// An atom holds exactly when some alternative, and some map from its variables to ground terms, make
 /// its head the atom and every literal right.
@@ -43,28 +39,13 @@ pub fn accepted_items_are_well_formed()
     ensures { (items : List Tree) → HasNoFault items → IsWellFormed (alternatives items) }
 {}
 
-/// The listing has exactly the kept instances, and numbers exactly the possible atoms.
-pub fn the_listing_is_exact()
-    ensures instances { (rules : List Alternative) → IsWellFormed rules
-        → (i : Instance) → IsAmong i (listing rules).kept ↔ IsKeptInstance rules i }
-    ensures atoms { (rules : List Alternative) → IsWellFormed rules
-        → (x : Atom) → source_of x ≡ ordinary → IsAmong x (listing rules).atoms ↔ HeadsKept rules x }
-{}
-
-/// The roles, base propositions and inputs of the listing are those that hold in the empty context.
-pub fn the_context_is_listed()
-    ensures roles { (rules : List Alternative) → IsWellFormed rules
-        → (r : Tree) → IsAmong r (roles_listed (fixed_listing rules).atoms) ↔ IsRole rules r }
-    ensures base { (rules : List Alternative) → IsWellFormed rules
-        → (p : Tree) → IsAmong p (bases_listed (fixed_listing rules).atoms) ↔ IsBase rules p }
-    ensures inputs { (rules : List Alternative) → IsWellFormed rules → (r m : Tree) → IsRole rules r
-        → IsAmong m (inputs_listed (fixed_listing rules).atoms r) ↔ IsInput rules r m }
-{}
-
-/// No atom has two numbers, and the rows over ground atoms stand in the order of the numbers of the
-/// atoms that they match, from left to right.
-pub fn rows_stand_in_order()
-    ensures numbers { (rules : List Alternative) → AreDistinct (listing rules).atoms }
-    ensures rows { (atoms : List Atom) → ((x : Atom) → IsAmong x atoms → IsTrue (are_ground x.terms)) → AreDistinct atoms
-        → (literals : List Literal) → StandInOrder atoms literals (rows atoms literals []) }
+/// Heads of kept instances, roles, base propositions and inputs are made of lawful names and have no
+/// variable, and lawful terms and atoms have the names that texts have.
+pub fn what_holds_is_lawful()
+    ensures heads { (rules : List Alternative) → IsWellFormed rules → (x : Atom) → HeadsKept rules x → IsLawful x }
+    ensures roles { (rules : List Alternative) → IsWellFormed rules → (r : Tree) → IsRole rules r → IsLawfulTerm r }
+    ensures base { (rules : List Alternative) → IsWellFormed rules → (p : Tree) → IsBase rules p → IsLawfulTerm p }
+    ensures inputs { (rules : List Alternative) → IsWellFormed rules → (r m : Tree) → IsInput rules r m → IsLawfulTerm m }
+    ensures terms_named { (t : Tree) → is_term t ≡ true → HasNames t }
+    ensures atoms_named { (x : Atom) → IsLawful x → HasNames (tree_of x) }
 {}
