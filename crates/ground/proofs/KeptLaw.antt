@@ -48,7 +48,7 @@ sorted_at w (tree t (tree u no_trees)) = go (name_eq w w_does) (name_eq w w_dist
 sorted_at w (tree t (tree u (tree v vs))) = inr (ordinary_at w (tree t (tree u (tree v vs))) refl, inl refl)
 
 -- an atom that doesn't move is right in one context where it is right in another
-right_elsewhere : (S S' : State) (J J' : Joint) (A B : Type 0) (k : Source) (p : Relation) → IsSorted k p
+pub right_elsewhere : (S S' : State) (J J' : Joint) (A B : Type 0) (k : Source) (p : Relation) → IsSorted k p
     → (is_distinct p ≡ false → is_moving p ≡ false) → (k ≡ ordinary → is_distinct p ≡ false → A ↔ B) → RightAs S J A k ↔ RightAs S' J' B k
 right_elsewhere S S' J J' A B k p (inl test) still same =
     subst (λ (j : Source). RightAs S J A j ↔ RightAs S' J' B j) (sym test.2) ((λ h. h), (λ h. h))
