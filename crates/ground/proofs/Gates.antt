@@ -1,11 +1,11 @@
 -- What an and gate reads is right exactly when the whole body is.
-use Rattle.std.proofs.Common.{ℕ, zero, suc, Bool, true, false, not, cond, ◌&&◌, ◌≡◌, ◌⊎◌, ◌↔◌, inl, inr, List, [], ◌∷◌, map, refl, sym, ap, subst, ◌∙◌, eqb, eqb-true}
+use Rattle.std.proofs.Common.{ℕ, zero, suc, ◌<◌, Bool, true, false, not, cond, ◌&&◌, ◌≡◌, ◌⊎◌, ◌↔◌, inl, inr, List, [], ◌∷◌, length, map, refl, sym, ap, subst, ◌∙◌, eqb, eqb-true}
 use Rattle.std.specs.Prelude.{filter}
 use Rattle.kif.specs.Tree.{Tree, no_trees, name_eq}
 use Rattle.kif.proofs.Equality.{both, name_eq_yes}
-use Rattle.rules.specs.Clause.{Atom, Literal, positive, negative, Alternative, Relation, relation_of, count_trees, atom_eq, atom_of}
+use Rattle.rules.specs.Clause.{Atom, Literal, positive, negative, Alternative, Relation, relation_of, atom_eq, atom_of}
 use Rattle.rules.specs.Words.{w_distinct}
-use Rattle.rules.specs.Dependence.{IsAmong, is_moving, is_distinct, DependsIn, IsFixed, is_fixed}
+use Rattle.rules.specs.Dependence.{IsAmong, is_moving, is_distinct, DependsDirectly, DependsIn, IsFixed, is_fixed}
 use Rattle.rules.proofs.Walks.{IsHead}
 use Rattle.rules.proofs.Equality.{atom_eq_self}
 use Rattle.rules.proofs.Accepted.{fixed_tested}
@@ -18,12 +18,12 @@ use Rattle.ground.specs.Numbers.{number_of}
 use Rattle.ground.specs.Listing.{Instance, is_atom_in, listing}
 use Rattle.ground.specs.Listed.{IsKeptInstance, IsWellFormed}
 use Rattle.ground.specs.Gates.{is_read, reading, gate, atom_at, literal_at, IsGateRight, IsBodyRight}
-use Rattle.ground.proofs.Ordered.{place_later, among_filter, among_filter_in, among_map_out, among_map_in}
+use Rattle.ground.proofs.Ordered.{place_below, filter_none, among_filter, among_filter_in, among_map_out, among_map_in}
 use Rattle.ground.proofs.Rising.{atom_test}
-use Rattle.ground.proofs.Derivations.{ordinary_not_distinct}
+use Rattle.ground.proofs.Derivations.{relation-under, relation-literal_under, ordinary_not_distinct}
 use Rattle.ground.proofs.KeptLaw.{sorted_at, right_elsewhere, fixed_alike, holds_heads}
 use Rattle.ground.proofs.ListedLaw.{is_atom_yes, is_atom_in_yes}
-use Rattle.ground.proofs.Possible.{distinct_tested, literal_right}
+use Rattle.ground.proofs.Possible.{distinct_tested, fixed_below, literal_right}
 use Rattle.ground.proofs.Fold.{listing_exact}
 use Rattle.ground.proofs.Exact.{numbered_exact}
 
@@ -62,24 +62,23 @@ module _ (rules : List Alternative) (w : IsWellFormed rules) where
       go q zero d = none (d.rule, d.is_rule, d.heads)
       go q (suc n) c = none ((c.1).rule, (c.1).is_rule, (c.1).heads)
 
-  -- heads are ordinary, so nothing heads `distinct`
-  distinct_headless : (x : Atom) (s t : Tree) → source_of x ≡ distinct s t → IsHead rules (relation_of x) → ⊥
-  distinct_headless x s t e h =
-      let plain = ordinary_not_distinct h.0.head (w.heads h.0 h.1) in
-      let test = distinct_tested x.word x.terms s t e in
-      let same : is_distinct (relation_of x) ≡ false = subst (λ (p : Relation). is_distinct p ≡ false) h.2 plain in cc
+  distinct_relation : (p : Relation) → is_distinct p ≡ true → p ≡ record { word = w_distinct; arity = 2 }
+  distinct_relation p e =
+      let k = both (name_eq p.word w_distinct) (eqb p.arity 2) e in
+      let a = name_eq_yes p.word w_distinct k.0 in
+      let b = eqb-true p.arity 2 k.1 in λ i. record { word = a i; arity = b i }
 
-  distinct_still : (x : Atom) (s t : Tree) → source_of x ≡ distinct s t → is_moving (relation_of x) ≡ false
-  distinct_still x s t e =
-      let test = distinct_tested x.word x.terms s t e in
-      let k = both (name_eq x.word w_distinct) (eqb (count_trees x.terms) 2) test in
-      let a = name_eq_yes x.word w_distinct k.0 in
-      let b = eqb-true (count_trees x.terms) 2 k.1 in
-      let f : relation_of x ≡ record { word = w_distinct; arity = 2 } = λ i. record { word = a i; arity = b i } in
-      subst (λ (p : Relation). is_moving p ≡ false) (sym f) refl
+  -- heads are ordinary, so nothing heads `distinct`, and it is fixed
+  tested_fixed : (p : Relation) → is_distinct p ≡ true → IsFixed rules p
+  tested_fixed p e = headless_fixed p (subst (λ (q : Relation). is_moving q ≡ false) (sym (distinct_relation p e)) refl) none
+    where
+      none : IsHead rules p → ⊥
+      none h =
+          let plain = ordinary_not_distinct h.0.head (w.heads h.0 h.1) in
+          let same : is_distinct p ≡ false = subst (λ (q : Relation). is_distinct q ≡ false) h.2 plain in cc
 
   distinct_fixed : (x : Atom) (s t : Tree) → source_of x ≡ distinct s t → IsFixed rules (relation_of x)
-  distinct_fixed x s t e = headless_fixed (relation_of x) (distinct_still x s t e) (distinct_headless x s t e)
+  distinct_fixed x s t e = tested_fixed (relation_of x) (distinct_tested x.word x.terms s t e)
 
   -- a positive literal that keeps its instance, of a relation that is not fixed, is possible
   kept_possible : (x : Atom) → is_fixed rules (relation_of x) ≡ false → Keeps rules (HeadsKept rules) (positive x) → IsPossible rules x
@@ -90,6 +89,10 @@ module _ (rules : List Alternative) (w : IsWellFormed rules) where
       go (does r m) z k = k
       go (distinct s t) z k = absurd (fixed_no (relation_of x) e (distinct_fixed x s t z))
       go ordinary z k = k.1 (fixed_no (relation_of x) e)
+
+  read_there : (l : Literal) → is_read rules (listing rules).atoms l ≡ true → Keeps rules (HeadsKept rules) l → IsAmong (atom_of l) (listing rules).atoms
+  read_there (positive x) e k = (numbered_exact rules w x).1 (kept_possible x (not_true _ e) k)
+  read_there (negative x) e k = is_atom_yes x (listing rules).atoms (both (not (is_fixed rules (relation_of x))) (is_atom_in x (listing rules).atoms) e).1
 
   module _ (S : State) (J : Joint) where
     -- an atom of a fixed relation is right in a context exactly when it is in the empty one
@@ -131,10 +134,6 @@ module _ (rules : List Alternative) (w : IsWellFormed rules) where
               let there = (numbered_exact rules w x).1 (right_possible x f right) in
               let g = is_atom_in_yes x (listing rules).atoms there in absurd cc
 
-      read_there : (l : Literal) → is_read rules (listing rules).atoms l ≡ true → Keeps rules (HeadsKept rules) l → IsAmong (atom_of l) (listing rules).atoms
-      read_there (positive x) e k = (numbered_exact rules w x).1 (kept_possible x (not_true _ e) k)
-      read_there (negative x) e k = is_atom_yes x (listing rules).atoms (both (not (is_fixed rules (relation_of x))) (is_atom_in x (listing rules).atoms) e).1
-
       -- what the gate reads is right exactly when the whole body is
       pub gate_right : (i : Instance) → IsAmong i (listing rules).kept → IsGateRight rules S J i ↔ IsBodyRight rules S J i
       gate_right i a = (there, back)
@@ -158,3 +157,44 @@ module _ (rules : List Alternative) (w : IsWellFormed rules) where
               let e = literal_found (listing rules).atoms o.0 (read_there o.0 k.1 (keeps o.0 k.0)) in
               subst (λ (s : ℕ × Bool). IsRight S J (Holds rules S J) (literal_at (listing rules).atoms s)) (sym o.2)
               (subst (λ (n : Literal). IsRight S J (Holds rules S J) n) (sym e) (h o.0 k.0))
+
+  -- the body of an instance whose head is of a fixed relation is all fixed
+  body_fixed : (i : Instance) → IsKeptInstance rules i → IsFixed rules (relation_of i.head) → (l : Literal) → IsAmong l i.body → IsFixed rules (relation_of (atom_of l))
+  body_fixed i k fixed l a = go (is_distinct (relation_of (atom_of l))) refl
+    where
+      go : (b : Bool) → is_distinct (relation_of (atom_of l)) ≡ b → IsFixed rules (relation_of (atom_of l))
+      go true e = tested_fixed (relation_of (atom_of l)) e
+      go false e =
+          let o = among_map_out (literal_under k.map) l k.rule.body (subst (λ (j : Instance). IsAmong l j.body) (sym k.same) a) in
+          let direct : DependsDirectly rules (relation_of i.head) (relation_of (atom_of l)) = record {
+            rule = k.rule;
+            literal = o.0;
+            is_rule = k.kept.is_rule;
+            heads = sym (relation-under k.map k.rule.head) ∙ ap (λ (j : Instance). relation_of j.head) k.same;
+            in_body = o.1;
+            names = sym (relation-literal_under k.map o.0) ∙ ap (λ (n : Literal). relation_of (atom_of n)) (sym o.2);
+            not_distinct = e;
+          } in
+          fixed_below rules w.acyclic (relation_of i.head) (relation_of (atom_of l)) fixed direct
+
+  fixed_unread : (l : Literal) → IsFixed rules (relation_of (atom_of l)) → is_read rules (listing rules).atoms l ≡ false
+  fixed_unread (positive x) f = let e = (fixed_tested rules w.acyclic (relation_of x)).1 f in rw e refl
+  fixed_unread (negative x) f = let e = (fixed_tested rules w.acyclic (relation_of x)).1 f in rw e refl
+
+  -- the gate of such an instance reads nothing
+  pub gate_fixed : (i : Instance) → IsAmong i (listing rules).kept → IsFixed rules (relation_of i.head) → gate rules i ≡ []
+  gate_fixed i a fixed =
+      ap (map (reading (listing rules).atoms))
+      (filter_none (is_read rules (listing rules).atoms) i.body (λ l b. fixed_unread l (body_fixed i ((listing_exact rules w i).0 a) fixed l b)))
+
+  -- what a gate reads has a number
+  pub gate_numbered : (i : Instance) → IsAmong i (listing rules).kept → (r : ℕ × Bool) → IsAmong r (gate rules i) → r.0 < length (listing rules).atoms
+  gate_numbered i a r b =
+      let o = among_map_out (reading (listing rules).atoms) r (filter (is_read rules (listing rules).atoms) i.body) b in
+      let k = among_filter (is_read rules (listing rules).atoms) o.0 i.body o.1 in
+      let there = read_there o.0 k.1 (body_keeps rules i ((listing_exact rules w i).0 a) o.0 k.0) in
+      subst (λ (s : ℕ × Bool). s.0 < length (listing rules).atoms) (sym o.2) (below o.0 there)
+    where
+      below : (l : Literal) → IsAmong (atom_of l) (listing rules).atoms → (reading (listing rules).atoms l).0 < length (listing rules).atoms
+      below (positive x) h = place_below atom_eq atom_test x (listing rules).atoms h
+      below (negative x) h = place_below atom_eq atom_test x (listing rules).atoms h

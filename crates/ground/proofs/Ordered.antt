@@ -1,5 +1,5 @@
 -- Lists in order: their parts, and that their members determine them.
-use Rattle.std.proofs.Common.{ℕ, zero, suc, ◌<◌, Bool, true, false, cond, ◌≡◌, ◌⊎◌, ◌↔◌, inl, inr, List, [], ◌∷◌, ◌++◌, map, refl, sym, ap, subst, ◌∙◌, arith}
+use Rattle.std.proofs.Common.{ℕ, zero, suc, ◌<◌, Bool, true, false, cond, ◌≡◌, ◌⊎◌, ◌↔◌, inl, inr, List, [], ◌∷◌, ◌++◌, length, map, refl, sym, ap, subst, ◌∙◌, arith}
 use Rattle.std.specs.Prelude.{filter}
 use Rattle.rules.specs.Dependence.{IsAmong}
 use Rattle.rules.proofs.Tests.{IsAmong-append, IsAmong-append_left}
@@ -76,6 +76,22 @@ among_filter_in f x (y ∷ ys) (inr a) e = go (f y) (among_filter_in f x ys a e)
     go : (t : Bool) → IsAmong x (filter f ys) → IsAmong x (cond t (y ∷ filter f ys) (filter f ys))
     go true k = inr k
     go false k = k
+
+pub filter_append : {A : Type 0} (f : A → Bool) (is js : List A) → filter f (is ++ js) ≡ filter f is ++ filter f js
+filter_append f [] js = refl
+filter_append {A} f (i ∷ is) js = go (f i) (filter_append f is js)
+  where
+    go : (b : Bool) → filter f (is ++ js) ≡ filter f is ++ filter f js → cond b (i ∷ filter f (is ++ js)) (filter f (is ++ js)) ≡ cond b (i ∷ filter f is) (filter f is) ++ filter f js
+    go true h = ap (λ (l : List A). i ∷ l) h
+    go false h = h
+
+pub filter_all : {A : Type 0} (f : A → Bool) (is : List A) → ((i : A) → IsAmong i is → f i ≡ true) → filter f is ≡ is
+filter_all f [] h = refl
+filter_all {A} f (i ∷ is) h = let e = h i (inl refl) in rw e (ap (λ (l : List A). i ∷ l) (filter_all f is (λ j a. h j (inr a))))
+
+pub filter_none : {A : Type 0} (f : A → Bool) (is : List A) → ((i : A) → IsAmong i is → f i ≡ false) → filter f is ≡ []
+filter_none f [] h = refl
+filter_none f (i ∷ is) h = let e = h i (inl refl) in rw e (filter_none f is (λ j a. h j (inr a)))
 
 pub order_filter : {A : Type 0} (B : A → A → Type 0) (f : A → Bool) (xs : List A) → AreInOrder B xs → AreInOrder B (filter f xs)
 order_filter B f [] h = tt
@@ -175,3 +191,12 @@ place_in_front test t x (y ∷ xs) more (inr a) = go (test x y) (place_in_front 
 pub distinct_front : {A : Type 0} (xs more : List A) → AreDistinct (xs ++ more) → AreDistinct xs
 distinct_front [] more d = tt
 distinct_front (x ∷ xs) more d = ((λ y a. d.0 y (IsAmong-append_left y xs more a)), distinct_front xs more d.1)
+
+pub place_below : {A : Type 0} (test : A → A → Bool) → IsTest test → (x : A) (xs : List A) → IsAmong x xs → first_place (test x) xs < length xs
+place_below test t x [] a = absurd a
+place_below test t x (y ∷ xs) a = go (test x y) refl a (place_below test t x xs)
+  where
+    go : (b : Bool) → test x y ≡ b → (x ≡ y) ⊎ IsAmong x xs → (IsAmong x xs → first_place (test x) xs < length xs) → cond b 0 (suc (first_place (test x) xs)) < suc (length xs)
+    go true e k more = omega arith
+    go false e (inl s) more = let f = (t x y).1 s in absurd cc
+    go false e (inr k) more = let h = more k in omega arith
