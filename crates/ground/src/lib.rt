@@ -2,9 +2,11 @@
 // law that the kept instances say all that the rules say.
 #![tactic(auto)]
 
+mod kind;
 mod laws;
 mod listing_laws;
 
+pub use kind::Kind;
 pub use laws::{accepted_items_are_well_formed, holds_by_a_rule, kept_instances_suffice, one_meaning, what_holds_is_lawful};
 pub use listing_laws::{
     atoms_are_numbered_in_order, listed_instances_suffice, printed_lists_are_determined, rows_stand_in_order, the_context_is_listed,
