@@ -1,12 +1,14 @@
 -- An accepted list of items is well formed.
-use Rattle.std.proofs.Common.{ℕ, true, not, ◌&&◌, ◌≡◌, List, [], refl, sym, subst, Option}
+use Rattle.std.proofs.Common.{ℕ, zero, suc, Bool, true, false, not, ◌&&◌, ◌||◌, ◌≡◌, List, [], refl, sym, ap, subst, ◌∙◌, Option}
 use Rattle.kif.specs.Tree.{Tree, name, list, Trees, no_trees, tree}
 use Rattle.kif.proofs.Equality.{both}
-use Rattle.rules.specs.Clause.{Atom, Alternative}
-use Rattle.rules.specs.Dependence.{IsAmong, dependences}
-use Rattle.rules.specs.Items.{is_constant, is_connective, is_atom, atom_in, are_terms, are_literals, is_item, item_head, head_tree, body_trees, alternatives}
-use Rattle.rules.specs.Profile.{Fault, or_else, first_failing, bad_form, bad_keyword, not_safe, recursive, bad_dependence, first_too_many, is_unsafe, is_recursive, depends_badly, none_of, roles, misuses_word, HasNoFault}
-use Rattle.rules.proofs.Accepted.{or_none, none_fails, not_not, rule_item, same_head, accepted_acyclic, accepted_safe}
+use Rattle.rules.specs.Words.{w_base, w_input, w_init, w_legal, w_goal, w_terminal}
+use Rattle.rules.specs.Clause.{Atom, Alternative, Relation, relation_of, is_word}
+use Rattle.rules.specs.Dependence.{IsAmong, Edge, dependences, is_distinct, is_moving, DependsDirectly, DependsIn, IsFixed, is_fixed}
+use Rattle.rules.specs.Items.{is_constant, is_connective, is_atom, atom_in, are_terms, are_literals, is_item, item_head, item_alternatives, head_tree, body_trees, alternatives}
+use Rattle.rules.specs.Profile.{Fault, or_else, first_failing, bad_form, bad_keyword, not_safe, recursive, bad_dependence, first_too_many, is_unsafe, is_recursive, depends_badly, rests_on_move, some_body, none_of, roles, misuses_word, HasNoFault}
+use Rattle.rules.proofs.Accepted.{or_none, none_fails, not_not, rule_item, same_head, body_found, accepted_acyclic, accepted_safe, fixed_tested}
+use Rattle.rules.proofs.Tests.{not_false}
 use Rattle.rules.proofs.WellFormed.{IsOwn, accepted_heads, accepted_terms, role_fixed, base_fixed, input_fixed}
 use Rattle.ground.specs.Meaning.{ordinary, source_at}
 use Rattle.ground.specs.Listed.{IsWellFormed}
@@ -43,6 +45,57 @@ accepted_words items e rule a =
     let k = atom_word (head_tree i.0) (both (is_atom (head_tree i.0)) (are_literals (body_trees i.0)) (items_formed items e i.0 i.1)).0 in
     subst (λ (x : Atom). is_constant x.word ≡ true) (sym h) k
 
+-- no head depends on what it may not
+depends_well : (items : List Tree) → HasNoFault items → (t : Tree) → IsAmong t items → depends_badly (dependences (alternatives items)) (alternatives items) t ≡ false
+depends_well items e t a =
+    let form : Option Fault = first_failing bad_form (λ (u : Tree). not (is_item u)) 1 items in
+    let words : Option Fault = first_failing bad_keyword misuses_word 1 items in
+    let many : Option Fault = first_too_many 1 [] items in
+    let risky : Option Fault = first_failing not_safe is_unsafe 1 items in
+    let cycles : Option Fault = first_failing recursive (is_recursive (dependences (alternatives items))) 1 items in
+    let badly : Option Fault = first_failing bad_dependence (depends_badly (dependences (alternatives items)) (alternatives items)) 1 items in
+    let last : Option Fault = none_of (roles items) in
+    let f = or_none form (or_else words (or_else many (or_else risky (or_else cycles (or_else badly last))))) e in
+    let g = or_none words (or_else many (or_else risky (or_else cycles (or_else badly last)))) f.1 in
+    let h = or_none many (or_else risky (or_else cycles (or_else badly last))) g.1 in
+    let i = or_none risky (or_else cycles (or_else badly last)) h.1 in
+    let j = or_none cycles (or_else badly last) i.1 in
+    let k = or_none badly last j.1 in
+    none_fails bad_dependence (depends_badly (dependences (alternatives items)) (alternatives items)) 1 items k.0 t a
+
+-- a head `init` has only fixed relations in its bodies
+init_bodies : (table : List Edge) (rules : List Alternative) (t : Tree) → relation_of (item_head t) ≡ record { word = w_init; arity = 1 } → depends_badly table rules t ≡ false
+    → some_body (λ (r : Relation). not (is_fixed rules r)) (item_alternatives t) ≡ false
+init_bodies table rules t same h = go (relation_of (item_head t)) same (some_body (rests_on_move table) (item_alternatives t)) (some_body (λ (r : Relation). not (is_fixed rules r)) (item_alternatives t)) h
+  where
+    go : (p : Relation) → p ≡ record { word = w_init; arity = 1 } → (a b : Bool)
+        → (((is_word w_legal 2 p || (is_word w_goal 2 p || is_word w_terminal 0 p)) && a) || ((is_word w_base 1 p || (is_word w_input 2 p || is_word w_init 1 p)) && b)) ≡ false → b ≡ false
+    go p e a b k =
+        subst (λ (q : Relation). (((is_word w_legal 2 q || (is_word w_goal 2 q || is_word w_terminal 0 q)) && a) || ((is_word w_base 1 q || (is_word w_input 2 q || is_word w_init 1 q)) && b)) ≡ false) e k
+
+init_fixed : (items : List Tree) → HasNoFault items → IsFixed (alternatives items) (record { word = w_init; arity = 1 })
+init_fixed items e = record { itself = refl; below = λ q chain. go q chain.0 chain.1 }
+  where
+    each : (q : Relation) → DependsDirectly (alternatives items) (record { word = w_init; arity = 1 }) q → IsFixed (alternatives items) q
+    each q d =
+        let i = rule_item items d.rule d.is_rule in
+        let h = same_head (item_head i.0) _ d.rule i.2 in
+        let same : relation_of (item_head i.0) ≡ record { word = w_init; arity = 1 } = ap relation_of (sym h) ∙ d.heads in
+        let none = init_bodies (dependences (alternatives items)) (alternatives items) i.0 same (depends_well items e i.0 i.1) in
+        pick (is_fixed (alternatives items) q) refl i.0 none i.2
+      where
+        pick : (b : Bool) → is_fixed (alternatives items) q ≡ b → (t : Tree) → some_body (λ (r : Relation). not (is_fixed (alternatives items) r)) (item_alternatives t) ≡ false → IsAmong d.rule (item_alternatives t) → IsFixed (alternatives items) q
+        pick true f t n a = (fixed_tested (alternatives items) (accepted_acyclic items e) q).0 f
+        pick false f t n a =
+            let yes = body_found (λ (r : Relation). not (is_fixed (alternatives items) r)) (item_alternatives t) d.rule d.literal a d.in_body
+            (subst (λ (x : Relation). is_distinct x ≡ false) (sym d.names) d.not_distinct)
+            (subst (λ (x : Relation). not (is_fixed (alternatives items) x) ≡ true) (sym d.names) (not_false _ f)) in
+            absurd cc
+
+    go : (q : Relation) (n : ℕ) → DependsIn (alternatives items) n (record { word = w_init; arity = 1 }) q → is_moving q ≡ false
+    go q zero d = (each q d).itself
+    go q (suc n) c = (each c.0 c.1).below q (n, c.2)
+
 pub accepted_well_formed : (items : List Tree) → HasNoFault items → IsWellFormed (alternatives items)
 accepted_well_formed items e = record {
   acyclic = accepted_acyclic items e;
@@ -53,4 +106,5 @@ accepted_well_formed items e = record {
   role = role_fixed items e;
   base = base_fixed items e;
   input = input_fixed items e;
+  init = init_fixed items e;
 }

@@ -10,7 +10,7 @@ ghost use Rattle.ground.specs.Substitution.{are_ground};
 ghost use Rattle.ground.specs.Matching.{rows};
 ghost use Rattle.ground.specs.InOrder.{AreDistinct, AreInOrder};
 ghost use Rattle.ground.specs.Numbers.{StandInOrder, StandsBefore};
-ghost use Rattle.ground.specs.Play.{AreInPrintedOrder, AreLegal};
+ghost use Rattle.ground.specs.Play.{AreInPrintedOrder};
 ghost use Rattle.ground.specs.Listed.{IsKeptInstance, IsWellFormed, HasListed, HasRightListed};
 
 /// The listing has exactly the kept instances, and exactly their heads; and the atoms that have a
@@ -67,12 +67,4 @@ pub fn the_context_is_listed()
 pub fn rows_stand_in_order()
     ensures { (atoms : List Atom) → ((x : Atom) → IsAmong x atoms → IsTrue (are_ground x.terms)) → AreDistinct atoms
         → (literals : List Literal) → StandInOrder atoms literals (rows atoms literals []) }
-{}
-
-/// A list in printed order is determined by its members, so each role has one list of legal moves.
-pub fn printed_lists_are_determined()
-    ensures lists { (ts us : List Tree) → AreInPrintedOrder ts → AreInPrintedOrder us
-        → ((t : Tree) → IsAmong t ts ↔ IsAmong t us) → ts ≡ us }
-    ensures legal { (rules : List Alternative) (S : State) (r : Tree) (ms ns : List Tree)
-        → AreLegal rules S r ms → AreLegal rules S r ns → ms ≡ ns }
 {}
