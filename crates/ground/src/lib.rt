@@ -2,11 +2,13 @@
 // law that the kept instances say all that the rules say.
 #![tactic(auto)]
 
+mod excess;
 mod kind;
 mod laws;
 mod listing_laws;
 mod play_laws;
 
+pub use excess::Excess;
 pub use kind::Kind;
 pub use laws::{accepted_items_are_well_formed, holds_by_a_rule, kept_instances_suffice, one_meaning, what_holds_is_lawful};
 pub use listing_laws::{
