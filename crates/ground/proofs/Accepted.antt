@@ -6,7 +6,7 @@ use Rattle.rules.specs.Words.{w_base, w_input, w_init, w_legal, w_goal, w_termin
 use Rattle.rules.specs.Clause.{Atom, Alternative, Relation, relation_of, is_word}
 use Rattle.rules.specs.Dependence.{IsAmong, Edge, dependences, is_distinct, is_moving, DependsDirectly, DependsIn, IsFixed, is_fixed}
 use Rattle.rules.specs.Items.{is_constant, is_connective, is_atom, atom_in, are_terms, are_literals, is_item, item_head, item_alternatives, head_tree, body_trees, alternatives}
-use Rattle.rules.specs.Profile.{Fault, or_else, first_failing, bad_form, bad_keyword, not_safe, recursive, bad_dependence, first_too_many, is_unsafe, is_recursive, depends_badly, rests_on_move, some_body, none_of, roles, misuses_word, HasNoFault}
+use Rattle.rules.specs.Profile.{Fault, or_else, first_failing, bad_form, bad_keyword, not_safe, recursive, bad_dependence, first_too_many, is_unsafe, is_recursive, depends_badly, rests_on_move, some_body, none_of, roles, misuses_word, uses, heads_well, bodies_stand_well, is_role_well, HasNoFault}
 use Rattle.rules.proofs.Accepted.{or_none, none_fails, not_not, rule_item, same_head, body_found, accepted_acyclic, accepted_safe, fixed_tested}
 use Rattle.rules.proofs.Tests.{not_false}
 use Rattle.rules.proofs.WellFormed.{IsOwn, accepted_heads, accepted_terms, role_fixed, base_fixed, input_fixed}
@@ -37,6 +37,22 @@ items_formed items e t a =
     let last : Option Fault = none_of (roles items) in
     let k = or_none form (or_else words (or_else many (or_else risky (or_else cycles (or_else badly last))))) e in
     not_not _ (none_fails bad_form (λ (u : Tree). not (is_item u)) 1 items k.0 t a)
+
+-- an item with the word `role` is a fact without a variable
+pub words_well : (items : List Tree) → HasNoFault items → (t : Tree) → IsAmong t items → is_role_well t ≡ true
+words_well items e t a =
+    let form : Option Fault = first_failing bad_form (λ (u : Tree). not (is_item u)) 1 items in
+    let words : Option Fault = first_failing bad_keyword misuses_word 1 items in
+    let many : Option Fault = first_too_many 1 [] items in
+    let risky : Option Fault = first_failing not_safe is_unsafe 1 items in
+    let cycles : Option Fault = first_failing recursive (is_recursive (dependences (alternatives items))) 1 items in
+    let badly : Option Fault = first_failing bad_dependence (depends_badly (dependences (alternatives items)) (alternatives items)) 1 items in
+    let last : Option Fault = none_of (roles items) in
+    let f = or_none form (or_else words (or_else many (or_else risky (or_else cycles (or_else badly last))))) e in
+    let g = or_none words (or_else many (or_else risky (or_else cycles (or_else badly last)))) f.1 in
+    let ok = not_not _ (none_fails bad_keyword misuses_word 1 items g.0 t a) in
+    let k = both (heads_well (relation_of (item_head t)) uses) (bodies_stand_well (item_alternatives t) && is_role_well t) ok in
+    (both (bodies_stand_well (item_alternatives t)) (is_role_well t) k.1).1
 
 accepted_words : (items : List Tree) → HasNoFault items → (rule : Alternative) → IsAmong rule (alternatives items) → is_constant rule.head.word ≡ true
 accepted_words items e rule a =

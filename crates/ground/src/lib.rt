@@ -15,4 +15,4 @@ pub use listing_laws::{
     atoms_are_numbered_in_order, listed_instances_suffice, rows_stand_in_order, the_context_is_listed, the_listing_is_exact,
     the_listing_is_in_order,
 };
-pub use play_laws::{gates_read_enough, kinds_say_what_atoms_are, play_is_determined, the_start_is_listed};
+pub use play_laws::{gates_read_enough, going_through_finds_what_holds, kinds_say_what_atoms_are, play_is_determined, the_start_is_listed};

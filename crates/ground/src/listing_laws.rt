@@ -3,6 +3,8 @@ ghost use Rattle.std.specs.Prelude.{[], ◌≡◌, ◌↔◌, ◌++◌, List, Is
 ghost use Rattle.kif.specs.Tree.{Tree};
 ghost use Rattle.rules.specs.Clause.{Atom, Literal, Alternative};
 ghost use Rattle.rules.specs.Dependence.{IsAmong};
+ghost use Rattle.rules.specs.Items.{alternatives};
+ghost use Rattle.rules.specs.Profile.{HasNoFault, roles};
 ghost use Rattle.ground.specs.Meaning.{State, Joint, Holds, IsWithinBase, IsWithinInput, IsRole, IsBase, IsInput};
 ghost use Rattle.ground.specs.Kept.{HeadsKept, IsPossible};
 ghost use Rattle.ground.specs.Listing.{Instance, listing, fixed_listing, context_atoms, with_atoms, heads, fixed_part, other_part, role_list, base_list, input_list};
@@ -51,9 +53,10 @@ pub fn listed_instances_suffice()
 {}
 
 /// The roles, base propositions and inputs of the listing are those that hold in the empty context,
-/// none twice, and the last two stand in printed order.
+/// none twice; the roles stand as the items state them, and the others in printed order.
 pub fn the_context_is_listed()
     ensures roles { (rules : List Alternative) → IsWellFormed rules → (r : Tree) → IsAmong r (role_list rules) ↔ IsRole rules r }
+    ensures roles_order { (items : List Tree) → HasNoFault items → role_list (alternatives items) ≡ roles items }
     ensures roles_once { (rules : List Alternative) → IsWellFormed rules → AreDistinct (role_list rules) }
     ensures base { (rules : List Alternative) → IsWellFormed rules → (p : Tree) → IsAmong p (base_list rules) ↔ IsBase rules p }
     ensures base_order { (rules : List Alternative) → IsWellFormed rules → AreInPrintedOrder (base_list rules) }

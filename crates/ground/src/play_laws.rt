@@ -6,10 +6,11 @@ ghost use Rattle.rules.specs.Clause.{Atom, Alternative, relation_of};
 ghost use Rattle.rules.specs.Dependence.{IsAcyclic, IsAmong, IsFixed};
 ghost use Rattle.ground.specs.declared.kind.Kind.{Kind};
 ghost use Rattle.ground.specs.declared.kind.Kind.TheVariants.{Other};
-ghost use Rattle.ground.specs.Meaning.{State, Joint, IsWithinBase, IsWithinInput, HoldsAlways, atom1};
+ghost use Rattle.ground.specs.Meaning.{State, Joint, Holds, IsWithinBase, IsWithinInput, HoldsAlways, IsRole, IsEnded, atom1};
 ghost use Rattle.rules.specs.Words.{w_init};
 ghost use Rattle.ground.specs.Listing.{Instance, listing};
 ghost use Rattle.ground.specs.Listed.{IsWellFormed};
+ghost use Rattle.ground.specs.Evaluation.{holding, after_list, legal_list, is_ended};
 ghost use Rattle.ground.specs.Gates.{gate, IsGateRight, IsBodyRight};
 ghost use Rattle.ground.specs.Kinds.{kind_of, MeansKind};
 ghost use Rattle.ground.specs.Play.{AreInPrintedOrder, AreStart, AreAfter, AreLegal, IsGoal, starts, start_list};
@@ -53,4 +54,18 @@ pub fn kinds_say_what_atoms_are()
         → (x : Atom) (kind : Kind) → kind_of rules x ≡ kind → kind ≢ Other → MeansKind rules x kind }
     ensures complete { (rules : List Alternative) → IsAcyclic rules
         → (x : Atom) (kind : Kind) → MeansKind rules x kind → kind_of rules x ≡ kind }
+{}
+
+/// Going through the kept instances in their order, each by what was found before it, finds exactly
+/// what holds, for a state within `Base` and a joint move within `Input`. So the state after a turn, the
+/// legal moves of a role and the end of the game can be computed.
+pub fn going_through_finds_what_holds()
+    ensures found { (rules : List Alternative) → IsWellFormed rules → (S : State) (J : Joint)
+        → IsWithinBase rules S → IsWithinInput rules J → (x : Atom) → IsAmong x (holding rules S J) ↔ Holds rules S J x }
+    ensures after { (rules : List Alternative) → IsWellFormed rules → (S : State) (J : Joint)
+        → IsWithinBase rules S → IsWithinInput rules J → AreAfter rules S J (after_list rules S J) }
+    ensures legal { (rules : List Alternative) → IsWellFormed rules → (S : State)
+        → IsWithinBase rules S → (r : Tree) → IsRole rules r → AreLegal rules S r (legal_list rules S r) }
+    ensures ended { (rules : List Alternative) → IsWellFormed rules → (S : State)
+        → IsWithinBase rules S → (is_ended rules S ≡ true) ↔ IsEnded rules S }
 {}
