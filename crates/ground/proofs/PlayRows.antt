@@ -1,18 +1,19 @@
 -- Gates, kinds, starts and dropped heads of small games, by computation.
-use Rattle.std.proofs.Common.{ℕ, Bool, true, false, ◌≡◌, List, [], ◌∷◌, length, map, refl}
+use Rattle.std.proofs.Common.{ℕ, Bool, true, false, ◌≡◌, List, [], ◌∷◌, length, map, cond, refl, Option, Some, None}
 use Rattle.std.specs.Prelude.{codes}
-use Rattle.kif.specs.Tree.{name}
+use Rattle.kif.specs.Tree.{Tree, name, text, tree_eq}
 use Rattle.kif.proofs.Builder.{items_in}
 use Rattle.rules.specs.Words.{w_true, w_does, w_next, w_legal, w_terminal, w_init}
 use Rattle.rules.specs.Items.{alternatives}
 use Rattle.rules.proofs.Games.{match_text, tictactoe_text}
 use Rattle.ground.specs.declared.kind.Kind.{Kind}
 use Rattle.ground.specs.declared.kind.Kind.TheVariants.{Fixed, Now, Does, Next, Legal, Terminal, Other}
-use Rattle.ground.specs.Meaning.{atom0, atom1, atom2}
+use Rattle.ground.specs.Meaning.{atom0, atom1, atom2, nothing}
 use Rattle.ground.specs.Listing.{listing, Instance}
 use Rattle.ground.specs.Gates.{gate}
 use Rattle.ground.specs.Kinds.{kind_of}
-use Rattle.ground.specs.Play.{dropped, start_list}
+use Rattle.ground.specs.Play.{dropped, start_list, is_tree_among}
+use Rattle.ground.specs.Evaluation.{after_list, legal_list, is_ended}
 
 -- the propositions done and same have the numbers 8 and 9, and the inputs 10 to 13
 match_gates : map (gate (alternatives (items_in match_text))) (listing (alternatives (items_in match_text))).kept
@@ -58,3 +59,42 @@ some_kinds : map (kind_of (alternatives (items_in kinds_text)))
     ≡ Now 1 ∷ Other ∷ Next 2 ∷ Does 1 1 ∷ Other ∷ Legal 0 0 ∷ Other ∷ Terminal ∷ Fixed ∷ Other ∷ Fixed ∷ []
 unfolding items_in kinds_text
 some_kinds = refl
+
+-- Play, by going through the kept instances: the state after both choose alike or not, the end, and
+-- the legal moves at the start.
+
+abbrev both_choose : List ℕ → List ℕ → Tree → Option Tree
+both_choose m n r = cond (tree_eq r (name (codes "a"))) (Some (name m)) (cond (tree_eq r (name (codes "b"))) (Some (name n)) None)
+
+match_alike : after_list (alternatives (items_in match_text)) nothing (both_choose (codes "h") (codes "h")) ≡ name (codes "done") ∷ name (codes "same") ∷ []
+unfolding items_in match_text
+match_alike = refl
+
+match_unlike : after_list (alternatives (items_in match_text)) nothing (both_choose (codes "h") (codes "t")) ≡ name (codes "done") ∷ []
+unfolding items_in match_text
+match_unlike = refl
+
+match_legal : legal_list (alternatives (items_in match_text)) nothing (name (codes "b")) ≡ name (codes "h") ∷ name (codes "t") ∷ []
+unfolding items_in match_text
+match_legal = refl
+
+match_open : is_ended (alternatives (items_in match_text)) nothing ≡ false
+unfolding items_in match_text
+match_open = refl
+
+match_ended : is_ended (alternatives (items_in match_text)) (λ t. tree_eq t (name (codes "done"))) ≡ true
+unfolding items_in match_text
+match_ended = refl
+
+match_over : legal_list (alternatives (items_in match_text)) (λ t. tree_eq t (name (codes "done"))) (name (codes "b")) ≡ []
+unfolding items_in match_text
+match_over = refl
+
+tictactoe_legal : map text (legal_list (alternatives (items_in tictactoe_text)) (λ t. is_tree_among t (start_list (alternatives (items_in tictactoe_text)))) (name (codes "xplayer")))
+    ≡ codes "(mark 1 1)" ∷ codes "(mark 1 2)" ∷ codes "(mark 1 3)" ∷ codes "(mark 2 1)" ∷ codes "(mark 2 2)" ∷ codes "(mark 2 3)" ∷ codes "(mark 3 1)" ∷ codes "(mark 3 2)" ∷ codes "(mark 3 3)" ∷ []
+unfolding items_in tictactoe_text
+tictactoe_legal = refl
+
+tictactoe_waits : map text (legal_list (alternatives (items_in tictactoe_text)) (λ t. is_tree_among t (start_list (alternatives (items_in tictactoe_text)))) (name (codes "oplayer"))) ≡ codes "noop" ∷ []
+unfolding items_in tictactoe_text
+tictactoe_waits = refl
