@@ -1,5 +1,5 @@
 -- The kind of an atom is what the atom is.
-use Rattle.std.proofs.Common.{ℕ, zero, suc, ◌<◌, ◌≤◌, Bool, true, false, cond, ◌≡◌, ◌⊎◌, inl, inr, List, [], ◌∷◌, refl, sym, ap, subst, ◌∙◌, arith, Option, Some, None}
+use Rattle.std.proofs.Common.{ℕ, zero, suc, ◌≤◌, Bool, true, false, cond, ◌≡◌, List, refl, sym, ap, subst, ◌∙◌, arith, Option, Some, None}
 use Rattle.std.specs.Prelude.{decimal}
 use Rattle.std.proofs.lemmas.Fmt.{decimal_injective}
 use Rattle.kif.specs.Tree.{Tree, name, list, Trees, no_trees, tree, name_eq}
@@ -28,7 +28,7 @@ value_sound (suc n) ds v h = go (name_eq ds (decimal (suc n))) refl h (value_sou
     go false e k more = let r = more k in let s = r.1 in (r.0, omega arith)
 
 value_complete : (n v : ℕ) → v ≤ n → n ≤ 100 → value_up_to n (decimal v) ≡ Some v
-value_complete zero v a b = 
+value_complete zero v a b =
     let e : v ≡ zero = omega arith in
     let f = name_eq_self (decimal zero) in
     subst (λ (u : ℕ). value_up_to zero (decimal u) ≡ Some u) (sym e) (rw f refl)

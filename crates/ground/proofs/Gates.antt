@@ -1,18 +1,17 @@
 -- What an and gate reads is right exactly when the whole body is.
 use Rattle.std.proofs.Common.{ℕ, zero, suc, ◌<◌, Bool, true, false, not, cond, ◌&&◌, ◌≡◌, ◌⊎◌, ◌↔◌, inl, inr, List, [], ◌∷◌, length, map, refl, sym, ap, subst, ◌∙◌, eqb, eqb-true}
 use Rattle.std.specs.Prelude.{filter}
-use Rattle.kif.specs.Tree.{Tree, no_trees, name_eq}
+use Rattle.kif.specs.Tree.{Tree, name_eq}
 use Rattle.kif.proofs.Equality.{both, name_eq_yes}
 use Rattle.rules.specs.Clause.{Atom, Literal, positive, negative, Alternative, Relation, relation_of, atom_eq, atom_of}
 use Rattle.rules.specs.Words.{w_distinct}
 use Rattle.rules.specs.Dependence.{IsAmong, is_moving, is_distinct, DependsDirectly, DependsIn, IsFixed, is_fixed}
 use Rattle.rules.proofs.Walks.{IsHead}
-use Rattle.rules.proofs.Equality.{atom_eq_self}
 use Rattle.rules.proofs.Accepted.{fixed_tested}
-use Rattle.rules.proofs.Tests.{not_true, not_false}
+use Rattle.rules.proofs.Tests.{not_true}
 use Rattle.ground.specs.Substitution.{literal_under}
 use Rattle.ground.specs.Meaning.{State, Joint, Source, now, does, distinct, ordinary, source_of, RightAs, IsRight, Holds, HoldsAlways, nothing, nobody, IsWithinBase, IsWithinInput}
-use Rattle.ground.specs.Kept.{PossibleAs, UndecidedAs, Keeps, HeadsKept, PossibleIf, IsPossible}
+use Rattle.ground.specs.Kept.{PossibleAs, Keeps, HeadsKept, PossibleIf, IsPossible}
 use Rattle.ground.specs.InOrder.{first_place}
 use Rattle.ground.specs.Numbers.{number_of}
 use Rattle.ground.specs.Listing.{Instance, is_atom_in, listing}

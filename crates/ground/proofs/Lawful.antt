@@ -1,24 +1,23 @@
 -- Heads of kept instances are made of lawful names, and so is what holds in the empty context.
-use Rattle.std.proofs.Common.{ℕ, zero, suc, Bool, true, false, not, ◌&&◌, cond, ◌≡◌, ◌⊎◌, inl, inr, List, [], ◌∷◌, ◌++◌, length, refl, sym, ap, subst, ◌∙◌}
+use Rattle.std.proofs.Common.{ℕ, suc, Bool, true, false, not, cond, ◌≡◌, ◌⊎◌, inl, inr, List, [], ◌∷◌, length, refl, sym, ap, subst, ◌∙◌}
 use Rattle.kif.specs.Tree.{Tree, name, list, Trees, no_trees, tree}
 use Rattle.kif.specs.Lexical.{AreNameBytes, IsName, is_lower_name_byte, HasNames, HaveNames}
 use Rattle.kif.proofs.Equality.{both, true_and}
-use Rattle.rules.specs.Words.{w_role, w_base, w_input, w_true, w_does}
+use Rattle.rules.specs.Words.{w_role, w_base, w_input}
 use Rattle.rules.specs.Clause.{is_variable, Atom, Literal, positive, negative, Alternative, Relation, relation_of, atom_of, tree_of}
 use Rattle.rules.specs.Items.{are_name_bytes, is_name, is_constant, begins_compound, is_term, are_terms}
-use Rattle.rules.specs.Dependence.{IsAmong, is_moving, is_distinct, DependsDirectly, IsFixed}
+use Rattle.rules.specs.Dependence.{IsAmong, is_distinct, DependsDirectly, IsFixed}
 use Rattle.rules.specs.Safety.{variables, variables_in, is_binding}
 use Rattle.rules.proofs.Tests.{not_true, IsAmong-append, IsAmong-append_left, IsAmong-append_right}
 use Rattle.rules.proofs.Walks.{IsHead, along_dependence}
-use Rattle.ground.specs.Substitution.{Map, is_ground, are_ground, substitute, substitute_all, atom_under, literal_under, IsLawful, IsLawfulTerm}
+use Rattle.ground.specs.Substitution.{Map, is_ground, are_ground, substitute, substitute_all, atom_under, IsLawful, IsLawfulTerm}
 use Rattle.ground.specs.Meaning.{Source, now, does, distinct, ordinary, source_of, atom1, atom2, HoldsAlways, IsRole, IsBase, IsInput, IsDerived}
 use Rattle.ground.specs.Kept.{Keeps, HeadsKept, PossibleIf, IsPossible}
 use Rattle.ground.specs.Listed.{IsWellFormed}
 use Rattle.ground.proofs.Derivations.{relation-under, derived_direct, derived_heads}
 use Rattle.ground.proofs.KeptLaw.{IsSorted, sorted_at, kept_by_a_rule}
 use Rattle.ground.proofs.ListedLaw.{constant_stays, ground_all_under, safe_head}
-use Rattle.ground.proofs.Possible.{now_is, does_is, source_decide, always_kept, fixed_below, keeps_possible}
-use Rattle.ground.proofs.Steps.{possible_plain}
+use Rattle.ground.proofs.Possible.{now_is, does_is, always_kept, fixed_below, keeps_possible}
 
 -- A term under a map to terms is a term, and then what it has for each variable is one.
 

@@ -1,5 +1,5 @@
 -- Lists in order: their parts, and that their members determine them.
-use Rattle.std.proofs.Common.{ℕ, zero, suc, ◌<◌, Bool, true, false, cond, ◌≡◌, ◌⊎◌, ◌↔◌, inl, inr, List, [], ◌∷◌, ◌++◌, length, map, refl, sym, ap, subst, ◌∙◌, arith}
+use Rattle.std.proofs.Common.{ℕ, suc, ◌<◌, Bool, true, false, cond, ◌≡◌, ◌⊎◌, ◌↔◌, inl, inr, List, [], ◌∷◌, ◌++◌, length, map, refl, sym, ap, subst, ◌∙◌, arith}
 use Rattle.std.specs.Prelude.{filter}
 use Rattle.rules.specs.Dependence.{IsAmong}
 use Rattle.rules.proofs.Tests.{IsAmong-append, IsAmong-append_left}

@@ -1,5 +1,5 @@
 -- Lists in printed order.
-use Rattle.std.proofs.Common.{ℕ, Bool, true, false, ◌&&◌, cond, ◌≡◌, ◌⊎◌, ◌↔◌, inl, inr, List, [], ◌∷◌, ◌++◌, refl, sym, ap, subst, ◌∙◌}
+use Rattle.std.proofs.Common.{ℕ, Bool, true, false, cond, ◌≡◌, ◌⊎◌, ◌↔◌, inl, inr, List, [], ◌∷◌, refl, sym, ap, subst, ◌∙◌}
 use Rattle.std.proofs.lemmas.Map.Lookups.{exact_bytes}
 use Rattle.std.specs.Cmp.{IsTotalOrder}
 use Rattle.std.specs.Cmp.Lexicographic.{on_texts}
@@ -10,13 +10,12 @@ use Rattle.std.proofs.lemmas.Cmp.{tied_itself}
 use Rattle.kif.specs.Tree.{Tree, Trees, no_trees, tree, text, tree_eq, printed_cmp}
 use Rattle.kif.specs.Lexical.{HasNames}
 use Rattle.kif.proofs.Texts.{text_once}
-use Rattle.rules.specs.Words.{w_base, w_input}
-use Rattle.rules.specs.Clause.{Atom, Alternative, relation_of, is_word}
+use Rattle.rules.specs.Clause.{Atom, relation_of, is_word}
 use Rattle.rules.specs.Dependence.{IsAmong}
 use Rattle.rules.specs.Order.{is_less}
 use Rattle.rules.proofs.Tests.{IsAmong-append_left}
-use Rattle.ground.specs.Meaning.{State, atom1, atom2}
-use Rattle.ground.specs.InOrder.{AreInOrder, AreDistinct}
+use Rattle.ground.specs.Meaning.{atom1, atom2}
+use Rattle.ground.specs.InOrder.{AreDistinct}
 use Rattle.ground.specs.Listing.{into_printed_order, in_printed_order, one_term, terms_of, second_of, terms_with}
 use Rattle.ground.specs.Play.{AreInPrintedOrder}
 use Rattle.ground.proofs.Ordered.{order_append, one_list}

@@ -1,28 +1,26 @@
 -- The listed roles are the roles that the items state, in their order.
-use Rattle.std.proofs.Common.{ℕ, zero, suc, Bool, true, false, not, cond, ◌&&◌, ◌||◌, ◌≡◌, ◌⊎◌, inl, inr, List, [], ◌∷◌, ◌++◌, map, append_assoc, refl, sym, ap, subst, ◌∙◌, arith, eqb, eqb-true}
+use Rattle.std.proofs.Common.{ℕ, zero, suc, Bool, true, false, not, cond, ◌&&◌, ◌≡◌, ◌⊎◌, inl, inr, List, [], ◌∷◌, ◌++◌, map, append_assoc, refl, sym, ap, subst, ◌∙◌, arith, eqb, eqb-true}
 use Rattle.std.specs.Prelude.{filter}
 use Rattle.kif.specs.Tree.{Tree, name, list, Trees, no_trees, tree, name_eq, tree_eq}
 use Rattle.kif.proofs.Equality.{both, name_eq_yes, tree_eq_yes, tree_eq_self}
 use Rattle.rules.specs.Words.{w_role}
-use Rattle.rules.specs.Clause.{is_variable, Atom, Literal, Alternative, Relation, relation_of, relation_eq, count_trees, is_word}
+use Rattle.rules.specs.Clause.{is_variable, Atom, Alternative, Relation, relation_of, relation_eq, count_trees, is_word}
 use Rattle.rules.specs.Dependence.{IsAmong, is_among, is_fixed}
 use Rattle.rules.specs.Items.{item_head, item_alternatives, alternatives, body_trees, is_some, readings_of_all}
 use Rattle.rules.specs.Order.{relations_in_order}
-use Rattle.rules.specs.Safety.{variables, variables_in, is_binding}
+use Rattle.rules.specs.Safety.{variables, variables_in}
 use Rattle.rules.specs.Profile.{HasNoFault, is_empty, is_role_well, is_tree_in, first_of, role_in, with_new, roles_from, roles}
 use Rattle.rules.proofs.Accepted.{right_if, same_head, fixed_tested, relations_complete}
-use Rattle.rules.proofs.Tests.{or_cases, or_left, or_right, IsAmong-append, IsAmong-append_left, IsAmong-append_right}
+use Rattle.rules.proofs.Tests.{or_cases, or_left, or_right}
 use Rattle.rules.proofs.Equality.{relation_eq_yes}
-use Rattle.ground.specs.Substitution.{Map, substitute, substitute_all, atom_under}
+use Rattle.ground.specs.Substitution.{Map, substitute, substitute_all}
 use Rattle.ground.specs.Meaning.{atom1}
 use Rattle.ground.specs.InOrder.{AreDistinct}
-use Rattle.ground.specs.Matching.{map_of, rows}
-use Rattle.ground.specs.Listing.{Instance, instance_of, is_atom_in, kept_of, kept_of_relation, with_atoms, Listing, heads, list_relation, list_relations, one_term, terms_of, fixed_listing, role_list}
-use Rattle.ground.specs.Listed.{IsWellFormed}
+use Rattle.ground.specs.Matching.{map_of}
+use Rattle.ground.specs.Listing.{Instance, is_atom_in, kept_of, kept_of_relation, with_atoms, Listing, heads, list_relation, list_relations, one_term, terms_of, role_list}
 use Rattle.ground.proofs.Accepted.{words_well, accepted_well_formed}
 use Rattle.ground.proofs.ListedLaw.{is_atom_yes, is_atom_in_yes}
 use Rattle.ground.proofs.Fold.{terms_in, terms_out}
-use Rattle.ground.proofs.Exact.{heads_append}
 use Rattle.ground.proofs.Rising.{relation_test, new_relation, relations_distinct}
 use Rattle.ground.proofs.Ordered.{order_filter, among_filter, among_filter_in}
 
@@ -199,7 +197,6 @@ mutual
       let k = no_names (variables t) (variables_in ts) h in
       let a = same_without m t k.0 in
       let b = all_same_without m ts k.1 in cc
-
 
 -- an item that states a role stands for one alternative, whose head is the fact
 fact_kept : (rules : List Alternative) (atoms : List Atom) (n : ℕ) (h : Atom) → is_empty (variables_in h.terms) ≡ true

@@ -1,5 +1,5 @@
 -- Where an atom stands in play, by the numbers of roles, base propositions, inputs and values.
-use Rattle.std.specs.Prelude.{ℕ, zero, suc, Bool, cond, ◌≡◌, ◌≤◌, List, [], ◌∷◌, Option, Some, None, decimal}
+use Rattle.std.specs.Prelude.{ℕ, zero, suc, cond, ◌≡◌, ◌≤◌, List, [], ◌∷◌, Option, Some, None, decimal}
 use Rattle.std.specs.Option.{option_map}
 use Rattle.kif.specs.Tree.{Tree, name, list, Trees, no_trees, tree, name_eq, tree_eq}
 use Rattle.rules.specs.Words.{w_true, w_does, w_next, w_legal, w_goal, w_terminal}

@@ -10,9 +10,15 @@ mod play_laws;
 
 pub use excess::Excess;
 pub use kind::Kind;
-pub use laws::{accepted_items_are_well_formed, holds_by_a_rule, kept_instances_suffice, one_meaning, what_holds_is_lawful};
-pub use listing_laws::{
-    atoms_are_numbered_in_order, listed_instances_suffice, rows_stand_in_order, the_context_is_listed, the_listing_is_exact,
-    the_listing_is_in_order,
+pub use laws::{
+    accepted_items_are_well_formed, holds_by_a_rule, kept_instances_suffice, one_meaning,
+    what_holds_is_lawful,
 };
-pub use play_laws::{gates_read_enough, going_through_finds_what_holds, kinds_say_what_atoms_are, play_is_determined, the_start_is_listed};
+pub use listing_laws::{
+    atoms_are_numbered_in_order, listed_instances_suffice, rows_stand_in_order,
+    the_context_is_listed, the_listing_is_exact, the_listing_is_in_order,
+};
+pub use play_laws::{
+    gates_read_enough, going_through_finds_what_holds, kinds_say_what_atoms_are,
+    play_is_determined, the_start_is_listed,
+};
