@@ -1,10 +1,10 @@
 -- What holds in a state and under a joint move, by going through the kept instances.
-use Rattle.std.specs.Prelude.{Bool, true, false, not, cond, ◌&&◌, List, [], ◌∷◌, Option, Some, None, filter}
-use Rattle.kif.specs.Tree.{Tree, tree_eq}
-use Rattle.rules.specs.Words.{w_next, w_legal, w_terminal}
+use Rattle.std.specs.Prelude.{ℕ, zero, suc, Bool, true, false, not, cond, ◌&&◌, ◌||◌, List, [], ◌∷◌, Option, Some, None, filter, decimal}
+use Rattle.kif.specs.Tree.{Tree, name, tree_eq}
+use Rattle.rules.specs.Words.{w_next, w_legal, w_goal, w_terminal}
 use Rattle.rules.specs.Clause.{Atom, Literal, positive, negative, Alternative}
 use Rattle.ground.specs.Meaning.{State, Joint, Source, now, does, distinct, ordinary, source_of, nobody, atom0, atom1, atom2}
-use Rattle.ground.specs.Listing.{Instance, is_atom_in, listing, base_list, input_list}
+use Rattle.ground.specs.Listing.{Instance, is_atom_in, listing, role_list, base_list, input_list}
 
 abbrev pub gives : Option Tree → Tree → Bool
 gives None m = false
@@ -43,3 +43,23 @@ after_list rules S J = filter (λ p. is_atom_in (atom1 w_next p) (holding rules 
 
 abbrev pub legal_list : List Alternative → State → Tree → List Tree
 legal_list rules S r = filter (λ m. is_atom_in (atom2 w_legal r m) (holding rules S nobody)) (input_list rules r)
+
+abbrev pub is_empty : List Tree → Bool
+is_empty [] = true
+is_empty (t ∷ ts) = false
+
+-- some role has no legal move
+abbrev pub some_stuck : List Alternative → State → List Tree → Bool
+some_stuck rules S [] = false
+some_stuck rules S (r ∷ rs) = is_empty (legal_list rules S r) || some_stuck rules S rs
+
+abbrev pub is_stuck : List Alternative → State → Bool
+is_stuck rules S = not (is_ended rules S) && some_stuck rules S (role_list rules)
+
+-- the greatest goal of at most n that holds, or 0
+abbrev pub goal_up_to : List Atom → Tree → ℕ → ℕ
+goal_up_to found r zero = 0
+goal_up_to found r (suc n) = cond (is_atom_in (atom2 w_goal r (name (decimal (suc n)))) found) (suc n) (goal_up_to found r n)
+
+abbrev pub goal_of : List Alternative → State → Tree → ℕ
+goal_of rules S r = goal_up_to (holding rules S nobody) r 100

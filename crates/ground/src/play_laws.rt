@@ -6,11 +6,11 @@ ghost use Rattle.rules.specs.Clause.{Atom, Alternative, relation_of};
 ghost use Rattle.rules.specs.Dependence.{IsAcyclic, IsAmong, IsFixed};
 ghost use Rattle.ground.specs.declared.kind.Kind.{Kind};
 ghost use Rattle.ground.specs.declared.kind.Kind.TheVariants.{Other};
-ghost use Rattle.ground.specs.Meaning.{State, Joint, Holds, IsWithinBase, IsWithinInput, HoldsAlways, IsRole, IsEnded, atom1};
+ghost use Rattle.ground.specs.Meaning.{State, Joint, Holds, IsWithinBase, IsWithinInput, HoldsAlways, IsRole, IsEnded, IsStuck, atom1};
 ghost use Rattle.rules.specs.Words.{w_init};
 ghost use Rattle.ground.specs.Listing.{Instance, listing};
 ghost use Rattle.ground.specs.Listed.{IsWellFormed};
-ghost use Rattle.ground.specs.Evaluation.{holding, after_list, legal_list, is_ended};
+ghost use Rattle.ground.specs.Evaluation.{holding, after_list, legal_list, is_ended, is_stuck, goal_of};
 ghost use Rattle.ground.specs.Gates.{gate, IsGateRight, IsBodyRight};
 ghost use Rattle.ground.specs.Kinds.{kind_of, MeansKind};
 ghost use Rattle.ground.specs.Play.{AreInPrintedOrder, AreStart, AreAfter, AreLegal, IsGoal, starts, start_list};
@@ -58,7 +58,7 @@ pub fn kinds_say_what_atoms_are()
 
 /// Going through the kept instances in their order, each by what was found before it, finds exactly
 /// what holds, for a state within `Base` and a joint move within `Input`. So the state after a turn, the
-/// legal moves of a role and the end of the game can be computed.
+/// legal moves and the goal of a role, and whether a state is ended or stuck, can be computed.
 pub fn going_through_finds_what_holds()
     ensures found { (rules : List Alternative) → IsWellFormed rules → (S : State) (J : Joint)
         → IsWithinBase rules S → IsWithinInput rules J → (x : Atom) → IsAmong x (holding rules S J) ↔ Holds rules S J x }
@@ -68,4 +68,8 @@ pub fn going_through_finds_what_holds()
         → IsWithinBase rules S → (r : Tree) → IsRole rules r → AreLegal rules S r (legal_list rules S r) }
     ensures ended { (rules : List Alternative) → IsWellFormed rules → (S : State)
         → IsWithinBase rules S → (is_ended rules S ≡ true) ↔ IsEnded rules S }
+    ensures stuck { (rules : List Alternative) → IsWellFormed rules → (S : State)
+        → IsWithinBase rules S → (is_stuck rules S ≡ true) ↔ IsStuck rules S }
+    ensures goal { (rules : List Alternative) → IsWellFormed rules → (S : State)
+        → IsWithinBase rules S → (r : Tree) → IsGoal rules S r (goal_of rules S r) }
 {}
