@@ -1,12 +1,12 @@
 -- What is dropped has no effect, and the first limit passed is none exactly where all are kept.
-use Rattle.std.proofs.Common.{ℕ, zero, ◌≤◌, ◌<◌, ◌+◌, Bool, true, false, not, cond, ◌&&◌, ◌||◌, ◌≡◌, ◌⊎◌, ◌↔◌, inl, inr, List, [], ◌∷◌, ◌++◌, length, refl, sym, ap, subst, ◌∙◌, arith}
+use Rattle.std.proofs.Common.{ℕ, Bool, true, false, not, ◌&&◌, ◌||◌, ◌≡◌, ◌⊎◌, ◌↔◌, inl, inr, List, [], ◌∷◌, refl, ap, subst, ◌∙◌}
 use Rattle.kif.specs.Tree.{Tree, Trees, no_trees, tree, name_eq, tree_eq}
-use Rattle.kif.proofs.Equality.{both, true_and, name_eq_yes, name_eq_self, tree_eq_yes, tree_eq_self}
+use Rattle.kif.proofs.Equality.{both, true_and, name_eq_yes, tree_eq_yes, tree_eq_self}
 use Rattle.rules.specs.Words.{w_init, w_next, w_legal}
 use Rattle.rules.specs.Clause.{Atom, Alternative, relation_of, is_word}
 use Rattle.rules.specs.Dependence.{IsAmong}
-use Rattle.rules.proofs.Tests.{or_cases, or_left, or_right, not_true, not_false}
-use Rattle.ground.specs.Meaning.{atom1, atom2, IsBase, IsInput, IsRole}
+use Rattle.rules.proofs.Tests.{or_cases, or_left, or_right, not_true}
+use Rattle.ground.specs.Meaning.{atom1, IsBase, IsInput}
 use Rattle.ground.specs.Listing.{role_list, base_list, input_list}
 use Rattle.ground.specs.Listed.{IsWellFormed}
 use Rattle.ground.specs.Play.{is_tree_among, misses_base, misses_input, is_dropped}

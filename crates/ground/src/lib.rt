@@ -19,6 +19,7 @@ pub use listing_laws::{
     the_context_is_listed, the_listing_is_exact, the_listing_is_in_order,
 };
 pub use play_laws::{
-    gates_read_enough, going_through_finds_what_holds, kinds_say_what_atoms_are,
-    play_is_determined, the_start_is_listed,
+    a_limit_is_named_if_passed, dropped_heads_have_no_effect, gates_read_enough,
+    going_through_finds_what_holds, kinds_say_what_atoms_are, play_is_determined,
+    the_start_is_listed,
 };

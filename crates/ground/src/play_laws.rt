@@ -1,6 +1,6 @@
 // The laws of play: states and legal moves as lists, goal values, what an and gate reads, and the
 // kinds of atoms.
-ghost use Rattle.std.specs.Prelude.{ℕ, Bool, true, [], ◌≡◌, ◌≢◌, ◌↔◌, ◌<◌, List, length};
+ghost use Rattle.std.specs.Prelude.{ℕ, None, Bool, true, [], ◌≡◌, ◌≢◌, ◌↔◌, ◌<◌, List, length};
 ghost use Rattle.kif.specs.Tree.{Tree};
 ghost use Rattle.rules.specs.Clause.{Atom, Alternative, relation_of};
 ghost use Rattle.rules.specs.Dependence.{IsAcyclic, IsAmong, IsFixed};
@@ -13,7 +13,9 @@ ghost use Rattle.ground.specs.Listed.{IsWellFormed};
 ghost use Rattle.ground.specs.Evaluation.{holding, after_list, legal_list, is_ended, is_stuck, goal_of};
 ghost use Rattle.ground.specs.Gates.{gate, IsGateRight, IsBodyRight};
 ghost use Rattle.ground.specs.Kinds.{kind_of, MeansKind};
-ghost use Rattle.ground.specs.Play.{AreInPrintedOrder, AreStart, AreAfter, AreLegal, IsGoal, starts, start_list};
+ghost use Rattle.ground.specs.Play.{AreInPrintedOrder, AreStart, AreAfter, AreLegal, IsGoal, starts, start_list, is_dropped};
+ghost use Rattle.ground.specs.Effects.{HasNoEffect, IsWithin};
+ghost use Rattle.ground.specs.Limits.{Limits, excess_by};
 
 /// A list in printed order is determined by its members. So there is one list for the start, one for
 /// the state after a turn, and one of the legal moves of each role; and each role has one goal value.
@@ -72,4 +74,15 @@ pub fn going_through_finds_what_holds()
         → IsWithinBase rules S → (is_stuck rules S ≡ true) ↔ IsStuck rules S }
     ensures goal { (rules : List Alternative) → IsWellFormed rules → (S : State)
         → IsWithinBase rules S → (r : Tree) → IsGoal rules S r (goal_of rules S r) }
+{}
+
+/// The heads that are counted as dropped are those that have no effect on play: `init` and `next`
+/// outside `Base`, and `legal` of what is no input of a role.
+pub fn dropped_heads_have_no_effect()
+    ensures { (rules : List Alternative) → IsWellFormed rules → (x : Atom) → (is_dropped rules x ≡ true) ↔ HasNoEffect rules x }
+{}
+
+/// No limit is named exactly where all that is kept is within the limits.
+pub fn a_limit_is_named_if_passed()
+    ensures { (most : Limits) (rules : List Alternative) → (excess_by most rules ≡ None) ↔ IsWithin most rules }
 {}
