@@ -11,11 +11,11 @@ use Rattle.rules.specs.Safety.{variables, variables_in, is_binding}
 use Rattle.rules.proofs.Tests.{not_true, IsAmong-append, IsAmong-append_left, IsAmong-append_right}
 use Rattle.rules.proofs.Walks.{IsHead, along_dependence}
 use Rattle.ground.specs.Substitution.{Map, is_ground, are_ground, substitute, substitute_all, atom_under, IsLawful, IsLawfulTerm}
-use Rattle.ground.specs.Meaning.{Source, now, does, distinct, ordinary, source_of, atom1, atom2, HoldsAlways, IsRole, IsBase, IsInput, IsDerived}
+use Rattle.ground.specs.Meaning.{Source, now, does, distinct, ordinary, source_of, atom1, atom2, HoldsAlways, IsRole, IsBase, IsInput, IsDerived, State, Joint, Holds, IsWithinBase, IsWithinInput}
 use Rattle.ground.specs.Kept.{Keeps, HeadsKept, PossibleIf, IsPossible}
 use Rattle.ground.specs.Listed.{IsWellFormed}
 use Rattle.ground.proofs.Derivations.{relation-under, derived_direct, derived_heads}
-use Rattle.ground.proofs.KeptLaw.{IsSorted, sorted_at, kept_by_a_rule}
+use Rattle.ground.proofs.KeptLaw.{IsSorted, sorted_at, kept_by_a_rule, holds_heads}
 use Rattle.ground.proofs.ListedLaw.{constant_stays, ground_all_under, safe_head}
 use Rattle.ground.proofs.Possible.{now_is, does_is, always_kept, fixed_below, keeps_possible}
 
@@ -143,6 +143,9 @@ module _ (rules : List Alternative) (w : IsWellFormed rules) where
         terms = all_terms (relation_of x) x refl h;
         no_variable = subst (λ (y : Atom). are_ground y.terms ≡ true) d.heads (ground_all_under d.map d.maps_to_ground d.rule.head.terms (w.terms d.rule d.is_rule));
       }
+
+  pub holding_lawful : (S : State) (J : Joint) → IsWithinBase rules S → IsWithinInput rules J → (x : Atom) → Holds rules S J x → IsLawful x
+  holding_lawful S J base input x h = heads_lawful x (holds_heads rules w.acyclic S J base input (relation_of x) x refl h)
 
   pub always_lawful : (x : Atom) → HoldsAlways rules x → IsLawful x
   always_lawful x h = heads_lawful x (always_kept rules w.acyclic x h)

@@ -39,10 +39,12 @@ pub fn accepted_items_are_well_formed()
     ensures { (items : List Tree) → HasNoFault items → IsWellFormed (alternatives items) }
 {}
 
-/// Heads of kept instances, roles, base propositions and inputs are made of lawful names and have no
-/// variable, and lawful terms and atoms have the names that texts have.
+/// Heads of kept instances, what holds, roles, base propositions and inputs are made of lawful names
+/// and have no variable, and lawful terms and atoms have the names that texts have.
 pub fn what_holds_is_lawful()
     ensures heads { (rules : List Alternative) → IsWellFormed rules → (x : Atom) → HeadsKept rules x → IsLawful x }
+    ensures holds { (rules : List Alternative) → IsWellFormed rules → (S : State) (J : Joint)
+        → IsWithinBase rules S → IsWithinInput rules J → (x : Atom) → Holds rules S J x → IsLawful x }
     ensures roles { (rules : List Alternative) → IsWellFormed rules → (r : Tree) → IsRole rules r → IsLawfulTerm r }
     ensures base { (rules : List Alternative) → IsWellFormed rules → (p : Tree) → IsBase rules p → IsLawfulTerm p }
     ensures inputs { (rules : List Alternative) → IsWellFormed rules → (r m : Tree) → IsInput rules r m → IsLawfulTerm m }
