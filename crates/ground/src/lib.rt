@@ -7,6 +7,9 @@ mod kind;
 mod laws;
 mod listing_laws;
 mod play_laws;
+mod terms;
+#[cfg(test)]
+mod tests;
 
 pub use excess::Excess;
 pub use kind::Kind;
@@ -23,3 +26,4 @@ pub use play_laws::{
     going_through_finds_what_holds, kinds_say_what_atoms_are, play_is_determined,
     the_start_is_listed,
 };
+pub use terms::{Terms, numbers_are_trees};
