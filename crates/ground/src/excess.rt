@@ -1,0 +1,14 @@
+// What a description may have too much of.
+
+/// Of what a description has more than a limit allows, once its rules are instantiated.
+#[derive(Clone, Copy, Debug, PartialEq, Eq)]
+pub enum Excess {
+    /// There are more than 4,096 base propositions.
+    Base,
+    /// The roles together have more than 4,096 inputs.
+    Inputs,
+    /// There are more than 262,144 kept instances.
+    Instances,
+    /// The head of a kept instance is longer than 4,096 bytes as canonical text.
+    Text,
+}
