@@ -1,5 +1,5 @@
-use Rattle.std.proofs.Common.{◌≡◌, ◌≢◌, ℕ, ◌-◌, ◌<◌, ◌≤◌, ◌^◌, true, false, List, [], length, zero, suc, refl, sym, ◌∙◌, arith, get_or, inl, inr}
-use Rattle.std.specs.Prelude.{All, map, Option, Some, slice_get}
+use Rattle.std.proofs.Common.{◌≡◌, ◌≢◌, ℕ, ◌-◌, ◌<◌, ◌≤◌, true, false, List, [], length, zero, suc, refl, ◌∙◌, arith, get_or, inl, inr}
+use Rattle.std.specs.Prelude.{All, map}
 use Rattle.std.proofs.lemmas.Grind.{common_steps}
 use Rattle.std.proofs.lemmas.List.{get_or-map}
 use Rattle.std.proofs.lemmas.Bool.{cases_eq}

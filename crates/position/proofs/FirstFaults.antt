@@ -35,7 +35,7 @@ filter_first p a (suc n) k from to h passes =
       | inr lt ↦
           let here : p a ≡ false = h a (omega arith) lt in
           let found : (rest : List ℕ) × (filter p (range_with_len (a + 1) n) ≡ k ∷ rest) =
-              filter_first p (a + 1) n k (omega arith) (omega arith) (λ j after before. h j (omega arith) before) passes in
+          filter_first p (a + 1) n k (omega arith) (omega arith) (λ j after before. h j (omega arith) before) passes in
           (found.0, rw here found.1)
     ]
 
@@ -59,7 +59,7 @@ flat_map_first {X} f a (suc n) k x xs from to h passes =
       | inr lt ↦
           let here : f a ≡ [] = h a (omega arith) lt in
           let found : (rest : List X) × (flat_map f (range_with_len (a + 1) n) ≡ x ∷ rest) =
-              flat_map_first f (a + 1) n k x xs (omega arith) (omega arith) (λ j after before. h j (omega arith) before) passes in
+          flat_map_first f (a + 1) n k x xs (omega arith) (omega arith) (λ j after before. h j (omega arith) before) passes in
           (found.0, rw here found.1)
     ]
 
@@ -94,21 +94,21 @@ list_by_index f a (suc n) [] size h = absurd (omega arith)
 list_by_index f a (suc n) (x ∷ xs) size h =
     let first : x ≡ f a = h 0 (omega arith) ∙ ap f (omega arith) in
     let rest : xs ≡ map f (range_with_len (a + 1) n) =
-        list_by_index f (a + 1) n xs (omega arith) (λ k below. h (suc k) (omega arith) ∙ ap f (omega arith)) in
+    list_by_index f (a + 1) n xs (omega arith) (λ k below. h (suc k) (omega arith) ∙ ap f (omega arith)) in
     cc
 
 pub form_refused : (roles place : ℕ) (ts : List Tree) → place < length ts → ((k : ℕ) → k < place → not (is_turn_list roles (tree_at ts k)) ≡ false)
     → not (is_turn_list roles (tree_at ts place)) ≡ true → Err (BadForm (place + 1)) ≡ first_fault {X = Unit {0}} (form_faults roles ts) tt
 form_refused roles place ts inside before here =
     let found : (rest : List ℕ) × (filter (λ (k : ℕ). not (is_turn_list roles (tree_at ts k))) (range_with_len 0 (length ts)) ≡ place ∷ rest) =
-        filter_first (λ k. not (is_turn_list roles (tree_at ts k))) 0 (length ts) place (omega arith) (omega arith) (λ k _ less. before k less) here in
+    filter_first (λ k. not (is_turn_list roles (tree_at ts k))) 0 (length ts) place (omega arith) (omega arith) (λ k _ less. before k less) here in
     rw found.1 refl
 
 pub forms_right : (roles place : ℕ) (ts : List Tree) → length ts ≤ place → ((k : ℕ) → k < place → not (is_turn_list roles (tree_at ts k)) ≡ false)
     → Ok tt ≡ first_fault {X = Unit {0}} (form_faults roles ts) tt
 forms_right roles place ts past before =
     let none : filter (λ (k : ℕ). not (is_turn_list roles (tree_at ts k))) (range_with_len 0 (length ts)) ≡ [] =
-        filter_none (λ k. not (is_turn_list roles (tree_at ts k))) 0 (length ts) (λ k _ less. before k (omega arith)) in
+    filter_none (λ k. not (is_turn_list roles (tree_at ts k))) 0 (length ts) (λ k _ less. before k (omega arith)) in
     rw none refl
 
 not_false : (b : Bool) → not b ≡ false → b ≡ true
@@ -137,20 +137,20 @@ pub role_refused : (g : Rules) (names : MoveNames) (s : State) (parts : List Tre
     → Err (NotLegal number role) ≡ first_fault {X = Unit {0}} (illegal_faults g names s parts number) tt
 role_refused g names s parts number role inside before here =
     let found : (rest : List ℕ) × (filter (λ (q : ℕ). is_none (named_move g names s parts q)) (range_with_len 0 g.roles) ≡ role ∷ rest) =
-        filter_first (λ q. is_none (named_move g names s parts q)) 0 g.roles role (omega arith) (omega arith) (λ k _ less. before k less) here in
+    filter_first (λ q. is_none (named_move g names s parts q)) 0 g.roles role (omega arith) (omega arith) (λ k _ less. before k less) here in
     rw found.1 refl
 
 pub roles_right : (g : Rules) (names : MoveNames) (s : State) (parts : List Tree) (number role : ℕ) → g.roles ≤ role
     → ((k : ℕ) → k < role → is_none (named_move g names s parts k) ≡ false) → Ok tt ≡ first_fault {X = Unit {0}} (illegal_faults g names s parts number) tt
 roles_right g names s parts number role past before =
     let none : filter (λ (q : ℕ). is_none (named_move g names s parts q)) (range_with_len 0 g.roles) ≡ [] =
-        filter_none (λ q. is_none (named_move g names s parts q)) 0 g.roles (λ k _ less. before k (omega arith)) in
+    filter_none (λ q. is_none (named_move g names s parts q)) 0 g.roles (λ k _ less. before k (omega arith)) in
     rw none refl
 
 -- one turn more
 pub state_more : (g : Rules) (names : MoveNames) (ts : List Tree) (place : ℕ) → place < length ts
     → state_after g names (take (place + 1) ts)
-        ≡ g.after (state_after g names (take place ts)) (named_turn g names (state_after g names (take place ts)) (parts_of (tree_at ts place)))
+    ≡ g.after (state_after g names (take place ts)) (named_turn g names (state_after g names (take place ts)) (parts_of (tree_at ts place)))
 state_more g names ts place inside =
     let step = λ (s : State) (t : Tree). g.after s (named_turn g names s (parts_of t)) in
     ap (fold step g.start) (take_more ts place (list no_trees) inside) ∙ fold-append step g.start (take place ts) (tree_at ts place ∷ [])
@@ -163,7 +163,7 @@ turn_refused g names ts place fault forms inside before here =
     let faults = λ (k : ℕ). turn_faults g names (state_after g names (take k ts)) (parts_of (tree_at ts k)) (k + 1) in
     let first : (rest : List HistoryFault) × (faults place ≡ fault ∷ rest) = has_first (faults place) tt fault here in
     let found : (rest : List HistoryFault) × (flat_map faults (range_with_len 0 (length ts)) ≡ fault ∷ rest) =
-        flat_map_first faults 0 (length ts) place fault first.0 (omega arith) (omega arith) (λ k _ less. before k less) first.1 in
+    flat_map_first faults 0 (length ts) place fault first.0 (omega arith) (omega arith) (λ k _ less. before k less) first.1 in
     rw (forms, found.1) refl
 
 pub all_played : (g : Rules) (names : MoveNames) (ts : List Tree) (place : ℕ) → form_faults g.roles ts ≡ [] → length ts ≤ place → place ≤ length ts
@@ -172,7 +172,7 @@ pub all_played : (g : Rules) (names : MoveNames) (ts : List Tree) (place : ℕ) 
 all_played g names ts place forms past within before =
     let faults = λ (k : ℕ). turn_faults g names (state_after g names (take k ts)) (parts_of (tree_at ts k)) (k + 1) in
     let none : flat_map faults (range_with_len 0 (length ts)) ≡ [] =
-        flat_map_none faults 0 (length ts) (λ k _ less. before k (omega arith)) in
+    flat_map_none faults 0 (length ts) (λ k _ less. before k (omega arith)) in
     let whole : take place ts ≡ ts = take_all place ts past in
     rw (forms, none, whole) refl
 

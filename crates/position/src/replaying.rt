@@ -67,12 +67,7 @@ fn put_move(joint: &mut Joint, role: usize, number: u32)
 }
 
 /// The legal move of a role that has the text of the tree.
-fn find_move<G: Game, A: Allocator>(
-    g: &G,
-    p: &G::Pos,
-    role: usize,
-    part: &Expr<A>,
-) -> Option<u32>
+fn find_move<G: Game, A: Allocator>(g: &G, p: &G::Pos, role: usize, part: &Expr<A>) -> Option<u32>
     requires fits { G.fits g.now p.now }
     requires role { role < (G.rules g.now).roles }
     ensures known { IfSome result (λ m. m < (G.rules g.now).moves role) }

@@ -63,17 +63,44 @@ fn history_is_played(rt: HostRuntime) -> Result<(), Fail> {
 const REFUSED: [(&[u8], &[u8]); 13] = [
     (b"one", b"refused H1 BadForm 1\nended 60\n"),
     (b"(one one)", b"refused H1 BadForm 1\nended 60\n"),
-    (b"(one one one) (one one one one)", b"refused H1 BadForm 2\nended 60\n"),
-    (b"(one three one) (one one one) ()", b"refused H1 BadForm 3\nended 60\n"),
-    (b"(one one one) (one one one)", b"refused H3 Over 2\nended 60\n"),
-    (b"(one one one) (three one one)", b"refused H3 Over 2\nended 60\n"),
-    (b"(two two two) (one one one)", b"refused H4 Stuck 2\nended 60\n"),
-    (b"(two two two) (three one one)", b"refused H4 Stuck 2\nended 60\n"),
+    (
+        b"(one one one) (one one one one)",
+        b"refused H1 BadForm 2\nended 60\n",
+    ),
+    (
+        b"(one three one) (one one one) ()",
+        b"refused H1 BadForm 3\nended 60\n",
+    ),
+    (
+        b"(one one one) (one one one)",
+        b"refused H3 Over 2\nended 60\n",
+    ),
+    (
+        b"(one one one) (three one one)",
+        b"refused H3 Over 2\nended 60\n",
+    ),
+    (
+        b"(two two two) (one one one)",
+        b"refused H4 Stuck 2\nended 60\n",
+    ),
+    (
+        b"(two two two) (three one one)",
+        b"refused H4 Stuck 2\nended 60\n",
+    ),
     (b"(three one one)", b"refused H2 NotLegal 1 row\nended 60\n"),
-    (b"(one three four)", b"refused H2 NotLegal 1 column\nended 60\n"),
-    (b"(one one (two))", b"refused H2 NotLegal 1 layer\nended 60\n"),
+    (
+        b"(one three four)",
+        b"refused H2 NotLegal 1 column\nended 60\n",
+    ),
+    (
+        b"(one one (two))",
+        b"refused H2 NotLegal 1 layer\nended 60\n",
+    ),
     (b"(one one on)", b"refused H2 NotLegal 1 layer\nended 60\n"),
-    (b"(one one twoo)", b"refused H2 NotLegal 1 layer\nended 60\n"),
+    (
+        b"(one one twoo)",
+        b"refused H2 NotLegal 1 layer\nended 60\n",
+    ),
 ];
 
 #[test]

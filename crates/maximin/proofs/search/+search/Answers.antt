@@ -227,8 +227,8 @@ worst_at-returns-then-upper-a-clause-capacities g t c =
     let old = get_or c.split_at_mut-first.result.0.now 0 c.index-first-0.result in
     let now = c.loop-upper.level in
     let begun : level_capacities capacities now ≡ level_capacities capacities old =
-        c.loop-upper.invariant.capacities
-        ∙ joined (cursor_capacities c.start_turns.new.cursor) (cursor_capacities old.cursor) (capacities old.position) (capacities old.position) c.start_turns.ensures.capacities refl in
+    c.loop-upper.invariant.capacities
+    ∙ joined (cursor_capacities c.start_turns.new.cursor) (cursor_capacities old.cursor) (capacities old.position) (capacities old.position) c.start_turns.ensures.capacities refl in
     let rest = c.value_at.ensures.capacities ∙ c.loop-upper.invariant.rest_capacities in
     elim c.then-upper-a.branch [
       | worst_at-then-upper-a-via-then-upper-a w ↦ rw w.levels-is

@@ -122,8 +122,8 @@ returns-then-not-next_turn-clause-capacities g c =
     let old = get_or c.split_at_mut-first.result.0.now 0 c.index-first-0.result in
     let now = c.loop-upper.level in
     let begun : level_capacities capacities now ≡ level_capacities capacities old =
-        c.loop-upper.invariant.capacities
-        ∙ joined (cursor_capacities c.start_turns.new.cursor) (cursor_capacities old.cursor) (capacities old.position) (capacities old.position) c.start_turns.ensures.capacities refl in
+    c.loop-upper.invariant.capacities
+    ∙ joined (cursor_capacities c.start_turns.new.cursor) (cursor_capacities old.cursor) (capacities old.position) (capacities old.position) c.start_turns.ensures.capacities refl in
     all_kept (level_capacities capacities) c.args.levels.now c.split_at_mut-first.result.0.now c.split_at_mut-first.result.1.now
     c.value_at-worth.new.levels (record { position = c.step.new.q; cursor = c.next_turn.new.cursor }) c.index-first-0.result split.value split.front_len
     (joined (cursor_capacities c.next_turn.new.cursor) (cursor_capacities now.cursor) (capacities c.step.new.q) (capacities now.position)

@@ -26,8 +26,8 @@ returns-in_err-read_turn-clause-refused g c =
     let parts = c.parts.ensures ∙ ap parts_of (sym at) in
     let forms : form_faults game.roles ts ≡ [] = ap (λ (n : ℕ). form_faults n ts) (sym c.roles.ensures) ∙ no_fault _ _ _ (sym c.in_ok-check_forms.ensures.faults) in
     let refused : played game names ts ≡ Err c.in_err-read_turn.field-0.0 =
-        turn_refused game names ts c.loop-place.place c.in_err-read_turn.field-0.0 forms (omega arith) c.loop-place.invariant.clear
-        (rw (← c.loop-place.invariant.state, ← parts) (sym c.in_err-read_turn.ensures.faults)) in
+    turn_refused game names ts c.loop-place.place c.in_err-read_turn.field-0.0 forms (omega arith) c.loop-place.invariant.clear
+    (rw (← c.loop-place.invariant.state, ← parts) (sym c.in_err-read_turn.ensures.faults)) in
     err_given c.from_residual-in_err-read_turn.result _ _ c.from_residual-in_err-read_turn.ensures.1 (λ fault same _. rw same refused)
 
 pub returns-in_err-read_turn-clause-role : goal.returns-in_err-read_turn-clause-role
