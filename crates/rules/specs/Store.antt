@@ -1,5 +1,5 @@
 -- Terms, atoms and literals in flat lists, and what they stand for.
-use Rattle.std.specs.Prelude.{ℕ, ◌+◌, false, cond, List, [], ◌∷◌, take, drop, slice_index, slice_index_or, slice_range}
+use Rattle.std.specs.Prelude.{ℕ, suc, ◌+◌, ◌-◌, ◌≤◌, false, cond, List, [], ◌∷◌, take, drop, slice_index, slice_index_or, slice_range}
 use Rattle.kif.specs.Tree.{Tree, name, list, tree, trees_of}
 use Rattle.rules.specs.declared.clauses.Part.{Part}
 use Rattle.rules.specs.declared.clauses.Part.TheVariants as parts
@@ -33,6 +33,20 @@ with_part d from (parts.List s n) behind = list (tree (name (word_at d.words s))
 abbrev pub terms_before : Data → ℕ → List Part → List Tree → List Tree
 terms_before d from [] behind = behind
 terms_before d from (p ∷ ps) behind = with_part d from p (terms_before d from ps behind)
+
+-- how many terms parts are, where each list takes its own from those behind it
+abbrev pub count_terms : List Part → ℕ
+count_terms [] = 0
+count_terms (parts.Variable v ∷ ps) = suc (count_terms ps)
+count_terms (parts.Constant s ∷ ps) = suc (count_terms ps)
+count_terms (parts.List s n ∷ ps) = suc (count_terms ps - n)
+
+-- each list has all of its terms behind it
+abbrev pub AreFull : List Part → Type 0
+AreFull [] = Unit {0}
+AreFull (parts.Variable v ∷ ps) = AreFull ps
+AreFull (parts.Constant s ∷ ps) = AreFull ps
+AreFull (parts.List s n ∷ ps) = (n ≤ count_terms ps) × AreFull ps
 
 abbrev pub relation_at : Data → ℕ → said.Relation
 relation_at d r = record { word = word_at d.words (signature_at d.signatures r).word; arity = (signature_at d.signatures r).arity }
