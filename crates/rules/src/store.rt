@@ -90,6 +90,37 @@ impl Store {
         &self.parts[place.from..place.to]
     }
 
+    /// How many names there are.
+    pub(crate) fn count_symbols(&self) -> usize
+        ensures { result ≡ length (data_of self.now).words }
+    {
+        self.symbols.len()
+    }
+
+    /// The bytes of a name.
+    pub(crate) fn symbol_at(&self, number: usize) -> &[u8]
+        requires { number < length (data_of self.now).words }
+        ensures { result.now ≡ word_at (data_of self.now).words number }
+    {
+        self.symbols.name(number)
+    }
+
+    /// The symbol of a variable.
+    pub(crate) fn variable_at(&self, place: usize) -> usize
+        requires { place < length (data_of self.now).variables }
+        ensures { result ≡ slice_index (data_of self.now).variables place }
+    {
+        self.variables[place]
+    }
+
+    /// A relation.
+    pub(crate) fn signature(&self, number: usize) -> Signature
+        requires { number < length (data_of self.now).signatures }
+        ensures { result ≡ signature_at (data_of self.now).signatures number }
+    {
+        self.signatures.as_slice()[number]
+    }
+
     /// How many relations there are.
     pub(crate) fn count_relations(&self) -> usize
         ensures { result ≡ length (data_of self.now).signatures }
