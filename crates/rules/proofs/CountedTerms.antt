@@ -2,14 +2,13 @@
 use Rattle.std.proofs.Common.{ℕ, suc, ◌≡◌, ◌-◌, List, [], ◌∷◌, length, refl, sym, ◌∙◌, ap}
 use Rattle.std.specs.Prelude.{slice_range}
 use Rattle.std.proofs.lemmas.List.{length-drop}
-use Rattle.kif.specs.Tree.{Tree}
 use Rattle.rules.specs.declared.clauses.Part.{Part}
 use Rattle.rules.specs.declared.clauses.Part.TheVariants as parts
 use Rattle.rules.specs.declared.clauses.Atom.{Atom}
 use Rattle.rules.specs.Clause as said
 use Rattle.rules.specs.Clause.{count_trees}
 use Rattle.rules.specs.Signatures.{signature_at}
-use Rattle.rules.specs.Store.{Data, terms_before, count_terms, relation_at}
+use Rattle.rules.specs.Store.{Data, terms_before, count_terms}
 use Rattle.rules.specs.Adding.{StandsFor}
 use Rattle.rules.specs.Marks.{IsInside}
 use Rattle.rules.proofs.AddingLemmas.{count_trees-length}

@@ -1,5 +1,5 @@
 -- What a rule set says of its numbers is a proposition, so it may be a ghost field.
-use Rattle.std.specs.Prelude.{ℕ, ◌≡◌, ◌<◌, ◌≤◌, List, [], ◌∷◌, length, Bool}
+use Rattle.std.specs.Prelude.{ℕ, Bool, List, [], ◌∷◌}
 use denote.Struct.Props as logic
 use Rattle.rules.specs.declared.clauses.Part.{Part}
 use Rattle.rules.specs.declared.clauses.Part.TheVariants as parts
@@ -10,7 +10,7 @@ use Rattle.rules.specs.Store.{Data, AreFull}
 use Rattle.rules.specs.Adding.{IsSorted, AreSorted}
 use Rattle.rules.specs.Marks.{IsInside, AreInside}
 use Rattle.rules.specs.Drafts.{Numbered}
-use Rattle.rules.specs.RuleSets.{IsNumberOf, AreKeywords, IsWhole, AreWhole, IsSound}
+use Rattle.rules.specs.RuleSets.{AreWhole, IsSound}
 
 pub Relation-set : IsSet said.Relation
 Relation-set = Prim.hlevel logic.props

@@ -1,5 +1,5 @@
 -- A description that was accepted, in numbers, and what it stands for.
-use Rattle.std.specs.Prelude.{ℕ, ◌≡◌, ◌<◌, ◌≤◌, Bool, false, List, [], ◌∷◌, All, Vec, length, map, slice_index_or}
+use Rattle.std.specs.Prelude.{ℕ, ◌≡◌, ◌<◌, Bool, false, List, [], ◌∷◌, All, Vec, length, map, slice_index_or}
 use Rattle.kif.specs.Tree.{Tree, text}
 use Rattle.rules.specs.declared.rule_set.Keywords.{Keywords}
 use Rattle.rules.specs.Words.{w_role, w_base, w_input, w_init, w_true, w_does, w_next, w_legal, w_goal, w_terminal, w_distinct}
