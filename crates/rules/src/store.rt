@@ -44,7 +44,7 @@ impl Store {
     }
 
     /// The symbol of a name.
-    fn symbol(&mut self, name: &[u8]) -> Result<usize, AllocError>
+    pub(crate) fn symbol(&mut self, name: &[u8]) -> Result<usize, AllocError>
         ensures found { IfOk result (λ s. (s < length (data_of self.new).words) × (word_at (data_of self.new).words s ≡ name.now)) }
         ensures kept { OnOk result (data_of self.new ≡ record (data_of self.old) { words = with_word (data_of self.old).words name.now }) }
     {
