@@ -1,5 +1,5 @@
 -- The relations that head alternatives, and those that rest on anything.
-use Rattle.std.proofs.Common.{ℕ, suc, zero, ◌≡◌, ◌<◌, ◌⊎◌, ◌↔◌, inl, inr, Bool, true, false, cond, List, [], ◌∷◌, ◌++◌, length, map, replicate, refl, sym, ◌∙◌, ap, subst, arith, get_or}
+use Rattle.std.proofs.Common.{ℕ, suc, zero, ◌≡◌, ◌<◌, ◌⊎◌, inl, inr, Bool, true, false, List, [], ◌∷◌, length, map, replicate, refl, sym, ◌∙◌, ap, subst, arith, get_or}
 use Rattle.std.specs.Prelude.{slice_set, All}
 use Rattle.std.proofs.lemmas.List.{length-set, get_or-replicate}
 use Rattle.kif.specs.Tree.{Tree}
@@ -52,6 +52,28 @@ set_at marks k r e h = subst (λ (x : ℕ). get_or (slice_set marks x true) r fa
 
 no_mark : (n r : ℕ) → r < n → get_or (replicate n false) r false ≡ true → ⊥
 no_mark n r h m = let e : get_or (replicate n false) r false ≡ false = get_or-replicate n r false false h in cc
+
+-- Lengths.
+
+pub no_marks_long : (n : ℕ) → length (replicate n false) ≡ n
+no_marks_long zero = refl
+no_marks_long (suc n) = ap (λ (x : ℕ). suc x) (no_marks_long n)
+
+heads_long : (marks : List Bool) (as' : List Alternative) → length (with_heads marks as') ≡ length marks
+heads_long marks [] = refl
+heads_long marks (a ∷ as') = heads_long (slice_set marks a.head.relation true) as' ∙ length-set marks a.head.relation true
+
+pub all_heads_long : (n : ℕ) (as' : List Alternative) (marks : List Bool) → marks ≡ with_heads (replicate n false) as' → length marks ≡ n
+all_heads_long n as' marks e = ap length e ∙ heads_long (replicate n false) as' ∙ no_marks_long n
+
+passing_long : (marks : List Bool) (links : List Links) (tests : List Bool) → length (with_passing marks links tests) ≡ length marks
+passing_long marks [] tests = refl
+passing_long marks (l ∷ links) [] = refl
+passing_long marks (l ∷ links) (true ∷ tests) = passing_long (slice_set marks l.head true) links tests ∙ length-set marks l.head true
+passing_long marks (l ∷ links) (false ∷ tests) = passing_long marks links tests
+
+pub all_passing_long : (n : ℕ) (links : List Links) (tests marks : List Bool) → marks ≡ with_passing (replicate n false) links tests → length marks ≡ n
+all_passing_long n links tests marks e = ap length e ∙ passing_long (replicate n false) links tests ∙ no_marks_long n
 
 -- Heads of alternatives.
 
@@ -119,13 +141,9 @@ pub heads_marked : (d : Data) (as' : List Alternative) (rules : List said.Altern
     → (p : Relation) → IsAmong p (heads_of rules) → (r : ℕ) × (r < length d.signatures) × (relation_at d r ≡ p) × (get_or marks r false ≡ true)
 heads_marked d as' rules marks s e p i =
     let m = among_headed d as' rules p s i in
-    let l : length (replicate (length d.signatures) false) ≡ length d.signatures = long (length d.signatures) in
+    let l : length (replicate (length d.signatures) false) ≡ length d.signatures = no_marks_long (length d.signatures) in
     (m.number, m.inside, m.named, subst (λ (bs : List Bool). get_or bs m.number false ≡ true) (sym e)
     (heads_in (replicate (length d.signatures) false) as' m.number (let j = m.inside in omega (arith, l, j)) m.heads))
-  where
-    long : (n : ℕ) → length (replicate n false) ≡ n
-    long zero = refl
-    long (suc n) = ap (λ (x : ℕ). suc x) (long n)
 
 -- Heads of items with a literal.
 
@@ -222,11 +240,7 @@ marks_are_bodies d links items rests marks x s e f r h = (into, out)
       | inr i ↦ passing_body d links items r s i
     ]
 
-    long : (m : ℕ) → length (replicate m false) ≡ m
-    long zero = refl
-    long (suc m) = ap (λ (y : ℕ). suc y) (long m)
-
     out : HasBody (alternatives items) (relation_at d r) → get_or marks r false ≡ true
     out b = subst (λ (bs : List Bool). get_or bs r false ≡ true) (sym same)
-        (passing_in (replicate (length d.signatures) false) links (map rests_on_any items) r (let l = long (length d.signatures) in omega (arith, l, h))
+        (passing_in (replicate (length d.signatures) false) links (map rests_on_any items) r (let l = no_marks_long (length d.signatures) in omega (arith, l, h))
         (body_passing d links items r x s h b.rule b.literal b.is_rule b.heads b.in_body))

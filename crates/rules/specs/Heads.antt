@@ -1,5 +1,5 @@
 -- Which relations head alternatives, by number.
-use Rattle.std.specs.Prelude.{ℕ, ◌≡◌, ◌<◌, ◌⊎◌, Bool, true, cond, List, [], ◌∷◌, slice_set}
+use Rattle.std.specs.Prelude.{Bool, true, cond, List, [], ◌∷◌, slice_set}
 use Rattle.rules.specs.declared.clauses.Alternative.{Alternative}
 use Rattle.rules.specs.declared.item_links.Links.{Links}
 
