@@ -112,12 +112,12 @@ among_at [] x h = absurd h
 among_at (y ∷ xs) x (inl e) = (0, omega arith, sym e)
 among_at (y ∷ xs) x (inr h) = let m = among_at xs x h in (suc m.0, let l = m.1 in omega (arith, l), m.2)
 
-in_map : (h : said.Atom) (b : List said.Literal) (rs : List (List said.Literal)) → IsAmong b rs → IsAmong {A = said.Alternative} (record { head = h; body = b }) (map (λ (x : List said.Literal). record { head = h; body = x }) rs)
+pub in_map : (h : said.Atom) (b : List said.Literal) (rs : List (List said.Literal)) → IsAmong b rs → IsAmong {A = said.Alternative} (record { head = h; body = b }) (map (λ (x : List said.Literal). record { head = h; body = x }) rs)
 in_map h b [] k = absurd k
 in_map h b (c ∷ rs) (inl e) = inl (ap (λ (x : List said.Literal). record { head = h; body = x }) e)
 in_map h b (c ∷ rs) (inr k) = inr (in_map h b rs k)
 
-of_map : (h : said.Atom) (a : said.Alternative) (rs : List (List said.Literal)) → IsAmong a (map (λ (x : List said.Literal). record { head = h; body = x }) rs) → IsAmong a.body rs
+pub of_map : (h : said.Atom) (a : said.Alternative) (rs : List (List said.Literal)) → IsAmong a (map (λ (x : List said.Literal). record { head = h; body = x }) rs) → IsAmong a.body rs
 of_map h a [] k = absurd k
 of_map h a (c ∷ rs) (inl e) = inl (ap (λ (x : said.Alternative). x.body) e)
 of_map h a (c ∷ rs) (inr k) = inr (of_map h a rs k)

@@ -138,6 +138,24 @@ impl Store {
         is_same_name(self.symbols.name(signature.word), word) && signature.arity == arity
     }
 
+    /// The bytes of a relation's name.
+    pub(crate) fn relation_name(&self, relation: usize) -> &[u8]
+        requires relation { relation < length (data_of self.now).signatures }
+        requires word { (signature_at (data_of self.now).signatures relation).word < length (data_of self.now).words }
+        ensures { result.now ≡ (relation_at (data_of self.now) relation).word }
+    {
+        let signature = self.signatures.as_slice()[relation];
+        self.symbols.name(signature.word)
+    }
+
+    /// How many arguments a relation has.
+    pub(crate) fn relation_arity(&self, relation: usize) -> usize
+        requires { relation < length (data_of self.now).signatures }
+        ensures { result ≡ (relation_at (data_of self.now) relation).arity }
+    {
+        self.signatures.as_slice()[relation].arity
+    }
+
     /// Whether a relation is `distinct` with two arguments.
     pub(crate) fn is_distinct(&self, relation: usize) -> bool
         requires relation { relation < length (data_of self.now).signatures }
