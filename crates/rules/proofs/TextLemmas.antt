@@ -1,7 +1,7 @@
 -- The texts of the roles that items state.
-use Rattle.std.proofs.Common.{ℕ, suc, ◌≡◌, ◌+◌, ◌<◌, ◌≤◌, List, [], ◌∷◌, ◌++◌, length, map, drop, get_or, sym, ◌∙◌, ap, arith, append_assoc, drop-cons}
+use Rattle.std.proofs.Common.{ℕ, suc, ◌≡◌, ◌+◌, ◌<◌, ◌≤◌, List, [], ◌∷◌, ◌++◌, length, map, drop, get_or, sym, ◌∙◌, ap, subst, arith, append_assoc, drop-cons}
 use Rattle.std.specs.Prelude.{All, Vec}
-use Rattle.std.proofs.lemmas.List.{append-nil, map-append}
+use Rattle.std.proofs.lemmas.List.{append-nil, map-append, length-map}
 use Rattle.std.proofs.lemmas.List.Elements.{All-get_or}
 use Rattle.std.proofs.Math.ListN.{drop_of_length-le}
 use Rattle.kif.specs.Tree.{Tree, text}
@@ -50,3 +50,8 @@ one_text old new v ts t added is one =
 -- no role, no text
 pub no_text : (texts : List (List ℕ)) (ts : List Tree) → ts ≡ [] → texts ≡ texts ++ map text ts
 no_text texts ts none = sym (append-nil texts) ∙ ap (λ (us : List Tree). texts ++ map text us) (sym none)
+
+-- places of trees are places of what stands for them
+pub places_inside : {A : Type 0} (es : List (Expr A)) (places read : List ℕ) → All (λ k. k < length (trees_in es)) places → read ≡ places → All (λ k. k < length es) read
+places_inside {A} es places read within same =
+    subst (λ (ks : List ℕ). All (λ k. k < length es) ks) (sym same) (subst (λ (n : ℕ). All (λ k. k < n) places) (length-map es (tree_of {A = A})) within)
