@@ -141,9 +141,13 @@ pub heads_marked : (d : Data) (as' : List Alternative) (rules : List said.Altern
     → (p : Relation) → IsAmong p (heads_of rules) → (r : ℕ) × (r < length d.signatures) × (relation_at d r ≡ p) × (get_or marks r false ≡ true)
 heads_marked d as' rules marks s e p i =
     let m = among_headed d as' rules p s i in
-    let l : length (replicate (length d.signatures) false) ≡ length d.signatures = no_marks_long (length d.signatures) in
-    (m.number, m.inside, m.named, subst (λ (bs : List Bool). get_or bs m.number false ≡ true) (sym e)
-    (heads_in (replicate (length d.signatures) false) as' m.number (let j = m.inside in omega (arith, l, j)) m.heads))
+    let l : length (replicate (length d.signatures) false) ≡ length d.signatures = no_marks_long (length d.signatures) in (
+      m.number,
+      m.inside,
+      m.named,
+      subst (λ (bs : List Bool). get_or bs m.number false ≡ true) (sym e)
+          (heads_in (replicate (length d.signatures) false) as' m.number (let j = m.inside in omega (arith, l, j)) m.heads),
+    )
 
 -- Heads of items with a literal.
 

@@ -42,10 +42,7 @@ fn first_tests<A: Allocator>(items: &[Expr<A>]) -> Result<ArrayVec<usize, ROLES_
 }
 
 /// Reads the items, if each is safe, and numbers the names that have a meaning in play.
-fn read_all<A: Allocator>(
-    alloc: Global,
-    items: &[Expr<A>],
-) -> Result<(Draft, Keywords), RuleFault>
+fn read_all<A: Allocator>(alloc: Global, items: &[Expr<A>]) -> Result<(Draft, Keywords), RuleFault>
     requires { PassesFirstTests (trees_in items.now) }
     ensures read { IfOk result (λ both. IsDraftOf both.0 (trees_in items.now)) }
     ensures keywords { IfOk result (λ both. AreKeywords (data_of both.0.store).words both.1) }
@@ -83,3 +80,6 @@ impl RuleSet {
         })
     }
 }
+
+#[cfg(test)]
+mod tests;
