@@ -1,5 +1,5 @@
 -- The relations that bodies name.
-use Rattle.std.proofs.Common.{ℕ, suc, zero, ◌≡◌, ◌+◌, ◌<◌, ◌≤◌, inl, inr, Bool, true, false, cond, List, [], ◌∷◌, ◌++◌, length, drop, refl, sym, ◌∙◌, ap, subst, arith, get_or, append_assoc}
+use Rattle.std.proofs.Common.{ℕ, suc, zero, ◌≡◌, ◌+◌, ◌<◌, ◌≤◌, inl, inr, List, [], ◌∷◌, ◌++◌, length, drop, refl, sym, ◌∙◌, ap, subst, arith, get_or}
 use Rattle.std.proofs.Common.{IsPermutation, eqb}
 use Rattle.std.specs.List.{dedup}
 use Rattle.std.proofs.lemmas.List.{append-nil}
@@ -7,10 +7,13 @@ use Rattle.std.proofs.lemmas.List.Kept.{Contains-dedup_nat, Contains-from_dedup}
 use Rattle.std.proofs.lemmas.List.Sorted.{Contains-permutation, IsPermutation-sym}
 use Rattle.rules.specs.Dependence.{IsAmong}
 use Rattle.std.specs.Prelude.{Vec}
+use Rattle.std.specs.List.Sorted.{IsSorted, IsStrictlyIncreasing}
+use Rattle.std.specs.Ordering.{nat_cmp}
+use Rattle.std.proofs.lemmas.Map.Keys.{IsStrictlyIncreasing-dedup}
 use Rattle.rules.specs.Spread.{lists_of}
 use Rattle.rules.specs.Store.{Data}
 use Rattle.rules.specs.Marks.{AreInside, AreAllInside}
-use Rattle.rules.specs.Bodies.{named_relation, named_relations, all_named_relations, HaveSame, has_literal}
+use Rattle.rules.specs.Bodies.{named_relations, all_named_relations, HaveSame}
 use Rattle.rules.proofs.ArrowLemmas.{contained, containing}
 use Rattle.rules.proofs.Tests.{IsAmong-append, IsAmong-append_left, IsAmong-append_right}
 
@@ -21,6 +24,7 @@ pub record Naming (from : ℕ) (d : Data) (start now all rest : List ℕ) : Type
 
 pub record NamingAll (from : ℕ) (d : Data) (now : List ℕ) (all rest : List (List ℕ)) : Type 0 where
   pub same : HaveSame (now ++ all_named_relations d rest) (all_named_relations d all)
+  pub rising : IsStrictlyIncreasing now
   pub inside : AreAllInside from d rest
 
 -- what a sort leaves, without repeats, has the same numbers
@@ -30,8 +34,11 @@ same_once old sorted new p e x = (
   (λ i. let c = Contains-dedup_nat sorted x (Contains-permutation old sorted x p (containing old x i)) in subst (λ (xs : List ℕ). IsAmong x xs) (sym e) (contained (dedup eqb sorted) x c.0 c.1 c.2)),
 )
 
-body_named : (from : ℕ) (d : Data) (now new out b : List ℕ) (all rest : List (List ℕ)) → NamingAll from d now all (b ∷ rest) → new ≡ now ++ named_relations d b → HaveSame out new → NamingAll from d out all rest
-body_named from d now new out b all rest n e h = record { same = λ x. (into x, back x); inside = n.inside.1 }
+pub rising_once : (sorted new : List ℕ) → IsSorted nat_cmp sorted → new ≡ dedup eqb sorted → IsStrictlyIncreasing new
+rising_once sorted new s e = subst (λ (xs : List ℕ). IsStrictlyIncreasing xs) (sym e) (IsStrictlyIncreasing-dedup sorted s)
+
+body_named : (from : ℕ) (d : Data) (now new out b : List ℕ) (all rest : List (List ℕ)) → NamingAll from d now all (b ∷ rest) → new ≡ now ++ named_relations d b → HaveSame out new → IsStrictlyIncreasing out → NamingAll from d out all rest
+body_named from d now new out b all rest n e h r = record { same = λ x. (into x, back x); rising = r; inside = n.inside.1 }
   where
     into : (x : ℕ) → IsAmong x (out ++ all_named_relations d rest) → IsAmong x (all_named_relations d all)
     into x i = (n.same x).0 (elim (IsAmong-append x out (all_named_relations d rest) i) [
@@ -65,12 +72,12 @@ lists_from (x ∷ xs) zero v h e = ap (λ y. lists_of (y ∷ xs)) (sym e)
 lists_from (x ∷ xs) (suc i) v h e = lists_from xs i v (omega (arith, h)) e
 
 pub next_named : {G : Type 0} (from : ℕ) (d : Data) (items : List (Vec ℕ G)) (i : ℕ) (v : Vec ℕ G) (b now new out : List ℕ) (all : List (List ℕ)) → NamingAll from d now all (lists_of (drop i items)) → i < length items
-    → v ≡ get_or items i v → b ≡ v.items → new ≡ now ++ named_relations d b → HaveSame out new → NamingAll from d out all (lists_of (drop (i + 1) items))
-next_named {G} from d items i v b now new out all n h e f g k =
+    → v ≡ get_or items i v → b ≡ v.items → new ≡ now ++ named_relations d b → HaveSame out new → IsStrictlyIncreasing out → NamingAll from d out all (lists_of (drop (i + 1) items))
+next_named {G} from d items i v b now new out all n h e f g k r =
     let next : suc i ≡ i + 1 = omega arith in
     let here = subst (λ (ls : List (List ℕ)). NamingAll from d now all ls) (lists_from items i v h e) n in
     subst (λ (j : ℕ). NamingAll from d out all (lists_of (drop j items))) next
-    (body_named from d now new out v.items all (lists_of (drop (suc i) items)) here (g ∙ ap (λ (xs : List ℕ). now ++ named_relations d xs) f) k)
+    (body_named from d now new out v.items all (lists_of (drop (suc i) items)) here (g ∙ ap (λ (xs : List ℕ). now ++ named_relations d xs) f) k r)
 
 none_left : {G : Type 0} (xs : List (Vec ℕ G)) (i : ℕ) → length xs ≤ i → lists_of (drop i xs) ≡ []
 none_left [] zero h = refl
