@@ -164,7 +164,7 @@ graph_stands d links items words signatures there s =
 
 -- Without cycles no body rests on its head.
 
-contained : (xs : List ℕ) (x k : ℕ) → k < length xs → slice_index_or xs k x ≡ x → IsAmong x xs
+pub contained : (xs : List ℕ) (x k : ℕ) → k < length xs → slice_index_or xs k x ≡ x → IsAmong x xs
 contained [] x k h e = absurd (let bad : ⊥ = omega (arith, h) in bad)
 contained (y ∷ xs) x zero h e = inl (sym e)
 contained (y ∷ xs) x (suc k) h e = inr (contained xs x k (omega (arith, h)) e)
@@ -225,7 +225,7 @@ first_of_chain : (arrows : List Arrow) (p : ℕ) (m : ℕ) → ReachesIn arrows 
 first_of_chain arrows p zero l = (l.place, l.inside, l.from, inl l.to)
 first_of_chain arrows p (suc m) c = let l = c.1 in (l.place, l.inside, l.from, inr (subst (λ (x : ℕ). Reaches arrows x p) (sym l.to) (m, c.2)))
 
-containing : (xs : List ℕ) (x : ℕ) → IsAmong x xs → (k : ℕ) × (k < length xs) × (get_or xs k x ≡ x)
+pub containing : (xs : List ℕ) (x : ℕ) → IsAmong x xs → (k : ℕ) × (k < length xs) × (get_or xs k x ≡ x)
 containing [] x h = absurd h
 containing (y ∷ xs) x (inl e) = (0, omega arith, sym e)
 containing (y ∷ xs) x (inr h) = let m = containing xs x h in (suc m.0, let l = m.1 in omega (arith, l), m.2)
