@@ -155,7 +155,7 @@ link_later : (d later : Data) (i : Item) (l : Links) (t : Tree) → Extends d la
 link_later d later i l t x k s u =
     let lists : List (List ℕ) = lists_of i.bodies.items in
     let same : HaveSame l.body.items (all_named_relations later lists) =
-        subst (λ (ns : List ℕ). HaveSame l.body.items ns) (sym (bodies_later i.variables.from d later lists (readings_of_all (body_trees t)) x s.bodies u.bodies)) k.body in
+    subst (λ (ns : List ℕ). HaveSame l.body.items ns) (sym (bodies_later i.variables.from d later lists (readings_of_all (body_trees t)) x s.bodies u.bodies)) k.body in
     record {
       head_in = subst (λ (r : ℕ). r < length later.signatures) (sym k.head) u.head.relation;
       named = ap (λ (r : ℕ). relation_at later r) k.head ∙ u.head.same_relation;
