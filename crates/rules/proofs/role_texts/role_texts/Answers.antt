@@ -1,4 +1,3 @@
-use Rattle.rules.specs.RuleSets.{texts_of}
 use Rattle.rules.proofs.TextLemmas.{written_on, written_all}
 use Rattle.rules.proofs.role_texts.role_texts.Goals as goal
 

@@ -1,4 +1,4 @@
-use Rattle.std.proofs.Common.{sym, ap, subst, ◌<◌, ℕ, length}
+use Rattle.std.proofs.Common.{sym, subst, ◌<◌, ℕ, length}
 use Rattle.rules.specs.declared.signatures.Signature.{Signature}
 use Rattle.rules.proofs.check.tests.add_relation.Goals as goal
 
