@@ -12,7 +12,7 @@ use Rattle.rules.specs.Clause as said
 use Rattle.rules.specs.Clause.{is_variable, positive, negative, count_trees}
 use Rattle.rules.specs.Signatures.{no_signature, signature_at, with_signature}
 use Rattle.rules.specs.Numbers.{Begins, word_at, with_word, with_number}
-use Rattle.rules.specs.Store.{Data, variable_name, with_part, terms_before, relation_at, literal_of, no_literal}
+use Rattle.rules.specs.Store.{Data, variable_name, with_part, terms_before, count_terms, AreFull, relation_at, literal_of, no_literal}
 use Rattle.rules.specs.Adding.{Extends, Grows, AreSorted, Spells, Adds, MakesPart, BeginsList, NumbersRelation, StandsFor, AddsAtom, AddsLiteral}
 use Rattle.rules.proofs.NumberLemmas.{with_word-Begins, with_word-AreDifferent, with_number-Begins, with_number-StandOnce}
 use Rattle.rules.proofs.SignatureLemmas.{with_signature-Begins, with_signature-AreDifferent, with_signature-named}
@@ -109,7 +109,7 @@ adds_none from d =
       grows = grows_refl from d;
       added = [];
       behind = sym (append-nil d.parts);
-      spells = record { terms = λ later e behind. refl; sorted = λ later e. tt };
+      spells = record { terms = λ later e behind. refl; sorted = λ later e. tt; full = λ behind h. h; count = λ behind. omega arith };
     }
 
 pub spells_both : (from : ℕ) (a b : Data) (ps qs : List Part) (ts us : List Tree) → Extends a b → Spells from a ps ts → Spells from b qs us → Spells from b (ps ++ qs) (ts ++ us)
@@ -121,6 +121,12 @@ spells_both from a b ps qs ts us x s t =
           ∙ s.terms later (extends_trans a b later x e) (us ++ behind)
           ∙ sym (append_assoc ts us behind);
       sorted = λ later e. sorted_append later from ps qs (s.sorted later (extends_trans a b later x e)) (t.sorted later e);
+      full = λ behind h. subst (λ (rs : List Part). AreFull rs) (sym (append_assoc ps qs behind)) (s.full (qs ++ behind) (t.full behind h));
+      count = λ behind.
+          let long = length-append ts us in
+          let front = ap (λ (rs : List Part). count_terms rs) (append_assoc ps qs behind) ∙ s.count (qs ++ behind) in
+          let back = t.count behind in
+          omega (arith, long, front, back);
     }
 
 pub adds_both : (from : ℕ) (a b c : Data) (ts us : List Tree) → Adds from a b ts → Adds from b c us → Adds from a c (ts ++ us)
@@ -151,6 +157,8 @@ variable_part from a b c s v w h e f (in_words, same_word) (in_variables, same_s
         subst (λ (n : ℕ). n < length later.words) (sym (at later x)) (begins_less b.words later.words s (begins_trans _ _ _ grown.extends.words x.words) in_words),
         subst (λ (n : List ℕ). is_variable n ≡ true) (sym (same later x)) variable,
       );
+      full = λ behind h. h;
+      count = λ behind. refl;
     }
 
 pub constant_part : (from : ℕ) (a b : Data) (s : ℕ) (w : List ℕ) → b ≡ record a { words = with_word a.words w } → (s < length b.words) × (word_at b.words s ≡ w) → is_variable w ≡ false
@@ -162,6 +170,8 @@ constant_part from a b s w e (in_words, same_word) constant =
       same_parts = ap (λ (d : Data). d.parts) e;
       term = λ later x behind. ap (λ (n : List ℕ). name n ∷ behind) (same later x);
       sorted = λ later x. (begins_less b.words later.words s x.words in_words, subst (λ (n : List ℕ). is_variable n ≡ false) (sym (same later x)) constant);
+      full = λ behind h. h;
+      count = λ behind. refl;
     }
 
 pub adds_name : (from : ℕ) (a b c : Data) (p : Part) (w : List ℕ) → MakesPart from a b p w → c ≡ record b { parts = b.parts ++ p ∷ [] } → Adds from a c (name w ∷ [])
@@ -174,6 +184,8 @@ adds_name from a b c p w m e =
       spells = record {
         terms = λ later x behind. m.term later (extends_trans b c later grown.extends x) behind;
         sorted = λ later x. (m.sorted later (extends_trans b c later grown.extends x), tt);
+        full = m.full;
+        count = λ behind. let k = m.count behind in omega (arith, k);
       };
     }
 
@@ -215,6 +227,8 @@ adds_list from a b c w n ts long constant l x =
         sorted = λ later e.
             let k = l.named later (extends_trans b c later x.grows.extends e) in
             ((k.0, subst (λ (v : List ℕ). is_variable v ≡ false) (sym k.1) constant), x.spells.sorted later e);
+        full = λ behind h. ((let k = x.spells.count behind in omega (arith, k, long)), x.spells.full behind h);
+        count = λ behind. let k = x.spells.count behind in omega (arith, k, long);
       };
     }
 
@@ -298,6 +312,7 @@ adds_atom from a b c r n i j w ts long number x f g =
             ∙ ap (λ (us : List Tree). record { word = w; terms = trees_of us })
             (ap (λ (ps : List Part). terms_before later from ps []) (behind later e) ∙ x.spells.terms later e [] ∙ append-nil ts);
         sorted = subst (λ (ps : List Part). AreSorted later from ps) (sym (behind later e)) (x.spells.sorted later e);
+        full = subst (λ (ps : List Part). AreFull ps) (append-nil x.added ∙ sym (behind later e)) (x.spells.full [] tt);
       };
     }
 

@@ -10,7 +10,7 @@ use Rattle.rules.specs.declared.graph.Arrow.{Arrow}
 use Rattle.rules.specs.declared.graph.Graph.{Graph}
 use Rattle.rules.specs.declared.item_links.Links.{Links}
 use Rattle.rules.specs.declared.signatures.Signature.{Signature}
-use Rattle.rules.specs.Graph.{arrow_at, Leads, Reaches, IsCyclic, IsReachedFrom}
+use Rattle.rules.specs.Graph.{arrow_at, Leads, ReachesIn, Reaches, IsCyclic, IsReachedFrom}
 use Rattle.rules.specs.Numbers.{AreDifferent, word_at}
 use Rattle.rules.specs.Signatures.{signature_at}
 use Rattle.rules.specs.Store.{Data, relation_at}
@@ -164,7 +164,7 @@ graph_stands d links items words signatures there s =
 
 -- Without cycles no body rests on its head.
 
-contained : (xs : List ℕ) (x k : ℕ) → k < length xs → slice_index_or xs k x ≡ x → IsAmong x xs
+pub contained : (xs : List ℕ) (x k : ℕ) → k < length xs → slice_index_or xs k x ≡ x → IsAmong x xs
 contained [] x k h e = absurd (let bad : ⊥ = omega (arith, h) in bad)
 contained (y ∷ xs) x zero h e = inl (sym e)
 contained (y ∷ xs) x (suc k) h e = inr (contained xs x k (omega (arith, h)) e)
@@ -203,3 +203,44 @@ from_in_links n (l ∷ links) w a h = go (IsAmong-append a (arrows_from l.head l
 pub arrows_inside : (n : ℕ) (arrows : List Arrow) (links : List Links) → arrows ≡ arrows_in links → ((k : ℕ) (l : Links) → k < length links → IsWithin n (get_or links k l))
     → (k : ℕ) → k < length arrows → (arrow_at arrows k).from < n
 arrows_inside n arrows links e w k h = from_in_links n links w (arrow_at arrows k) (subst (λ (as' : List Arrow). IsAmong (arrow_at arrows k) as') e (arrow_among arrows k h))
+
+-- In a cycle some body rests on its head.
+
+-- the link that an arrow comes from
+record Joins (links : List Links) (a : Arrow) : Type 0 where
+  link : Links
+  place : ℕ
+  inside : place < length links
+  joins : (l : Links) → From (get_or links place l).head (get_or links place l).body.items a
+
+joined : (links : List Links) (a : Arrow) → IsAmong a (arrows_in links) → Joins links a
+joined [] a h = absurd h
+joined (l ∷ links) a h = go (IsAmong-append a (arrows_from l.head l.body.items) (arrows_in links) h) (λ k. joined links a k)
+  where
+    go : IsAmong a (arrows_from l.head l.body.items) ⊎ IsAmong a (arrows_in links) → (IsAmong a (arrows_in links) → Joins links a) → Joins (l ∷ links) a
+    go (inl k) next = record { link = l; place = 0; inside = omega arith; joins = λ m. from_head l.head l.body.items a k }
+    go (inr k) next = let m = next k in record { link = l; place = suc m.place; inside = (let i = m.inside in omega (arith, i)); joins = m.joins }
+
+first_of_chain : (arrows : List Arrow) (p : ℕ) (m : ℕ) → ReachesIn arrows m p p → (a : ℕ) × (a < length arrows) × ((arrow_at arrows a).from ≡ p) × (((arrow_at arrows a).to ≡ p) ⊎ Reaches arrows (arrow_at arrows a).to p)
+first_of_chain arrows p zero l = (l.place, l.inside, l.from, inl l.to)
+first_of_chain arrows p (suc m) c = let l = c.1 in (l.place, l.inside, l.from, inr (subst (λ (x : ℕ). Reaches arrows x p) (sym l.to) (m, c.2)))
+
+pub containing : (xs : List ℕ) (x : ℕ) → IsAmong x xs → (k : ℕ) × (k < length xs) × (get_or xs k x ≡ x)
+containing [] x h = absurd h
+containing (y ∷ xs) x (inl e) = (0, omega arith, sym e)
+containing (y ∷ xs) x (inr h) = let m = containing xs x h in (suc m.0, let l = m.1 in omega (arith, l), m.2)
+
+pub cyclic_link : (arrows : List Arrow) (links : List Links) → arrows ≡ arrows_in links → IsCyclic arrows
+    → ((k : ℕ) (l : Links) → k < length links → IsReachedFrom arrows (get_or links k l).body.items (get_or links k l).head → ⊥) → ⊥
+cyclic_link arrows links e cycle none =
+    let f = first_of_chain arrows cycle.0 cycle.1.0 cycle.1.1 in
+    let a : Arrow = arrow_at arrows f.0 in
+    let j = joined links a (subst (λ (as' : List Arrow). IsAmong a as') e (arrow_among arrows f.0 f.1)) in
+    let m : Links = get_or links j.place j.link in
+    let n = j.joins j.link in
+    let same : cycle.0 ≡ m.head = sym f.2 ∙ n.from in
+    none j.place j.link j.inside (record { start = a.to; is_start = containing m.body.items a.to n.to; leads = leads a.to m.head same f.3 })
+  where
+    leads : (start head : ℕ) → cycle.0 ≡ head → (start ≡ cycle.0) ⊎ Reaches arrows start cycle.0 → (start ≡ head) ⊎ Reaches arrows start head
+    leads start head same (inl s) = inl (s ∙ same)
+    leads start head same (inr r) = inr (subst (λ (x : ℕ). Reaches arrows start x) same r)

@@ -22,7 +22,7 @@ use Rattle.rules.specs.ItemView.{ItemStandsFor, ReadsItem}
 use Rattle.rules.specs.declared.draft.Draft.{Draft}
 use Rattle.rules.specs.declared.item_links.Links.{Links}
 use Rattle.rules.specs.StoreView.{data_of}
-use Rattle.rules.specs.Bodies.{named_relation, named_relations, all_named_relations, has_literal}
+use Rattle.rules.specs.Bodies.{named_relation, named_relations, all_named_relations, HaveSame, has_literal}
 use Rattle.rules.specs.Marks.{literal_in, IsInside, AreInside, AreAllInside, is_safe_by, are_safe_by}
 use Rattle.rules.specs.Drafts.{Numbered, numbered, numbered_with, numbered_of, AddsSafe, LinksItem, StandForAlternatives, LinkStandsFor, StandForItems, some_literal_in, rests_on_any, IsDraftOf, AddsItem}
 use Rattle.kif.specs.View.{tree_of, trees_in}
@@ -30,7 +30,7 @@ use Rattle.kif.specs.declared.expr.Expr.{Expr}
 use Rattle.kif.proofs.ViewLemmas.{trees_in_take}
 use Rattle.rules.proofs.Firsts.{IsBehind, found_here, found_later}
 use Rattle.rules.proofs.AddingLemmas.{extends_refl, extends_trans, begins_at}
-use Rattle.rules.proofs.LinkLemmas.{body_numbers}
+use Rattle.rules.proofs.LinkLemmas.{body_numbers, same_body_numbers}
 use Rattle.rules.proofs.SafetyLemmas.{AreDistinct, is_inside, are_inside, safe_is}
 use Rattle.rules.proofs.SpreadLemmas.{lists_of-append}
 
@@ -86,7 +86,7 @@ not_safe_item old d i t b r words e = ap not (sym (e ∙ item_safe old d i t r w
 
 pub adds_safe : (old new : Draft) (i : Item) (l : Links) (t : Tree) → ReadsItem (data_of old.store) (data_of new.store) i t
     → map numbered new.alternatives.items ≡ map numbered old.alternatives.items ++ numbered_of i → new.links.items ≡ old.links.items ++ l ∷ []
-    → l.head ≡ i.head.relation → l.body.items ≡ all_named_relations (data_of new.store) (lists_of i.bodies.items)
+    → l.head ≡ i.head.relation → HaveSame l.body.items (all_named_relations (data_of new.store) (lists_of i.bodies.items))
     → new.rests.items ≡ old.rests.items ++ has_literal (lists_of i.bodies.items) ∷ [] → AddsSafe old new t
 adds_safe old new i l t r alternatives links head body rests =
     record {
@@ -154,11 +154,12 @@ bodies_later from d later (b ∷ lists) (r ∷ rs) x s t = cc (body_later from d
 link_later : (d later : Data) (i : Item) (l : Links) (t : Tree) → Extends d later → LinksItem d i l → ItemStandsFor d i t → ItemStandsFor later i t → LinkStandsFor later l t
 link_later d later i l t x k s u =
     let lists : List (List ℕ) = lists_of i.bodies.items in
-    let same : l.body.items ≡ all_named_relations later lists = k.body ∙ sym (bodies_later i.variables.from d later lists (readings_of_all (body_trees t)) x s.bodies u.bodies) in
+    let same : HaveSame l.body.items (all_named_relations later lists) =
+    subst (λ (ns : List ℕ). HaveSame l.body.items ns) (sym (bodies_later i.variables.from d later lists (readings_of_all (body_trees t)) x s.bodies u.bodies)) k.body in
     record {
       head_in = subst (λ (r : ℕ). r < length later.signatures) (sym k.head) u.head.relation;
       named = ap (λ (r : ℕ). relation_at later r) k.head ∙ u.head.same_relation;
-      body = subst (λ (ns : List ℕ). AreBodyNumbers (length later.signatures) (λ r. relation_at later r) (item_alternatives t) ns) (sym same) (body_numbers later i t u);
+      body = same_body_numbers (length later.signatures) (λ r. relation_at later r) (item_alternatives t) l.body.items (all_named_relations later lists) same (body_numbers later i t u);
     }
 
 literal_there : (from : ℕ) (d : Data) (lists : List (List ℕ)) (rs : List (List said.Literal)) → StandForLists from d lists rs → has_literal lists ≡ some_literal_in rs

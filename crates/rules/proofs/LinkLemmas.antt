@@ -12,7 +12,7 @@ use Rattle.rules.specs.Store.{Data, relation_at}
 use Rattle.rules.specs.Adding.{LiteralStandsFor, StandForEach, StandForLists}
 use Rattle.rules.specs.ItemView.{ItemStandsFor}
 use Rattle.rules.specs.Marks.{literal_in, AreInside, AreAllInside}
-use Rattle.rules.specs.Bodies.{named_relation, named_relations, all_named_relations, has_literal}
+use Rattle.rules.specs.Bodies.{named_relation, named_relations, all_named_relations, HaveSame, has_literal}
 use Rattle.rules.specs.Numbering.{IsInBodies, AreBodyNumbers}
 use Rattle.rules.proofs.Tests.{IsAmong-append, IsAmong-append_left, IsAmong-append_right}
 use Rattle.rules.proofs.SafetyLemmas.{are_inside}
@@ -112,12 +112,12 @@ among_at [] x h = absurd h
 among_at (y ∷ xs) x (inl e) = (0, omega arith, sym e)
 among_at (y ∷ xs) x (inr h) = let m = among_at xs x h in (suc m.0, let l = m.1 in omega (arith, l), m.2)
 
-in_map : (h : said.Atom) (b : List said.Literal) (rs : List (List said.Literal)) → IsAmong b rs → IsAmong {A = said.Alternative} (record { head = h; body = b }) (map (λ (x : List said.Literal). record { head = h; body = x }) rs)
+pub in_map : (h : said.Atom) (b : List said.Literal) (rs : List (List said.Literal)) → IsAmong b rs → IsAmong {A = said.Alternative} (record { head = h; body = b }) (map (λ (x : List said.Literal). record { head = h; body = x }) rs)
 in_map h b [] k = absurd k
 in_map h b (c ∷ rs) (inl e) = inl (ap (λ (x : List said.Literal). record { head = h; body = x }) e)
 in_map h b (c ∷ rs) (inr k) = inr (in_map h b rs k)
 
-of_map : (h : said.Atom) (a : said.Alternative) (rs : List (List said.Literal)) → IsAmong a (map (λ (x : List said.Literal). record { head = h; body = x }) rs) → IsAmong a.body rs
+pub of_map : (h : said.Atom) (a : said.Alternative) (rs : List (List said.Literal)) → IsAmong a (map (λ (x : List said.Literal). record { head = h; body = x }) rs) → IsAmong a.body rs
 of_map h a [] k = absurd k
 of_map h a (c ∷ rs) (inl e) = inl (ap (λ (x : said.Alternative). x.body) e)
 of_map h a (c ∷ rs) (inr k) = inr (of_map h a rs k)
@@ -146,3 +146,18 @@ body_numbers d i t s =
           let p = among_at numbers m.number m.among in
           (p.0, p.1, ap (λ (r : ℕ). relation_at d r) p.2 ∙ m.names ∙ b.names);
     }
+
+-- other numbers that are the same, however often
+pub same_body_numbers : (n : ℕ) (name : ℕ → said.Relation) (rules : List said.Alternative) (xs ys : List ℕ) → HaveSame xs ys → AreBodyNumbers n name rules ys → AreBodyNumbers n name rules xs
+same_body_numbers n name rules xs ys h b =
+    record {
+      inside = λ i less. let p = place i less in subst (λ (x : ℕ). x < n) p.2 (b.inside p.0 p.1);
+      sound = λ i less. let p = place i less in subst (λ (x : ℕ). IsInBodies rules (name x)) p.2 (b.sound p.0 p.1);
+      complete = λ q k.
+          let j = b.complete q k in
+          let p = among_at xs (slice_index_or ys j.0 0) ((h (slice_index_or ys j.0 0)).1 (at_among ys j.0 j.1)) in
+          (p.0, p.1, ap name p.2 ∙ j.2);
+    }
+  where
+    place : (i : ℕ) → i < length xs → (j : ℕ) × (j < length ys) × (slice_index_or ys j 0 ≡ slice_index_or xs i 0)
+    place i less = among_at ys (slice_index_or xs i 0) ((h (slice_index_or xs i 0)).0 (at_among xs i less))

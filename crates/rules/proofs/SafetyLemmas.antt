@@ -16,6 +16,7 @@ use Rattle.rules.specs.Numbers.{word_at, AreDifferent, is_number_in}
 use Rattle.rules.specs.Store.{Data, variable_name, with_part, terms_before, relation_at, atom_of, literal_of, literal_at}
 use Rattle.rules.specs.Adding.{StandOnce, AreSorted, StandsFor, LiteralStandsFor, StandForEach}
 use Rattle.rules.specs.Marks.{variable_numbers, with_marks, all_marked, AreBelow, literal_in, atom_numbers, binds, bound_numbers, needed_numbers, IsInside, AreInside, is_safe_by}
+use Rattle.rules.proofs.CountedTerms.{arity_of_standing}
 
 -- Variables of terms.
 
@@ -231,7 +232,8 @@ names_in d from [] ys a h k = refl
 names_in d from (x ∷ xs) ys a h k = cc (name_in d from x ys a h.0 k, names_in d from xs ys a h.1 k)
 
 pub is_inside : (from : ℕ) (d : Data) (a : Atom) (atom : said.Atom) → StandsFor from d a atom → IsInside from d a
-is_inside from d a atom s = record { relation = s.relation; word = s.word; order = s.order; within = s.within; sorted = s.sorted }
+is_inside from d a atom s =
+    record { relation = s.relation; word = s.word; order = s.order; within = s.within; sorted = s.sorted; full = s.full; arity = arity_of_standing from d a atom s }
 
 pub are_inside : (from : ℕ) (d : Data) (ns : List ℕ) (ls : List said.Literal) → StandForEach from d ns ls → AreInside from d ns
 are_inside from d [] [] s = tt

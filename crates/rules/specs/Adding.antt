@@ -1,5 +1,5 @@
 -- What an addition to the lists in memory leaves, and what it adds.
-use Rattle.std.specs.Prelude.{ℕ, ◌+◌, ◌<◌, ◌≤◌, ◌≡◌, true, false, List, [], ◌∷◌, ◌++◌, length, drop, slice_index, slice_index_or, slice_range}
+use Rattle.std.specs.Prelude.{ℕ, suc, ◌+◌, ◌<◌, ◌≤◌, ◌≡◌, true, false, List, [], ◌∷◌, ◌++◌, length, drop, slice_index, slice_index_or, slice_range}
 use Rattle.kif.specs.Tree.{Tree, name}
 use Rattle.rules.specs.declared.clauses.Part.{Part}
 use Rattle.rules.specs.declared.clauses.Part.TheVariants as parts
@@ -9,7 +9,7 @@ use Rattle.rules.specs.Clause as said
 use Rattle.rules.specs.Clause.{is_variable, relation_of}
 use Rattle.rules.specs.Numbers.{Begins, word_at, AreDifferent}
 use Rattle.rules.specs.Signatures.{signature_at}
-use Rattle.rules.specs.Store.{Data, variable_name, with_part, terms_before, relation_at, atom_of, literal_at, no_literal}
+use Rattle.rules.specs.Store.{Data, variable_name, with_part, terms_before, count_terms, AreFull, relation_at, atom_of, literal_at, no_literal}
 
 -- each list is as before, with more behind it
 pub record Extends (old new : Data) : Type 0 where
@@ -52,6 +52,8 @@ AreSorted d from (p ∷ ps) = IsSorted d from p × AreSorted d from ps
 pub record Spells (from : ℕ) (now : Data) (ps : List Part) (ts : List Tree) : Type 0 where
   pub terms : (later : Data) → Extends now later → (behind : List Tree) → terms_before later from ps behind ≡ ts ++ behind
   pub sorted : (later : Data) → Extends now later → AreSorted later from ps
+  pub full : (behind : List Part) → AreFull behind → AreFull (ps ++ behind)
+  pub count : (behind : List Part) → count_terms (ps ++ behind) ≡ length ts + count_terms behind
 
 -- the terms were added
 pub record Adds (from : ℕ) (old new : Data) (ts : List Tree) : Type 0 where
@@ -66,6 +68,8 @@ pub record MakesPart (from : ℕ) (old new : Data) (p : Part) (word : List ℕ) 
   pub same_parts : new.parts ≡ old.parts
   pub term : (later : Data) → Extends new later → (behind : List Tree) → with_part later from p behind ≡ name word ∷ behind
   pub sorted : (later : Data) → Extends new later → IsSorted later from p
+  pub full : (behind : List Part) → AreFull behind → AreFull (p ∷ behind)
+  pub count : (behind : List Part) → count_terms (p ∷ behind) ≡ suc (count_terms behind)
 
 -- the part that begins a list of n terms behind a word was added
 pub record BeginsList (from : ℕ) (old new : Data) (word : List ℕ) (n : ℕ) : Type 0 where
@@ -83,6 +87,7 @@ pub record StandsFor (from : ℕ) (d : Data) (a : Atom) (atom : said.Atom) : Typ
   pub within : a.terms.to ≤ length d.parts
   pub same : atom_of d from a ≡ atom
   pub sorted : AreSorted d from (slice_range d.parts a.terms.from a.terms.to)
+  pub full : AreFull (slice_range d.parts a.terms.from a.terms.to)
 
 -- the number stands for the relation, whatever comes behind it
 pub record NumbersRelation (from : ℕ) (old new : Data) (r : ℕ) (relation : said.Relation) : Type 0 where

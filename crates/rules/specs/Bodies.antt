@@ -1,6 +1,6 @@
 -- The relations that bodies name, by number.
-use Rattle.std.specs.Prelude.{ℕ, Bool, true, false, cond, List, [], ◌∷◌, ◌++◌}
-use Rattle.rules.specs.Dependence.{is_distinct}
+use Rattle.std.specs.Prelude.{ℕ, ◌↔◌, Bool, true, false, cond, List, [], ◌∷◌, ◌++◌}
+use Rattle.rules.specs.Dependence.{IsAmong, is_distinct}
 use Rattle.rules.specs.Store.{Data, relation_at}
 use Rattle.rules.specs.Marks.{literal_in}
 
@@ -20,3 +20,7 @@ abbrev pub has_literal : List (List ℕ) → Bool
 has_literal [] = false
 has_literal ([] ∷ bodies) = has_literal bodies
 has_literal ((n ∷ ns) ∷ bodies) = true
+
+-- the same numbers, however often and in whatever order
+abbrev pub HaveSame : List ℕ → List ℕ → Type 0
+HaveSame xs ys = (x : ℕ) → IsAmong x xs ↔ IsAmong x ys

@@ -19,7 +19,7 @@ use Rattle.rules.specs.Store.{Data, relation_at, atom_of, literal_at}
 use Rattle.rules.specs.StoreView.{data_of}
 use Rattle.rules.specs.Adding.{Extends, AreDifferentSignatures, HaveNames, StandsFor, StandForEach}
 use Rattle.rules.specs.ItemView.{ItemStandsFor}
-use Rattle.rules.specs.Bodies.{all_named_relations, has_literal}
+use Rattle.rules.specs.Bodies.{all_named_relations, HaveSame, has_literal}
 
 -- an alternative as numbers
 pub record Numbered : Type 0 where
@@ -56,7 +56,7 @@ numbered_of i = numbered_with i.variables i.head (lists_of i.bodies.items)
 -- the link is that of the item
 pub record LinksItem (d : Data) (i : Item) (l : Links) : Type 0 where
   pub head : l.head ≡ i.head.relation
-  pub body : l.body.items ≡ all_named_relations d (lists_of i.bodies.items)
+  pub body : HaveSame l.body.items (all_named_relations d (lists_of i.bodies.items))
 
 -- an item that is safe was added behind the others
 pub record AddsSafe (old new : Draft) (t : Tree) : Type 0 where

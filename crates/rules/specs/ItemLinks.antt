@@ -5,6 +5,10 @@ use Rattle.kif.specs.Tree.{Tree}
 use Rattle.rules.specs.declared.item_links.Links.{Links}
 use Rattle.rules.specs.declared.item_links.Bound.{Bound}
 use Rattle.rules.specs.declared.item_links.Bound.TheVariants.{NoMove, FixedOnly, Free}
+use Rattle.rules.specs.declared.graph.Arrow.{Arrow}
+use Rattle.rules.specs.declared.fault.RuleFault.{RuleFault}
+use Rattle.rules.specs.declared.fault.RuleFault.TheVariants as errors
+use Rattle.rules.specs.Graph.{IsReachedFrom}
 use Rattle.rules.specs.Words.{w_base, w_input, w_init, w_legal, w_goal, w_terminal}
 use Rattle.rules.specs.Clause.{Relation, relation_of, is_word}
 use Rattle.rules.specs.Items.{item_head, item_alternatives}
@@ -61,3 +65,14 @@ pub record AreLinks (n : ℕ) (name : ℕ → Relation) (items : List Tree) (lin
 -- the bounds of the numbers are those of their relations
 abbrev pub AreBounds : ℕ → (ℕ → Relation) → List Bound → Type 0
 AreBounds n name bounds = (i : ℕ) → i < n → slice_index_or bounds i Free ≡ bound_of (name i)
+
+-- the error is the first item of which a body rests on its head, or memory ran out
+abbrev pub IsCycleFault : List Arrow → List Links → RuleFault → Type 0
+IsCycleFault arrows links (errors.Recursive n) = IsNumberOfFirst (λ link. IsReachedFrom arrows link.body.items link.head) links n
+IsCycleFault arrows links errors.NoMemory = Unit {0}
+IsCycleFault arrows links (errors.BadForm n) = ⊥
+IsCycleFault arrows links (errors.BadKeyword n) = ⊥
+IsCycleFault arrows links (errors.Unsafe n) = ⊥
+IsCycleFault arrows links (errors.BadDependence n) = ⊥
+IsCycleFault arrows links errors.NoRole = ⊥
+IsCycleFault arrows links (errors.TooMany n excess) = ⊥

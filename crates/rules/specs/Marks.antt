@@ -6,7 +6,7 @@ use Rattle.rules.specs.declared.clauses.Atom.{Atom}
 use Rattle.rules.specs.declared.clauses.Literal.{Literal}
 use Rattle.rules.specs.Dependence.{is_distinct}
 use Rattle.rules.specs.Signatures.{signature_at}
-use Rattle.rules.specs.Store.{Data, relation_at, no_literal}
+use Rattle.rules.specs.Store.{Data, count_terms, AreFull, relation_at, no_literal}
 use Rattle.rules.specs.Adding.{AreSorted}
 
 -- the numbers of the variables in parts, each as often as it stands there
@@ -53,6 +53,8 @@ pub record IsInside (from : ℕ) (d : Data) (a : Atom) : Type 0 where
   pub order : a.terms.from ≤ a.terms.to
   pub within : a.terms.to ≤ length d.parts
   pub sorted : AreSorted d from (slice_range d.parts a.terms.from a.terms.to)
+  pub full : AreFull (slice_range d.parts a.terms.from a.terms.to)
+  pub arity : (signature_at d.signatures a.relation).arity ≡ count_terms (slice_range d.parts a.terms.from a.terms.to)
 
 abbrev pub AreInside : ℕ → Data → List ℕ → Type 0
 AreInside from d [] = Unit {0}

@@ -1,6 +1,7 @@
 // The relations that the bodies of an item name.
 ghost use Rattle.std.specs.Prelude.{◌≡◌, ◌<◌, ◌++◌, ◌∷◌, [], length, IfOk, OnOk, if◌then◌else◌};
-ghost use Rattle.rules.specs.Bodies.{named_relations, all_named_relations, has_literal};
+ghost use Rattle.std.specs.List.Sorted.{IsStrictlyIncreasing};
+ghost use Rattle.rules.specs.Bodies.{named_relations, all_named_relations, HaveSame, has_literal};
 ghost use Rattle.rules.specs.Dependence.{is_distinct};
 ghost use Rattle.rules.specs.Marks.{literal_in, IsInside, AreInside, AreAllInside};
 ghost use Rattle.rules.specs.Spread.{lists_of};
@@ -47,18 +48,29 @@ fn add_relations(
     Ok(())
 }
 
-/// The relations of the literals of all bodies of an item, each as often as it stands there.
+/// Sorts numbers, and keeps each once.
+fn keep_once(numbers: &mut Vec<usize>)
+    ensures same { HaveSame numbers.new.items numbers.old.items }
+    ensures rising { IsStrictlyIncreasing numbers.new.items }
+{
+    numbers.sort_unstable();
+    numbers.dedup();
+}
+
+/// The relations of the literals of all bodies of an item, each once, by number.
 pub(crate) fn relations_of(
     alloc: Global,
     store: &Store,
     item: &Item,
 ) -> Result<Vec<usize>, AllocError>
     requires { AreAllInside item.now.variables.from (data_of store.now) (lists_of item.now.bodies.items) }
-    ensures { IfOk result (λ out. out.items ≡ all_named_relations (data_of store.now) (lists_of item.now.bodies.items)) }
+    ensures same { IfOk result (λ out. HaveSame out.items (all_named_relations (data_of store.now) (lists_of item.now.bodies.items))) }
+    ensures rising { IfOk result (λ out. IsStrictlyIncreasing out.items) }
 {
     let mut out = Vec::new(alloc);
     for body in &item.bodies {
         add_relations(store, item.variables.from, body, &mut out)?;
+        keep_once(&mut out);
     }
     Ok(out)
 }

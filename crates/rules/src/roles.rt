@@ -18,7 +18,7 @@ use std::alloc::Allocator;
 const RULES_MAX: usize = 4096;
 
 /// The number of roles that a rule set may have.
-const ROLES_MAX: usize = 8;
+pub(crate) const ROLES_MAX: usize = 8;
 
 /// Whether two trees are the same.
 #[cycle(sameness)]

@@ -44,7 +44,7 @@ impl Store {
     }
 
     /// The symbol of a name.
-    fn symbol(&mut self, name: &[u8]) -> Result<usize, AllocError>
+    pub(crate) fn symbol(&mut self, name: &[u8]) -> Result<usize, AllocError>
         ensures found { IfOk result (λ s. (s < length (data_of self.new).words) × (word_at (data_of self.new).words s ≡ name.now)) }
         ensures kept { OnOk result (data_of self.new ≡ record (data_of self.old) { words = with_word (data_of self.old).words name.now }) }
     {
@@ -90,6 +90,37 @@ impl Store {
         &self.parts[place.from..place.to]
     }
 
+    /// How many names there are.
+    pub(crate) fn count_symbols(&self) -> usize
+        ensures { result ≡ length (data_of self.now).words }
+    {
+        self.symbols.len()
+    }
+
+    /// The bytes of a name.
+    pub(crate) fn symbol_at(&self, number: usize) -> &[u8]
+        requires { number < length (data_of self.now).words }
+        ensures { result.now ≡ word_at (data_of self.now).words number }
+    {
+        self.symbols.name(number)
+    }
+
+    /// The symbol of a variable.
+    pub(crate) fn variable_at(&self, place: usize) -> usize
+        requires { place < length (data_of self.now).variables }
+        ensures { result ≡ slice_index (data_of self.now).variables place }
+    {
+        self.variables[place]
+    }
+
+    /// A relation.
+    pub(crate) fn signature(&self, number: usize) -> Signature
+        requires { number < length (data_of self.now).signatures }
+        ensures { result ≡ signature_at (data_of self.now).signatures number }
+    {
+        self.signatures.as_slice()[number]
+    }
+
     /// How many relations there are.
     pub(crate) fn count_relations(&self) -> usize
         ensures { result ≡ length (data_of self.now).signatures }
@@ -105,6 +136,24 @@ impl Store {
     {
         let signature = self.signatures.as_slice()[relation];
         is_same_name(self.symbols.name(signature.word), word) && signature.arity == arity
+    }
+
+    /// The bytes of a relation's name.
+    pub(crate) fn relation_name(&self, relation: usize) -> &[u8]
+        requires relation { relation < length (data_of self.now).signatures }
+        requires word { (signature_at (data_of self.now).signatures relation).word < length (data_of self.now).words }
+        ensures { result.now ≡ (relation_at (data_of self.now) relation).word }
+    {
+        let signature = self.signatures.as_slice()[relation];
+        self.symbols.name(signature.word)
+    }
+
+    /// How many arguments a relation has.
+    pub(crate) fn relation_arity(&self, relation: usize) -> usize
+        requires { relation < length (data_of self.now).signatures }
+        ensures { result ≡ (relation_at (data_of self.now) relation).arity }
+    {
+        self.signatures.as_slice()[relation].arity
     }
 
     /// Whether a relation is `distinct` with two arguments.

@@ -1,0 +1,113 @@
+// What a rule set tells.
+ghost use Rattle.std.specs.Prelude.{◌≡◌, ◌<◌, ◌≤◌, ◌+◌, false, length, slice_index, slice_index_or, slice_range};
+ghost use Rattle.rules.specs.Marks.{literal_in};
+ghost use Rattle.rules.specs.Numbers.{word_at};
+ghost use Rattle.rules.specs.RuleSets.{text_at};
+ghost use Rattle.rules.specs.RuleSetView.{lists_of_set, roles_in};
+ghost use Rattle.rules.specs.Signatures.{signature_at};
+
+use crate::clauses::{Alternative, Literal, Part, Span};
+use crate::rule_set::{Keywords, RuleSet};
+use crate::signatures::Signature;
+
+impl RuleSet {
+    /// How many names there are.
+    pub fn count_symbols(&self) -> usize
+        ensures { result ≡ length (lists_of_set self.now).words }
+    {
+        self.store.count_symbols()
+    }
+
+    /// The bytes of a name.
+    pub fn symbol(&self, number: usize) -> &[u8]
+        requires { number < length (lists_of_set self.now).words }
+        ensures { result.now ≡ word_at (lists_of_set self.now).words number }
+    {
+        self.store.symbol_at(number)
+    }
+
+    /// The numbers of the names that have a meaning in play.
+    pub fn keywords(&self) -> Keywords
+        ensures { result ≡ self.now.keywords }
+    {
+        self.keywords
+    }
+
+    /// How many relations there are.
+    pub fn count_relations(&self) -> usize
+        ensures { result ≡ length (lists_of_set self.now).signatures }
+    {
+        self.store.count_relations()
+    }
+
+    /// A relation.
+    pub fn relation(&self, number: usize) -> Signature
+        requires { number < length (lists_of_set self.now).signatures }
+        ensures { result ≡ signature_at (lists_of_set self.now).signatures number }
+    {
+        self.store.signature(number)
+    }
+
+    /// Whether a relation is fixed: its atoms hold in every state or in none.
+    pub fn is_fixed(&self, number: usize) -> bool
+        requires { number < length self.now.fixed.items }
+        ensures { result ≡ slice_index_or self.now.fixed.items number false }
+    {
+        self.fixed[number]
+    }
+
+    /// The relations that head an alternative: fixed ones first, then by rank, by the bytes of the name and
+    /// by the number of arguments.
+    pub fn relations_in_order(&self) -> &[usize]
+        ensures { result.now ≡ self.now.order.items }
+    {
+        &self.order
+    }
+
+    /// The alternatives of the items, in the order of the text.
+    pub fn alternatives(&self) -> &[Alternative]
+        ensures { result.now ≡ self.now.alternatives.items }
+    {
+        &self.alternatives
+    }
+
+    /// The symbol of the variable with this number in an item whose variables stand from a place on.
+    pub fn variable(&self, from: usize, number: usize) -> usize
+        requires { from + number < length (lists_of_set self.now).variables }
+        ensures { result ≡ slice_index (lists_of_set self.now).variables (from + number) }
+    {
+        self.store.variable_at(from + number)
+    }
+
+    /// A literal by its number.
+    pub fn literal(&self, number: usize) -> Literal
+        requires { number < length (lists_of_set self.now).literals }
+        ensures { result ≡ literal_in (lists_of_set self.now) number }
+    {
+        self.store.literal(number)
+    }
+
+    /// The parts that stand in a place.
+    pub fn parts_at(&self, place: Span) -> &[Part]
+        requires order { place.from ≤ place.to }
+        requires within { place.to ≤ length (lists_of_set self.now).parts }
+        ensures { result.now ≡ slice_range (lists_of_set self.now).parts place.from place.to }
+    {
+        self.store.parts_at(place)
+    }
+
+    /// How many roles there are.
+    pub fn roles(&self) -> usize
+        ensures { result ≡ length (roles_in self.now) }
+    {
+        self.roles.len()
+    }
+
+    /// The canonical text of a role, in the order in which the items state them first.
+    pub fn role_text(&self, role: usize) -> &[u8]
+        requires { role < length (roles_in self.now) }
+        ensures { result.now ≡ text_at (roles_in self.now) role }
+    {
+        &self.roles[role]
+    }
+}
