@@ -2,15 +2,17 @@
 use Rattle.std.proofs.Common.{ℕ, ◌≡◌, ◌≢◌, inl, inr, List, refl, sym, ◌∙◌, ap, subst}
 use Rattle.std.specs.Prelude.{Option, Some, None}
 use Rattle.kif.proofs.Faults.{reads_if_no_fault, no_fault_if_reads, reads_once}
-use Rattle.kif.specs.Tree.{Trees}
+use Rattle.kif.specs.Tree.{Trees, list_of}
+use Rattle.gdlsolve.proofs.OneCheck.{some_check, one_check}
 use Rattle.kif.specs.Reading.{Reads, Fault, too_long, bad_byte, too_deep, unclosed, unopened, name_too_long, fault_in}
 use Rattle.kif.specs.Answer.{IsFaultOf}
 use Rattle.kif.specs.Refusal.{fault_text}
 use Rattle.kif.specs.declared.fault.KifFault.{KifFault}
 use Rattle.kif.specs.declared.fault.KifFault.TheVariants as faults
 use Rattle.gdlsolve.specs.declared.command.Command.{Command}
-use Rattle.gdlsolve.specs.declared.command.Command.TheVariants.{Show}
-use Rattle.gdlsolve.specs.Replies.{Reply, answer, refusal, lines_of, IsReplyTo, RefusesText, IsReply}
+use Rattle.gdlsolve.specs.declared.command.Command.TheVariants.{Show, Check}
+use Rattle.gdlsolve.specs.Answers.{Reply, answer, refusal}
+use Rattle.gdlsolve.specs.Replies.{lines_of, IsReplyTo, RefusesText, IsReply}
 
 -- the reader's name for a fault
 abbrev pub named : Fault → KifFault
@@ -46,9 +48,11 @@ stands_as bytes (name_too_long o) h = (faults.NameTooLong o, (λ e. cc), h, refl
 
 some_reply_to : (command : Command) (ts : Trees) → (reply : Reply) × IsReplyTo command ts reply
 some_reply_to Show ts = (answer (lines_of ts), refl)
+some_reply_to Check ts = some_check (list_of ts)
 
 one_reply_to : (command : Command) (ts : Trees) (reply other : Reply) → IsReplyTo command ts reply → IsReplyTo command ts other → reply ≡ other
 one_reply_to Show ts reply other p q = p ∙ sym q
+one_reply_to Check ts reply other p q = one_check (list_of ts) reply other p q
 
 pub some_reply : (command : Command) (bytes : List ℕ) → (reply : Reply) × IsReply command bytes reply
 some_reply command bytes = go (fault_in bytes) refl

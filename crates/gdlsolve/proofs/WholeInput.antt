@@ -7,7 +7,8 @@ use Rattle.kif.specs.Refusal.{fault_text}
 use Rattle.kif.specs.declared.fault.KifFault.TheVariants as faults
 use Rattle.gdlsolve.specs.declared.command.Command.{Command}
 use Rattle.gdlsolve.specs.Input.{read_limit, IsReadFrom, RepliesTo}
-use Rattle.gdlsolve.specs.Replies.{Reply, refusal, IsReply}
+use Rattle.gdlsolve.specs.Answers.{Reply, refusal}
+use Rattle.gdlsolve.specs.Replies.{IsReply}
 use Rattle.gdlsolve.proofs.OneReply.{named, named_of}
 
 below_is_true : (m n : ℕ) → m < n → nat_lt m n ≡ true

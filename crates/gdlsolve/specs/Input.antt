@@ -2,7 +2,8 @@
 use Rattle.std.specs.Prelude.{ℕ, ◌≡◌, ◌≤◌, ◌<◌, List, Option, Some, None, drop, length, ⊤}
 use Rattle.std.specs.Io.KnownBytes.{Consumes, IsAtEnd}
 use Rattle.gdlsolve.specs.declared.command.Command.{Command}
-use Rattle.gdlsolve.specs.Replies.{IsReply, Reply}
+use Rattle.gdlsolve.specs.Answers.{Reply}
+use Rattle.gdlsolve.specs.Replies.{IsReply}
 
 -- one byte more than a text may have
 abbrev pub read_limit : ℕ

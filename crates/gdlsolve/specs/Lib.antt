@@ -1,3 +1,5 @@
+pub mod Answers
+pub mod Checking
 pub mod Replies
 pub mod Input
 pub mod Exits

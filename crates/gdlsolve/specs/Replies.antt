@@ -1,26 +1,15 @@
 -- What the program answers to a command, as a relation between the bytes of its input and its reply.
 use Rattle.std.specs.Prelude.{ℕ, ◌≡◌, ◌≢◌, ◌⊎◌, List, [], ◌∷◌, ◌++◌}
-use Rattle.kif.specs.Tree.{Trees, no_trees, tree, text}
+use Rattle.kif.specs.Tree.{Trees, no_trees, tree, text, list_of}
 use Rattle.kif.specs.Reading.{Reads}
 use Rattle.kif.specs.Answer.{IsFaultOf}
-use Rattle.kif.specs.Refusal.{fault_text, refusal_line}
+use Rattle.kif.specs.Refusal.{fault_text}
 use Rattle.kif.specs.declared.fault.KifFault.{KifFault}
 use Rattle.kif.specs.declared.fault.KifFault.TheVariants as faults
 use Rattle.gdlsolve.specs.declared.command.Command.{Command}
-use Rattle.gdlsolve.specs.declared.command.Command.TheVariants.{Show}
-use Rattle.gdlsolve.specs.declared.command.Status.{Status}
-use Rattle.gdlsolve.specs.declared.command.Status.TheVariants.{Answer, Refused}
-
--- all that is written, and the status
-pub record Reply : Type 0 where
-  pub output : List ℕ
-  pub status : Status
-
-abbrev pub answer : List ℕ → Reply
-answer output = record { output = output; status = Answer }
-
-abbrev pub refusal : List ℕ → Reply
-refusal fault = record { output = refusal_line fault; status = Refused }
+use Rattle.gdlsolve.specs.declared.command.Command.TheVariants.{Show, Check}
+use Rattle.gdlsolve.specs.Answers.{Reply, answer, refusal}
+use Rattle.gdlsolve.specs.Checking.{IsCheckReply}
 
 -- the canonical text of each tree, with a line end behind it
 abbrev pub lines_of : Trees → List ℕ
@@ -30,6 +19,7 @@ lines_of (tree t ts) = text t ++ 10 ∷ lines_of ts
 -- the reply to a command over trees that were read
 abbrev pub IsReplyTo : Command → Trees → Reply → Type 0
 IsReplyTo Show ts reply = reply ≡ answer (lines_of ts)
+IsReplyTo Check ts reply = IsCheckReply (list_of ts) reply
 
 -- the bytes have a fault in their text, and the reply names it
 abbrev pub RefusesText : List ℕ → Reply → Type 0

@@ -1,14 +1,20 @@
 // The reply to a command, made whole before any of it is written.
-ghost use Rattle.std.specs.Prelude.{◌≡◌, ◌≢◌, IfOk};
+ghost use Rattle.std.specs.Prelude.{◌≡◌, ◌≢◌, ◌++◌, IfOk, OnOk, IfSome, length};
 ghost use Rattle.kif.specs.Tree.{trees_of};
 ghost use Rattle.kif.specs.View.{trees_in};
-ghost use Rattle.kif.specs.Refusal.{fault_text, refusal_line};
+ghost use Rattle.kif.specs.Refusal.{refusal_line};
+ghost use Rattle.rules.specs.Order.{relations_in_order};
+ghost use Rattle.rules.specs.RuleSetView.{rules_in, roles_in};
+ghost use Rattle.gdlsolve.specs.Checking.{count_line, spaced, check_lines, IsCheckReply};
 ghost use Rattle.gdlsolve.specs.Replies.{IsReply, IsReplyTo, lines_of};
 
 use crate::command::{Command, Status};
 use bumpalo::Bump;
 use kif::{Expr, KifFault, add_refusal, read, write};
+use rules::{RuleFault, RuleSet};
 use std::alloc::{AllocError, Allocator, Global};
+use std::fmt::Display;
+use std::io::Write;
 
 /// All that is written, and the status.
 #[derive(Drop)]
@@ -31,13 +37,72 @@ fn shown<A: Allocator>(alloc: Global, trees: &[Expr<A>]) -> Result<Vec<u8>, Allo
     Ok(output)
 }
 
-/// The line that names the fault.
-fn refused(alloc: Global, fault: &KifFault) -> Result<Vec<u8>, AllocError>
-    ensures { IfOk result (λ output. output.items ≡ refusal_line (fault_text fault.now)) }
+/// Adds a line of a word and a count. After an error the output may have a beginning of it.
+fn add_count(word: &str, count: usize, output: &mut Vec<u8>) -> Result<(), AllocError>
+    ensures { OnOk result (output.new.items ≡ output.old.items ++ count_line word.now count) }
+{
+    writeln!(output, "{word} {count}").map_err(|_| AllocError)
+}
+
+/// Adds each role with a space before it. After an error the output may have a beginning of them.
+fn add_roles(rules: &RuleSet, output: &mut Vec<u8>) -> Result<(), AllocError>
+    ensures { OnOk result (output.new.items ≡ output.old.items ++ spaced (roles_in rules.now)) }
+{
+    for role in 0..rules.roles() {
+        output.push(b' ')?;
+        output.extend_from_slice(rules.role_text(role))?;
+    }
+    Ok(())
+}
+
+/// How many items, alternatives and relations there are, each on a line, and a line of the roles.
+fn counted(alloc: Global, items: usize, rules: &RuleSet) -> Result<Vec<u8>, AllocError>
+    ensures { IfOk result (λ output. output.items
+        ≡ check_lines items (length (rules_in rules.now)) (length (relations_in_order (rules_in rules.now))) (roles_in rules.now)) }
+{
+    let mut output = Vec::new(alloc);
+    add_count("items", items, &mut output)?;
+    add_count("alternatives", rules.alternatives().len(), &mut output)?;
+    add_count("relations", rules.relations_in_order().len(), &mut output)?;
+    output.extend_from_slice(b"roles")?;
+    add_roles(rules, &mut output)?;
+    output.push(b'\n')?;
+    Ok(output)
+}
+
+/// An answer with these bytes.
+fn answered(output: Vec<u8>) -> Reply
+    ensures output { result.output ≡ output }
+    ensures status { result.status ≡ Status.Answer }
+{
+    Reply {
+        output,
+        status: Status::Answer,
+    }
+}
+
+/// The refusal that names a fault.
+fn refused<F: Display>(alloc: Global, fault: &F) -> Result<Reply, AllocError>
+    ensures line { IfOk result (λ reply. IfSome (F.output fault.now) (λ words. reply.output.items ≡ refusal_line words)) }
+    ensures status { IfOk result (λ reply. reply.status ≡ Status.Refused) }
 {
     let mut output = Vec::new(alloc);
     add_refusal(fault, &mut output)?;
-    Ok(output)
+    Ok(Reply {
+        output,
+        status: Status::Refused,
+    })
+}
+
+/// The reply to items as a description: the line that names their fault, or what they have.
+fn checked<A: Allocator>(alloc: Global, items: &[Expr<A>]) -> Result<Reply, AllocError>
+    ensures { IfOk result (λ reply. IsCheckReply (trees_in items.now) (record { output = reply.output.items; status = reply.status })) }
+{
+    match RuleSet::check(alloc, items) {
+        Ok(rules) => Ok(answered(counted(alloc, items.len(), &rules)?)),
+        Err(RuleFault::NoMemory) => Err(AllocError),
+        Err(fault) => refused(alloc, &fault),
+    }
 }
 
 /// The reply to a command over trees that were read.
@@ -50,11 +115,8 @@ fn answer_to<A: Allocator>(
         (record { output = reply.output.items; status = reply.status })) }
 {
     match command {
-        Command::Show => {
-            let output = shown(alloc, trees)?;
-            let status = Status::Answer;
-            Ok(Reply { output, status })
-        }
+        Command::Show => Ok(answered(shown(alloc, trees)?)),
+        Command::Check => checked(alloc, trees),
     }
 }
 
@@ -68,10 +130,6 @@ pub(crate) fn answer(alloc: Global, command: &Command, bytes: &[u8]) -> Result<R
     match read(&arena, bytes) {
         Ok(trees) => answer_to(alloc, command, &trees),
         Err(KifFault::NoMemory) => Err(AllocError),
-        Err(fault) => {
-            let output = refused(alloc, &fault)?;
-            let status = Status::Refused;
-            Ok(Reply { output, status })
-        }
+        Err(fault) => refused(alloc, &fault),
     }
 }

@@ -6,6 +6,8 @@ use thiserror::Error;
 pub enum Command {
     /// Writes the canonical text of each tree, one a line.
     Show,
+    /// Names the first fault of the description, or counts what it has.
+    Check,
 }
 
 /// How a run ends that read its input and wrote its answer.

@@ -40,11 +40,15 @@ fn grammar<'a>(alloc: Global) -> Result<clap::Command<'a>, AllocError> {
     let show = clap::Command::new(alloc, "show").about(
         "Write the canonical text of each tree, one a line",
     );
+    let check = clap::Command::new(alloc, "check").about(
+        "Name the first fault of the rules, or count what they have",
+    );
     clap::Command::new(alloc, "gdlsolve")
         .about("Read the rules of a game on standard input, and answer on standard output")
         .no_binary_name(true)
         .subcommand_required(true)
-        .subcommand(show)
+        .subcommand(show)?
+        .subcommand(check)
 }
 
 /// The request that the words make.
@@ -53,6 +57,7 @@ fn request_of<'a>(alloc: Global, words: &'a [&'a str]) -> Result<Request, clap::
     match grammar.try_get_matches_from_mut(words) {
         Ok(matches) => match matches.subcommand_name() {
             Some("show") => Ok(Request::Run(Command::Show)),
+            Some("check") => Ok(Request::Run(Command::Check)),
             _ => Ok(Request::Misuse(grammar.error(ErrorKind::MissingSubcommand, "no command")?)),
         },
         Err(error) => match error.kind() {

@@ -1,7 +1,8 @@
 // The law of the replies.
 ghost use Rattle.std.specs.Prelude.{◌≡◌, ℕ, List};
 ghost use Rattle.gdlsolve.specs.declared.command.Command.{Command};
-ghost use Rattle.gdlsolve.specs.Replies.{IsReply, Reply};
+ghost use Rattle.gdlsolve.specs.Answers.{Reply};
+ghost use Rattle.gdlsolve.specs.Replies.{IsReply};
 
 /// To each command over any bytes there is one reply: all its bytes, and its status.
 pub fn each_input_has_one_reply()

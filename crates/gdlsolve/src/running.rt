@@ -3,7 +3,7 @@ ghost use Rattle.std.specs.Prelude.{◌≡◌, ◌≢◌, ℕ, List, IfOk, IfErr
 ghost use Rattle.std.specs.Io.KnownBytes.{Appends, Keeps};
 ghost use Rattle.kif.specs.Written.{AppendsFront};
 ghost use Rattle.gdlsolve.specs.Input.{RepliesTo};
-ghost use Rattle.gdlsolve.specs.Replies.{Reply};
+ghost use Rattle.gdlsolve.specs.Answers.{Reply};
 
 use crate::answering::answer;
 use crate::command::{Command, RunFault, Status};

@@ -1,4 +1,5 @@
 // Worked texts, through a run and through the command line, over readers and writers in memory.
+mod checks;
 mod devices;
 
 use crate::{Command, RunFault, Status, main_with, run};
@@ -15,19 +16,31 @@ fn told(rt: &HostRuntime, words: &[&str], text: &[u8]) -> (u8, Vec<u8>, Vec<u8>)
     (status, output, errors)
 }
 
-/// Whether `show` answers a text with these bytes and this exit status, by a run and by the command line.
-fn shows(rt: &HostRuntime, text: &[u8], want: &[u8], exit: u8) -> bool {
+/// Whether a command, by a run and by these words, answers a text with these bytes and this exit status.
+fn replies(
+    rt: &HostRuntime,
+    command: &Command,
+    words: &[&str],
+    text: &[u8],
+    want: &[u8],
+    exit: u8,
+) -> bool {
     let mut input = text;
     let mut output = Vec::new(rt.alloc());
-    let ended = run(rt, &Command::Show, &mut input, &mut output);
+    let ended = run(rt, command, &mut input, &mut output);
     let wanted = if exit == 0 {
         Status::Answer
     } else {
         Status::Refused
     };
     let by_run = ended == Ok(wanted) && output.as_slice() == want;
-    let (status, output, errors) = told(rt, &["show"], text);
+    let (status, output, errors) = told(rt, words, text);
     by_run && status == exit && output.as_slice() == want && errors.is_empty()
+}
+
+/// Whether `show` answers a text with these bytes and this exit status.
+fn shows(rt: &HostRuntime, text: &[u8], want: &[u8], exit: u8) -> bool {
+    replies(rt, &Command::Show, &["show"], text, want, exit)
 }
 
 /// So many times a byte, and then as often another.
