@@ -51,8 +51,8 @@ pub counts : (items : List Tree) (rules : List said.Alternative) (texts : List (
     → IsCheckReply items (record { output = output; status = status })
 counts items rules texts n made output status many lawful same said_roles lines is_output is_status =
     let all : output ≡ check_lines (length items) (length (alternatives items)) (length (relations_in_order (alternatives items))) (map text (roles items)) =
-        is_output ∙ lines
-        ∙ ap (λ (k : ℕ). check_lines k (length rules) (length (relations_in_order rules)) texts) many
-        ∙ ap (λ (rs : List said.Alternative). check_lines (length items) (length rs) (length (relations_in_order rs)) texts) same
-        ∙ ap (λ (ts : List (List ℕ)). check_lines (length items) (length (alternatives items)) (length (relations_in_order (alternatives items))) ts) said_roles in
+    is_output ∙ lines
+    ∙ ap (λ (k : ℕ). check_lines k (length rules) (length (relations_in_order rules)) texts) many
+    ∙ ap (λ (rs : List said.Alternative). check_lines (length items) (length rs) (length (relations_in_order rs)) texts) same
+    ∙ ap (λ (ts : List (List ℕ)). check_lines (length items) (length (alternatives items)) (length (relations_in_order (alternatives items))) ts) said_roles in
     inr (lawful, cc (all, is_status))

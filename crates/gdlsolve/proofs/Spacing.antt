@@ -14,8 +14,8 @@ pub spaced_more : (texts : List (List ℕ)) (n : ℕ) (old before now after : Li
 spaced_more texts n old before now after less start space added =
     let text = get_or texts n [] in
     let more : spaced (take (n + 1) texts) ≡ spaced (take n texts) ++ 32 ∷ text =
-        ap spaced (take_more texts n [] less) ∙ spaced-append (take n texts) (text ∷ [])
-        ∙ ap (λ (rest : List ℕ). spaced (take n texts) ++ 32 ∷ rest) (append-nil text) in
+    ap spaced (take_more texts n [] less) ∙ spaced-append (take n texts) (text ∷ [])
+    ∙ ap (λ (rest : List ℕ). spaced (take n texts) ++ 32 ∷ rest) (append-nil text) in
     added
     ∙ ap (λ (xs : List ℕ). xs ++ text) (space ∙ ap (λ (xs : List ℕ). xs ++ 32 ∷ []) start)
     ∙ append_assoc (old ++ spaced (take n texts)) (32 ∷ []) text

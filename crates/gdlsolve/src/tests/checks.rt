@@ -7,41 +7,132 @@ use std::test::Fail;
 /// A description, what `check` writes for it, and the exit status.
 const CHECKED: [(&[u8], &[u8], u8); 30] = [
     (b"", b"refused G6 NoRole\n", 2),
-    (b"(ROLE A)(role a)", b"items 2\nalternatives 2\nrelations 1\nroles a\n", 0),
+    (
+        b"(ROLE A)(role a)",
+        b"items 2\nalternatives 2\nrelations 1\nroles a\n",
+        0,
+    ),
     (b"(<= (p ?x) (not (q ?x)))", b"refused G3 Unsafe 1\n", 2),
-    (b"(<= (p ?x) (or (q ?x) (q a)))", b"refused G3 Unsafe 1\n", 2),
-    (b"(role a)(<= (p ?x) (p ?x))", b"refused G4 Recursive 2\n", 2),
-    (b"(role a)(base q)(<= (next q) (true q))", b"items 3\nalternatives 3\nrelations 3\nroles a\n", 0),
-    (b"(role a)(<= (legal a m) (does a m))", b"refused G5 BadDependence 2\n", 2),
-    (b"(role a)(legal a go)(<= (base p) (legal a go))", b"refused G5 BadDependence 3\n", 2),
+    (
+        b"(<= (p ?x) (or (q ?x) (q a)))",
+        b"refused G3 Unsafe 1\n",
+        2,
+    ),
+    (
+        b"(role a)(<= (p ?x) (p ?x))",
+        b"refused G4 Recursive 2\n",
+        2,
+    ),
+    (
+        b"(role a)(base q)(<= (next q) (true q))",
+        b"items 3\nalternatives 3\nrelations 3\nroles a\n",
+        0,
+    ),
+    (
+        b"(role a)(<= (legal a m) (does a m))",
+        b"refused G5 BadDependence 2\n",
+        2,
+    ),
+    (
+        b"(role a)(legal a go)(<= (base p) (legal a go))",
+        b"refused G5 BadDependence 3\n",
+        2,
+    ),
     (b"(<= (true x) (role a))", b"refused G2 BadKeyword 1\n", 2),
     (b"(role ?x)", b"refused G2 BadKeyword 1\n", 2),
-    (b"(<= (p a) (not (or (q a) (q b))))", b"refused G1 BadForm 1\n", 2),
+    (
+        b"(<= (p a) (not (or (q a) (q b))))",
+        b"refused G1 BadForm 1\n",
+        2,
+    ),
     (b"()", b"refused G1 BadForm 1\n", 2),
-    (b"(role r1)(role r2)(role r3)(role r4)(role r5)(role r6)(role r7)(role r8)(role r9)", b"refused G7 TooMany 9 roles\n", 2),
-    (b"(role r1)(role r2)(role r3)(role r4)(role r5)(role r6)(role r7)(role r8)(role r1)", b"items 9\nalternatives 9\nrelations 1\nroles r1 r2 r3 r4 r5 r6 r7 r8\n", 0),
-    (b"(<= (p ?x) (not (q ?x)))(not a)", b"refused G1 BadForm 2\n", 2),
+    (
+        b"(role r1)(role r2)(role r3)(role r4)(role r5)(role r6)(role r7)(role r8)(role r9)",
+        b"refused G7 TooMany 9 roles\n",
+        2,
+    ),
+    (
+        b"(role r1)(role r2)(role r3)(role r4)(role r5)(role r6)(role r7)(role r8)(role r1)",
+        b"items 9\nalternatives 9\nrelations 1\nroles r1 r2 r3 r4 r5 r6 r7 r8\n",
+        0,
+    ),
+    (
+        b"(<= (p ?x) (not (q ?x)))(not a)",
+        b"refused G1 BadForm 2\n",
+        2,
+    ),
     (b"(role)(<= (p ?x) (p ?x))", b"refused G2 BadKeyword 1\n", 2),
-    (b"(role a)(<= (p ?x) (q ?x) (or (r ?x) (and (s ?x) (or t u))))", b"items 2\nalternatives 4\nrelations 2\nroles a\n", 0),
-    (b"(role a)(p)(<= q p)", b"items 3\nalternatives 3\nrelations 3\nroles a\n", 0),
-    (b"(role a) p (p)", b"items 3\nalternatives 3\nrelations 2\nroles a\n", 0),
-    (b"(role a)(p x)(p x y)", b"items 3\nalternatives 3\nrelations 3\nroles a\n", 0),
-    (b"(role a)(<= (p ?) (q ?))", b"items 2\nalternatives 2\nrelations 2\nroles a\n", 0),
+    (
+        b"(role a)(<= (p ?x) (q ?x) (or (r ?x) (and (s ?x) (or t u))))",
+        b"items 2\nalternatives 4\nrelations 2\nroles a\n",
+        0,
+    ),
+    (
+        b"(role a)(p)(<= q p)",
+        b"items 3\nalternatives 3\nrelations 3\nroles a\n",
+        0,
+    ),
+    (
+        b"(role a) p (p)",
+        b"items 3\nalternatives 3\nrelations 2\nroles a\n",
+        0,
+    ),
+    (
+        b"(role a)(p x)(p x y)",
+        b"items 3\nalternatives 3\nrelations 3\nroles a\n",
+        0,
+    ),
+    (
+        b"(role a)(<= (p ?) (q ?))",
+        b"items 2\nalternatives 2\nrelations 2\nroles a\n",
+        0,
+    ),
     (b"(role a)(p ?)", b"refused G3 Unsafe 2\n", 2),
-    (b"(role a)(<= (p b))", b"items 2\nalternatives 2\nrelations 2\nroles a\n", 0),
-    (b"(role a)(<= p (distinct a b))", b"items 2\nalternatives 2\nrelations 2\nroles a\n", 0),
-    (b"(role a)(<= (p ?x) (distinct ?x b))", b"refused G3 Unsafe 2\n", 2),
-    (b"(role (player 2)) (role (player (1)))", b"refused G1 BadForm 2\n", 2),
-    (b"(role (player 2)) (role b)", b"items 2\nalternatives 2\nrelations 1\nroles (player 2) b\n", 0),
-    (b"(role a)(<= p q)(<= r p)(<= q p)", b"refused G4 Recursive 2\n", 2),
-    (b"(role a)(<= p (not q))(<= q (not p))", b"refused G4 Recursive 2\n", 2),
+    (
+        b"(role a)(<= (p b))",
+        b"items 2\nalternatives 2\nrelations 2\nroles a\n",
+        0,
+    ),
+    (
+        b"(role a)(<= p (distinct a b))",
+        b"items 2\nalternatives 2\nrelations 2\nroles a\n",
+        0,
+    ),
+    (
+        b"(role a)(<= (p ?x) (distinct ?x b))",
+        b"refused G3 Unsafe 2\n",
+        2,
+    ),
+    (
+        b"(role (player 2)) (role (player (1)))",
+        b"refused G1 BadForm 2\n",
+        2,
+    ),
+    (
+        b"(role (player 2)) (role b)",
+        b"items 2\nalternatives 2\nrelations 1\nroles (player 2) b\n",
+        0,
+    ),
+    (
+        b"(role a)(<= p q)(<= r p)(<= q p)",
+        b"refused G4 Recursive 2\n",
+        2,
+    ),
+    (
+        b"(role a)(<= p (not q))(<= q (not p))",
+        b"refused G4 Recursive 2\n",
+        2,
+    ),
     (b"(<= p p)(", b"refused K4 Unclosed 8\n", 2),
 ];
 
 #[test]
 fn worked_descriptions_are_checked(rt: HostRuntime) {
     for (text, want, exit) in CHECKED {
-        assert!(rt; replies(&rt, &Command::Check, &["check"], text, want, exit), "at {text:?}");
+        assert!(rt;
+            replies(&rt, &Command::Check, &["check"], text, want, exit),
+            "at {text:?}"
+        );
     }
 }
 
@@ -76,7 +167,10 @@ fn words_of_the_language_stand_where_they_may(rt: HostRuntime) -> Result<(), Fai
     let counts = b"items 2\nalternatives 2\nrelations 2\nroles a\n";
     for item in WELL_USED {
         let text = behind_a_role(rt.alloc(), item)?;
-        assert!(rt; replies(&rt, &Command::Check, &["check"], &text, counts, 0), "at {item:?}");
+        assert!(rt;
+            replies(&rt, &Command::Check, &["check"], &text, counts, 0),
+            "at {item:?}"
+        );
     }
     Ok(())
 }
@@ -137,7 +231,10 @@ fn words_of_the_language_elsewhere_are_refused(rt: HostRuntime) -> Result<(), Fa
     for item in BADLY_USED {
         let text = behind_a_role(rt.alloc(), item)?;
         let want = b"refused G2 BadKeyword 2\n";
-        assert!(rt; replies(&rt, &Command::Check, &["check"], &text, want, 2), "at {item:?}");
+        assert!(rt;
+            replies(&rt, &Command::Check, &["check"], &text, want, 2),
+            "at {item:?}"
+        );
     }
     Ok(())
 }
@@ -184,7 +281,10 @@ fn an_item_has_at_most_64_alternatives(rt: HostRuntime) -> Result<(), Fail> {
     let refusal = b"refused G7 TooMany 2 alternatives\n";
     for times in [7, 64, 4000] {
         let more = repeated_between(rt.alloc(), front, b"(or q r)", times, b")")?;
-        assert!(rt; replies(&rt, &Command::Check, &["check"], &more, refusal, 2), "at {times}");
+        assert!(rt;
+            replies(&rt, &Command::Check, &["check"], &more, refusal, 2),
+            "at {times}"
+        );
     }
     Ok(())
 }
@@ -224,6 +324,15 @@ fn add_variable(number: usize, text: &mut Vec<u8>) -> Result<(), AllocError> {
 #[test]
 fn a_text_that_cannot_be_read_is_no_description(rt: HostRuntime) -> Result<(), Fail> {
     let deep = nested(rt.alloc(), 101)?;
-    assert!(rt; replies(&rt, &Command::Check, &["check"], &deep, b"refused K3 TooDeep 100\n", 2));
+    assert!(rt;
+        replies(
+            &rt,
+            &Command::Check,
+            &["check"],
+            &deep,
+            b"refused K3 TooDeep 100\n",
+            2
+        )
+    );
     Ok(())
 }
