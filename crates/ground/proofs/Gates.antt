@@ -76,7 +76,7 @@ module _ (rules : List Alternative) (w : IsWellFormed rules) where
           let plain = ordinary_not_distinct h.0.head (w.heads h.0 h.1) in
           let same : is_distinct p ≡ false = subst (λ (q : Relation). is_distinct q ≡ false) h.2 plain in cc
 
-  distinct_fixed : (x : Atom) (s t : Tree) → source_of x ≡ distinct s t → IsFixed rules (relation_of x)
+  pub distinct_fixed : (x : Atom) (s t : Tree) → source_of x ≡ distinct s t → IsFixed rules (relation_of x)
   distinct_fixed x s t e = tested_fixed (relation_of x) (distinct_tested x.word x.terms s t e)
 
   -- a positive literal that keeps its instance, of a relation that is not fixed, is possible
@@ -89,7 +89,7 @@ module _ (rules : List Alternative) (w : IsWellFormed rules) where
       go (distinct s t) z k = absurd (fixed_no (relation_of x) e (distinct_fixed x s t z))
       go ordinary z k = k.1 (fixed_no (relation_of x) e)
 
-  read_there : (l : Literal) → is_read rules (listing rules).atoms l ≡ true → Keeps rules (HeadsKept rules) l → IsAmong (atom_of l) (listing rules).atoms
+  pub read_there : (l : Literal) → is_read rules (listing rules).atoms l ≡ true → Keeps rules (HeadsKept rules) l → IsAmong (atom_of l) (listing rules).atoms
   read_there (positive x) e k = (numbered_exact rules w x).1 (kept_possible x (not_true _ e) k)
   read_there (negative x) e k = is_atom_yes x (listing rules).atoms (both (not (is_fixed rules (relation_of x))) (is_atom_in x (listing rules).atoms) e).1
 

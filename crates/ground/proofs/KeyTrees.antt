@@ -6,44 +6,44 @@ use Rattle.rules.specs.Safety.{is_name_in}
 use Rattle.ground.specs.Keys.{key_at, with_key, word_of, parts_of, word_at, term_at, tree_of_key, trees_behind, trees, AreBelow, IsKey, AreDifferentWords, AreKeys, AreDifferent}
 use Rattle.ground.proofs.KeyNumbers.{is_in, last_or_before, more_different, true_or_false}
 
-below_more : (m n : ℕ) (xs : List ℕ) → m ≤ n → AreBelow m xs → AreBelow n xs
+pub below_more : (m n : ℕ) (xs : List ℕ) → m ≤ n → AreBelow m xs → AreBelow n xs
 below_more m n [] h b = tt
 below_more m n (x ∷ xs) h b = (let less = b.0 in omega (arith, h, less), below_more m n xs h b.1)
 
-length_more : {A : Type 0} (xs : List A) (x : A) → length (xs ++ x ∷ []) ≡ suc (length xs)
+pub length_more : {A : Type 0} (xs : List A) (x : A) → length (xs ++ x ∷ []) ≡ suc (length xs)
 length_more [] x = refl
 length_more (v ∷ xs) x = ap (λ (n : ℕ). suc n) (length_more xs x)
 
-term_before : (xs ys : List Tree) (i : ℕ) → i < length xs → term_at (xs ++ ys) i ≡ term_at xs i
+pub term_before : (xs ys : List Tree) (i : ℕ) → i < length xs → term_at (xs ++ ys) i ≡ term_at xs i
 term_before [] ys i h = absurd (let bad : ⊥ = omega (arith, h) in bad)
 term_before (x ∷ xs) ys zero h = refl
 term_before (x ∷ xs) ys (suc i) h = term_before xs ys i (omega (arith, h))
 
-term_last : (xs : List Tree) (t : Tree) → term_at (xs ++ t ∷ []) (length xs) ≡ t
+pub term_last : (xs : List Tree) (t : Tree) → term_at (xs ++ t ∷ []) (length xs) ≡ t
 term_last [] t = refl
 term_last (x ∷ xs) t = term_last xs t
 
 -- what is done stays
-stays : (words : List (List ℕ)) (done : List Tree) (ks : List (List ℕ)) (i : ℕ) → i < length done → term_at (trees_behind words done ks) i ≡ term_at done i
+pub stays : (words : List (List ℕ)) (done : List Tree) (ks : List (List ℕ)) (i : ℕ) → i < length done → term_at (trees_behind words done ks) i ≡ term_at done i
 stays words done [] i h = refl
 stays words done (k ∷ ks) i h =
     let t = tree_of_key words done k in
     let more = length_more done t in
     stays words (done ++ t ∷ []) ks i (omega (arith, h, more)) ∙ term_before done (t ∷ []) i h
 
-map_same : (f g : ℕ → Tree) (n : ℕ) (xs : List ℕ) → AreBelow n xs → ((i : ℕ) → i < n → f i ≡ g i) → map f xs ≡ map g xs
+pub map_same : (f g : ℕ → Tree) (n : ℕ) (xs : List ℕ) → AreBelow n xs → ((i : ℕ) → i < n → f i ≡ g i) → map f xs ≡ map g xs
 map_same f g n [] b h = refl
 map_same f g n (x ∷ xs) b h =
     ap (λ (t : Tree). t ∷ map f xs) (h x b.0) ∙ ap (λ (ts : List Tree). g x ∷ ts) (map_same f g n xs b.1 h)
 
-length_trees : (words : List (List ℕ)) (done : List Tree) (ks : List (List ℕ)) → length (trees_behind words done ks) ≡ length done + length ks
+pub length_trees : (words : List (List ℕ)) (done : List Tree) (ks : List (List ℕ)) → length (trees_behind words done ks) ≡ length done + length ks
 length_trees words done [] = omega arith
 length_trees words done (k ∷ ks) =
     let t = tree_of_key words done k in
     let a = length_trees words (done ++ t ∷ []) ks in let b = length_more done t in omega (arith, a, b)
 
 -- the tree of each number is that of its key over all trees
-tree_is : (words : List (List ℕ)) (done : List Tree) (ks : List (List ℕ)) (i : ℕ) → i < length ks → AreBelow (length done + i) (parts_of (key_at ks i))
+pub tree_is : (words : List (List ℕ)) (done : List Tree) (ks : List (List ℕ)) (i : ℕ) → i < length ks → AreBelow (length done + i) (parts_of (key_at ks i))
     → term_at (trees_behind words done ks) (length done + i) ≡ tree_of_key words (trees_behind words done ks) (key_at ks i)
 tree_is words done [] i h b = absurd (let bad : ⊥ = omega (arith, h) in bad)
 tree_is words done (k ∷ ks) zero h b =
@@ -66,7 +66,7 @@ tree_is words done (k ∷ ks) (suc i) h b =
     ap (λ (n : ℕ). term_at all n) at
     ∙ tree_is words (done ++ t ∷ []) ks i (omega (arith, h)) (subst (λ (n : ℕ). AreBelow n (parts_of (key_at ks i))) at b)
 
-below_of : (many n : ℕ) (k : List ℕ) → IsKey many n k → AreBelow n (parts_of k)
+pub below_of : (many n : ℕ) (k : List ℕ) → IsKey many n k → AreBelow n (parts_of k)
 below_of many n [] h = absurd h
 below_of many n (w ∷ ps) h = h.1
 
@@ -91,7 +91,7 @@ pub record Same (v w : List ℕ) (ts us : Trees) : Type 0 where
   pub word : v ≡ w
   pub parts : ts ≡ us
 
-parts_of_tree : (v w : List ℕ) (ts us : Trees) → tree_at v ts ≡ tree_at w us → Same v w ts us
+pub parts_of_tree : (v w : List ℕ) (ts us : Trees) → tree_at v ts ≡ tree_at w us → Same v w ts us
 parts_of_tree v w no_trees no_trees e = record { word = cc; parts = refl }
 parts_of_tree v w no_trees (tree u us) e = absurd cc
 parts_of_tree v w (tree t ts) no_trees e = absurd cc

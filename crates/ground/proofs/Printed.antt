@@ -34,7 +34,7 @@ printed_never t h = let e = tied_itself printed_total t in absurd cc
 pub one_printed : (ts us : List Tree) → AreInPrintedOrder ts → AreInPrintedOrder us → ((t : Tree) → IsAmong t ts ↔ IsAmong t us) → ts ≡ us
 one_printed ts us h k same = one_list (λ (t u : Tree). printed_cmp t u ≡ Less) printed_never printed_trans ts us h k same
 
-turned : (t u : Tree) → HasNames t → HasNames u → (t ≡ u → ⊥) → is_less (printed_cmp t u) ≡ false → printed_cmp u t ≡ Less
+pub turned : (t u : Tree) → HasNames t → HasNames u → (t ≡ u → ⊥) → is_less (printed_cmp t u) ≡ false → printed_cmp u t ≡ Less
 turned t u h k differ e = printed_total.antisymm u t ∙ go (printed_cmp t u) refl e
   where
     go : (o : Ordering) → printed_cmp t u ≡ o → is_less o ≡ false → ordering_reverse o ≡ Less

@@ -12,3 +12,12 @@ pub enum Excess {
     /// The head of a kept instance is longer than 4,096 bytes as canonical text.
     Text,
 }
+
+/// The most that a description may have of each.
+#[derive(Clone, Copy, Drop)]
+pub struct Most {
+    pub instances: usize,
+    pub text: usize,
+    pub base: usize,
+    pub inputs: usize,
+}

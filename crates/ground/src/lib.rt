@@ -2,28 +2,82 @@
 // law that the kept instances say all that the rules say.
 #![tactic(auto)]
 
+mod adding;
+mod arena;
+mod assembling;
+mod building;
+mod building_laws;
+mod cells;
+mod cells_laws;
+mod columns;
+mod columns_laws;
+mod decimals;
+mod dropping;
 mod excess;
+mod fault;
+mod finishing;
+mod finishing_laws;
+mod found;
+mod ground;
+mod ground_laws;
+mod ground_view;
+mod join;
+mod join_laws;
 mod kind;
+mod kind_of_term;
 mod laws;
+mod levels;
+mod levels_laws;
+mod listed;
 mod listing_laws;
+mod naming;
+mod numbering;
+mod placed;
+mod placed_laws;
 mod play_laws;
+mod starting;
+mod stating;
+mod stating_laws;
 mod terms;
 #[cfg(test)]
 mod tests;
+mod writing;
 
+pub use arena::Arena;
+pub use building_laws::placed_parts_can_be_built;
+pub use cells::add_rows;
+pub use cells_laws::rows_are_those_of_the_atoms;
+pub use columns::{add_columns, place_of};
+pub use columns_laws::{columns_stand_for_a_pattern, places_are_different};
+pub use dropping::count_dropped;
 pub use excess::Excess;
+pub use fault::GroundFault;
+pub use finishing::instances_of;
+pub use finishing_laws::the_last_pass_is_the_definition;
+pub use ground::{Ground, Instance};
+pub use ground_laws::a_ground_fits_together;
+pub use join::{Column, Cursor, Level, first_cursor, match_row, next_row};
+pub use join_laws::the_join_is_the_definition;
 pub use kind::Kind;
 pub use laws::{
     accepted_items_are_well_formed, holds_by_a_rule, kept_instances_suffice, one_meaning,
     what_holds_is_lawful,
 };
+pub use levels::{Join, is_binding, is_distinct, join_of};
+pub use levels_laws::{levels_stand_for_a_body, the_join_of_a_body_is_the_definition};
 pub use listing_laws::{
     atoms_are_numbered_in_order, listed_instances_suffice, rows_stand_in_order,
     the_context_is_listed, the_listing_is_exact, the_listing_is_in_order,
 };
+pub use naming::Named;
+pub use placed::add_placed;
+pub use placed_laws::{placed_parts_are_the_terms, safe_variables_have_places};
 pub use play_laws::{
     a_limit_is_named_if_passed, dropped_heads_have_no_effect, gates_read_enough,
     going_through_finds_what_holds, kinds_say_what_atoms_are, play_is_determined,
     the_start_is_listed,
 };
+pub use starting::starts_of;
+pub use stating_laws::stated_terms_are_listed;
 pub use terms::{Terms, numbers_are_trees};
+pub use writing::Pending;

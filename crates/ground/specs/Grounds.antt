@@ -1,0 +1,53 @@
+-- What an instantiation gives, in numbers and texts.
+use Rattle.std.specs.Prelude.{ℕ, ◌≡◌, Bool, List, [], Vec, map, slice_index_or, None}
+use Rattle.kif.specs.Tree.{text}
+use Rattle.rules.specs.Clause.{Alternative}
+use Rattle.ground.specs.declared.kind.Kind.{Kind}
+use Rattle.ground.specs.declared.ground.Instance as shown
+use Rattle.ground.specs.Gates.{gate}
+use Rattle.ground.specs.Kinds.{kind_of}
+use Rattle.ground.specs.Limits.{excess_in}
+use Rattle.ground.specs.Listed.{IsWellFormed}
+use Rattle.ground.specs.Listing.{Instance, listing, role_list, base_list, input_list}
+use Rattle.ground.specs.Numbers.{number_of}
+use Rattle.ground.specs.Play as play
+
+-- a kept instance by the numbers of its atoms
+pub record Kept : Type 0 where
+  pub alternative : ℕ
+  pub head : ℕ
+  pub body : List (ℕ × Bool)
+
+abbrev pub kept_of : shown.Instance → Kept
+kept_of i = record { alternative = i.alternative; head = i.head; body = i.body.items }
+
+-- what the definitions make of an instance of the listing
+abbrev pub numbered : List Alternative → Instance → Kept
+numbered rules i = record { alternative = i.place; head = number_of i.head (listing rules).atoms; body = gate rules i }
+
+-- the texts, marks, kinds and instances are those of the rules
+pub record IsGroundOf (rules : List Alternative) (roles base : List (List ℕ)) (inputs : List (List (List ℕ))) (starts : List Bool) (kinds : List Kind) (kept : List Kept) (dropped : ℕ) : Type 0 where
+  pub well_formed : IsWellFormed rules
+  pub within : excess_in rules ≡ None
+  pub roles_are : roles ≡ map text (role_list rules)
+  pub base_are : base ≡ map text (base_list rules)
+  pub inputs_are : inputs ≡ map (λ r. map text (input_list rules r)) (role_list rules)
+  pub starts_are : starts ≡ map (play.starts rules) (base_list rules)
+  pub kinds_are : kinds ≡ map (kind_of rules) (listing rules).atoms
+  pub kept_are : kept ≡ map (numbered rules) (listing rules).kept
+  pub dropped_is : dropped ≡ play.dropped rules
+
+-- they are those of some rules
+abbrev pub IsSomeGround : List (List ℕ) → List (List ℕ) → List (List (List ℕ)) → List Bool → List Kind → List Kept → ℕ → Type 0
+IsSomeGround roles base inputs starts kinds kept dropped =
+    (rules : List Alternative) × IsGroundOf rules roles base inputs starts kinds kept dropped
+
+-- the bytes of texts
+abbrev pub texts_of : {G : Type 0} → List (Vec ℕ G) → List (List ℕ)
+texts_of vs = map (λ v. v.items) vs
+
+abbrev pub text_at : List (List ℕ) → ℕ → List ℕ
+text_at texts n = slice_index_or texts n []
+
+abbrev pub texts_at : List (List (List ℕ)) → ℕ → List (List ℕ)
+texts_at lists n = slice_index_or lists n []

@@ -1,0 +1,95 @@
+// What an instantiation tells.
+ghost use Rattle.std.specs.Prelude.{◌≡◌, ◌<◌, length, slice_index_or, false};
+ghost use Rattle.ground.specs.Grounds.{text_at, texts_at};
+ghost use Rattle.ground.specs.GroundView.{roles_of, base_of, inputs_of, kinds_of};
+ghost use Rattle.ground.specs.declared.kind.Kind.TheVariants.{Other};
+
+use crate::ground::{Ground, Instance};
+use crate::kind::Kind;
+
+impl Ground {
+    /// How many roles there are.
+    pub fn roles(&self) -> usize
+        ensures { result ≡ length (roles_of self.now) }
+    {
+        self.roles.len()
+    }
+
+    /// The canonical text of a role.
+    pub fn role_text(&self, role: usize) -> &[u8]
+        requires { role < length (roles_of self.now) }
+        ensures { result.now ≡ text_at (roles_of self.now) role }
+    {
+        &self.roles[role]
+    }
+
+    /// How many base propositions there are.
+    pub fn base(&self) -> usize
+        ensures { result ≡ length (base_of self.now) }
+    {
+        self.base.len()
+    }
+
+    /// The canonical text of a base proposition.
+    pub fn base_text(&self, proposition: usize) -> &[u8]
+        requires { proposition < length (base_of self.now) }
+        ensures { result.now ≡ text_at (base_of self.now) proposition }
+    {
+        &self.base[proposition]
+    }
+
+    /// Whether a base proposition holds at the start.
+    pub fn starts(&self, proposition: usize) -> bool
+        requires { proposition < length self.now.starts.items }
+        ensures { result ≡ slice_index_or self.now.starts.items proposition false }
+    {
+        self.starts[proposition]
+    }
+
+    /// How many inputs a role has.
+    pub fn inputs(&self, role: usize) -> usize
+        requires { role < length (inputs_of self.now) }
+        ensures { result ≡ length (texts_at (inputs_of self.now) role) }
+    {
+        self.inputs[role].len()
+    }
+
+    /// The canonical text of a role's input.
+    pub fn input_text(&self, role: usize, number: u32) -> &[u8]
+        requires role { role < length (inputs_of self.now) }
+        requires number { number < length (texts_at (inputs_of self.now) role) }
+        ensures { result.now ≡ text_at (texts_at (inputs_of self.now) role) number }
+    {
+        &self.inputs[role][number as usize]
+    }
+
+    /// How many atoms have a number.
+    pub fn atoms(&self) -> usize
+        ensures { result ≡ length (kinds_of self.now) }
+    {
+        self.kinds.len()
+    }
+
+    /// Where an atom stands in play.
+    pub fn atom_kind(&self, atom: u32) -> Kind
+        requires { atom < length (kinds_of self.now) }
+        ensures { result ≡ slice_index_or (kinds_of self.now) atom Other }
+    {
+        self.kinds[atom as usize]
+    }
+
+    /// The kept instances, in order.
+    pub fn kept(&self) -> &[Instance]
+        ensures { result.now ≡ self.now.kept.items }
+    {
+        &self.kept
+    }
+
+    /// How many different possible atoms have no effect on play: `init` and `next` of what is no base proposition, and `legal`
+    /// of what is no input of a role.
+    pub fn dropped(&self) -> usize
+        ensures { result ≡ self.now.dropped }
+    {
+        self.dropped
+    }
+}
