@@ -2,3 +2,10 @@ pub mod Ascending
 pub mod Roles
 pub mod FirstFaults
 pub mod LegalMoves
+pub mod Marks
+pub mod States
+pub mod ByNumbers
+pub mod ByRules
+pub mod Trees
+pub mod LegalRules
+pub mod StuckRules

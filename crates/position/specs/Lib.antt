@@ -4,3 +4,8 @@ pub mod Played
 pub mod Refusal
 pub mod Table
 pub mod TableLaws
+pub mod RulePlay
+pub mod RuleState
+pub mod GroundFacts
+pub mod RuleLaws
+pub mod RuleMeaning

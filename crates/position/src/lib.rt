@@ -1,10 +1,16 @@
 //! What it means to play a game, whichever way its states are kept.
 #![tactic(auto)]
 
+mod evaluation;
 mod fault;
 mod game;
+mod naming;
+mod reading;
 mod refusal;
 mod replaying;
+mod rule_game;
+mod rule_laws;
+mod rule_pos;
 mod stuck;
 pub mod table;
 #[cfg(test)]
@@ -14,4 +20,10 @@ pub use fault::HistoryFault;
 pub use game::Game;
 pub use refusal::add_history_refusal;
 pub use replaying::replay;
+pub use rule_game::RuleGame;
+pub use rule_laws::{
+    numbers_find_what_holds, the_rules_end_the_game, the_rules_give_the_moves,
+    the_rules_leave_the_game_stuck, the_rules_start_the_game,
+};
+pub use rule_pos::RulePos;
 pub use stuck::is_stuck;

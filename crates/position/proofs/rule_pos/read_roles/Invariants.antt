@@ -1,0 +1,15 @@
+use Rattle.std.proofs.Common.{◌≡◌, ℕ, ◌<◌, false, length, get_or, vec_capacity}
+use Rattle.ground.specs.Grounds.{texts_at}
+use Rattle.ground.specs.GroundView.{inputs_of, kinds_of}
+use Rattle.position.specs.declared.rule_pos.RoleState.{RoleState}
+use Rattle.position.specs.RuleState.{HaveRoom, IsRoleRead, all_capacities}
+use Rattle.position.proofs.rule_pos.read_roles.Given as goal
+
+-- each role before this one is read
+abbrev pub invariant-loop-role : goal.invariant-loop-role
+invariant-loop-role l = record {
+  room : HaveRoom (inputs_of l.ground) l.roles.items;
+  read : (r : ℕ) (d : RoleState) → r < l.role → IsRoleRead (kinds_of l.ground) (λ a. get_or l.right a false) r (length (texts_at (inputs_of l.ground) r)) (get_or l.roles.items r d);
+  capacities : all_capacities l.roles.items ≡ all_capacities l.initial.roles.items;
+  capacity : vec_capacity l.roles ≡ vec_capacity l.initial.roles;
+}

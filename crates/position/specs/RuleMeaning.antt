@@ -1,0 +1,29 @@
+-- How play by numbers and the meaning of the rules agree.
+use Rattle.std.specs.Prelude.{ℕ, ◌≡◌, Bool, true, false, ◌↔◌, List, Option, Some, None, map}
+use Rattle.kif.specs.Tree.{Tree}
+use Rattle.position.specs.Played.{tree_at}
+use Rattle.rules.specs.Clause.{Atom, Alternative, relation_of}
+use Rattle.rules.specs.Dependence.{IsAmong, is_fixed}
+use Rattle.ground.specs.Meaning.{State, Joint, source_of, RightAs}
+use Rattle.ground.specs.Kinds.{kind_of, place_in}
+use Rattle.ground.specs.Listing.{listing, base_list}
+use Rattle.position.specs.Rules.{Turn}
+use Rattle.position.specs.RulePlay.{is_given, stands_in}
+
+-- the numbers of the state and the moves make right what the state and the joint move make right
+abbrev pub Agree : List Alternative → State → Joint → List ℕ → Turn → Type 0
+Agree rules S J s j =
+    (x : Atom) → IsAmong x (listing rules).atoms → is_fixed rules (relation_of x) ≡ false
+    → (is_given s j (kind_of rules x) ≡ true) ↔ RightAs S J ⊥ (source_of x)
+
+abbrev pub stands_at : List ℕ → Option ℕ → Bool
+stands_at s None = false
+stands_at s (Some n) = stands_in n s
+
+-- the state with the base propositions of these numbers
+abbrev pub state_of : List Alternative → List ℕ → State
+state_of rules s p = stands_at s (place_in p (base_list rules))
+
+-- the trees of a list at these places
+abbrev pub trees_at : List Tree → List ℕ → List Tree
+trees_at ts ns = map (λ n. tree_at ts n) ns

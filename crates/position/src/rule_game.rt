@@ -1,0 +1,100 @@
+// The game of an instantiation.
+ghost use Rattle.std.specs.Prelude.{◌≡◌, IfOk};
+
+use crate::game::Game;
+use crate::rule_pos::{RulePos, copy_roles, legal_at, start_state, step_state};
+use ground::Ground;
+use propnet::Joint;
+use std::alloc::{AllocError, Global};
+
+/// The game that an instantiation describes, played over its kept instances.
+#[derive(Drop)]
+pub struct RuleGame {
+    pub(crate) alloc: Global,
+    pub(crate) ground: Ground,
+}
+
+impl RuleGame {
+    /// The game of the instantiation.
+    pub fn new(alloc: Global, g: Ground) -> Result<RuleGame, AllocError>
+        ensures { IfOk result (λ game. game.ground ≡ g) }
+    {
+        Ok(RuleGame { alloc, ground: g })
+    }
+}
+
+impl Game for RuleGame {
+    ghost use Rattle.ground.specs.Grounds.{text_at, texts_at};
+    ghost use Rattle.ground.specs.GroundView.{roles_of, inputs_of};
+    ghost use Rattle.position.specs.RulePlay.{marked};
+    ghost use Rattle.position.specs.RuleState.{IsStateOf, rules_of, capacities};
+    ghost use Rattle.position.specs.RuleLaws.{goal_at_most, few_moves_of, legal_below, legal_in_order, moves_in_order, roles_once};
+
+    type Pos = RulePos;
+
+    ghost rules = { λ g. rules_of g.ground };
+
+    ghost role_name = { λ g r. text_at (roles_of g.ground) r };
+
+    ghost move_name = { λ g r m. text_at (texts_at (inputs_of g.ground) r) m };
+
+    ghost fits = { λ g p. IsStateOf g.ground p };
+
+    ghost state = { λ _ p. marked p.base.items };
+
+    ghost capacities = { λ _ p. capacities p };
+
+    fn roles(&self) -> usize {
+        self.ground.roles()
+    }
+
+    fn role_text(&self, role: usize) -> &[u8] {
+        self.ground.role_text(role)
+    }
+
+    fn moves(&self, role: usize) -> usize {
+        self.ground.inputs(role)
+    }
+
+    fn move_text(&self, role: usize, number: u32) -> &[u8] {
+        self.ground.input_text(role, number)
+    }
+
+    fn fresh(&self) -> Result<RulePos, AllocError> {
+        start_state(self.alloc, &self.ground)
+    }
+
+    fn ended(&self, p: &RulePos) -> bool {
+        p.ended
+    }
+
+    fn goal(&self, p: &RulePos, role: usize) -> u8 {
+        p.roles[role].goal
+    }
+
+    fn legal(&self, p: &RulePos, role: usize, place: usize) -> Option<u32> {
+        legal_at(&p.roles[role], place)
+    }
+
+    fn step(&self, p: &RulePos, joint: &Joint, q: &mut RulePos) {
+        step_state(&self.ground, p, joint, q);
+    }
+
+    fn copy(&self, p: &RulePos, q: &mut RulePos) {
+        q.base.copy_from_slice(&p.base);
+        q.ended = p.ended;
+        copy_roles(&p.roles, &mut q.roles);
+    }
+
+    ghost goal_within = { λ g s r. goal_at_most g.ground s r };
+
+    ghost moves_within = { λ g r _. few_moves_of g.ground r };
+
+    ghost legal_within = { λ g s r _. legal_below g.ground s r };
+
+    ghost legal_ascending = { λ g s r _. legal_in_order g.ground s r };
+
+    ghost moves_in_printed_order = { λ g r m n inside less below. moves_in_order g.ground r m n inside less below };
+
+    ghost role_names_differ = { λ g q r less below. roles_once g.ground q r less below };
+}
