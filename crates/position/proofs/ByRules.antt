@@ -44,7 +44,7 @@ use Rattle.position.proofs.ByNumbers.{numbers_exact, kind_listed, head_listed, r
 
 -- Atoms by number.
 
-among_atom : (atoms : List Atom) (a : ℕ) → a < length atoms → IsAmong (atom_at atoms a) atoms
+pub among_atom : (atoms : List Atom) (a : ℕ) → a < length atoms → IsAmong (atom_at atoms a) atoms
 among_atom [] a lt = absurd (omega arith)
 among_atom (x ∷ xs) zero lt = inl refl
 among_atom (x ∷ xs) (suc a) lt = inr (among_atom xs a (omega arith))
@@ -58,12 +58,12 @@ number_at (x ∷ xs) d (suc a) lt = go (atom_eq (atom_at xs a) x) refl (number_a
     go true e more = absurd (d.0 (atom_at xs a) (among_atom xs a (omega arith)) (sym ((atom_test (atom_at xs a) x).0 e)))
     go false e more = ap suc more
 
-kind_at_number : (f : Atom → Kind) (atoms : List Atom) (a : ℕ) → a < length atoms → kind_at (map f atoms) a ≡ f (atom_at atoms a)
+pub kind_at_number : (f : Atom → Kind) (atoms : List Atom) (a : ℕ) → a < length atoms → kind_at (map f atoms) a ≡ f (atom_at atoms a)
 kind_at_number f [] a lt = absurd (omega arith)
 kind_at_number f (x ∷ xs) zero lt = refl
 kind_at_number f (x ∷ xs) (suc a) lt = kind_at_number f xs a (omega arith)
 
-some_found : (test : ℕ → Bool) (n : ℕ) → some_below test n ≡ true → (a : ℕ) × (a < n) × (test a ≡ true)
+pub some_found : (test : ℕ → Bool) (n : ℕ) → some_below test n ≡ true → (a : ℕ) × (a < n) × (test a ≡ true)
 some_found test zero e = absurd cc
 some_found test (suc n) e = go (or_cases (some_below test n) (test n) e) (some_found test n)
   where
@@ -71,7 +71,7 @@ some_found test (suc n) e = go (or_cases (some_below test n) (test n) e) (some_f
     go (inl h) more = let r = more h in let lt = r.1 in (r.0, omega arith, r.2)
     go (inr h) more = (n, omega arith, h)
 
-found_some : (test : ℕ → Bool) (n a : ℕ) → a < n → test a ≡ true → some_below test n ≡ true
+pub found_some : (test : ℕ → Bool) (n a : ℕ) → a < n → test a ≡ true → some_below test n ≡ true
 found_some test zero a lt e = absurd (omega arith)
 found_some test (suc n) a lt e = go (last a n lt) (found_some test n a)
   where
@@ -102,7 +102,7 @@ now_atom w (tree t (tree u no_trees)) p e = go (name_eq w w_does) (name_eq w w_d
     go false false k = absurd cc
 now_atom w (tree t (tree u (tree v vs))) p e = absurd cc
 
-place_among : (t : Tree) (ts : List Tree) (n : ℕ) → place_in t ts ≡ Some n → IsAmong t ts
+pub place_among : (t : Tree) (ts : List Tree) (n : ℕ) → place_in t ts ≡ Some n → IsAmong t ts
 place_among t [] n e = absurd cc
 place_among t (u ∷ us) n e = go (tree_eq t u) refl (place_in t us) refl e (λ m k. place_among t us m k)
   where

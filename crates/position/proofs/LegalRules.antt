@@ -33,7 +33,7 @@ use Rattle.position.proofs.States.{get_or_any}
 use Rattle.position.proofs.Trees.{trees_picked, picked_filter, placed, place_at, among_tree}
 use Rattle.position.proofs.ByRules.{kind_holds, within_base, no_move, agree_now}
 
-same_answer : (a b : Bool) (X : Type 0) → (a ≡ true) ↔ X → (b ≡ true) ↔ X → a ≡ b
+pub same_answer : (a b : Bool) (X : Type 0) → (a ≡ true) ↔ X → (b ≡ true) ↔ X → a ≡ b
 same_answer true b X h k = sym (k.1 (h.0 refl))
 same_answer false true X h k = h.1 (k.0 refl)
 same_answer false false X h k = refl

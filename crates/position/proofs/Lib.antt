@@ -9,3 +9,4 @@ pub mod ByRules
 pub mod Trees
 pub mod LegalRules
 pub mod StuckRules
+pub mod AfterRules

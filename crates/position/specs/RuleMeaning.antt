@@ -1,12 +1,12 @@
 -- How play by numbers and the meaning of the rules agree.
-use Rattle.std.specs.Prelude.{ℕ, ◌≡◌, Bool, true, false, ◌↔◌, List, Option, Some, None, map}
+use Rattle.std.specs.Prelude.{ℕ, ◌≡◌, Bool, true, false, ◌↔◌, List, Option, Some, None, map, slice_index}
 use Rattle.kif.specs.Tree.{Tree}
 use Rattle.position.specs.Played.{tree_at}
 use Rattle.rules.specs.Clause.{Atom, Alternative, relation_of}
 use Rattle.rules.specs.Dependence.{IsAmong, is_fixed}
 use Rattle.ground.specs.Meaning.{State, Joint, source_of, RightAs}
 use Rattle.ground.specs.Kinds.{kind_of, place_in}
-use Rattle.ground.specs.Listing.{listing, base_list}
+use Rattle.ground.specs.Listing.{listing, role_list, base_list, input_list}
 use Rattle.position.specs.Rules.{Turn}
 use Rattle.position.specs.RulePlay.{is_given, stands_in}
 
@@ -23,6 +23,14 @@ stands_at s (Some n) = stands_in n s
 -- the state with the base propositions of these numbers
 abbrev pub state_of : List Alternative → List ℕ → State
 state_of rules s p = stands_at s (place_in p (base_list rules))
+
+abbrev pub chosen_at : List Tree → Turn → Option ℕ → Option Tree
+chosen_at ms j None = None
+chosen_at ms j (Some q) = Some (tree_at ms (slice_index j q))
+
+-- the joint move that gives each role its input of this number
+abbrev pub joint_of : List Alternative → Turn → Joint
+joint_of rules j r = chosen_at (input_list rules r) j (place_in r (role_list rules))
 
 -- the trees of a list at these places
 abbrev pub trees_at : List Tree → List ℕ → List Tree

@@ -8,14 +8,14 @@ ghost use Rattle.ground.specs.Listed.{IsWellFormed};
 ghost use Rattle.ground.specs.Numbers.{number_of};
 ghost use Rattle.ground.specs.Kinds.{kind_of};
 ghost use Rattle.ground.specs.Grounds.{numbered};
-ghost use Rattle.position.specs.Rules.{Turn, is_stuck};
+ghost use Rattle.position.specs.Rules.{Turn, IsTurn, is_stuck};
 ghost use Rattle.position.specs.Played.{tree_at};
 ghost use Rattle.position.specs.RulePlay.{holds};
 ghost use Rattle.ground.specs.declared.ground.Ground.{Ground};
 ghost use Rattle.ground.specs.GroundView.{IsGround};
 ghost use Rattle.position.specs.RuleState.{rules_of};
-ghost use Rattle.position.specs.RuleMeaning.{Agree, state_of, trees_at};
-ghost use Rattle.ground.specs.Play.{AreStart, AreLegal};
+ghost use Rattle.position.specs.RuleMeaning.{Agree, state_of, joint_of, trees_at};
+ghost use Rattle.ground.specs.Play.{AreStart, AreAfter, AreLegal};
 
 /// Going through the kept instances by numbers finds exactly the numbers of what holds, for a state within `Base` and a joint
 /// move within `Input`, where the numbers of the state and the moves make right what these make right. It says nothing of
@@ -49,4 +49,11 @@ pub fn the_rules_give_the_moves()
 pub fn the_rules_leave_the_game_stuck()
     ensures { (rules : List Alternative) (g : Ground) → IsGround rules g → (s : List ℕ)
         → (((rules_of g).ended s ≡ false) × (is_stuck (rules_of g) s ≡ true)) ↔ IsStuck rules (state_of rules s) }
+{}
+
+/// The state after a turn of the game of an instantiation is that of the rules, where each role has its input of the number
+/// that it moves.
+pub fn the_rules_give_the_next_state()
+    ensures { (rules : List Alternative) (g : Ground) → IsGround rules g → (s : List ℕ) (j : Turn) → IsTurn (rules_of g) j
+        → AreAfter rules (state_of rules s) (joint_of rules j) (trees_at (base_list rules) ((rules_of g).after s j)) }
 {}
