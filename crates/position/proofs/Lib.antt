@@ -10,3 +10,4 @@ pub mod Trees
 pub mod LegalRules
 pub mod StuckRules
 pub mod AfterRules
+pub mod GoalRules

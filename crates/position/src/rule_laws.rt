@@ -15,7 +15,7 @@ ghost use Rattle.ground.specs.declared.ground.Ground.{Ground};
 ghost use Rattle.ground.specs.GroundView.{IsGround};
 ghost use Rattle.position.specs.RuleState.{rules_of};
 ghost use Rattle.position.specs.RuleMeaning.{Agree, state_of, joint_of, trees_at};
-ghost use Rattle.ground.specs.Play.{AreStart, AreAfter, AreLegal};
+ghost use Rattle.ground.specs.Play.{AreStart, AreAfter, AreLegal, IsGoal};
 
 /// Going through the kept instances by numbers finds exactly the numbers of what holds, for a state within `Base` and a joint
 /// move within `Input`, where the numbers of the state and the moves make right what these make right. It says nothing of
@@ -56,4 +56,10 @@ pub fn the_rules_leave_the_game_stuck()
 pub fn the_rules_give_the_next_state()
     ensures { (rules : List Alternative) (g : Ground) → IsGround rules g → (s : List ℕ) (j : Turn) → IsTurn (rules_of g) j
         → AreAfter rules (state_of rules s) (joint_of rules j) (trees_at (base_list rules) ((rules_of g).after s j)) }
+{}
+
+/// The goal that the game of an instantiation gives a role in a state is that of the rules.
+pub fn the_rules_give_the_goals()
+    ensures { (rules : List Alternative) (g : Ground) → IsGround rules g → (s : List ℕ) (r : ℕ) → r < length (role_list rules)
+        → IsGoal rules (state_of rules s) (tree_at (role_list rules) r) ((rules_of g).goal s r) }
 {}
