@@ -33,7 +33,7 @@ module _ (words : List (List ℕ)) (differ : AreDifferentWords words) where
 
   module _ (keys : List (List ℕ)) (keyed : AreKeys (length words) keys) where
     -- and so are terms
-    terms_same : (t r : ℕ) → t < length (trees words keys) → r < length (trees words keys) → (t == r) ≡ tree_eq (term_at (trees words keys) t) (term_at (trees words keys) r)
+    pub terms_same : (t r : ℕ) → t < length (trees words keys) → r < length (trees words keys) → (t == r) ≡ tree_eq (term_at (trees words keys) t) (term_at (trees words keys) r)
     terms_same t r h k = same_test (t == r) (tree_eq (term_at (trees words keys) t) (term_at (trees words keys) r)) there back
       where
         there : (t == r) ≡ true → tree_eq (term_at (trees words keys) t) (term_at (trees words keys) r) ≡ true
@@ -43,7 +43,7 @@ module _ (words : List (List ℕ)) (differ : AreDifferentWords words) where
         back e = subst (λ (n : ℕ). (t == n) ≡ true) (different words differ keys keyed t r h k (tree_eq_yes (term_at (trees words keys) t) (term_at (trees words keys) r) e)) (nat_eq_self t)
 
     -- the key of an atom has its word and its terms
-    atom_key : (n : ℕ) (x : Atom) → n < length (trees words keys) → term_at (trees words keys) n ≡ tree_of x
+    pub atom_key : (n : ℕ) (x : Atom) → n < length (trees words keys) → term_at (trees words keys) n ≡ tree_of x
         → Same (word_at words (word_of (key_at keys n))) x.word (trees_of (map (term_at (trees words keys)) (parts_of (key_at keys n)))) x.terms
     atom_key n x h e =
         let long = length_trees words [] keys in
