@@ -61,6 +61,13 @@ impl Arena {
         self.terms.len()
     }
 
+    /// All terms, by number.
+    pub fn terms(&self) -> &Terms
+        ensures { result.now ≡ self.now.keys }
+    {
+        &self.terms
+    }
+
     /// The term that is the name of a symbol: it has the number of the symbol.
     pub fn constant(&self, symbol: usize) -> usize
         requires { symbol < length self.now.sizes }

@@ -3,6 +3,7 @@
 #![tactic(auto)]
 
 mod adding;
+mod alternative;
 mod arena;
 mod assembling;
 mod building;
