@@ -11,6 +11,7 @@ mod cells;
 mod cells_laws;
 mod columns;
 mod columns_laws;
+mod context_step;
 mod decimals;
 mod dropping;
 mod excess;
