@@ -32,7 +32,9 @@ pub fn add_singles(
 ) -> Result<(), AllocError>
     requires word { word < length arena.old.sizes }
     requires terms { AreBelow (length arena.old.keys) terms.now }
-    ensures { OnOk result ((words : List (List ℕ)) → AreTermsOf words arena.old
+    ensures front { OnOk result (IsFrontOf arena.old.keys arena.new.keys) }
+    ensures sizes { OnOk result (arena.new.sizes ≡ arena.old.sizes) }
+    ensures added { OnOk result ((words : List (List ℕ)) → AreTermsOf words arena.old
         → AddsAtoms words arena.old arena.new atoms.old.keys atoms.new.keys (map (λ t. atom1 (word_at words word) t) (map (term_at (trees words arena.old.keys)) terms.now))) }
 {
     for term in terms {
@@ -52,7 +54,9 @@ pub fn add_pairs(
     requires word { word < length arena.old.sizes }
     requires first { first < length arena.old.keys }
     requires terms { AreBelow (length arena.old.keys) terms.now }
-    ensures { OnOk result ((words : List (List ℕ)) → AreTermsOf words arena.old
+    ensures front { OnOk result (IsFrontOf arena.old.keys arena.new.keys) }
+    ensures sizes { OnOk result (arena.new.sizes ≡ arena.old.sizes) }
+    ensures added { OnOk result ((words : List (List ℕ)) → AreTermsOf words arena.old
         → AddsAtoms words arena.old arena.new atoms.old.keys atoms.new.keys
         (map (λ t. atom2 (word_at words word) (term_at (trees words arena.old.keys) first) t) (map (term_at (trees words arena.old.keys)) terms.now))) }
 {

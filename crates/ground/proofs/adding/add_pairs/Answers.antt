@@ -19,7 +19,7 @@ loop-term-preserved c =
     (subst (λ (l : List ℕ). AddingEach c.args.arena.now c.loop-term.arena c.args.atoms.now.keys c.loop-term.atoms.keys (λ words t. atom2 (word_at words c.args.word) (term_at (trees words c.args.arena.now.keys) c.args.first) t) c.args.terms.now l) (number_next c.args.terms.now c.args.terms.now c.loop-term.term-index refl c.loop-term-test.true) c.loop-term.invariant) c.in_ok-add_atom.ensures.front c.in_ok-add_atom.ensures.sizes
     (λ words t front. pair_tree words c.args.arena.now c.loop-term.arena c.args.word c.args.first (get_or c.args.terms.now c.loop-term.term-index 0) c.requires.first (subst (λ (l : List ℕ). AddingEach c.args.arena.now c.loop-term.arena c.args.atoms.now.keys c.loop-term.atoms.keys (λ words t. atom2 (word_at words c.args.word) (term_at (trees words c.args.arena.now.keys) c.args.first) t) c.args.terms.now l) (number_next c.args.terms.now c.args.terms.now c.loop-term.term-index refl c.loop-term-test.true) c.loop-term.invariant).below.0 front) c.in_ok-add_atom.ensures.added
 
-pub returns : goal.returns
-returns c =
+pub returns-clause-added : goal.returns-clause-added
+returns-clause-added c =
     each_ends c.args.arena.now c.loop-term.arena c.args.atoms.now.keys c.loop-term.atoms.keys (λ words t. atom2 (word_at words c.args.word) (term_at (trees words c.args.arena.now.keys) c.args.first) t) c.args.terms.now
     (subst (λ (l : List ℕ). AddingEach c.args.arena.now c.loop-term.arena c.args.atoms.now.keys c.loop-term.atoms.keys (λ words t. atom2 (word_at words c.args.word) (term_at (trees words c.args.arena.now.keys) c.args.first) t) c.args.terms.now l) (at_end c.args.terms.now c.args.terms.now c.loop-term.term-index refl c.loop-term-test.false) c.loop-term.invariant)
