@@ -9,3 +9,5 @@ pub mod RuleState
 pub mod GroundFacts
 pub mod RuleLaws
 pub mod RuleMeaning
+pub mod NamedRules
+pub mod RulesGame
