@@ -12,3 +12,4 @@ pub mod StuckRules
 pub mod AfterRules
 pub mod GoalRules
 pub mod GameRules
+pub mod OneGame

@@ -16,6 +16,7 @@ ghost use Rattle.ground.specs.GroundView.{IsGround};
 ghost use Rattle.position.specs.RuleState.{rules_of, named_rules_of};
 ghost use Rattle.position.specs.NamedRules.{NamedRules};
 ghost use Rattle.position.specs.RulesGame.{IsGameOf};
+ghost use Rattle.position.specs.SamePlay.{SamePlay};
 ghost use Rattle.position.specs.RuleMeaning.{Agree, state_of, joint_of, trees_at};
 ghost use Rattle.ground.specs.Play.{AreStart, AreAfter, AreLegal, IsGoal};
 
@@ -74,4 +75,9 @@ pub fn the_game_plays_by_the_rules()
 /// Well formed rules have a game.
 pub fn rules_have_a_game()
     ensures { (rules : List Alternative) → IsWellFormed rules → (g : NamedRules) × IsGameOf rules g }
+{}
+
+/// All games of the same rules tell the same.
+pub fn games_of_the_rules_agree()
+    ensures { (rules : List Alternative) → IsWellFormed rules → (g h : NamedRules) → IsGameOf rules g → IsGameOf rules h → SamePlay g h }
 {}
