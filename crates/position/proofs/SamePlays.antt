@@ -53,7 +53,7 @@ module _ (g h : NamedRules) (same : SamePlay g h) where
   roles_alike : all_roles g.rules ≡ all_roles h.rules
   roles_alike = ap (range_with_len 0) same.roles
 
-  stuck_alike : (s : State) → is_stuck g.rules s ≡ is_stuck h.rules s
+  pub stuck_alike : (s : State) → is_stuck g.rules s ≡ is_stuck h.rules s
   stuck_alike s =
       any_alike (λ q. length (g.rules.legal s q) == 0) (λ q. length (h.rules.legal s q) == 0) (all_roles g.rules)
       (all_below _ g.rules.roles (λ q lt. ap (λ (ms : List ℕ). length ms == 0) (same.legal s q lt)))

@@ -4,7 +4,7 @@ ghost use Rattle.kif.specs.Tree.{Tree};
 ghost use Rattle.position.specs.NamedRules.{NamedRules};
 ghost use Rattle.position.specs.Played.{MoveNames, played};
 ghost use Rattle.position.specs.Refusal.{IsRoleOf};
-ghost use Rattle.position.specs.Rules.{Rules, State, IsTurn, turns_with};
+ghost use Rattle.position.specs.Rules.{Rules, State, IsTurn, is_stuck, turns_with};
 ghost use Rattle.position.specs.SamePlay.{SamePlay, AreLegalMoves};
 ghost use Rattle.position.specs.Value.{value, worst, choice_of, reply_of, line_of};
 
@@ -22,9 +22,11 @@ pub fn play_stays_within_the_game()
         → All (IsTurn g) (line_of g role depth s) }
 {}
 
-/// Games that tell the same refuse the same histories for the same fault, and lead from the others to the same state. Each
-/// role has the same values, choices and lines in them, and after each of its moves the same worth and reply.
+/// Games that tell the same are stuck in the same states, refuse the same histories for the same fault, and lead from the
+/// others to the same state. Each role has the same values, choices and lines in them, and after each of its moves the same
+/// worth and reply.
 pub fn same_play_is_played_the_same()
+    ensures stuck { (g h : NamedRules) → SamePlay g h → (s : State) → is_stuck g.rules s ≡ is_stuck h.rules s }
     ensures played { (g h : NamedRules) → SamePlay g h → (ts : List Tree) → played g.rules g.move_name ts ≡ played h.rules h.move_name ts }
     ensures value { (g h : NamedRules) → SamePlay g h → (role : ℕ) → role < g.rules.roles → (depth : ℕ) (s : State)
         → value g.rules role depth s ≡ value h.rules role depth s }
