@@ -3,6 +3,7 @@
 #![tactic(auto)]
 
 mod adding;
+mod all_listed;
 mod alternative;
 mod arena;
 mod assembling;
@@ -31,6 +32,7 @@ mod join;
 mod join_laws;
 mod kind;
 mod kind_of_term;
+mod kinds_of_atoms;
 mod laws;
 mod levels;
 mod levels_laws;
@@ -44,6 +46,7 @@ mod play_laws;
 mod starting;
 mod stating;
 mod stating_laws;
+mod tables;
 mod terms;
 #[cfg(test)]
 mod tests;
