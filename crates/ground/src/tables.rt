@@ -57,27 +57,57 @@ pub fn tables_of(alloc: Global, context: &ContextTerms) -> Result<Tables, AllocE
     })
 }
 
+/// The texts of the roles, of the base propositions, and of the inputs of each role.
+#[derive(Drop)]
+pub struct Texts {
+    pub roles: Vec<Vec<u8>>,
+    pub base: Vec<Vec<u8>>,
+    pub inputs: Vec<Vec<Vec<u8>>>,
+}
+
+/// The same bytes in memory of their own.
+fn copy_of(alloc: Global, text: &[u8]) -> Result<Vec<u8>, AllocError>
+    ensures { IfOk result (λ copy. copy.items ≡ text.now) }
+{
+    let mut copy = Vec::with_capacity(alloc, text.len())?;
+    copy.extend_from_slice(text)?;
+    Ok(copy)
+}
+
 /// The texts of what is named.
-pub fn texts_named(alloc: Global, named: Vec<Named>) -> Result<Vec<Vec<u8>>, AllocError>
-    ensures { IfOk result (λ texts. texts_of texts.items ≡ texts_named named.items) }
+fn texts_named(alloc: Global, named: &[Named]) -> Result<Vec<Vec<u8>>, AllocError>
+    ensures { IfOk result (λ texts. texts_of texts.items ≡ texts_named named.now) }
 {
     let mut texts = Vec::with_capacity(alloc, named.len())?;
     for one in named {
-        texts.push(one.text)?;
+        texts.push(copy_of(alloc, &one.text)?)?;
     }
     Ok(texts)
 }
 
 /// The texts of each list.
-pub fn texts_of_lists(
-    alloc: Global,
-    lists: Vec<Vec<Named>>,
-) -> Result<Vec<Vec<Vec<u8>>>, AllocError>
-    ensures { IfOk result (λ texts. map (λ v. texts_of v.items) texts.items ≡ map texts_named (items_of lists.items)) }
+fn texts_of_lists(alloc: Global, lists: &[Vec<Named>]) -> Result<Vec<Vec<Vec<u8>>>, AllocError>
+    ensures { IfOk result (λ texts. map (λ v. texts_of v.items) texts.items ≡ map texts_named (items_of lists.now)) }
 {
     let mut texts = Vec::with_capacity(alloc, lists.len())?;
     for list in lists {
         texts.push(texts_named(alloc, list)?)?;
     }
     Ok(texts)
+}
+
+/// The texts of the context.
+pub fn texts_of(alloc: Global, context: &ContextTerms) -> Result<Texts, AllocError>
+    ensures roles { IfOk result (λ t. texts_of t.roles.items ≡ texts_named context.now.roles.items) }
+    ensures base { IfOk result (λ t. texts_of t.base.items ≡ texts_named context.now.base.items) }
+    ensures inputs { IfOk result (λ t. map (λ v. texts_of v.items) t.inputs.items ≡ map texts_named (items_of context.now.inputs.items)) }
+{
+    let roles = texts_named(alloc, &context.roles)?;
+    let base = texts_named(alloc, &context.base)?;
+    let inputs = texts_of_lists(alloc, &context.inputs)?;
+    Ok(Texts {
+        roles,
+        base,
+        inputs,
+    })
 }
