@@ -3,9 +3,9 @@
 #![tactic(auto)]
 
 mod adding;
+mod all_listed;
 mod alternative;
 mod arena;
-mod assembling;
 mod building;
 mod building_laws;
 mod cells;
@@ -26,10 +26,12 @@ mod ground_laws;
 mod ground_view;
 mod instances;
 mod instances_laws;
+mod instantiating;
 mod join;
 mod join_laws;
 mod kind;
 mod kind_of_term;
+mod kinds_of_atoms;
 mod laws;
 mod levels;
 mod levels_laws;
@@ -37,12 +39,14 @@ mod listed;
 mod listing_laws;
 mod naming;
 mod numbering;
+mod parts_of_ground;
 mod placed;
 mod placed_laws;
 mod play_laws;
 mod starting;
 mod stating;
 mod stating_laws;
+mod tables;
 mod terms;
 #[cfg(test)]
 mod tests;
@@ -63,6 +67,7 @@ pub use finishing_laws::the_last_pass_is_the_definition;
 pub use ground::{Ground, Instance};
 pub use ground_laws::a_ground_fits_together;
 pub use instances_laws::kept_instances_are_those_of_rows;
+pub use instantiating::instantiate;
 pub use join::{Column, Cursor, Level, first_cursor, match_row, next_row};
 pub use join_laws::the_join_is_the_definition;
 pub use kind::Kind;

@@ -1,4 +1,6 @@
-// Terms are numbered once each, also past many growths of their table.
+// Terms are numbered once each, also past many growths of their table; and grounds of descriptions.
+mod grounds;
+
 use crate::Terms;
 use std::test::Fail;
 

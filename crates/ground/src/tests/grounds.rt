@@ -1,0 +1,206 @@
+// What descriptions instantiate to: counts, limits, the order of instances, and kinds of atoms.
+use crate::{Ground, GroundFault, Kind, instantiate};
+use kif::read;
+use rules::RuleSet;
+use std::alloc::Global;
+use std::io::Write;
+use std::test::Fail;
+
+const MATCH: &[u8] = b"(role a)(role b)(base done)(base same)(input a h)(input a t)(input b h)(input b t)
+    (<= (legal ?r ?m) (input ?r ?m) (not (true done)))(<= (next done) (does a ?m))
+    (<= (next same) (does a ?m) (does b ?m))(<= terminal (true done))(<= (goal a 100) (true same))
+    (<= (goal a 0) (not (true same)))(<= (goal b 0) (true same))(<= (goal b 100) (not (true same)))";
+
+const TTT: &[u8] = b"(role xplayer)(role oplayer)(index 1)(index 2)(index 3)
+    (<= (base (cell ?x ?y b)) (index ?x) (index ?y))(<= (base (cell ?x ?y x)) (index ?x) (index ?y))
+    (<= (base (cell ?x ?y o)) (index ?x) (index ?y))(<= (base (control ?p)) (role ?p))
+    (<= (input ?p (mark ?x ?y)) (role ?p) (index ?x) (index ?y))(<= (input ?p noop) (role ?p))
+    (init (cell 1 1 b))(init (cell 1 2 b))(init (cell 1 3 b))(init (cell 2 1 b))(init (cell 2 2 b))
+    (init (cell 2 3 b))(init (cell 3 1 b))(init (cell 3 2 b))(init (cell 3 3 b))(init (control xplayer))
+    (<= (next (cell ?x ?y x)) (does xplayer (mark ?x ?y)) (true (cell ?x ?y b)))
+    (<= (next (cell ?x ?y o)) (does oplayer (mark ?x ?y)) (true (cell ?x ?y b)))
+    (<= (next (cell ?x ?y ?w)) (true (cell ?x ?y ?w)) (distinct ?w b))
+    (<= (next (cell ?x ?y b)) (does ?w (mark ?m ?n)) (true (cell ?x ?y b))
+        (or (distinct ?x ?m) (distinct ?y ?n)))
+    (<= (next (control xplayer)) (true (control oplayer)))
+    (<= (next (control oplayer)) (true (control xplayer)))
+    (<= (row ?x ?w) (true (cell ?x 1 ?w)) (true (cell ?x 2 ?w)) (true (cell ?x 3 ?w)))
+    (<= (column ?y ?w) (true (cell 1 ?y ?w)) (true (cell 2 ?y ?w)) (true (cell 3 ?y ?w)))
+    (<= (diagonal ?w) (true (cell 1 1 ?w)) (true (cell 2 2 ?w)) (true (cell 3 3 ?w)))
+    (<= (diagonal ?w) (true (cell 1 3 ?w)) (true (cell 2 2 ?w)) (true (cell 3 1 ?w)))
+    (<= (line ?w) (row ?x ?w))(<= (line ?w) (column ?y ?w))(<= (line ?w) (diagonal ?w))
+    (<= open (true (cell ?x ?y b)))
+    (<= (legal ?w (mark ?x ?y)) (true (cell ?x ?y b)) (true (control ?w)))
+    (<= (legal xplayer noop) (true (control oplayer)))(<= (legal oplayer noop) (true (control xplayer)))
+    (<= (goal xplayer 100) (line x))(<= (goal xplayer 50) (not (line x)) (not (line o)) (not open))
+    (<= (goal xplayer 0) (line o))(<= (goal oplayer 100) (line o))
+    (<= (goal oplayer 50) (not (line x)) (not (line o)) (not open))(<= (goal oplayer 0) (line x))
+    (<= terminal (line x))(<= terminal (line o))(<= terminal (not open))";
+
+/// What a description instantiates to.
+fn ground_of(rt: &HostRuntime, text: &[u8]) -> Result<Result<Ground, GroundFault>, Fail> {
+    let items = read(rt.alloc(), text)?;
+    let rules = RuleSet::check(rt.alloc(), &items)?;
+    Ok(instantiate(rt, &rules))
+}
+
+/// The counts of a ground: its base propositions, the atoms `does`, its instances and dropped heads.
+fn counts_of(alloc: Global, ground: &Ground) -> Result<Vec<u8>, Fail> {
+    let mut text = Vec::new(alloc);
+    let base = ground.base();
+    let inputs = ground.kinds.iter().filter(|kind| is_input(kind)).count();
+    let instances = ground.kept().len();
+    let dropped = ground.dropped();
+    write!(text, "{base} {inputs} {instances} {dropped}")?;
+    Ok(text)
+}
+
+/// Whether an atom is `does` of a role and one of its inputs.
+fn is_input(kind: &Kind) -> bool {
+    match kind {
+        Kind::Does(_, _) => true,
+        _ => false,
+    }
+}
+
+/// The counts of a description, or why it is refused.
+fn told(rt: &HostRuntime, text: &[u8]) -> Result<Vec<u8>, Fail> {
+    match ground_of(rt, text)? {
+        Ok(ground) => counts_of(rt.alloc(), &ground),
+        Err(fault) => {
+            let mut text = Vec::new(rt.alloc());
+            write!(text, "{fault}")?;
+            Ok(text)
+        }
+    }
+}
+
+/// Descriptions with their base propositions, inputs, instances and dropped heads.
+const COUNTED: [(&[u8], &[u8]); 11] = [
+    (MATCH, b"2 4 21 0"),
+    (TTT, b"29 20 401 0"),
+    (
+        b"(role a)(base p)(input a go)(legal a go)(init r)(<= (next p) (not (true q)))(<= (next s) (true p))
+            (<= terminal (true p))(<= (goal a 90) (true p))",
+        b"1 1 9 2",
+    ),
+    // Equal heads of different rules are dropped once.
+    (
+        b"(role a)(base p)(init q)(<= (next q) (true p))(<= (next q) (not (true p)))",
+        b"1 0 5 2",
+    ),
+    // What is no input of a role.
+    (
+        b"(role a)(base p)(input a go)(legal a go)(legal a stay)(legal b go)",
+        b"1 1 6 2",
+    ),
+    (b"(role a)(input a go)(input b go)(legal b go)", b"0 1 4 1"),
+    // `distinct`, negated and not.
+    (
+        b"(role a)(d 1)(d 2)(d 3)(<= (p ?x ?y) (d ?x) (d ?y) (not (distinct ?x ?y)))
+            (<= (q ?x ?y) (d ?x) (d ?y) (distinct ?x ?y))",
+        b"0 0 13 0",
+    ),
+    // A fixed relation, negated.
+    (
+        b"(role a)(d 1)(d 2)(e 1)(<= (p ?x) (d ?x) (not (e ?x)))",
+        b"0 0 5 0",
+    ),
+    // A join that keeps nothing.
+    (b"(role a)(d 1)(e 2)(<= (p ?x) (d ?x) (e ?x))", b"0 0 3 0"),
+    // An instance whose negated atom is not possible.
+    (b"(role a)(<= (p a) (not (q a)) (not (true b)))", b"0 0 2 0"),
+    // A repeated fact counts again.
+    (b"(role a)(role a)(d 1)(d 1)", b"0 0 4 0"),
+];
+
+#[test]
+fn descriptions_have_their_counts(rt: HostRuntime) -> Result<(), Fail> {
+    for (text, want) in COUNTED {
+        let got = told(&rt, text)?;
+        assert_eq!(rt; got.as_slice(), want);
+    }
+    Ok(())
+}
+
+/// Eight terms, four of which make a base proposition.
+const WIDE: &[u8] = b"(role a)(d 0)(d 1)(d 2)(d 3)(d 4)(d 5)(d 6)(d 7)
+    (<= (base (n ?a ?b ?c ?d)) (d ?a) (d ?b) (d ?c) (d ?d))";
+
+const WIDER: &[u8] = b"(role a)(d 0)(d 1)(d 2)(d 3)(d 4)(d 5)(d 6)(d 7)(d 8)
+    (<= (base (n ?a ?b ?c ?d)) (d ?a) (d ?b) (d ?c) (d ?d))";
+
+const LONG: &[u8] = b"(role a)(p0 a)(<= (p1 (f ?x ?x)) (p0 ?x))(<= (p2 (f ?x ?x)) (p1 ?x))(<= (p3 (f ?x ?x)) (p2 ?x))
+    (<= (p4 (f ?x ?x)) (p3 ?x))(<= (p5 (f ?x ?x)) (p4 ?x))(<= (p6 (f ?x ?x)) (p5 ?x))(<= (p7 (f ?x ?x)) (p6 ?x))
+    (<= (p8 (f ?x ?x)) (p7 ?x))(<= (p9 (f ?x ?x)) (p8 ?x))";
+
+const LONGER: &[u8] = b"(role a)(p0 a)(<= (p1 (f ?x ?x)) (p0 ?x))(<= (p2 (f ?x ?x)) (p1 ?x))(<= (p3 (f ?x ?x)) (p2 ?x))
+    (<= (p4 (f ?x ?x)) (p3 ?x))(<= (p5 (f ?x ?x)) (p4 ?x))(<= (p6 (f ?x ?x)) (p5 ?x))(<= (p7 (f ?x ?x)) (p6 ?x))
+    (<= (p8 (f ?x ?x)) (p7 ?x))(<= (p9 (f ?x ?x)) (p8 ?x))(<= (p10 (f ?x ?x)) (p9 ?x))";
+
+#[test]
+fn a_limit_may_be_reached(rt: HostRuntime) -> Result<(), Fail> {
+    assert_eq!(rt; told(&rt, WIDE)?.as_slice(), b"4096 0 4105 0".as_slice());
+    assert_eq!(rt; told(&rt, LONG)?.as_slice(), b"0 0 11 0".as_slice());
+    Ok(())
+}
+
+#[test]
+fn the_limit_that_is_passed_is_named(rt: HostRuntime) -> Result<(), Fail> {
+    assert_eq!(rt; told(&rt, WIDER)?.as_slice(), b"N1 TooMany base".as_slice());
+    assert_eq!(rt; told(&rt, LONGER)?.as_slice(), b"N1 TooMany text".as_slice());
+    Ok(())
+}
+
+/// The places of the alternatives of the kept instances of the first description, in order: base
+/// propositions, inputs, roles, goals, legal moves, what is next, and the end.
+const PLACES: [u32; 21] = [
+    2, 3, 4, 5, 6, 7, 0, 1, 12, 13, 14, 15, 8, 8, 8, 8, 9, 9, 10, 10, 11,
+];
+
+#[test]
+fn instances_stand_in_order(rt: HostRuntime) -> Result<(), Fail> {
+    let ground = ground_of(&rt, MATCH)??;
+    assert!(rt; ground.kept().iter().map(|instance| instance.alternative).eq(PLACES.iter().copied()));
+    Ok(())
+}
+
+/// The first alternative of each relation of the second description, the one behind its last, and how many
+/// instances it has.
+const RELATIONS: [(u32, u32, usize); 14] = [
+    (0, 2, 2),
+    (2, 5, 3),
+    (5, 9, 29),
+    (9, 11, 20),
+    (11, 21, 10),
+    (21, 28, 254),
+    (28, 29, 9),
+    (29, 30, 9),
+    (30, 32, 6),
+    (32, 35, 21),
+    (35, 36, 9),
+    (36, 39, 20),
+    (39, 45, 6),
+    (45, 48, 3),
+];
+
+#[test]
+fn each_relation_has_its_instances(rt: HostRuntime) -> Result<(), Fail> {
+    let ground = ground_of(&rt, TTT)??;
+    for (from, to, want) in RELATIONS {
+        let many = ground
+            .kept()
+            .iter()
+            .filter(|instance| from <= instance.alternative && instance.alternative < to)
+            .count();
+        assert_eq!(rt; many, want);
+    }
+    Ok(())
+}
+
+#[test]
+fn goals_have_values_without_leading_zeros(rt: HostRuntime) -> Result<(), Fail> {
+    let ground = ground_of(&rt, b"(role a)(goal a 070)(goal a 101)(goal a 70)")??;
+    assert!(rt; ground.kinds.as_slice() == [Kind::Fixed, Kind::Other, Kind::Other, Kind::Goal(0, 70)].as_slice());
+    Ok(())
+}
