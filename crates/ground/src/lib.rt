@@ -6,6 +6,7 @@ mod adding;
 mod all_listed;
 mod alternative;
 mod arena;
+mod buckets;
 mod building;
 mod building_laws;
 mod cells;
@@ -53,6 +54,7 @@ mod tests;
 mod writing;
 
 pub use arena::Arena;
+pub use buckets::{Buckets, buckets_of, first_tried, row_in, tried_behind};
 pub use building_laws::placed_parts_can_be_built;
 pub use cells::add_rows;
 pub use cells_laws::rows_are_those_of_the_atoms;
@@ -68,7 +70,7 @@ pub use ground::{Ground, Instance};
 pub use ground_laws::a_ground_fits_together;
 pub use instances_laws::kept_instances_are_those_of_rows;
 pub use instantiating::instantiate;
-pub use join::{Column, Cursor, Level, first_cursor, match_row, next_row};
+pub use join::{Column, Level, match_row, next_row};
 pub use join_laws::the_join_is_the_definition;
 pub use kind::Kind;
 pub use laws::{
