@@ -11,3 +11,4 @@ pub mod LegalRules
 pub mod StuckRules
 pub mod AfterRules
 pub mod GoalRules
+pub mod PlanLemmas

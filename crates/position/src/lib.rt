@@ -5,6 +5,8 @@ mod evaluation;
 mod fault;
 mod game;
 mod naming;
+mod plan;
+mod planning;
 mod reading;
 mod refusal;
 mod replaying;
