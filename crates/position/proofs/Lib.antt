@@ -12,3 +12,4 @@ pub mod StuckRules
 pub mod AfterRules
 pub mod GoalRules
 pub mod PlanLemmas
+pub mod FlatLemmas

@@ -11,4 +11,5 @@ pub mod RuleLaws
 pub mod RuleMeaning
 pub mod NamedRules
 pub mod RulesGame
+pub mod Flats
 pub mod Plans

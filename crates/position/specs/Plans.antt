@@ -1,10 +1,10 @@
--- What a plan of play keeps of an instantiation: the atoms that are asked for in play, listed by kind.
+-- What a plan of play keeps of an instantiation: its instances in flat lists, and the atoms that are asked for in play by kind.
 use Rattle.std.specs.Prelude.{ℕ, ◌≡◌, ◌<◌, Bool, true, false, max, ◌==◌, ◌&&◌, List, [], ◌∷◌, length, map, filter, get_or, is_some, if◌then◌else◌}
 use Rattle.std.specs.List.{list_any, range_with_len}
 use Rattle.ground.specs.declared.kind.Kind.{Kind}
 use Rattle.ground.specs.declared.kind.Kind.TheVariants.{Fixed, Now, Does, Next, Legal, Goal, Terminal, Other}
 use Rattle.ground.specs.declared.ground.Ground.{Ground}
-use Rattle.ground.specs.GroundView.{inputs_of, kinds_of}
+use Rattle.ground.specs.GroundView.{inputs_of, instances_of, kinds_of}
 use Rattle.position.specs.declared.naming.Naming.{Naming}
 use Rattle.position.specs.declared.naming.Naming.TheVariants.{ByNext, ByLegal}
 use Rattle.position.specs.declared.plan.Sought.{Sought}
@@ -13,6 +13,7 @@ use Rattle.position.specs.declared.plan.Standing.{Standing}
 use Rattle.position.specs.declared.plan.RolePlan.{RolePlan}
 use Rattle.position.specs.declared.plan.Plan.{Plan}
 use Rattle.position.specs.Rules.{State, Turn}
+use Rattle.position.specs.Flats.{IsFlatOf}
 use Rattle.position.specs.RulePlay.{kind_at, is_given, number_named, names, is_terminal, goal_value}
 
 -- the state or the joint move tells whether an atom of this kind is right
@@ -75,8 +76,9 @@ pub record IsRolePlanOf (kinds : List Kind) (r : ℕ) (plan : RolePlan) : Type 0
   pub legals : plan.legals.items ≡ all_standing (Named (ByLegal r)) kinds
   pub goals : plan.goals.items ≡ all_standing (Goals r) kinds
 
--- the lists are those of the instantiation
+-- the lists and the flat instances are those of the instantiation
 pub record IsPlanOf (g : Ground) (plan : Plan) : Type 0 where
+  pub flat : IsFlatOf (length (kinds_of g)) (instances_of g) plan.flat.first.items plan.flat.heads.items plan.flat.ends.items plan.flat.literals.items
   pub given : plan.given.items ≡ all_standing Given (kinds_of g)
   pub nexts : plan.nexts.items ≡ all_standing (Named ByNext) (kinds_of g)
   pub ends : plan.ends.items ≡ all_standing Ends (kinds_of g)

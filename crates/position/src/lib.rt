@@ -3,6 +3,7 @@
 
 mod evaluation;
 mod fault;
+mod flattening;
 mod game;
 mod naming;
 mod plan;

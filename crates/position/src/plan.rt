@@ -30,9 +30,23 @@ pub struct RolePlan {
     pub(crate) goals: Vec<Standing>,
 }
 
-/// The atoms that are asked for in play, in order.
+/// The kept instances in flat lists. Those without a body stand apart, as marks, where no body before them names their head.
+#[derive(Drop)]
+pub struct FlatInstances {
+    /// A mark for each atom: whether it holds before any body is read.
+    pub(crate) first: Vec<bool>,
+    /// The head of each other instance, in order.
+    pub(crate) heads: Vec<u32>,
+    /// Where the body of each ends among the literals. It begins where the one before it ends.
+    pub(crate) ends: Vec<usize>,
+    /// What must be right: an atom's number, and whether it is negated.
+    pub(crate) literals: Vec<(u32, bool)>,
+}
+
+/// The atoms that are asked for in play, in order, and the kept instances.
 #[derive(Drop)]
 pub struct Plan {
+    pub(crate) flat: FlatInstances,
     pub(crate) given: Vec<Standing>,
     pub(crate) nexts: Vec<Standing>,
     pub(crate) ends: Vec<Standing>,

@@ -6,6 +6,7 @@ ghost use Rattle.position.specs.Plans.{seeks, standing_at, all_standing, IsRoleP
 ghost use Rattle.position.specs.declared.plan.RolePlan.{RolePlan};
 
 use crate::evaluation::kind_of;
+use crate::flattening::flatten;
 use crate::naming::Naming;
 use crate::plan::{Plan, RolePlan, Sought, Standing};
 use crate::reading::number_of;
@@ -88,6 +89,7 @@ pub(crate) fn make_plan(alloc: Global, ground: &Ground) -> Result<Plan, AllocErr
     ensures { IfOk result (λ plan. IsPlanOf ground.now plan) }
 {
     Ok(Plan {
+        flat: flatten(alloc, ground)?,
         given: list_standing(alloc, ground, Sought::Given)?,
         nexts: list_standing(alloc, ground, Sought::Named(Naming::ByNext))?,
         ends: list_standing(alloc, ground, Sought::Ends)?,

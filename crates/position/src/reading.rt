@@ -37,7 +37,7 @@ fn note(holds: bool, kind: Kind, by: Naming, marks: &mut Vec<bool>)
 }
 
 /// Takes all marks away.
-pub(crate) fn clear(marks: &mut Vec<bool>)
+fn clear(marks: &mut Vec<bool>)
     ensures size { length marks.new.items ≡ length marks.old.items }
     ensures each { (k : ℕ) → k < length marks.old.items → slice_index_or marks.new.items k false ≡ false }
     ensures capacity { vec_capacity marks.new ≡ vec_capacity marks.old }
