@@ -1,5 +1,5 @@
 // What is told of a state by the kinds of the atoms that hold.
-ghost use Rattle.std.specs.Prelude.{◌≡◌, ◌<◌, ◌≤◌, ◌+◌, ◌^◌, ◌&&◌, ◌||◌, ◌++◌, [], ◌∷◌, ℕ, All, false, length, take, slice_index_or, vec_capacity, if◌then◌else◌};
+ghost use Rattle.std.specs.Prelude.{◌≡◌, ◌<◌, ◌≤◌, ◌+◌, ◌^◌, ◌&&◌, ◌||◌, ◌++◌, [], ◌∷◌, ℕ, All, false, length, max, take, slice_index_or, vec_capacity, if◌then◌else◌};
 ghost use Rattle.position.specs.RulePlay.{AreMarks, marked, number_named, names, goal_value, is_terminal};
 ghost use Rattle.position.specs.Plans.{names_among, goal_among, ends_among};
 
@@ -70,6 +70,13 @@ fn value_of(holds: bool, kind: Kind, role: usize) -> u8
     }
 }
 
+/// The greater of two values.
+fn greater(value: u8, other: u8) -> u8
+    ensures { result ≡ max value other }
+{
+    value.max(other)
+}
+
 /// The greatest goal of a role among the atoms of a list that hold, or 0.
 pub(crate) fn best_goal(list: &[Standing], right: &[bool], role: usize) -> u8
     requires { All (λ p. p.atom < length right.now) list.now }
@@ -78,7 +85,7 @@ pub(crate) fn best_goal(list: &[Standing], right: &[bool], role: usize) -> u8
     let mut best = 0;
     for place in 0..list.len() {
         let here = list[place];
-        best = value_of(right[here.atom as usize], here.kind, role).max(best);
+        best = greater(value_of(right[here.atom as usize], here.kind, role), best);
     }
     best
 }
