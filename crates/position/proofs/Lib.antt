@@ -13,3 +13,8 @@ pub mod AfterRules
 pub mod GoalRules
 pub mod PlanLemmas
 pub mod FlatLemmas
+pub mod GameRules
+pub mod OneGame
+pub mod Alike
+pub mod PlayRange
+pub mod SamePlays

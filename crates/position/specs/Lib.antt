@@ -13,3 +13,4 @@ pub mod NamedRules
 pub mod RulesGame
 pub mod Flats
 pub mod Plans
+pub mod SamePlay
