@@ -11,6 +11,8 @@ pub mod LegalRules
 pub mod StuckRules
 pub mod AfterRules
 pub mod GoalRules
+pub mod PlanLemmas
+pub mod FlatLemmas
 pub mod GameRules
 pub mod OneGame
 pub mod Alike

@@ -97,7 +97,7 @@ same_right f g n (l ∷ ls) h within =
     let rest : all_right f ls ≡ all_right g ls = same_right f g n ls h (λ k d lt. within (suc k) d (omega arith)) in
     ap (λ (b : Bool). cond l.1 (not b) b && all_right f ls) here ∙ ap (λ (b : Bool). cond l.1 (not (g l.0)) (g l.0) && b) rest
 
-or_more : (a b c : Bool) → (a || (b || c)) ≡ (b || (a || c))
+pub or_more : (a b c : Bool) → (a || (b || c)) ≡ (b || (a || c))
 or_more true true c = refl
 or_more true false c = refl
 or_more false true c = refl

@@ -11,4 +11,6 @@ pub mod RuleLaws
 pub mod RuleMeaning
 pub mod NamedRules
 pub mod RulesGame
+pub mod Flats
+pub mod Plans
 pub mod SamePlay

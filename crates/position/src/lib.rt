@@ -3,8 +3,11 @@
 
 mod evaluation;
 mod fault;
+mod flattening;
 mod game;
 mod naming;
+mod plan;
+mod planning;
 mod play_laws;
 mod reading;
 mod refusal;

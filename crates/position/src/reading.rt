@@ -1,14 +1,15 @@
 // What is told of a state by the kinds of the atoms that hold.
-ghost use Rattle.std.specs.Prelude.{◌≡◌, ◌<◌, ◌≤◌, ◌+◌, ◌^◌, ◌&&◌, ◌||◌, ◌++◌, [], ◌∷◌, ℕ, false, length, take, slice_index_or, vec_capacity, if◌then◌else◌};
-ghost use Rattle.ground.specs.GroundView.{kinds_of};
-ghost use Rattle.position.specs.RulePlay.{AreMarks, marked, number_named, names, is_named, goal_value, best_goal as greatest_goal, is_terminal, ends};
+ghost use Rattle.std.specs.Prelude.{◌≡◌, ◌<◌, ◌≤◌, ◌+◌, ◌^◌, ◌&&◌, ◌||◌, ◌++◌, [], ◌∷◌, ℕ, All, false, length, max, take, slice_index_or, vec_capacity, if◌then◌else◌};
+ghost use Rattle.position.specs.RulePlay.{AreMarks, marked, number_named, names, goal_value, is_terminal};
+ghost use Rattle.position.specs.Plans.{names_among, goal_among, ends_among};
 
-use crate::evaluation::{kind_of, put_mark};
+use crate::evaluation::put_mark;
 use crate::naming::Naming;
-use ground::{Ground, Kind};
+use crate::plan::Standing;
+use ground::Kind;
 
 /// The number that an atom of this kind names.
-fn number_of(by: Naming, kind: Kind) -> Option<u32>
+pub(crate) fn number_of(by: Naming, kind: Kind) -> Option<u32>
     ensures { result ≡ number_named by kind }
 {
     match (by, kind) {
@@ -46,15 +47,16 @@ fn clear(marks: &mut Vec<bool>)
     }
 }
 
-/// Marks exactly the numbers that atoms that hold name.
-pub(crate) fn mark_named(ground: &Ground, right: &[bool], by: Naming, marks: &mut Vec<bool>)
-    requires { length right.now ≡ length (kinds_of ground.now) }
-    ensures marks { AreMarks marks.new.items (length marks.old.items) (is_named (kinds_of ground.now) (λ a. slice_index_or right.now a false) by) }
+/// Marks exactly the numbers that atoms of a list that hold name.
+pub(crate) fn mark_named(list: &[Standing], right: &[bool], by: Naming, marks: &mut Vec<bool>)
+    requires { All (λ p. p.atom < length right.now) list.now }
+    ensures marks { AreMarks marks.new.items (length marks.old.items) (names_among list.now (λ a. slice_index_or right.now a false) by) }
     ensures capacity { vec_capacity marks.new ≡ vec_capacity marks.old }
 {
     clear(marks);
-    for atom in 0..ground.atoms() {
-        note(right[atom], kind_of(ground, atom), by, marks);
+    for place in 0..list.len() {
+        let here = list[place];
+        note(right[here.atom as usize], here.kind, by, marks);
     }
 }
 
@@ -68,14 +70,22 @@ fn value_of(holds: bool, kind: Kind, role: usize) -> u8
     }
 }
 
-/// The greatest goal of a role that holds, or 0.
-pub(crate) fn best_goal(ground: &Ground, right: &[bool], role: usize) -> u8
-    requires { length right.now ≡ length (kinds_of ground.now) }
-    ensures { result ≡ greatest_goal (kinds_of ground.now) (λ a. slice_index_or right.now a false) role }
+/// The greater of two values.
+fn greater(value: u8, other: u8) -> u8
+    ensures { result ≡ max value other }
+{
+    value.max(other)
+}
+
+/// The greatest goal of a role among the atoms of a list that hold, or 0.
+pub(crate) fn best_goal(list: &[Standing], right: &[bool], role: usize) -> u8
+    requires { All (λ p. p.atom < length right.now) list.now }
+    ensures { result ≡ goal_among list.now (λ a. slice_index_or right.now a false) role }
 {
     let mut best = 0;
-    for atom in 0..ground.atoms() {
-        best = value_of(right[atom], kind_of(ground, atom), role).max(best);
+    for place in 0..list.len() {
+        let here = list[place];
+        best = greater(value_of(right[here.atom as usize], here.kind, role), best);
     }
     best
 }
@@ -87,14 +97,15 @@ fn is_end(holds: bool, kind: Kind) -> bool
     holds && kind == Kind::Terminal
 }
 
-/// Whether the game has ended.
-pub(crate) fn has_ended(ground: &Ground, right: &[bool]) -> bool
-    requires { length right.now ≡ length (kinds_of ground.now) }
-    ensures { result ≡ ends (kinds_of ground.now) (λ a. slice_index_or right.now a false) }
+/// Whether an atom of a list that holds ends the game.
+pub(crate) fn has_ended(list: &[Standing], right: &[bool]) -> bool
+    requires { All (λ p. p.atom < length right.now) list.now }
+    ensures { result ≡ ends_among list.now (λ a. slice_index_or right.now a false) }
 {
     let mut ended = false;
-    for atom in 0..ground.atoms() {
-        ended |= is_end(right[atom], kind_of(ground, atom));
+    for place in 0..list.len() {
+        let here = list[place];
+        ended |= is_end(right[here.atom as usize], here.kind);
     }
     ended
 }

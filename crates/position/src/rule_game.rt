@@ -1,7 +1,10 @@
 // The game of an instantiation.
 ghost use Rattle.std.specs.Prelude.{◌≡◌, IfOk};
+ghost use Rattle.position.specs.Plans.{IsPlanOf};
 
 use crate::game::Game;
+use crate::plan::Plan;
+use crate::planning::make_plan;
 use crate::rule_pos::{RulePos, copy_roles, legal_at, start_state, step_state};
 use ground::Ground;
 use propnet::Joint;
@@ -11,15 +14,22 @@ use std::alloc::{AllocError, Global};
 #[derive(Drop)]
 pub struct RuleGame {
     pub(crate) alloc: Global,
-    pub(crate) ground: Ground,
+    pub(crate) played: Ground,
+    pub(crate) plan: Plan,
+    pub ghost planned: { IsPlanOf played plan },
 }
 
 impl RuleGame {
     /// The game of the instantiation.
     pub fn new(alloc: Global, g: Ground) -> Result<RuleGame, AllocError>
-        ensures { IfOk result (λ game. game.ground ≡ g) }
+        ensures { IfOk result (λ game. game.played ≡ g) }
     {
-        Ok(RuleGame { alloc, ground: g })
+        let plan = make_plan(alloc, &g)?;
+        Ok(RuleGame {
+            alloc,
+            played: g,
+            plan,
+        })
     }
 }
 
@@ -32,36 +42,36 @@ impl Game for RuleGame {
 
     type Pos = RulePos;
 
-    ghost rules = { λ g. rules_of g.ground };
+    ghost rules = { λ g. rules_of g.played };
 
-    ghost role_name = { λ g r. text_at (roles_of g.ground) r };
+    ghost role_name = { λ g r. text_at (roles_of g.played) r };
 
-    ghost move_name = { λ g r m. text_at (texts_at (inputs_of g.ground) r) m };
+    ghost move_name = { λ g r m. text_at (texts_at (inputs_of g.played) r) m };
 
-    ghost fits = { λ g p. IsStateOf g.ground p };
+    ghost fits = { λ g p. IsStateOf g.played p };
 
     ghost state = { λ _ p. marked p.base.items };
 
     ghost capacities = { λ _ p. capacities p };
 
     fn roles(&self) -> usize {
-        self.ground.roles()
+        self.played.roles()
     }
 
     fn role_text(&self, role: usize) -> &[u8] {
-        self.ground.role_text(role)
+        self.played.role_text(role)
     }
 
     fn moves(&self, role: usize) -> usize {
-        self.ground.inputs(role)
+        self.played.inputs(role)
     }
 
     fn move_text(&self, role: usize, number: u32) -> &[u8] {
-        self.ground.input_text(role, number)
+        self.played.input_text(role, number)
     }
 
     fn fresh(&self) -> Result<RulePos, AllocError> {
-        start_state(self.alloc, &self.ground)
+        start_state(self)
     }
 
     fn ended(&self, p: &RulePos) -> bool {
@@ -77,7 +87,7 @@ impl Game for RuleGame {
     }
 
     fn step(&self, p: &RulePos, joint: &Joint, q: &mut RulePos) {
-        step_state(&self.ground, p, joint, q);
+        step_state(self, p, joint, q);
     }
 
     fn copy(&self, p: &RulePos, q: &mut RulePos) {
@@ -86,15 +96,15 @@ impl Game for RuleGame {
         copy_roles(&p.roles, &mut q.roles);
     }
 
-    ghost goal_within = { λ g s r. goal_at_most g.ground s r };
+    ghost goal_within = { λ g s r. goal_at_most g.played s r };
 
-    ghost moves_within = { λ g r _. few_moves_of g.ground r };
+    ghost moves_within = { λ g r _. few_moves_of g.played r };
 
-    ghost legal_within = { λ g s r _. legal_below g.ground s r };
+    ghost legal_within = { λ g s r _. legal_below g.played s r };
 
-    ghost legal_ascending = { λ g s r _. legal_in_order g.ground s r };
+    ghost legal_ascending = { λ g s r _. legal_in_order g.played s r };
 
-    ghost moves_in_printed_order = { λ g r m n inside less below. moves_in_order g.ground r m n inside less below };
+    ghost moves_in_printed_order = { λ g r m n inside less below. moves_in_order g.played r m n inside less below };
 
-    ghost role_names_differ = { λ g q r less below. roles_once g.ground q r less below };
+    ghost role_names_differ = { λ g q r less below. roles_once g.played q r less below };
 }

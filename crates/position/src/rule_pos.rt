@@ -9,6 +9,7 @@ ghost use Rattle.position.specs.RuleState.{HasRoleRoom, IsRoleRead, HaveRoom, Ar
 use crate::evaluation::{evaluate, put_mark};
 use crate::naming::Naming;
 use crate::reading::{best_goal, has_ended, list_marked, mark_named};
+use crate::rule_game::RuleGame;
 use ground::Ground;
 use std::alloc::{AllocError, Global};
 
@@ -36,54 +37,56 @@ pub struct RulePos {
 }
 
 /// Writes what the atoms that hold tell of a role.
-fn read_role(ground: &Ground, right: &[bool], role: usize, out: &mut RoleState)
-    requires right { length right.now ≡ length (kinds_of ground.now) }
-    requires room { HasRoleRoom (length (texts_at (inputs_of ground.now) role)) out.old }
-    ensures read { IsRoleRead (kinds_of ground.now) (λ a. slice_index_or right.now a false) role (length (texts_at (inputs_of ground.now) role)) out.new }
-    ensures room { HasRoleRoom (length (texts_at (inputs_of ground.now) role)) out.new }
+fn read_role(game: &RuleGame, right: &[bool], role: usize, out: &mut RoleState)
+    requires role { role < length (inputs_of game.now.played) }
+    requires right { length right.now ≡ length (kinds_of game.now.played) }
+    requires room { HasRoleRoom (length (texts_at (inputs_of game.now.played) role)) out.old }
+    ensures read { IsRoleRead (kinds_of game.now.played) (λ a. slice_index_or right.now a false) role (length (texts_at (inputs_of game.now.played) role)) out.new }
+    ensures room { HasRoleRoom (length (texts_at (inputs_of game.now.played) role)) out.new }
     ensures capacities { role_capacities out.new ≡ role_capacities out.old }
 {
-    mark_named(ground, right, Naming::ByLegal(role), &mut out.marks);
+    let plan = &game.plan.roles[role];
+    mark_named(&plan.legals, right, Naming::ByLegal(role), &mut out.marks);
     out.count = list_marked(&out.marks, &mut out.moves);
-    out.goal = best_goal(ground, right, role);
+    out.goal = best_goal(&plan.goals, right, role);
 }
 
 /// Writes what the atoms that hold tell of each role.
-fn read_roles(ground: &Ground, right: &[bool], roles: &mut Vec<RoleState>)
-    requires right { length right.now ≡ length (kinds_of ground.now) }
-    requires room { HaveRoom (inputs_of ground.now) roles.old.items }
-    ensures read { AreRead (kinds_of ground.now) (λ a. slice_index_or right.now a false) (inputs_of ground.now) roles.new.items }
-    ensures room { HaveRoom (inputs_of ground.now) roles.new.items }
+fn read_roles(game: &RuleGame, right: &[bool], roles: &mut Vec<RoleState>)
+    requires right { length right.now ≡ length (kinds_of game.now.played) }
+    requires room { HaveRoom (inputs_of game.now.played) roles.old.items }
+    ensures read { AreRead (kinds_of game.now.played) (λ a. slice_index_or right.now a false) (inputs_of game.now.played) roles.new.items }
+    ensures room { HaveRoom (inputs_of game.now.played) roles.new.items }
     ensures capacities { all_capacities roles.new.items ≡ all_capacities roles.old.items }
     ensures capacity { vec_capacity roles.new ≡ vec_capacity roles.old }
 {
     for role in 0..roles.len() {
-        read_role(ground, right, role, &mut roles[role]);
+        read_role(game, right, role, &mut roles[role]);
     }
 }
 
 /// Writes what is told of the state that is marked.
-pub(crate) fn read_state(ground: &Ground, p: &mut RulePos)
-    requires { HasRoom ground.now p.old }
-    ensures state { IsStateOf ground.now p.new }
+pub(crate) fn read_state(game: &RuleGame, p: &mut RulePos)
+    requires { HasRoom game.now.played p.old }
+    ensures state { IsStateOf game.now.played p.new }
     ensures same { p.new.base.items ≡ p.old.base.items }
     ensures capacities { capacities p.new ≡ capacities p.old }
 {
-    evaluate(ground, &p.base, &[], &mut p.right);
-    p.ended = has_ended(ground, &p.right);
-    read_roles(ground, &p.right, &mut p.roles);
+    evaluate(game, &p.base, &[], &mut p.right);
+    p.ended = has_ended(&game.plan.ends, &p.right);
+    read_roles(game, &p.right, &mut p.roles);
 }
 
 /// Writes the state after another and a joint move. The other's marks are read, and this one's are written.
-pub(crate) fn step_state(ground: &Ground, p: &RulePos, joint: &[u32], q: &mut RulePos)
-    requires { HasRoom ground.now q.old }
-    ensures state { IsStateOf ground.now q.new }
-    ensures after { marked q.new.base.items ≡ (rules_of ground.now).after (marked p.now.base.items) joint.now }
+pub(crate) fn step_state(game: &RuleGame, p: &RulePos, joint: &[u32], q: &mut RulePos)
+    requires { HasRoom game.now.played q.old }
+    ensures state { IsStateOf game.now.played q.new }
+    ensures after { marked q.new.base.items ≡ (rules_of game.now.played).after (marked p.now.base.items) joint.now }
     ensures capacities { capacities q.new ≡ capacities q.old }
 {
-    evaluate(ground, &p.base, joint, &mut q.right);
-    mark_named(ground, &q.right, Naming::ByNext, &mut q.base);
-    read_state(ground, q);
+    evaluate(game, &p.base, joint, &mut q.right);
+    mark_named(&game.plan.nexts, &q.right, Naming::ByNext, &mut q.base);
+    read_state(game, q);
 }
 
 /// Writes what is told of a role in another state.
@@ -145,10 +148,12 @@ fn mark_start(ground: &Ground, base: &mut Vec<bool>)
 }
 
 /// The start state.
-pub(crate) fn start_state(alloc: Global, ground: &Ground) -> Result<RulePos, AllocError>
-    ensures state { IfOk result (λ p. IsStateOf ground.now p) }
-    ensures start { IfOk result (λ p. marked p.base.items ≡ marked ground.now.starts.items) }
+pub(crate) fn start_state(game: &RuleGame) -> Result<RulePos, AllocError>
+    ensures state { IfOk result (λ p. IsStateOf game.now.played p) }
+    ensures start { IfOk result (λ p. marked p.base.items ≡ marked game.now.played.starts.items) }
 {
+    let alloc = game.alloc;
+    let ground = &game.played;
     let mut base = vec![in alloc; false; ground.base()]?;
     mark_start(ground, &mut base);
     let mut p = RulePos {
@@ -157,7 +162,7 @@ pub(crate) fn start_state(alloc: Global, ground: &Ground) -> Result<RulePos, All
         roles: new_roles(alloc, ground)?,
         ended: false,
     };
-    read_state(ground, &mut p);
+    read_state(game, &mut p);
     Ok(p)
 }
 

@@ -8,7 +8,7 @@ use Rattle.position.proofs.rule_game.RuleGameGame.copy.Goals as goal
 
 pub returns-clause-fits : goal.returns-clause-fits
 returns-clause-fits c =
-    let g = c.args.self.now.ground in
+    let g = c.args.self.now.played in
     let from = c.args.p.now.roles.items in
     let old = c.args.q.now.roles.items in
     let new = c.copy_roles.new.to.items in

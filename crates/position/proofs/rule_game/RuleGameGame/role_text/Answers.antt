@@ -3,4 +3,4 @@ use Rattle.position.specs.GroundFacts.{fits}
 use Rattle.position.proofs.rule_game.RuleGameGame.role_text.Goals as goal
 
 pub role_text-requires : goal.role_text-requires
-role_text-requires c = let fit = (fits c.args.self.now.ground).inputs_fit in let below = c.requires in omega arith
+role_text-requires c = let fit = (fits c.args.self.now.played).inputs_fit in let below = c.requires in omega arith

@@ -3,4 +3,4 @@ use Rattle.position.specs.GroundFacts.{fits}
 use Rattle.position.proofs.rule_game.RuleGameGame.roles.Goals as goal
 
 pub returns : goal.returns
-returns c = c.roles.ensures ∙ sym (fits c.args.self.now.ground).inputs_fit
+returns c = c.roles.ensures ∙ sym (fits c.args.self.now.played).inputs_fit
