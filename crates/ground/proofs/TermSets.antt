@@ -1,11 +1,11 @@
 -- Terms that are different trees, as a set.
-use Rattle.std.proofs.Common.{ℕ, suc, zero, ◌≡◌, ◌⊎◌, inl, inr, Bool, true, false, cond, ◌||◌, List, [], ◌∷◌, ◌++◌, map, nat_eq, eqb-true, append_assoc, refl, sym, ap, subst, ◌∙◌}
+use Rattle.std.proofs.Common.{ℕ, ◌≡◌, ◌⊎◌, inl, inr, Bool, true, false, cond, ◌||◌, List, [], ◌∷◌, ◌++◌, map, nat_eq, eqb-true, append_assoc, refl, sym, ap, subst, ◌∙◌}
 use Rattle.std.specs.List.{list_any}
 use Rattle.std.proofs.lemmas.List.{append-nil}
 use Rattle.kif.specs.Tree.{Tree}
 use Rattle.rules.specs.Dependence.{IsAmong}
 use Rattle.rules.proofs.Tests.{IsAmong-append}
-use Rattle.ground.specs.Founds.{with_number, with_numbers}
+use Rattle.ground.specs.Founds.{with_numbers}
 use Rattle.ground.specs.InOrder.{AreDistinct}
 use Rattle.ground.specs.Keys.{term_at}
 use Rattle.ground.proofs.Ordered.{among_map_in}

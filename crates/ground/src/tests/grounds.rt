@@ -6,7 +6,8 @@ use std::alloc::Global;
 use std::io::Write;
 use std::test::Fail;
 
-const MATCH: &[u8] = b"(role a)(role b)(base done)(base same)(input a h)(input a t)(input b h)(input b t)
+const MATCH: &[u8] =
+    b"(role a)(role b)(base done)(base same)(input a h)(input a t)(input b h)(input b t)
     (<= (legal ?r ?m) (input ?r ?m) (not (true done)))(<= (next done) (does a ?m))
     (<= (next same) (does a ?m) (does b ?m))(<= terminal (true done))(<= (goal a 100) (true same))
     (<= (goal a 0) (not (true same)))(<= (goal b 0) (true same))(<= (goal b 100) (not (true same)))";
@@ -130,11 +131,13 @@ const WIDE: &[u8] = b"(role a)(d 0)(d 1)(d 2)(d 3)(d 4)(d 5)(d 6)(d 7)
 const WIDER: &[u8] = b"(role a)(d 0)(d 1)(d 2)(d 3)(d 4)(d 5)(d 6)(d 7)(d 8)
     (<= (base (n ?a ?b ?c ?d)) (d ?a) (d ?b) (d ?c) (d ?d))";
 
-const LONG: &[u8] = b"(role a)(p0 a)(<= (p1 (f ?x ?x)) (p0 ?x))(<= (p2 (f ?x ?x)) (p1 ?x))(<= (p3 (f ?x ?x)) (p2 ?x))
+const LONG: &[u8] =
+    b"(role a)(p0 a)(<= (p1 (f ?x ?x)) (p0 ?x))(<= (p2 (f ?x ?x)) (p1 ?x))(<= (p3 (f ?x ?x)) (p2 ?x))
     (<= (p4 (f ?x ?x)) (p3 ?x))(<= (p5 (f ?x ?x)) (p4 ?x))(<= (p6 (f ?x ?x)) (p5 ?x))(<= (p7 (f ?x ?x)) (p6 ?x))
     (<= (p8 (f ?x ?x)) (p7 ?x))(<= (p9 (f ?x ?x)) (p8 ?x))";
 
-const LONGER: &[u8] = b"(role a)(p0 a)(<= (p1 (f ?x ?x)) (p0 ?x))(<= (p2 (f ?x ?x)) (p1 ?x))(<= (p3 (f ?x ?x)) (p2 ?x))
+const LONGER: &[u8] =
+    b"(role a)(p0 a)(<= (p1 (f ?x ?x)) (p0 ?x))(<= (p2 (f ?x ?x)) (p1 ?x))(<= (p3 (f ?x ?x)) (p2 ?x))
     (<= (p4 (f ?x ?x)) (p3 ?x))(<= (p5 (f ?x ?x)) (p4 ?x))(<= (p6 (f ?x ?x)) (p5 ?x))(<= (p7 (f ?x ?x)) (p6 ?x))
     (<= (p8 (f ?x ?x)) (p7 ?x))(<= (p9 (f ?x ?x)) (p8 ?x))(<= (p10 (f ?x ?x)) (p9 ?x))";
 
@@ -148,7 +151,10 @@ fn a_limit_may_be_reached(rt: HostRuntime) -> Result<(), Fail> {
 #[test]
 fn the_limit_that_is_passed_is_named(rt: HostRuntime) -> Result<(), Fail> {
     assert_eq!(rt; told(&rt, WIDER)?.as_slice(), b"N1 TooMany base".as_slice());
-    assert_eq!(rt; told(&rt, LONGER)?.as_slice(), b"N1 TooMany text".as_slice());
+    assert_eq!(rt;
+        told(&rt, LONGER)?.as_slice(),
+        b"N1 TooMany text".as_slice()
+    );
     Ok(())
 }
 
@@ -161,7 +167,13 @@ const PLACES: [u32; 21] = [
 #[test]
 fn instances_stand_in_order(rt: HostRuntime) -> Result<(), Fail> {
     let ground = ground_of(&rt, MATCH)??;
-    assert!(rt; ground.kept().iter().map(|instance| instance.alternative).eq(PLACES.iter().copied()));
+    assert!(rt;
+        ground
+            .kept()
+            .iter()
+            .map(|instance| instance.alternative)
+            .eq(PLACES.iter().copied())
+    );
     Ok(())
 }
 
@@ -201,6 +213,9 @@ fn each_relation_has_its_instances(rt: HostRuntime) -> Result<(), Fail> {
 #[test]
 fn goals_have_values_without_leading_zeros(rt: HostRuntime) -> Result<(), Fail> {
     let ground = ground_of(&rt, b"(role a)(goal a 070)(goal a 101)(goal a 70)")??;
-    assert!(rt; ground.kinds.as_slice() == [Kind::Fixed, Kind::Other, Kind::Other, Kind::Goal(0, 70)].as_slice());
+    assert!(rt;
+        ground.kinds.as_slice()
+            == [Kind::Fixed, Kind::Other, Kind::Other, Kind::Goal(0, 70)].as_slice()
+    );
     Ok(())
 }

@@ -1,4 +1,4 @@
-use Rattle.std.proofs.Common.{◌+◌, ◌∙◌, ℕ, List, drop, get_or, refl, subst}
+use Rattle.std.proofs.Common.{◌+◌, ℕ, List, drop, get_or, refl, subst}
 use Rattle.rules.specs.RuleSetView.{lists_of_set, rules_in}
 use Rattle.ground.specs.Keys.{trees}
 use Rattle.ground.proofs.AddingAtoms.{number_next}
