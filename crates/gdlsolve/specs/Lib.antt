@@ -3,3 +3,4 @@ pub mod Checking
 pub mod Replies
 pub mod Input
 pub mod Exits
+pub mod Histories
