@@ -7,6 +7,8 @@ mod commands;
 mod history;
 mod input;
 mod laws;
+mod moving;
+mod reply;
 mod running;
 #[cfg(test)]
 mod tests;
