@@ -11,3 +11,8 @@ pub mod LegalRules
 pub mod StuckRules
 pub mod AfterRules
 pub mod GoalRules
+pub mod GameRules
+pub mod OneGame
+pub mod Alike
+pub mod PlayRange
+pub mod SamePlays
