@@ -5,5 +5,6 @@ pub mod WholeInput
 pub mod OneCheck
 pub mod Spacing
 pub mod Counting
+pub mod Describing
 pub mod Leading
 pub mod Lines

@@ -8,6 +8,7 @@ mod history;
 mod input;
 mod laws;
 mod moving;
+mod playing;
 mod reply;
 mod running;
 #[cfg(test)]
