@@ -1,6 +1,10 @@
 pub mod Ending
 pub mod Filling
+pub mod OneHistory
+pub mod OneMoves
+pub mod OnePlay
 pub mod OneReply
+pub mod OneText
 pub mod WholeInput
 pub mod OneCheck
 pub mod Spacing

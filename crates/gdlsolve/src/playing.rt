@@ -22,10 +22,7 @@ pub(crate) enum Described {
 }
 
 /// The game of the items as a description, or the line that names their fault, or the limit that they pass.
-fn game_of<T: AllocGlobal, A: Allocator>(
-    rt: &T,
-    items: &[Expr<A>],
-) -> Result<Described, AllocError>
+fn game_of<T: AllocGlobal, A: Allocator>(rt: &T, items: &[Expr<A>]) -> Result<Described, AllocError>
     ensures { IfOk result (IsDescribed (trees_in items.now)) }
 {
     let alloc = rt.alloc();
