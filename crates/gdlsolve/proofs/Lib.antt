@@ -1,7 +1,14 @@
 pub mod Ending
 pub mod Filling
+pub mod OneHistory
+pub mod OneMoves
+pub mod OnePlay
 pub mod OneReply
+pub mod OneText
 pub mod WholeInput
 pub mod OneCheck
 pub mod Spacing
 pub mod Counting
+pub mod Describing
+pub mod Leading
+pub mod Lines

@@ -4,8 +4,12 @@
 mod answering;
 mod command;
 mod commands;
+mod history;
 mod input;
 mod laws;
+mod moving;
+mod playing;
+mod reply;
 mod running;
 #[cfg(test)]
 mod tests;
