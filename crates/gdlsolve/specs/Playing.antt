@@ -39,5 +39,5 @@ IsPlayReply items told reply = HasNoGame items reply ⊎ TellsGame items told re
 
 -- the game of the items, or the refusal where there is none
 abbrev pub IsDescribed : List Tree → Described → Type 0
-IsDescribed items (Game game) = IsItsGame items (named_rules_of game.ground)
+IsDescribed items (Game game) = IsItsGame items (named_rules_of game.played)
 IsDescribed items (Refusal reply) = HasNoGame items (record { output = reply.output.items; status = reply.status })

@@ -8,7 +8,7 @@ use Rattle.gdlsolve.proofs.playing.game_of.Goals as goal
 pub returns-in-Ok-instantiate : goal.returns-in-Ok-instantiate
 returns-in-Ok-instantiate g c =
     let accepted = c.in-Ok.ensures.accepted in
-    its_game (trees_in c.args.items.now) (rules_in c.in-Ok.rules) c.in-Ok-instantiate.ground c.in_ok-new-in-Ok-instantiate.field-0.ground
+    its_game (trees_in c.args.items.now) (rules_in c.in-Ok.rules) c.in-Ok-instantiate.ground c.in_ok-new-in-Ok-instantiate.field-0.played
     accepted.0 accepted.1 c.in-Ok-instantiate.ensures.ground c.in_ok-new-in-Ok-instantiate.ensures
 
 pub returns : goal.returns
