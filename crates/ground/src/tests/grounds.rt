@@ -131,6 +131,13 @@ const WIDE: &[u8] = b"(role a)(d 0)(d 1)(d 2)(d 3)(d 4)(d 5)(d 6)(d 7)
 const WIDER: &[u8] = b"(role a)(d 0)(d 1)(d 2)(d 3)(d 4)(d 5)(d 6)(d 7)(d 8)
     (<= (base (n ?a ?b ?c ?d)) (d ?a) (d ?b) (d ?c) (d ?d))";
 
+/// As many inputs.
+const BROAD: &[u8] = b"(role a)(d 0)(d 1)(d 2)(d 3)(d 4)(d 5)(d 6)(d 7)
+    (<= (input a (n ?a ?b ?c ?d)) (d ?a) (d ?b) (d ?c) (d ?d))";
+
+const BROADER: &[u8] = b"(role a)(d 0)(d 1)(d 2)(d 3)(d 4)(d 5)(d 6)(d 7)(d 8)
+    (<= (input a (n ?a ?b ?c ?d)) (d ?a) (d ?b) (d ?c) (d ?d))";
+
 const LONG: &[u8] =
     b"(role a)(p0 a)(<= (p1 (f ?x ?x)) (p0 ?x))(<= (p2 (f ?x ?x)) (p1 ?x))(<= (p3 (f ?x ?x)) (p2 ?x))
     (<= (p4 (f ?x ?x)) (p3 ?x))(<= (p5 (f ?x ?x)) (p4 ?x))(<= (p6 (f ?x ?x)) (p5 ?x))(<= (p7 (f ?x ?x)) (p6 ?x))
@@ -145,6 +152,16 @@ const LONGER: &[u8] =
 fn a_limit_may_be_reached(rt: HostRuntime) -> Result<(), Fail> {
     assert_eq!(rt; told(&rt, WIDE)?.as_slice(), b"4096 0 4105 0".as_slice());
     assert_eq!(rt; told(&rt, LONG)?.as_slice(), b"0 0 11 0".as_slice());
+    Ok(())
+}
+
+#[test]
+fn inputs_are_counted_in_all(rt: HostRuntime) -> Result<(), Fail> {
+    assert_eq!(rt; told(&rt, BROAD)?.as_slice(), b"0 4096 4105 0".as_slice());
+    assert_eq!(rt;
+        told(&rt, BROADER)?.as_slice(),
+        b"N1 TooMany inputs".as_slice()
+    );
     Ok(())
 }
 
