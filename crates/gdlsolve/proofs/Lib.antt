@@ -5,3 +5,4 @@ pub mod WholeInput
 pub mod OneCheck
 pub mod Spacing
 pub mod Counting
+pub mod Ranges

@@ -1,5 +1,6 @@
 pub mod Answers
 pub mod Checking
+pub mod Solving
 pub mod Replies
 pub mod Input
 pub mod Exits

@@ -6,7 +6,9 @@ mod command;
 mod commands;
 mod input;
 mod laws;
+mod roles;
 mod running;
+mod solving;
 #[cfg(test)]
 mod tests;
 
