@@ -6,3 +6,4 @@ pub mod OneCheck
 pub mod Spacing
 pub mod Counting
 pub mod Ranges
+pub mod Leading

@@ -4,3 +4,4 @@ pub mod Solving
 pub mod Replies
 pub mod Input
 pub mod Exits
+pub mod Histories

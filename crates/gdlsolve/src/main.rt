@@ -4,6 +4,7 @@
 mod answering;
 mod command;
 mod commands;
+mod history;
 mod input;
 mod laws;
 mod roles;

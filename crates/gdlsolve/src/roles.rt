@@ -3,6 +3,7 @@ ghost use Rattle.std.specs.Prelude.{◌≡◌, ◌<◌, IfOk, IfSome, find};
 ghost use Rattle.kif.specs.Tree.{text, name_eq, trees_of};
 ghost use Rattle.kif.specs.View.{tree_of, trees_in};
 ghost use Rattle.position.specs.Rules.{all_roles};
+ghost use Rattle.gdlsolve.specs.Histories.{named};
 ghost use Rattle.gdlsolve.specs.Solving.{role_in, IsRoleNamed};
 
 use bumpalo::Bump;
@@ -26,7 +27,7 @@ fn find_role<G: Game, A: Allocator>(g: &G, tree: &Expr<A>) -> Option<usize>
 /// The role that exactly one tree names.
 fn role_of<G: Game, A: Allocator>(g: &G, trees: &[Expr<A>]) -> Option<usize>
     ensures known { IfSome result (λ r. r < (G.rules g.now).roles) }
-    ensures found { result ≡ role_in (record { rules = G.rules g.now; role_name = G.role_name g.now; move_name = G.move_name g.now })
+    ensures found { result ≡ role_in (named (G.rules g.now) (G.role_name g.now) (G.move_name g.now))
         (trees_of (trees_in trees.now)) }
 {
     if trees.len() != 1 {
@@ -42,7 +43,7 @@ pub(crate) fn role_named<G: Game>(
     g: &G,
     text: &str,
 ) -> Result<Option<usize>, AllocError>
-    ensures named { IfOk result (λ found. IsRoleNamed (record { rules = G.rules g.now; role_name = G.role_name g.now; move_name = G.move_name g.now })
+    ensures named { IfOk result (λ found. IsRoleNamed (named (G.rules g.now) (G.role_name g.now) (G.move_name g.now))
         text.now found) }
     ensures known { IfOk result (λ found. IfSome found (λ r. r < (G.rules g.now).roles)) }
 {
