@@ -7,3 +7,4 @@ pub mod Spacing
 pub mod Counting
 pub mod Ranges
 pub mod Leading
+pub mod OneTree

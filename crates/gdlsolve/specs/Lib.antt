@@ -5,3 +5,4 @@ pub mod Replies
 pub mod Input
 pub mod Exits
 pub mod Histories
+pub mod Play

@@ -7,6 +7,7 @@ mod commands;
 mod history;
 mod input;
 mod laws;
+mod play;
 mod roles;
 mod running;
 mod solving;

@@ -1,24 +1,26 @@
 // The value of a state, the move that makes sure of it, and the line of play, as lines.
-ghost use Rattle.std.specs.Prelude.{◌≡◌, ◌≢◌, ◌≤◌, ◌<◌, ◌++◌, IfOk, IfSome, OnOk, Contains, false, slice_index};
-ghost use Rattle.position.specs.Rules.{IsTurn, is_stuck as stuck};
-ghost use Rattle.position.specs.Value.{value, choice_of, line_of};
-ghost use Rattle.maximin.specs.Room.{IsRoomOf, room_depth};
-ghost use Rattle.gdlsolve.specs.Checking.{count_line, spaced};
+ghost use Rattle.std.specs.Prelude.{◌≡◌, ◌≢◌, ◌-◌, ◌≤◌, ◌<◌, ◌++◌, IfOk, IfSome, OnOk, Some};
+ghost use Rattle.smallvec.specs.SmallVec.{small_vec_len};
+ghost use Rattle.position.specs.Rules.{IsTurn};
+ghost use Rattle.position.specs.Value.{value, choice_of, reply_of, line_of};
+ghost use Rattle.maximin.specs.Room.{room_depth};
+ghost use Rattle.gdlsolve.specs.Checking.{spaced};
+ghost use Rattle.gdlsolve.specs.Histories.{named};
+ghost use Rattle.gdlsolve.specs.Play.{IsPlayOf};
 ghost use Rattle.gdlsolve.specs.Solving.{move_line, choice_text, move_texts, turn_line, turn_lines, solve_lines};
 
-use maximin::{Room, choice, first_reply, value_in};
+use crate::play::Play;
+use maximin::{choice, value_in};
 use position::Game;
 use propnet::Joint;
-use smallvec::SmallVec;
 use std::alloc::{AllocError, Global};
 use std::io::Write;
-use std::mem;
 
 /// Adds each move of a joint move with a space before it. After an error the output may have a beginning of them.
 fn add_moves<G: Game>(g: &G, joint: &Joint, output: &mut Vec<u8>) -> Result<(), AllocError>
     requires { IsTurn (G.rules g.now) joint.now.items }
     ensures { OnOk result (output.new.items ≡ output.old.items
-        ++ spaced (move_texts (record { rules = G.rules g.now; role_name = G.role_name g.now; move_name = G.move_name g.now }) joint.now.items)) }
+        ++ spaced (move_texts (named (G.rules g.now) (G.role_name g.now) (G.move_name g.now)) joint.now.items)) }
 {
     for role in 0..g.roles() {
         output.push(b' ')?;
@@ -36,7 +38,7 @@ fn add_turn<G: Game>(
 ) -> Result<(), AllocError>
     requires { IsTurn (G.rules g.now) joint.now.items }
     ensures { OnOk result (output.new.items ≡ output.old.items
-        ++ turn_line (record { rules = G.rules g.now; role_name = G.role_name g.now; move_name = G.move_name g.now }) number joint.now.items) }
+        ++ turn_line (named (G.rules g.now) (G.role_name g.now) (G.move_name g.now)) number joint.now.items) }
 {
     write!(output, "line {number}").map_err(|_| AllocError)?;
     add_moves(g, joint, output)?;
@@ -54,7 +56,7 @@ fn add_choice<G: Game>(
     requires role { role < (G.rules g.now).roles }
     requires chosen { IfSome chosen (λ own. own < (G.rules g.now).moves role) }
     ensures { OnOk result (output.new.items ≡ output.old.items
-        ++ move_line (choice_text (record { rules = G.rules g.now; role_name = G.role_name g.now; move_name = G.move_name g.now }) role chosen)) }
+        ++ move_line (choice_text (named (G.rules g.now) (G.role_name g.now) (G.move_name g.now)) role chosen)) }
 {
     let text = match chosen {
         Some(own) => g.move_text(role, own),
@@ -64,4 +66,68 @@ fn add_choice<G: Game>(
     output.extend_from_slice(text)?;
     output.push(b'\n')?;
     Ok(())
+}
+
+/// The value of a state for a role.
+fn value_of<G: Game>(g: &G, role: usize, depth: u32, play: &mut Play<G>) -> u16
+    requires role { role < (G.rules g.now).roles }
+    requires play { IsPlayOf (G.fits g.now) (G.rules g.now).roles play.old }
+    requires deep { depth ≤ room_depth play.old.room }
+    ensures value { result ≡ value (G.rules g.now) role depth (G.state g.now play.old.here) }
+    ensures same { play.new.here ≡ play.old.here }
+    ensures play { IsPlayOf (G.fits g.now) (G.rules g.now).roles play.new }
+    ensures deep { room_depth play.new.room ≡ room_depth play.old.room }
+{
+    value_in(g, &play.here, role, depth, -1, 101, &mut play.room).unsigned_abs()
+}
+
+/// Adds the lines of the turns that follow a state whose first move is `chosen`, the first with this number. After an error the output
+/// may have a beginning of them.
+fn add_turns<G: Game>(
+    g: &G,
+    role: usize,
+    depth: u32,
+    first: Option<u32>,
+    play: &mut Play<G>,
+    output: &mut Vec<u8>,
+) -> Result<(), AllocError>
+    requires role { role < (G.rules g.now).roles }
+    requires play { IsPlayOf (G.fits g.now) (G.rules g.now).roles play.old }
+    requires deep { depth ≤ room_depth play.old.room }
+    requires first { first ≡ choice_of (G.rules g.now) role depth (G.state g.now play.old.here) }
+    ensures { OnOk result (output.new.items ≡ output.old.items
+        ++ turn_lines (named (G.rules g.now) (G.role_name g.now) (G.move_name g.now)) 1 (line_of (G.rules g.now) role depth (G.state g.now play.old.here))) }
+{
+    let mut chosen = first;
+    let mut left = depth;
+    while let Some(own) = chosen {
+        play.turn(g, role, own, left);
+        add_turn(g, (depth - left) as usize + 1, &play.joint, output)?;
+        left -= 1;
+        chosen = choice(g, &play.here, role, left, &mut play.room);
+    }
+    Ok(())
+}
+
+/// The value of a state for a role, the move that makes sure of it, and the line of play, as lines.
+fn solved<G: Game>(
+    alloc: Global,
+    g: &G,
+    role: usize,
+    depth: u32,
+    here: G::Pos,
+) -> Result<Vec<u8>, AllocError>
+    requires fits { G.fits g.now here }
+    requires role { role < (G.rules g.now).roles }
+    ensures { IfOk result (λ output. output.items
+        ≡ solve_lines (named (G.rules g.now) (G.role_name g.now) (G.move_name g.now)) role depth (G.state g.now here)) }
+{
+    let mut play = Play::new(alloc, g, depth, here)?;
+    let mut output = Vec::new(alloc);
+    let value = value_of(g, role, depth, &mut play);
+    writeln!(output, "value {value}").map_err(|_| AllocError)?;
+    let chosen = choice(g, &play.here, role, depth, &mut play.room);
+    add_choice(g, role, chosen, &mut output)?;
+    add_turns(g, role, depth, chosen, &mut play, &mut output)?;
+    Ok(output)
 }
