@@ -2,8 +2,7 @@
 use Rattle.std.proofs.Common.{ℕ, zero, suc, ◌+◌, ◌<◌, Bool, true, false, cond, ◌≡◌, ◌↔◌, List, [], ◌∷◌, length, map, refl, sym, ap, subst, ◌∙◌, arith, Option, Some, None, eqb-true, eq-eqb, lt-ltb}
 use Rattle.std.specs.Prelude.{IsTrue, nat_lt, slice_index, ◌==◌}
 use Rattle.std.specs.Option.{option_map}
-use Rattle.std.proofs.lemmas.List.{length-map, get_or-map}
-use Rattle.kif.specs.Tree.{Tree, text, tree_eq}
+use Rattle.kif.specs.Tree.{Tree, tree_eq}
 use Rattle.kif.proofs.Equality.{both, true_and}
 use Rattle.rules.specs.Words.{w_next}
 use Rattle.rules.specs.Clause.{Atom, Alternative, relation_of}
@@ -11,15 +10,12 @@ use Rattle.rules.specs.Dependence.{IsAmong}
 use Rattle.rules.proofs.Accepted.{fixed_tested}
 use Rattle.ground.specs.declared.kind.Kind.{Kind}
 use Rattle.ground.specs.declared.kind.Kind.TheVariants.{Fixed, Now, Does, Next, Legal, Goal, Terminal, Other}
-use Rattle.ground.specs.declared.ground.Ground.{Ground}
 use Rattle.ground.specs.Meaning.{Source, now, does, distinct, ordinary, source_of, RightAs, Holds, IsRole, IsInput, IsWithinInput, atom1}
 use Rattle.ground.specs.Listing.{listing, is_atom_in, role_list, base_list, input_list}
 use Rattle.ground.specs.Listed.{IsWellFormed}
 use Rattle.ground.specs.Evaluation.{holding, after_list}
 use Rattle.ground.specs.Kinds.{place_in, kind_of}
-use Rattle.ground.specs.Grounds.{Kept, numbered, texts_at}
-use Rattle.ground.specs.GroundView.{instances_of, inputs_of, IsGround}
-use Rattle.ground.specs.Play as play
+use Rattle.ground.specs.Grounds.{numbered}
 use Rattle.ground.specs.Play.{AreAfter}
 use Rattle.ground.proofs.AtomKinds.{kind_sound, kind_complete}
 use Rattle.ground.proofs.Context.{bases_in_order, inputs_in_order}
@@ -30,11 +26,9 @@ use Rattle.ground.proofs.ListedLaw.{is_atom_yes, is_atom_in_yes}
 use Rattle.ground.proofs.Possible.{now_is, does_is}
 use Rattle.position.specs.declared.naming.Naming.TheVariants.{ByNext}
 use Rattle.position.specs.Played.{tree_at}
-use Rattle.position.specs.Rules.{Turn, IsTurn}
+use Rattle.position.specs.Rules.{Turn}
 use Rattle.position.specs.RulePlay.{is_given, holds, names, is_named, named_below}
 use Rattle.position.specs.RuleMeaning.{Agree, stands_at, state_of, chosen_at, joint_of, trees_at}
-use Rattle.position.specs.RuleState.{rules_of}
-use Rattle.position.proofs.States.{get_or_any}
 use Rattle.position.proofs.Trees.{trees_picked, picked_filter, placed, place_at, among_tree}
 use Rattle.position.proofs.ByRules.{place_among, kind_holds, within_base}
 use Rattle.position.proofs.LegalRules.{same_answer, in_order_once}
@@ -141,29 +135,8 @@ module _ (rules : List Alternative) (w : IsWellFormed rules) (s : List ℕ) (j :
           let h = holding_exact rules w (state_of rules s) (joint_of rules j) (within_base rules w s) within_input x in
           ((λ e. h.0 (is_atom_yes x (holding rules (state_of rules s) (joint_of rules j)) e)), (λ k. is_atom_in_yes x (holding rules (state_of rules s) (joint_of rules j)) (h.1 k)))
 
-  after_are : AreAfter rules (state_of rules s) (joint_of rules j)
+  pub after_are : AreAfter rules (state_of rules s) (joint_of rules j)
       (trees_at (base_list rules) (named_below (map (kind_of rules) (listing rules).atoms) (holds (map (kind_of rules) (listing rules).atoms) (map (numbered rules) (listing rules).kept) s j) ByNext (length (base_list rules))))
   after_are =
       subst (λ (ps : List Tree). AreAfter rules (state_of rules s) (joint_of rules j) ps) (sym after_same)
       (after_listed rules w (state_of rules s) (joint_of rules j) (within_base rules w s) within_input)
-
--- a role has as many moves as inputs
-moves_counted : (rules : List Alternative) (g : Ground) → IsGround rules g → (q : ℕ) → q < length (role_list rules)
-    → length (texts_at (inputs_of g) q) ≡ length (input_list rules (tree_at (role_list rules) q))
-moves_counted rules g is q inside =
-    let role = tree_at (role_list rules) q in
-    ap (λ (lists : List (List (List ℕ))). length (texts_at lists q)) is.inputs_are
-    ∙ ap length (get_or-map (λ (r : Tree). map text (input_list rules r)) (role_list rules) q role [] inside ∙ ap (λ (r : Tree). map text (input_list rules r)) (get_or_any (role_list rules) q role _ inside))
-    ∙ length-map (input_list rules role) text
-
-pub after_by_rules : (rules : List Alternative) (g : Ground) → IsGround rules g → (s : List ℕ) (j : Turn) → IsTurn (rules_of g) j
-    → AreAfter rules (state_of rules s) (joint_of rules j) (trees_at (base_list rules) ((rules_of g).after s j))
-after_by_rules rules g is s j turn =
-    let roles : length (inputs_of g) ≡ length (role_list rules) = ap length is.inputs_are ∙ length-map (role_list rules) (λ (r : Tree). map text (input_list rules r)) in
-    let size : length g.starts.items ≡ length (base_list rules) = ap length is.starts_are ∙ length-map (base_list rules) (play.starts rules) in
-    let below : (q : ℕ) → q < length (role_list rules) → slice_index j q < length (input_list rules (tree_at (role_list rules) q)) =
-    λ q inside. subst (λ (n : ℕ). slice_index j q < n) (moves_counted rules g is q inside) (turn.each_known q (subst (λ (n : ℕ). q < n) (sym roles) inside)) in
-    subst (λ (ks : List Kind). AreAfter rules (state_of rules s) (joint_of rules j) (trees_at (base_list rules) (named_below ks (holds ks (instances_of g) s j) ByNext (length g.starts.items)))) (sym is.kinds_are)
-    (subst (λ (ns : List Kept). AreAfter rules (state_of rules s) (joint_of rules j) (trees_at (base_list rules) (named_below (map (kind_of rules) (listing rules).atoms) (holds (map (kind_of rules) (listing rules).atoms) ns s j) ByNext (length g.starts.items)))) (sym is.kept_are)
-    (subst (λ (n : ℕ). AreAfter rules (state_of rules s) (joint_of rules j) (trees_at (base_list rules) (named_below (map (kind_of rules) (listing rules).atoms) (holds (map (kind_of rules) (listing rules).atoms) (map (numbered rules) (listing rules).kept) s j) ByNext n))) (sym size)
-    (after_are rules is.well_formed s j (turn.of_each_role ∙ roles) below)))

@@ -12,7 +12,6 @@ use Rattle.rules.proofs.Accepted.{fixed_tested}
 use Rattle.rules.proofs.Tests.{or_cases, or_left, or_right}
 use Rattle.ground.specs.declared.kind.Kind.{Kind}
 use Rattle.ground.specs.declared.kind.Kind.TheVariants.{Fixed, Now, Does, Next, Legal, Goal, Terminal, Other}
-use Rattle.ground.specs.declared.ground.Ground.{Ground}
 use Rattle.ground.specs.Meaning.{State, Joint, Source, now, does, distinct, ordinary, source_at, source_of, RightAs, Holds, nobody, IsEnded, IsBase, IsWithinBase, IsWithinInput, atom0, atom1}
 use Rattle.ground.specs.InOrder.{AreDistinct, first_place}
 use Rattle.ground.specs.Numbers.{number_of}
@@ -21,7 +20,6 @@ use Rattle.ground.specs.Listed.{IsWellFormed}
 use Rattle.ground.specs.Gates.{atom_at}
 use Rattle.ground.specs.Kinds.{place_in, kind_of, MeansKind}
 use Rattle.ground.specs.Grounds.{Kept, numbered}
-use Rattle.ground.specs.GroundView.{instances_of, IsGround}
 use Rattle.ground.proofs.AtomKinds.{kind_sound, kind_complete}
 use Rattle.ground.proofs.Exact.{listed_suffice}
 use Rattle.ground.proofs.Fold.{bases_exact}
@@ -33,7 +31,6 @@ use Rattle.kif.proofs.Equality.{tree_eq_yes}
 use Rattle.position.specs.Rules.{Turn}
 use Rattle.position.specs.RulePlay.{marked, no_turn, kind_at, is_given, holds, some_below, is_terminal, ends}
 use Rattle.position.specs.RuleMeaning.{Agree, stands_at, state_of, trees_at}
-use Rattle.position.specs.RuleState.{rules_of}
 use Rattle.position.specs.Played.{tree_at}
 use Rattle.position.proofs.Trees.{trees_picked, picked_filter}
 use Rattle.ground.specs.Play as play
@@ -204,15 +201,9 @@ module _ (rules : List Alternative) (w : IsWellFormed rules) where
             found_some (λ a. holds kinds kept s j a && test (kind_at kinds a)) (length kinds) (number_of y (listing rules).atoms) (omega arith)
             (true_and _ _ right (ap test (kind_listed (kind_of rules) y (listing rules).atoms listed ∙ kind) ∙ is))
 
-  ends_by_rules : (s : List ℕ) → (ends kinds (holds kinds kept s no_turn) ≡ true) ↔ IsEnded rules (state_of rules s)
+  pub ends_by_rules : (s : List ℕ) → (ends kinds (holds kinds kept s no_turn) ≡ true) ↔ IsEnded rules (state_of rules s)
   ends_by_rules s =
       kind_holds (state_of rules s) nobody (within_base s) (no_move s) s no_turn (agree_now s) is_terminal Terminal (atom0 w_terminal) terminal_only refl (λ e. absurd cc) (λ e. absurd cc) refl (λ z m. m) refl
-
-pub ended_by_rules : (rules : List Alternative) (g : Ground) → IsGround rules g → (s : List ℕ) → ((rules_of g).ended s ≡ true) ↔ IsEnded rules (state_of rules s)
-ended_by_rules rules g is s =
-    subst (λ (ks : List Kind). (ends ks (holds ks (instances_of g) s no_turn) ≡ true) ↔ IsEnded rules (state_of rules s)) (sym is.kinds_are)
-    (subst (λ (is : List Kept). (ends (map (kind_of rules) (listing rules).atoms) (holds (map (kind_of rules) (listing rules).atoms) is s no_turn) ≡ true) ↔ IsEnded rules (state_of rules s)) (sym is.kept_are)
-    (ends_by_rules rules is.well_formed s))
 
 start_mark : (F : Tree → Bool) (ts : List Tree) (k : ℕ) → k < length ts → get_or (map F ts) k false ≡ F (tree_at ts k)
 start_mark F [] k lt = absurd (omega arith)
@@ -220,14 +211,12 @@ start_mark F (t ∷ ts) zero lt = refl
 start_mark F (t ∷ ts) (suc k) lt = start_mark F ts k (omega arith)
 
 -- the start state is that of the rules
-pub start_by_rules : (rules : List Alternative) (g : Ground) → IsGround rules g → AreStart rules (trees_at (base_list rules) (rules_of g).start)
-start_by_rules rules g is =
-    subst (λ (ts : List Tree). AreStart rules ts) (sym same) (start_listed rules is.well_formed)
-  where
-    same : trees_at (base_list rules) (marked g.starts.items) ≡ filter (play.starts rules) (base_list rules)
-    same =
-        ap (λ (bs : List Bool). trees_at (base_list rules) (marked bs)) is.starts_are
-        ∙ ap (λ (n : ℕ). trees_at (base_list rules) (filter (λ k. get_or (map (play.starts rules) (base_list rules)) k false) (range_with_len 0 n))) (length-map (base_list rules) (play.starts rules))
-        ∙ trees_picked (λ k. get_or (map (play.starts rules) (base_list rules)) k false) (base_list rules)
-        ∙ picked_filter (λ k. get_or (map (play.starts rules) (base_list rules)) k false) (play.starts rules) 0 (base_list rules)
-        (λ k lt. ap (λ (i : ℕ). get_or (map (play.starts rules) (base_list rules)) i false) (omega arith) ∙ start_mark (play.starts rules) (base_list rules) k lt)
+pub start_are : (rules : List Alternative) → IsWellFormed rules → AreStart rules (trees_at (base_list rules) (marked (map (play.starts rules) (base_list rules))))
+start_are rules w =
+    let marks = map (play.starts rules) (base_list rules) in
+    subst (λ (ts : List Tree). AreStart rules ts)
+    (sym (ap (λ (n : ℕ). trees_at (base_list rules) (filter (λ k. get_or marks k false) (range_with_len 0 n))) (length-map (base_list rules) (play.starts rules))
+    ∙ trees_picked (λ k. get_or marks k false) (base_list rules)
+    ∙ picked_filter (λ k. get_or marks k false) (play.starts rules) 0 (base_list rules)
+    (λ k lt. ap (λ (i : ℕ). get_or marks i false) (omega arith) ∙ start_mark (play.starts rules) (base_list rules) k lt)))
+    (start_listed rules w)

@@ -10,21 +10,18 @@ use Rattle.rules.specs.Words.{w_goal}
 use Rattle.rules.specs.Clause.{Atom, Alternative}
 use Rattle.ground.specs.declared.kind.Kind.{Kind}
 use Rattle.ground.specs.declared.kind.Kind.TheVariants.{Fixed, Now, Does, Next, Legal, Goal, Terminal, Other}
-use Rattle.ground.specs.declared.ground.Ground.{Ground}
 use Rattle.ground.specs.Meaning.{nobody, atom2}
 use Rattle.ground.specs.Listing.{listing, role_list}
 use Rattle.ground.specs.Listed.{IsWellFormed}
 use Rattle.ground.specs.Gates.{atom_at}
 use Rattle.ground.specs.Kinds.{kind_of, MeansKind}
-use Rattle.ground.specs.Grounds.{Kept, numbered}
-use Rattle.ground.specs.GroundView.{instances_of, IsGround}
+use Rattle.ground.specs.Grounds.{numbered}
 use Rattle.ground.specs.Play.{HasGoal, IsGoal}
 use Rattle.ground.proofs.AtomKinds.{kind_sound}
 use Rattle.ground.proofs.Context.{roles_once}
 use Rattle.position.specs.Played.{tree_at}
 use Rattle.position.specs.RulePlay.{no_turn, kind_at, holds, some_below, greatest_below, goal_value, best_goal}
 use Rattle.position.specs.RuleMeaning.{state_of}
-use Rattle.position.specs.RuleState.{rules_of}
 use Rattle.position.proofs.Trees.{placed, place_at}
 use Rattle.position.proofs.ByRules.{kind_at_number, some_found, found_some, kind_holds, within_base, no_move, agree_now}
 
@@ -171,12 +168,5 @@ module _ (rules : List Alternative) (w : IsWellFormed rules) (s : List ℕ) (r :
       go true f = inl (omega arith, (goal_holds 0 (omega arith)).0 f, (λ u more small h. let l = within_best u small h in absurd (omega arith)))
       go false f = inr (refl, (λ u small h. let l = within_best u small h in none f u (omega arith) h))
 
-  goal_are : IsGoal rules (state_of rules s) role (best_goal kinds right r)
+  pub goal_are : IsGoal rules (state_of rules s) role (best_goal kinds right r)
   goal_are = best_is (best_goal kinds right r) refl
-
-pub goals_by_rules : (rules : List Alternative) (g : Ground) → IsGround rules g → (s : List ℕ) (r : ℕ) → r < length (role_list rules)
-    → IsGoal rules (state_of rules s) (tree_at (role_list rules) r) ((rules_of g).goal s r)
-goals_by_rules rules g is s r inside =
-    subst (λ (ks : List Kind). IsGoal rules (state_of rules s) (tree_at (role_list rules) r) (best_goal ks (holds ks (instances_of g) s no_turn) r)) (sym is.kinds_are)
-    (subst (λ (ns : List Kept). IsGoal rules (state_of rules s) (tree_at (role_list rules) r) (best_goal (map (kind_of rules) (listing rules).atoms) (holds (map (kind_of rules) (listing rules).atoms) ns s no_turn) r)) (sym is.kept_are)
-    (goal_are rules is.well_formed s r inside))

@@ -1,22 +1,19 @@
 -- The legal moves of the game of an instantiation are those of the rules.
-use Rattle.std.proofs.Common.{ℕ, ◌+◌, ◌<◌, Bool, true, false, cond, ◌≡◌, ◌↔◌, List, [], length, map, get_or, refl, sym, ap, subst, ◌∙◌, arith, Some, None, eqb-true, eq-eqb}
+use Rattle.std.proofs.Common.{ℕ, ◌+◌, ◌<◌, Bool, true, false, cond, ◌≡◌, ◌↔◌, List, length, map, refl, sym, ap, subst, ◌∙◌, arith, Some, None, eqb-true, eq-eqb}
 use Rattle.std.specs.Prelude.{◌==◌}
 use Rattle.std.specs.declared.cmp.Ordering.TheVariants.{Less}
-use Rattle.std.proofs.lemmas.List.{length-map, get_or-map}
-use Rattle.kif.specs.Tree.{Tree, text, printed_cmp}
+use Rattle.kif.specs.Tree.{Tree, printed_cmp}
 use Rattle.rules.specs.Words.{w_legal}
 use Rattle.rules.specs.Clause.{Atom, Alternative}
 use Rattle.ground.specs.declared.kind.Kind.{Kind}
 use Rattle.ground.specs.declared.kind.Kind.TheVariants.{Fixed, Now, Does, Next, Legal, Goal, Terminal, Other}
-use Rattle.ground.specs.declared.ground.Ground.{Ground}
 use Rattle.ground.specs.Meaning.{Holds, nobody, atom2, IsRole}
 use Rattle.ground.specs.InOrder.{AreDistinct}
 use Rattle.ground.specs.Listing.{listing, is_atom_in, role_list, input_list}
 use Rattle.ground.specs.Listed.{IsWellFormed}
 use Rattle.ground.specs.Evaluation.{holding, legal_list}
 use Rattle.ground.specs.Kinds.{kind_of, MeansKind}
-use Rattle.ground.specs.Grounds.{Kept, numbered, texts_at}
-use Rattle.ground.specs.GroundView.{instances_of, inputs_of, IsGround}
+use Rattle.ground.specs.Grounds.{numbered}
 use Rattle.ground.specs.Play.{AreInPrintedOrder, AreLegal}
 use Rattle.ground.proofs.Context.{roles_once, inputs_in_order}
 use Rattle.ground.proofs.Evaluation.{holding_exact, legal_listed}
@@ -28,8 +25,6 @@ use Rattle.position.specs.declared.naming.Naming.TheVariants.{ByLegal}
 use Rattle.position.specs.Played.{tree_at}
 use Rattle.position.specs.RulePlay.{no_turn, holds, names, is_number, is_named, named_below}
 use Rattle.position.specs.RuleMeaning.{state_of, trees_at}
-use Rattle.position.specs.RuleState.{rules_of}
-use Rattle.position.proofs.States.{get_or_any}
 use Rattle.position.proofs.Trees.{trees_picked, picked_filter, placed, place_at, among_tree}
 use Rattle.position.proofs.ByRules.{kind_holds, within_base, no_move, agree_now}
 
@@ -94,22 +89,6 @@ module _ (rules : List Alternative) (w : IsWellFormed rules) (s : List ℕ) (r :
           let h = holding_exact rules w (state_of rules s) nobody (within_base rules w s) (no_move rules w s) x in
           ((λ e. h.0 (is_atom_yes x (holding rules (state_of rules s) nobody) e)), (λ k. is_atom_in_yes x (holding rules (state_of rules s) nobody) (h.1 k)))
 
-  legal_are : AreLegal rules (state_of rules s) role
+  pub legal_are : AreLegal rules (state_of rules s) role
       (trees_at (input_list rules role) (named_below (map (kind_of rules) (listing rules).atoms) (holds (map (kind_of rules) (listing rules).atoms) (map (numbered rules) (listing rules).kept) s no_turn) (ByLegal r) (length (input_list rules role))))
   legal_are = subst (λ (ms : List Tree). AreLegal rules (state_of rules s) role ms) (sym legal_same) (legal_listed rules w (state_of rules s) (within_base rules w s) role is_role)
-
-pub legal_by_rules : (rules : List Alternative) (g : Ground) → IsGround rules g → (s : List ℕ) (r : ℕ) → r < length (role_list rules)
-    → AreLegal rules (state_of rules s) (tree_at (role_list rules) r) (trees_at (input_list rules (tree_at (role_list rules) r)) ((rules_of g).legal s r))
-legal_by_rules rules g is s r inside =
-    let role = tree_at (role_list rules) r in
-    let many : length (texts_at (inputs_of g) r) ≡ length (input_list rules role) =
-    ap (λ (lists : List (List (List ℕ))). length (texts_at lists r)) is.inputs_are
-    ∙ ap length (get_or-map (λ (q : Tree). map text (input_list rules q)) (role_list rules) r role [] inside ∙ ap (λ (q : Tree). map text (input_list rules q)) (same_role role))
-    ∙ length-map (input_list rules role) text in
-    subst (λ (ks : List Kind). AreLegal rules (state_of rules s) role (trees_at (input_list rules role) (named_below ks (holds ks (instances_of g) s no_turn) (ByLegal r) (length (texts_at (inputs_of g) r))))) (sym is.kinds_are)
-    (subst (λ (ns : List Kept). AreLegal rules (state_of rules s) role (trees_at (input_list rules role) (named_below (map (kind_of rules) (listing rules).atoms) (holds (map (kind_of rules) (listing rules).atoms) ns s no_turn) (ByLegal r) (length (texts_at (inputs_of g) r))))) (sym is.kept_are)
-    (subst (λ (n : ℕ). AreLegal rules (state_of rules s) role (trees_at (input_list rules role) (named_below (map (kind_of rules) (listing rules).atoms) (holds (map (kind_of rules) (listing rules).atoms) (map (numbered rules) (listing rules).kept) s no_turn) (ByLegal r) n))) (sym many)
-    (legal_are rules is.well_formed s r inside)))
-  where
-    same_role : (d : Tree) → get_or (role_list rules) r d ≡ tree_at (role_list rules) r
-    same_role d = get_or_any (role_list rules) r d _ inside

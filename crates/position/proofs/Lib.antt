@@ -11,3 +11,5 @@ pub mod LegalRules
 pub mod StuckRules
 pub mod AfterRules
 pub mod GoalRules
+pub mod GameRules
+pub mod OneGame

@@ -1,6 +1,6 @@
 -- A state of the game of an instantiation is stuck where the rules say so.
 use Rattle.std.proofs.Common.{ℕ, zero, suc, ◌+◌, ◌<◌, Bool, true, false, ◌≡◌, ◌⊎◌, ◌↔◌, inl, inr, List, [], ◌∷◌, length, map, refl, sym, ap, subst, ◌∙◌, arith, eqb-true}
-use Rattle.std.specs.Prelude.{◌==◌, ◌||◌}
+use Rattle.std.specs.Prelude.{◌==◌}
 use Rattle.std.specs.List.{list_any, range_with_len}
 use Rattle.std.proofs.lemmas.List.{length-map}
 use Rattle.kif.specs.Tree.{Tree, text}
@@ -8,7 +8,7 @@ use Rattle.rules.specs.Clause.{Alternative}
 use Rattle.rules.specs.Dependence.{IsAmong}
 use Rattle.rules.proofs.Tests.{or_cases}
 use Rattle.ground.specs.declared.ground.Ground.{Ground}
-use Rattle.ground.specs.Meaning.{IsRole, IsLegal, IsEnded, IsStuck}
+use Rattle.ground.specs.Meaning.{IsLegal, IsEnded, IsStuck}
 use Rattle.ground.specs.Listing.{role_list, input_list}
 use Rattle.ground.specs.GroundView.{inputs_of, IsGround}
 use Rattle.ground.proofs.Fold.{roles_exact}
@@ -18,8 +18,7 @@ use Rattle.position.specs.RuleMeaning.{state_of, trees_at}
 use Rattle.position.specs.RuleState.{rules_of}
 use Rattle.position.proofs.Roles.{list_any_range}
 use Rattle.position.proofs.Trees.{among_tree}
-use Rattle.position.proofs.ByRules.{ended_by_rules}
-use Rattle.position.proofs.LegalRules.{legal_by_rules}
+use Rattle.position.proofs.GameRules.{ended_by_rules, legal_by_rules}
 
 any_found : (p : ℕ → Bool) (a n : ℕ) → list_any p (range_with_len a n) ≡ true → (k : ℕ) × (k < a + n) × (p k ≡ true)
 any_found p a zero e = absurd cc

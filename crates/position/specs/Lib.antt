@@ -11,3 +11,4 @@ pub mod RuleLaws
 pub mod RuleMeaning
 pub mod NamedRules
 pub mod RulesGame
+pub mod SamePlay

@@ -49,7 +49,7 @@ goal_at_most g s r =
 pub few_moves_of : (g : Ground) (r : ℕ) → (rules_of g).moves r ≤ 2 ^ 32
 few_moves_of g r = let few = few_moves g r in omega arith
 
-below_range : (n : ℕ) → All (λ m. m < n) (range_with_len 0 n)
+pub below_range : (n : ℕ) → All (λ m. m < n) (range_with_len 0 n)
 below_range n k d lt =
     let size = length-range_with_len 0 n in
     let at = get_or-range_with_len 0 n k d (omega arith) in

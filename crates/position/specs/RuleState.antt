@@ -2,17 +2,26 @@
 use Rattle.std.specs.Prelude.{ℕ, ◌≡◌, ◌<◌, ◌≤◌, Bool, List, [], ◌∷◌, length, take, get_or, flat_map, vec_capacity}
 use Rattle.ground.specs.declared.kind.Kind.{Kind}
 use Rattle.ground.specs.declared.ground.Ground.{Ground}
-use Rattle.ground.specs.Grounds.{texts_at}
-use Rattle.ground.specs.GroundView.{inputs_of, kinds_of, instances_of}
+use Rattle.ground.specs.Grounds.{text_at, texts_at}
+use Rattle.ground.specs.GroundView.{roles_of, inputs_of, kinds_of, instances_of}
 use Rattle.position.specs.declared.naming.Naming.TheVariants.{ByLegal}
 use Rattle.position.specs.declared.rule_pos.RoleState.{RoleState}
 use Rattle.position.specs.declared.rule_pos.RulePos.{RulePos}
+use Rattle.position.specs.NamedRules.{NamedRules}
 use Rattle.position.specs.Rules.{Rules, State}
 use Rattle.position.specs.RulePlay.{no_turn, marked, holds, ends, best_goal, named_below, rules_by}
 
 -- the rules of a game, by its instantiation
 abbrev pub rules_of : Ground → Rules
 rules_of g = rules_by (inputs_of g) g.starts.items (kinds_of g) (instances_of g)
+
+-- the same, with the texts of its roles and moves
+abbrev pub named_rules_of : Ground → NamedRules
+named_rules_of g = record {
+  rules = rules_of g;
+  role_name = λ r. text_at (roles_of g) r;
+  move_name = λ r m. text_at (texts_at (inputs_of g) r) m;
+}
 
 -- what holds in a state
 abbrev pub holds_in : Ground → State → ℕ → Bool

@@ -22,8 +22,10 @@ pub use refusal::add_history_refusal;
 pub use replaying::replay;
 pub use rule_game::RuleGame;
 pub use rule_laws::{
-    numbers_find_what_holds, the_rules_end_the_game, the_rules_give_the_moves,
-    the_rules_leave_the_game_stuck, the_rules_start_the_game,
+    games_of_the_rules_agree, numbers_find_what_holds, rules_have_a_game,
+    the_game_plays_by_the_rules, the_rules_end_the_game, the_rules_give_the_goals,
+    the_rules_give_the_moves, the_rules_give_the_next_state, the_rules_leave_the_game_stuck,
+    the_rules_start_the_game,
 };
 pub use rule_pos::RulePos;
 pub use stuck::is_stuck;

@@ -13,7 +13,10 @@ ghost use Rattle.position.specs.Played.{tree_at};
 ghost use Rattle.position.specs.RulePlay.{holds};
 ghost use Rattle.ground.specs.declared.ground.Ground.{Ground};
 ghost use Rattle.ground.specs.GroundView.{IsGround};
-ghost use Rattle.position.specs.RuleState.{rules_of};
+ghost use Rattle.position.specs.RuleState.{rules_of, named_rules_of};
+ghost use Rattle.position.specs.NamedRules.{NamedRules};
+ghost use Rattle.position.specs.RulesGame.{IsGameOf};
+ghost use Rattle.position.specs.SamePlay.{SamePlay};
 ghost use Rattle.position.specs.RuleMeaning.{Agree, state_of, joint_of, trees_at};
 ghost use Rattle.ground.specs.Play.{AreStart, AreAfter, AreLegal, IsGoal};
 
@@ -62,4 +65,19 @@ pub fn the_rules_give_the_next_state()
 pub fn the_rules_give_the_goals()
     ensures { (rules : List Alternative) (g : Ground) → IsGround rules g → (s : List ℕ) (r : ℕ) → r < length (role_list rules)
         → IsGoal rules (state_of rules s) (tree_at (role_list rules) r) ((rules_of g).goal s r) }
+{}
+
+/// The game of an instantiation is that of the rules.
+pub fn the_game_plays_by_the_rules()
+    ensures { (rules : List Alternative) (g : Ground) → IsGround rules g → IsGameOf rules (named_rules_of g) }
+{}
+
+/// Well formed rules have a game.
+pub fn rules_have_a_game()
+    ensures { (rules : List Alternative) → IsWellFormed rules → (g : NamedRules) × IsGameOf rules g }
+{}
+
+/// All games of the same rules tell the same.
+pub fn games_of_the_rules_agree()
+    ensures { (rules : List Alternative) → IsWellFormed rules → (g h : NamedRules) → IsGameOf rules g → IsGameOf rules h → SamePlay g h }
 {}

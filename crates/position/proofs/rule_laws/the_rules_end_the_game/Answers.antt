@@ -1,4 +1,4 @@
-use Rattle.position.proofs.ByRules.{ended_by_rules}
+use Rattle.position.proofs.GameRules.{ended_by_rules}
 use Rattle.position.proofs.rule_laws.the_rules_end_the_game.Goals as goal
 
 pub returns : goal.returns

@@ -1,4 +1,4 @@
-use Rattle.position.proofs.AfterRules.{after_by_rules}
+use Rattle.position.proofs.GameRules.{after_by_rules}
 use Rattle.position.proofs.rule_laws.the_rules_give_the_next_state.Goals as goal
 
 pub returns : goal.returns

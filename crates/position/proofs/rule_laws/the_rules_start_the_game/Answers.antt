@@ -1,4 +1,4 @@
-use Rattle.position.proofs.ByRules.{start_by_rules}
+use Rattle.position.proofs.GameRules.{start_by_rules}
 use Rattle.position.proofs.rule_laws.the_rules_start_the_game.Goals as goal
 
 pub returns : goal.returns
