@@ -8,3 +8,4 @@ pub mod Counting
 pub mod Ranges
 pub mod Leading
 pub mod OneTree
+pub mod LineLemmas
