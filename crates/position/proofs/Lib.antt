@@ -13,3 +13,6 @@ pub mod AfterRules
 pub mod GoalRules
 pub mod GameRules
 pub mod OneGame
+pub mod Alike
+pub mod PlayRange
+pub mod SamePlays

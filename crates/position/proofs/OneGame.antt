@@ -1,8 +1,8 @@
 -- All games of the same rules tell the same.
-use Rattle.std.proofs.Common.{ℕ, zero, suc, ◌<◌, ◌≡◌, List, [], ◌∷◌, length, refl, sym, ap, subst, ◌∙◌, arith, Some}
+use Rattle.std.proofs.Common.{ℕ, ◌<◌, ◌≡◌, List, [], ◌∷◌, length, refl, sym, ap, subst, ◌∙◌, Some}
 use Rattle.std.specs.Prelude.{All, slice_index}
 use Rattle.std.proofs.lemmas.List.Elements.{All-head, All-tail}
-use Rattle.kif.specs.Tree.{Tree, text}
+use Rattle.kif.specs.Tree.{Tree}
 use Rattle.rules.specs.Clause.{Alternative}
 use Rattle.ground.specs.InOrder.{AreDistinct}
 use Rattle.ground.specs.Kinds.{place_in}

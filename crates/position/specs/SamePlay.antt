@@ -1,5 +1,5 @@
 -- When two games tell the same of their roles, moves and states.
-use Rattle.std.specs.Prelude.{ℕ, ◌≡◌, ◌<◌, Bool, List, All}
+use Rattle.std.specs.Prelude.{ℕ, ◌≡◌, ◌<◌, All}
 use Rattle.position.specs.NamedRules.{NamedRules}
 use Rattle.position.specs.Rules.{Rules, State, Turn, IsTurn}
 

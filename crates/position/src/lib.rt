@@ -5,6 +5,7 @@ mod evaluation;
 mod fault;
 mod game;
 mod naming;
+mod play_laws;
 mod reading;
 mod refusal;
 mod replaying;
@@ -18,6 +19,7 @@ mod tests;
 
 pub use fault::HistoryFault;
 pub use game::Game;
+pub use play_laws::{play_stays_within_the_game, same_play_is_played_the_same};
 pub use refusal::add_history_refusal;
 pub use replaying::replay;
 pub use rule_game::RuleGame;

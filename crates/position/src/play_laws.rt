@@ -1,0 +1,39 @@
+// What holds of play in every game, and what games that tell the same have in common.
+ghost use Rattle.std.specs.Prelude.{ℕ, ◌≡◌, ◌<◌, List, All, IfSome, IfErr};
+ghost use Rattle.kif.specs.Tree.{Tree};
+ghost use Rattle.position.specs.NamedRules.{NamedRules};
+ghost use Rattle.position.specs.Played.{MoveNames, played};
+ghost use Rattle.position.specs.Refusal.{IsRoleOf};
+ghost use Rattle.position.specs.Rules.{Rules, State, IsTurn, turns_with};
+ghost use Rattle.position.specs.SamePlay.{SamePlay, AreLegalMoves};
+ghost use Rattle.position.specs.Value.{value, worst, choice_of, reply_of, line_of};
+
+/// A refusal names a role of the game, if it names one. Where each legal move of a role is a move of the role, what a role
+/// chooses is one of its moves, and joint moves, replies and the turns of a line have a move of each role.
+pub fn play_stays_within_the_game()
+    ensures fault { (g : Rules) (names : MoveNames) (ts : List Tree) → IfErr (played g names ts) (IsRoleOf g.roles) }
+    ensures turns { (g : Rules) → AreLegalMoves g → (s : State) (role own : ℕ) → own < g.moves role
+        → All (IsTurn g) (turns_with g s role own) }
+    ensures choice { (g : Rules) → AreLegalMoves g → (role depth : ℕ) (s : State) → role < g.roles
+        → IfSome (choice_of g role depth s) (λ m. m < g.moves role) }
+    ensures reply { (g : Rules) → AreLegalMoves g → (role depth : ℕ) (s : State) (own : ℕ) → own < g.moves role
+        → IfSome (reply_of g role depth s own) (IsTurn g) }
+    ensures line { (g : Rules) → AreLegalMoves g → (role depth : ℕ) (s : State) → role < g.roles
+        → All (IsTurn g) (line_of g role depth s) }
+{}
+
+/// Games that tell the same refuse the same histories for the same fault, and lead from the others to the same state. Each
+/// role has the same values, choices and lines in them, and after each of its moves the same worth and reply.
+pub fn same_play_is_played_the_same()
+    ensures played { (g h : NamedRules) → SamePlay g h → (ts : List Tree) → played g.rules g.move_name ts ≡ played h.rules h.move_name ts }
+    ensures value { (g h : NamedRules) → SamePlay g h → (role : ℕ) → role < g.rules.roles → (depth : ℕ) (s : State)
+        → value g.rules role depth s ≡ value h.rules role depth s }
+    ensures worst { (g h : NamedRules) → SamePlay g h → (role : ℕ) → role < g.rules.roles → (depth : ℕ) (s : State) (own : ℕ)
+        → own < g.rules.moves role → worst g.rules role depth s own ≡ worst h.rules role depth s own }
+    ensures choice { (g h : NamedRules) → SamePlay g h → (role : ℕ) → role < g.rules.roles → (depth : ℕ) (s : State)
+        → choice_of g.rules role depth s ≡ choice_of h.rules role depth s }
+    ensures reply { (g h : NamedRules) → SamePlay g h → (role : ℕ) → role < g.rules.roles → (depth : ℕ) (s : State) (own : ℕ)
+        → own < g.rules.moves role → reply_of g.rules role depth s own ≡ reply_of h.rules role depth s own }
+    ensures line { (g h : NamedRules) → SamePlay g h → (role : ℕ) → role < g.rules.roles → (depth : ℕ) (s : State)
+        → line_of g.rules role depth s ≡ line_of h.rules role depth s }
+{}
