@@ -9,3 +9,4 @@ pub mod Ranges
 pub mod Leading
 pub mod OneTree
 pub mod LineLemmas
+pub mod WholeValue

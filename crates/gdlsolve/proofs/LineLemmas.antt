@@ -34,8 +34,11 @@ line_more : (g : Rules) (role depth : ℕ) (s : State) (own : ℕ) (j : Turn) �
     → line_of g role depth s ≡ j ∷ line_of g role (depth - 1) (g.after s j)
 line_more g role zero s own j chosen reply = absurd cc
 line_more g role (suc depth) s own j chosen reply =
+    let same : suc depth - 1 ≡ depth = omega arith in
+    let answer : reply_of g role depth s own ≡ Some j = ap (λ (d : ℕ). reply_of g role d s own) (sym same) ∙ reply in
     ap (λ (o : Option ℕ). option_map_or (λ m. option_map_or (λ i. i ∷ line_of g role depth (g.after s i)) (reply_of g role depth s m) []) o []) chosen
-    ∙ ap (λ (o : Option Turn). option_map_or (λ i. i ∷ line_of g role depth (g.after s i)) o []) reply
+    ∙ ap (λ (o : Option Turn). option_map_or (λ i. i ∷ line_of g role depth (g.after s i)) o []) answer
+    ∙ ap (λ (d : ℕ). j ∷ line_of g role d (g.after s j)) (sym same)
 
 line_end : (g : Rules) (role depth : ℕ) (s : State) → choice_of g role depth s ≡ None → line_of g role depth s ≡ []
 line_end g role zero s h = refl

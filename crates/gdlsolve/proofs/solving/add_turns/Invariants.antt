@@ -7,8 +7,8 @@ use Rattle.gdlsolve.specs.Solving.{turn_lines}
 use Rattle.gdlsolve.proofs.solving.add_turns.Given as goal
 
 -- what is added and the lines of the turns that are left are the lines of all turns
-abbrev pub invariant-loop-own : goal.invariant-loop-own
-invariant-loop-own g l =
+abbrev pub invariant-loop-chosen : goal.invariant-loop-chosen
+invariant-loop-chosen g l =
     let rules = g.G.Game.rules l.g in
     let state = g.G.Game.state l.g in
     let game = named rules (g.G.Game.role_name l.g) (g.G.Game.move_name l.g) in
@@ -21,5 +21,5 @@ invariant-loop-own g l =
           ≡ l.fn.output.items ++ turn_lines game 1 (line_of rules l.role l.depth (state l.fn.play.here));
     }
 
-abbrev pub decreases-loop-own : goal.decreases-loop-own
-decreases-loop-own g l = l.left
+abbrev pub decreases-loop-chosen : goal.decreases-loop-chosen
+decreases-loop-chosen g l = l.left
