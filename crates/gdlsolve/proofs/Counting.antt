@@ -1,5 +1,5 @@
 -- The lines that count what a description has.
-use Rattle.std.proofs.Common.{ℕ, ◌≡◌, inl, inr, List, [], ◌∷◌, ◌++◌, length, map, codes, refl, sym, ◌∙◌, ap}
+use Rattle.std.proofs.Common.{ℕ, ◌≡◌, inr, List, [], ◌∷◌, ◌++◌, length, map, codes, sym, ◌∙◌, ap}
 use Rattle.std.proofs.lemmas.List.{length-map}
 use Rattle.kif.specs.Tree.{Tree, text}
 use Rattle.rules.specs.Clause as said
@@ -14,7 +14,6 @@ use Rattle.rules.specs.declared.rule_set.Keywords.{Keywords}
 use Rattle.std.specs.Prelude.{Bool}
 use Rattle.gdlsolve.specs.declared.command.Status.{Status}
 use Rattle.gdlsolve.specs.declared.command.Status.TheVariants.{Answer}
-use Rattle.gdlsolve.specs.Answers.{Reply, answer}
 use Rattle.gdlsolve.specs.Checking.{count_line, spaced, check_lines, IsCheckReply}
 
 -- as many alternatives as stand in memory

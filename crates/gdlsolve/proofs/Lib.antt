@@ -10,3 +10,4 @@ pub mod Leading
 pub mod OneTree
 pub mod LineLemmas
 pub mod WholeValue
+pub mod Lines

@@ -1,8 +1,9 @@
 pub mod Answers
 pub mod Checking
-pub mod Solving
 pub mod Replies
 pub mod Input
 pub mod Exits
 pub mod Histories
+pub mod Moving
+pub mod Solving
 pub mod Play

@@ -1,5 +1,5 @@
 -- What `solve` answers: the value of a state for a role, the move that makes sure of it, and the line of play.
-use Rattle.std.specs.Prelude.{ℕ, ◌≡◌, ◌≢◌, ◌+◌, ◌⊎◌, List, [], ◌∷◌, ◌++◌, map, find, codes, Option, Some, None, slice_index}
+use Rattle.std.specs.Prelude.{ℕ, ◌≡◌, ◌≢◌, ◌+◌, ◌⊎◌, Result, List, [], ◌∷◌, ◌++◌, map, find, codes, Option, Some, None, slice_index}
 use Rattle.std.specs.Fmt.{decimal}
 use Rattle.kif.specs.Tree.{Trees, no_trees, tree, text, name_eq}
 use Rattle.kif.specs.Reading.{Reads}
@@ -9,7 +9,11 @@ use Rattle.kif.specs.declared.fault.KifFault.TheVariants.{NoMemory}
 use Rattle.position.specs.NamedRules.{NamedRules}
 use Rattle.position.specs.Rules.{State, Turn, all_roles}
 use Rattle.position.specs.Value.{value, choice_of, line_of}
+use Rattle.position.specs.declared.fault.HistoryFault.{HistoryFault}
+use Rattle.gdlsolve.specs.Answers.{Reply, refusal}
 use Rattle.gdlsolve.specs.Checking.{count_line, spaced}
+use Rattle.gdlsolve.specs.Histories.{IsHistoryOf}
+use Rattle.gdlsolve.specs.Moving.{history_reply}
 
 -- the role that a list of one tree names
 abbrev pub role_in : NamedRules → Trees → Option ℕ
@@ -50,3 +54,17 @@ solve_lines g role depth s =
     count_line (codes "value") (value g.rules role depth s)
     ++ move_line (choice_text g role (choice_of g.rules role depth s))
     ++ turn_lines g 1 (line_of g.rules role depth s)
+
+-- the text of the role names none
+abbrev pub NamesNoRole : NamedRules → List ℕ → Reply → Type 0
+NamesNoRole g role reply = IsRoleNamed g role None × (reply ≡ refusal (codes "S1 NoSuchRole"))
+
+-- the text of the role names this one, and the reply is that over the state after the history
+abbrev pub SolvesFor : NamedRules → List ℕ → ℕ → List ℕ → ℕ → Reply → Type 0
+SolvesFor g role depth after r reply =
+    IsRoleNamed g role (Some r)
+    × (result : Result State HistoryFault) × IsHistoryOf g after result × (reply ≡ history_reply g (solve_lines g r depth) result)
+
+-- the reply for the role of this text, within so many turns, after the history of this text
+abbrev pub IsSolveReply : NamedRules → List ℕ → ℕ → List ℕ → Reply → Type 0
+IsSolveReply g role depth after reply = NamesNoRole g role reply ⊎ ((r : ℕ) × SolvesFor g role depth after r reply)

@@ -1,27 +1,19 @@
 // The reply to a command, made whole before any of it is written.
-ghost use Rattle.std.specs.Prelude.{◌≡◌, ◌≢◌, ◌++◌, IfOk, OnOk, IfSome, length};
+ghost use Rattle.std.specs.Prelude.{◌≡◌, ◌≢◌, ◌++◌, IfOk, OnOk, length};
 ghost use Rattle.kif.specs.Tree.{trees_of};
 ghost use Rattle.kif.specs.View.{trees_in};
-ghost use Rattle.kif.specs.Refusal.{refusal_line};
 ghost use Rattle.rules.specs.Order.{relations_in_order};
 ghost use Rattle.rules.specs.RuleSetView.{rules_in, roles_in};
 ghost use Rattle.gdlsolve.specs.Checking.{count_line, spaced, check_lines, IsCheckReply};
 ghost use Rattle.gdlsolve.specs.Replies.{IsReply, IsReplyTo, lines_of};
 
-use crate::command::{Command, Status};
+use crate::command::Command;
+use crate::reply::{Reply, answered, refused};
 use bumpalo::Bump;
-use kif::{Expr, KifFault, add_refusal, read, write};
+use kif::{Expr, KifFault, read, write};
 use rules::{RuleFault, RuleSet};
 use std::alloc::{AllocError, Allocator, Global};
-use std::fmt::Display;
 use std::io::Write;
-
-/// All that is written, and the status.
-#[derive(Drop)]
-pub(crate) struct Reply {
-    pub(crate) output: Vec<u8>,
-    pub(crate) status: Status,
-}
 
 /// The canonical text of each tree, one a line.
 fn shown<A: Allocator>(alloc: Global, trees: &[Expr<A>]) -> Result<Vec<u8>, AllocError>
@@ -68,30 +60,6 @@ fn counted(alloc: Global, items: usize, rules: &RuleSet) -> Result<Vec<u8>, Allo
     add_roles(rules, &mut output)?;
     output.push(b'\n')?;
     Ok(output)
-}
-
-/// An answer with these bytes.
-fn answered(output: Vec<u8>) -> Reply
-    ensures output { result.output ≡ output }
-    ensures status { result.status ≡ Status.Answer }
-{
-    Reply {
-        output,
-        status: Status::Answer,
-    }
-}
-
-/// The refusal that names a fault.
-fn refused<F: Display>(alloc: Global, fault: &F) -> Result<Reply, AllocError>
-    ensures line { IfOk result (λ reply. IfSome (F.output fault.now) (λ words. reply.output.items ≡ refusal_line words)) }
-    ensures status { IfOk result (λ reply. reply.status ≡ Status.Refused) }
-{
-    let mut output = Vec::new(alloc);
-    add_refusal(fault, &mut output)?;
-    Ok(Reply {
-        output,
-        status: Status::Refused,
-    })
 }
 
 /// The reply to items as a description: the line that names their fault, or what they have.

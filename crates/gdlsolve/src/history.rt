@@ -1,14 +1,17 @@
 // From the text of a history to the state after it.
-ghost use Rattle.std.specs.Prelude.{◌≡◌, ◌≢◌, Ok, Err, IfOk, IfErr};
+ghost use Rattle.std.specs.Prelude.{◌≡◌, ◌≢◌, ◌++◌, Ok, Err, IfOk, IfErr};
 ghost use Rattle.kif.specs.View.{trees_in};
+ghost use Rattle.kif.specs.Refusal.{refusal_line};
 ghost use Rattle.position.specs.Played.{played};
-ghost use Rattle.position.specs.Refusal.{IsRoleOf};
+ghost use Rattle.position.specs.Refusal.{fault_text, role_part, IsRoleOf};
 ghost use Rattle.gdlsolve.specs.Histories.{named, IsHistoryOf};
 
+use crate::command::Status;
+use crate::reply::Reply;
 use bumpalo::Bump;
 use kif::{Expr, KifFault, read};
-use position::{Game, HistoryFault, replay};
-use std::alloc::{Allocator, Global};
+use position::{Game, HistoryFault, add_history_refusal, replay};
+use std::alloc::{AllocError, Allocator, Global};
 
 /// The state after these turns.
 fn after_turns<G: Game, A: Allocator>(
@@ -44,4 +47,22 @@ pub(crate) fn position_after<G: Game>(
         Err(KifFault::NoMemory) => Err(HistoryFault::NoMemory),
         Err(_) => Err(HistoryFault::BadForm(0)),
     }
+}
+
+/// The refusal that names the fault of a history, and the role where one is at fault.
+pub(crate) fn refused_history<G: Game>(
+    alloc: Global,
+    g: &G,
+    fault: HistoryFault,
+) -> Result<Reply, AllocError>
+    requires { IsRoleOf (G.rules g.now).roles fault }
+    ensures line { IfOk result (λ reply. reply.output.items ≡ refusal_line (fault_text fault ++ role_part (G.role_name g.now) fault)) }
+    ensures status { IfOk result (λ reply. reply.status ≡ Status.Refused) }
+{
+    let mut output = Vec::new(alloc);
+    add_history_refusal(g, fault, &mut output)?;
+    Ok(Reply {
+        output,
+        status: Status::Refused,
+    })
 }

@@ -1,17 +1,22 @@
 // The value of a state, the move that makes sure of it, and the line of play, as lines.
-ghost use Rattle.std.specs.Prelude.{◌≡◌, ◌≢◌, ◌-◌, ◌≤◌, ◌<◌, ◌++◌, IfOk, IfSome, OnOk, Some};
+ghost use Rattle.std.specs.Prelude.{◌≡◌, ◌≢◌, ◌-◌, ◌≤◌, ◌<◌, ◌++◌, IfOk, IfSome, OnOk, Some, Result};
 ghost use Rattle.smallvec.specs.SmallVec.{small_vec_len};
-ghost use Rattle.position.specs.Rules.{IsTurn};
+ghost use Rattle.position.specs.Rules.{IsTurn, State};
 ghost use Rattle.position.specs.Value.{value, choice_of, reply_of, line_of};
+ghost use Rattle.position.specs.declared.fault.HistoryFault.{HistoryFault};
 ghost use Rattle.maximin.specs.Room.{room_depth};
 ghost use Rattle.gdlsolve.specs.Checking.{spaced};
-ghost use Rattle.gdlsolve.specs.Histories.{named};
+ghost use Rattle.gdlsolve.specs.Histories.{named, IsHistoryOf};
+ghost use Rattle.gdlsolve.specs.Moving.{history_reply};
 ghost use Rattle.gdlsolve.specs.Play.{IsPlayOf};
-ghost use Rattle.gdlsolve.specs.Solving.{move_line, choice_text, move_texts, turn_line, turn_lines, solve_lines};
+ghost use Rattle.gdlsolve.specs.Solving.{move_line, choice_text, move_texts, turn_line, turn_lines, solve_lines, IsSolveReply};
 
+use crate::history::{position_after, refused_history};
 use crate::play::Play;
+use crate::reply::{Reply, answered, refused};
+use crate::roles::role_named;
 use maximin::{choice, value_in};
-use position::Game;
+use position::{Game, HistoryFault};
 use propnet::Joint;
 use std::alloc::{AllocError, Global};
 use std::io::Write;
@@ -130,4 +135,42 @@ fn solved<G: Game>(
     add_choice(g, role, chosen, &mut output)?;
     add_turns(g, role, depth, chosen, &mut play, &mut output)?;
     Ok(output)
+}
+
+/// The reply to `solve` for a role after a history, or the line that names the fault of the history.
+fn reply_for<G: Game>(
+    alloc: Global,
+    g: &G,
+    role: usize,
+    depth: u32,
+    after: &str,
+) -> Result<Reply, AllocError>
+    requires { role < (G.rules g.now).roles }
+    ensures { IfOk result (λ reply. (ended : Result State HistoryFault) × IsHistoryOf (named (G.rules g.now) (G.role_name g.now) (G.move_name g.now)) after.now ended
+        × (record { output = reply.output.items; status = reply.status }
+            ≡ history_reply (named (G.rules g.now) (G.role_name g.now) (G.move_name g.now)) (solve_lines (named (G.rules g.now) (G.role_name g.now) (G.move_name g.now)) role depth) ended)) }
+{
+    match position_after(alloc, g, after) {
+        Ok(here) => Ok(answered(solved(alloc, g, role, depth, here)?)),
+        Err(HistoryFault::NoMemory) => Err(AllocError),
+        Err(fault) => refused_history(alloc, g, fault),
+    }
+}
+
+/// The reply to `solve` for the role of a text, within so many turns, after the history of a text: a line that names the fault of the
+/// role or else of the history, or the value, the move and the line of play of the state after the history.
+pub(crate) fn solve_reply<G: Game>(
+    alloc: Global,
+    g: &G,
+    role: &str,
+    depth: u32,
+    after: &str,
+) -> Result<Reply, AllocError>
+    ensures { IfOk result (λ reply. IsSolveReply (named (G.rules g.now) (G.role_name g.now) (G.move_name g.now)) role.now depth after.now
+        (record { output = reply.output.items; status = reply.status })) }
+{
+    match role_named(alloc, g, role)? {
+        Some(number) => reply_for(alloc, g, number, depth, after),
+        None => refused(alloc, &"S1 NoSuchRole"),
+    }
 }

@@ -1,4 +1,4 @@
-use Rattle.std.proofs.Common.{rules, ◌≡◌, ◌++◌, ◌<◌, ◌∙◌, ap, List, ℕ, length}
+use Rattle.std.proofs.Common.{rules, ◌++◌, ◌∙◌, ap, List, ℕ}
 use Rattle.rules.specs.RuleSetView.{roles_in}
 use Rattle.gdlsolve.proofs.Spacing.{spaced_more}
 use Rattle.gdlsolve.proofs.answering.add_roles.Goals as goal

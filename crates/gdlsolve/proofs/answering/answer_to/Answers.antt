@@ -1,4 +1,4 @@
-use Rattle.std.proofs.Common.{◌≡◌, IfOk, List, sym, subst}
+use Rattle.std.proofs.Common.{IfOk, List, sym, subst}
 use Rattle.kif.specs.Tree.{Tree, trees_of}
 use Rattle.kif.specs.View.{trees_in}
 use Rattle.kif.proofs.ViewLemmas.{list_of-trees_of}

@@ -1,4 +1,4 @@
-use Rattle.std.proofs.Common.{rules, ◌≡◌, List, ℕ, length, sym}
+use Rattle.std.proofs.Common.{rules, length, sym}
 use Rattle.std.proofs.lemmas.List.{length-map}
 use Rattle.kif.specs.View.{trees_in, tree_of}
 use Rattle.rules.specs.RuleSetView.{rules_in, roles_in}

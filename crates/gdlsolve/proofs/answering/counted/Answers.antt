@@ -1,4 +1,4 @@
-use Rattle.std.proofs.Common.{ℕ, List, length, map}
+use Rattle.std.proofs.Common.{length, map}
 use Rattle.rules.specs.Drafts.{numbered}
 use Rattle.rules.specs.Order.{relations_in_order}
 use Rattle.rules.specs.RuleSetView.{lists_of_set, rules_in, roles_in}

@@ -1,0 +1,39 @@
+// All that a command writes, and its status.
+ghost use Rattle.std.specs.Prelude.{◌≡◌, IfOk, IfSome};
+ghost use Rattle.kif.specs.Refusal.{refusal_line};
+
+use crate::command::Status;
+use kif::add_refusal;
+use std::alloc::{AllocError, Global};
+use std::fmt::Display;
+
+/// All that is written, and the status.
+#[derive(Drop)]
+pub(crate) struct Reply {
+    pub(crate) output: Vec<u8>,
+    pub(crate) status: Status,
+}
+
+/// An answer with these bytes.
+pub(crate) fn answered(output: Vec<u8>) -> Reply
+    ensures output { result.output ≡ output }
+    ensures status { result.status ≡ Status.Answer }
+{
+    Reply {
+        output,
+        status: Status::Answer,
+    }
+}
+
+/// The refusal that names a fault.
+pub(crate) fn refused<F: Display>(alloc: Global, fault: &F) -> Result<Reply, AllocError>
+    ensures line { IfOk result (λ reply. IfSome (F.output fault.now) (λ words. reply.output.items ≡ refusal_line words)) }
+    ensures status { IfOk result (λ reply. reply.status ≡ Status.Refused) }
+{
+    let mut output = Vec::new(alloc);
+    add_refusal(fault, &mut output)?;
+    Ok(Reply {
+        output,
+        status: Status::Refused,
+    })
+}
