@@ -1,6 +1,7 @@
 // Worked texts, through a run and through the command line, over readers and writers in memory.
 mod checks;
 mod devices;
+mod solving;
 
 use crate::{Command, RunFault, Status, main_with, run};
 use devices::{Full, Silent, Slow, Torn};
