@@ -12,7 +12,7 @@ use Rattle.rules.specs.declared.fault.Excess.TheVariants as excesses
 use Rattle.rules.specs.declared.fault.RuleFault.{RuleFault}
 use Rattle.rules.specs.declared.fault.RuleFault.TheVariants as faults
 use Rattle.gdlsolve.specs.Answers.{Reply, answer, refusal}
-use Rattle.gdlsolve.specs.Checking.{check_lines, RefusesItems, CountsItems, IsCheckReply}
+use Rattle.gdlsolve.specs.Checking.{check_lines, RefusesItems, IsCheckReply}
 
 -- the checker's names for a limit and a fault
 abbrev excess_of : Limit → Excess
@@ -73,12 +73,16 @@ stands_as items no_role h = (faults.NoRole, (λ e. cc), h, refl)
 abbrev lines_for : List Tree → List ℕ
 lines_for items = check_lines (length items) (length (alternatives items)) (length (relations_in_order (alternatives items))) (map text (roles items))
 
-pub some_check : (items : List Tree) → (reply : Reply) × IsCheckReply items reply
-some_check items = go (fault_in items) refl
+-- items have a fault, with the reply that names it, or they have none
+pub some_verdict : (items : List Tree) → ((reply : Reply) × RefusesItems items reply) ⊎ HasNoFault items
+some_verdict items = go (fault_in items) refl
   where
-    go : (found : Option Fault) → fault_in items ≡ found → (reply : Reply) × IsCheckReply items reply
-    go (Some f) e = (refusal (fault_text (named f)), inl (stands_as items f e))
-    go None e = (answer (lines_for items), inr (e, refl))
+    go : (found : Option Fault) → fault_in items ≡ found → ((reply : Reply) × RefusesItems items reply) ⊎ HasNoFault items
+    go (Some f) e = inl (refusal (fault_text (named f)), stands_as items f e)
+    go None e = inr e
+
+pub some_check : (items : List Tree) → (reply : Reply) × IsCheckReply items reply
+some_check items = elim (some_verdict items) [ inl refused ↦ (refused.0, inl refused.1) | inr lawful ↦ (answer (lines_for items), inr (lawful, refl)) ]
 
 one_fault : (items : List Tree) (e f : RuleFault) → IsNamed items e → IsNamed items f → e ≡ f
 one_fault items e f p q =
@@ -91,10 +95,16 @@ no_fault_and_none items e p none =
     let stands = p.stands in
     cc
 
-pub one_check : (items : List Tree) (reply other : Reply) → IsCheckReply items reply → IsCheckReply items other → reply ≡ other
-one_check items reply other (inl p) (inl q) =
+pub one_refusal : (items : List Tree) (reply other : Reply) → RefusesItems items reply → RefusesItems items other → reply ≡ other
+one_refusal items reply other p q =
     let same = one_fault items p.0 q.0 (named_of items p.0 p.1 p.2) (named_of items q.0 q.1 q.2) in
     p.3 ∙ ap (λ e. refusal (fault_text e)) same ∙ sym q.3
-one_check items reply other (inl p) (inr q) = absurd (no_fault_and_none items p.0 (named_of items p.0 p.1 p.2) q.0)
-one_check items reply other (inr p) (inl q) = absurd (no_fault_and_none items q.0 (named_of items q.0 q.1 q.2) p.0)
+
+pub refused_or_lawful : (items : List Tree) (reply : Reply) → RefusesItems items reply → HasNoFault items → ⊥
+refused_or_lawful items reply p none = no_fault_and_none items p.0 (named_of items p.0 p.1 p.2) none
+
+pub one_check : (items : List Tree) (reply other : Reply) → IsCheckReply items reply → IsCheckReply items other → reply ≡ other
+one_check items reply other (inl p) (inl q) = one_refusal items reply other p q
+one_check items reply other (inl p) (inr q) = absurd (refused_or_lawful items reply p q.0)
+one_check items reply other (inr p) (inl q) = absurd (refused_or_lawful items other q p.0)
 one_check items reply other (inr p) (inr q) = p.1 ∙ sym q.1

@@ -9,7 +9,7 @@ use Rattle.gdlsolve.specs.declared.command.Command.{Command}
 use Rattle.gdlsolve.specs.Input.{read_limit, IsReadFrom, RepliesTo}
 use Rattle.gdlsolve.specs.Answers.{Reply, refusal}
 use Rattle.gdlsolve.specs.Replies.{IsReply}
-use Rattle.gdlsolve.proofs.OneReply.{named, named_of}
+use Rattle.gdlsolve.proofs.OneText.{one_text_fault}
 
 below_is_true : (m n : ℕ) → m < n → nat_lt m n ≡ true
 below_is_true m n h = search (rules, h)
@@ -23,10 +23,7 @@ is_too_long bytes h =
 refuses_long : (command : Command) (bytes : List ℕ) (reply : Reply) → text_limit < length bytes → IsReply command bytes reply
     → reply ≡ refusal (fault_text faults.TooLong)
 refuses_long command bytes reply h (inl p) =
-    let name = named_of bytes p.0 p.1 p.2 in
-    let both : Some name.fault ≡ Some too_long = sym name.stands ∙ is_too_long bytes h in
-    let one : name.fault ≡ too_long = cc in
-    p.3 ∙ ap (λ e. refusal (fault_text e)) (name.same ∙ ap named one)
+    p.3 ∙ ap (λ e. refusal (fault_text e)) (one_text_fault bytes p.0 faults.TooLong p.1 p.2 (λ e. cc) (is_too_long bytes h))
 refuses_long command bytes reply h (inr p) = absurd (let short = p.1.short in omega arith)
 
 -- so it is the reply to all that begins with them

@@ -8,6 +8,7 @@ ghost use Rattle.gdlsolve.specs.Checking.{count_line, spaced, check_lines, IsChe
 ghost use Rattle.gdlsolve.specs.Replies.{IsReply, IsReplyTo, lines_of};
 
 use crate::command::Command;
+use crate::playing::{moved, solved};
 use crate::reply::{Reply, answered, refused};
 use bumpalo::Bump;
 use kif::{Expr, KifFault, read, write};
@@ -74,8 +75,8 @@ fn checked<A: Allocator>(alloc: Global, items: &[Expr<A>]) -> Result<Reply, Allo
 }
 
 /// The reply to a command over trees that were read.
-fn answer_to<A: Allocator>(
-    alloc: Global,
+fn answer_to<T: AllocGlobal, A: Allocator>(
+    rt: &T,
     command: &Command,
     trees: &[Expr<A>],
 ) -> Result<Reply, AllocError>
@@ -83,21 +84,27 @@ fn answer_to<A: Allocator>(
         (record { output = reply.output.items; status = reply.status })) }
 {
     match command {
-        Command::Show => Ok(answered(shown(alloc, trees)?)),
-        Command::Check => checked(alloc, trees),
+        Command::Show => Ok(answered(shown(rt.alloc(), trees)?)),
+        Command::Check => checked(rt.alloc(), trees),
+        Command::Moves { after } => moved(rt, trees, after),
+        Command::Solve { role, depth, after } => solved(rt, trees, role, *depth, after),
     }
 }
 
 /// The reply to a command over the bytes of the input. The trees stand in an arena that is dropped with
 /// this call.
-pub(crate) fn answer(alloc: Global, command: &Command, bytes: &[u8]) -> Result<Reply, AllocError>
+pub(crate) fn answer<T: AllocGlobal>(
+    rt: &T,
+    command: &Command,
+    bytes: &[u8],
+) -> Result<Reply, AllocError>
     ensures { IfOk result (λ reply. IsReply command.now bytes.now
         (record { output = reply.output.items; status = reply.status })) }
 {
-    let arena = Bump::new(alloc);
+    let arena = Bump::new(rt.alloc());
     match read(&arena, bytes) {
-        Ok(trees) => answer_to(alloc, command, &trees),
+        Ok(trees) => answer_to(rt, command, &trees),
         Err(KifFault::NoMemory) => Err(AllocError),
-        Err(fault) => refused(alloc, &fault),
+        Err(fault) => refused(rt.alloc(), &fault),
     }
 }

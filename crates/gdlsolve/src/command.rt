@@ -3,11 +3,26 @@ use thiserror::Error;
 
 /// What the program does with the rules that it reads.
 #[derive(Clone, Copy, Debug, PartialEq, Eq)]
-pub enum Command {
+pub enum Command<'a> {
     /// Writes the canonical text of each tree, one a line.
     Show,
     /// Names the first fault of the description, or counts what it has.
     Check,
+    /// Tells how play stands after a history: the goal of each role where the game has ended, else the
+    /// legal moves of each role.
+    Moves {
+        /// The text of the history, whose trees are its turns. It is empty for the start of the game.
+        after: &'a str,
+    },
+    /// Tells what a role can be sure of after a history, the move that makes sure of it, and the line of play.
+    Solve {
+        /// The text of the role.
+        role: &'a str,
+        /// How many turns are looked ahead.
+        depth: u32,
+        /// The text of the history, as of `Moves`.
+        after: &'a str,
+    },
 }
 
 /// How a run ends that read its input and wrote its answer.

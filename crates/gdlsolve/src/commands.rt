@@ -26,13 +26,40 @@ const BROKEN: u8 = 4;
 
 /// What the words ask for.
 #[derive(Drop)]
-enum Request {
+enum Request<'a> {
     /// A command to run.
-    Run(Command),
+    Run(Command<'a>),
     /// A text for the output.
     Help(clap::Error),
     /// A text for the errors, since the words are no command.
     Misuse(clap::Error),
+}
+
+/// The option for the text of a history.
+fn history<'a>(alloc: Global) -> clap::Arg<'a> {
+    clap::Arg::new(alloc, "after")
+        .long("after")
+        .value_name("TEXT")
+        .help("The turns that were played, each a list of a move for each role")
+}
+
+/// The option for the text of a role.
+fn role<'a>(alloc: Global) -> clap::Arg<'a> {
+    clap::Arg::new(alloc, "role")
+        .long("role")
+        .value_name("ROLE")
+        .required(true)
+        .help("The role to find a move for")
+}
+
+/// The option for how far to look ahead.
+fn depth<'a>(alloc: Global) -> clap::Arg<'a> {
+    clap::Arg::new(alloc, "depth")
+        .long("depth")
+        .value_name("TURNS")
+        .required(true)
+        .value_parser(clap::value_parser!(u32).range(0..=64))
+        .help("How many turns to look ahead, from 0 to 64")
 }
 
 /// The commands and their options.
@@ -43,22 +70,46 @@ fn grammar<'a>(alloc: Global) -> Result<clap::Command<'a>, AllocError> {
     let check = clap::Command::new(alloc, "check").about(
         "Name the first fault of the rules, or count what they have",
     );
+    let moves = clap::Command::new(alloc, "moves").about(
+        "Tell how play stands after a history, with the goals of an ended game or the legal moves",
+    );
+    let solve = clap::Command::new(alloc, "solve").about(
+        "Tell what a role can be sure of after a history, the move that makes sure of it, and the line of play",
+    );
     clap::Command::new(alloc, "gdlsolve")
         .about("Read the rules of a game on standard input, and answer on standard output")
         .no_binary_name(true)
         .subcommand_required(true)
         .subcommand(show)?
-        .subcommand(check)
+        .subcommand(check)?
+        .subcommand(moves.arg(history(alloc))?)?
+        .subcommand(solve.arg(role(alloc))?.arg(depth(alloc))?.arg(history(alloc))?)
+}
+
+/// The command that was matched.
+fn command_of<'a>(matches: &clap::ArgMatches<'a>) -> Option<Command<'a>> {
+    match matches.subcommand() {
+        Some(("show", _)) => Some(Command::Show),
+        Some(("check", _)) => Some(Command::Check),
+        Some(("moves", options)) => Some(Command::Moves {
+            after: options.get_str("after").unwrap_or(""),
+        }),
+        Some(("solve", options)) => Some(Command::Solve {
+            role: options.get_str("role")?,
+            depth: options.get_one("depth")?,
+            after: options.get_str("after").unwrap_or(""),
+        }),
+        _ => None,
+    }
 }
 
 /// The request that the words make.
-fn request_of<'a>(alloc: Global, words: &'a [&'a str]) -> Result<Request, clap::Error> {
+fn request_of<'a>(alloc: Global, words: &'a [&'a str]) -> Result<Request<'a>, clap::Error> {
     let mut grammar = grammar(alloc)?;
     match grammar.try_get_matches_from_mut(words) {
-        Ok(matches) => match matches.subcommand_name() {
-            Some("show") => Ok(Request::Run(Command::Show)),
-            Some("check") => Ok(Request::Run(Command::Check)),
-            _ => Ok(Request::Misuse(grammar.error(ErrorKind::MissingSubcommand, "no command")?)),
+        Ok(matches) => match command_of(&matches) {
+            Some(command) => Ok(Request::Run(command)),
+            None => Ok(Request::Misuse(grammar.error(ErrorKind::MissingSubcommand, "no command")?)),
         },
         Err(error) => match error.kind() {
             ErrorKind::OutOfMemory => Err(error),

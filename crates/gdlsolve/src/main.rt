@@ -9,6 +9,7 @@ mod input;
 mod laws;
 mod moving;
 mod play;
+mod playing;
 mod reply;
 mod roles;
 mod running;

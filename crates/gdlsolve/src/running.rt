@@ -39,7 +39,7 @@ pub fn run<T: AllocGlobal, R: Read, W: Write>(
         × AppendsFront (W.contents output.old) (W.contents output.new) reply.output) }
 {
     let bytes = read_input(rt.alloc(), input)?;
-    let Ok(reply) = answer(rt.alloc(), command, &bytes) else {
+    let Ok(reply) = answer(rt, command, &bytes) else {
         return Err(RunFault::Memory);
     };
     write_out(output, &reply.output)?;

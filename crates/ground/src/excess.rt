@@ -1,4 +1,5 @@
 // What a description may have too much of.
+use std::fmt;
 
 /// Of what a description has more than a limit allows, once its rules are instantiated.
 #[derive(Clone, Copy, Debug, PartialEq, Eq)]
@@ -11,6 +12,22 @@ pub enum Excess {
     Instances,
     /// The head of a kept instance is longer than 4,096 bytes as canonical text.
     Text,
+}
+
+impl fmt::Display for Excess {
+    ghost use Rattle.std.specs.Prelude.{Some};
+    ghost use Rattle.ground.specs.Refusal.{excess_text};
+
+    ghost output = { λ excess. Some (excess_text excess) };
+
+    fn fmt<W: fmt::Write>(&self, f: &mut fmt::Formatter<W>) -> fmt::Result {
+        match self {
+            Excess::Base => f.write_str("base"),
+            Excess::Inputs => f.write_str("inputs"),
+            Excess::Instances => f.write_str("instances"),
+            Excess::Text => f.write_str("text"),
+        }
+    }
 }
 
 /// The most that a description may have of each.
