@@ -1,6 +1,9 @@
 // Worked texts, through a run and through the command line, over readers and writers in memory.
 mod checks;
 mod devices;
+mod games;
+mod lines;
+mod moves;
 mod solving;
 
 use crate::{Command, RunFault, Status, main_with, run};

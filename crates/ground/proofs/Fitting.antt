@@ -125,7 +125,7 @@ context_count rules =
     omega arith
 
 -- there are no more atoms than instances, base propositions and inputs
-atoms_count : (rules : List Alternative)
+pub atoms_count : (rules : List Alternative)
     → length (listing rules).atoms ≤ length (listing rules).kept + (length (base_list rules) + count_inputs rules (role_list rules))
 atoms_count rules =
     let a = steps_count rules (record { atoms = []; kept = [] }) (filter (λ p. is_fixed rules p) (relations_in_order rules)) in
@@ -147,7 +147,7 @@ terms_count w (x ∷ xs) = go (is_word w 1 (relation_of x)) (terms_count w xs)
     go true h = let a = length-append (one_term x.terms) (terms_of w xs) in let c = one_term_count x.terms in omega arith
     go false h = omega arith
 
-roles_count : (rules : List Alternative) → length (role_list rules) ≤ length (listing rules).atoms
+pub roles_count : (rules : List Alternative) → length (role_list rules) ≤ length (listing rules).atoms
 roles_count rules =
     let a = terms_count w_role (fixed_listing rules).atoms in
     let b = with_front (fixed_listing rules).atoms (context_atoms (fixed_listing rules).atoms) in
@@ -229,7 +229,7 @@ module _ (rules : List Alternative) (w : IsWellFormed rules) where
 
 -- What is so of the lists of some rules.
 
-sum_within : (n a k b i x y z : ℕ) → n ≡ a → a ≤ k + (b + i) → k ≤ x → b ≤ y → i ≤ z → n ≤ x + (y + z)
+pub sum_within : (n a k b i x y z : ℕ) → n ≡ a → a ≤ k + (b + i) → k ≤ x → b ≤ y → i ≤ z → n ≤ x + (y + z)
 sum_within n a k b i x y z e h f g j = omega arith
 
 module _ (roles base : List (List ℕ)) (inputs : List (List (List ℕ))) (starts : List Bool) (kinds : List Kind) (kept : List Kept) (dropped : ℕ) where

@@ -3,9 +3,9 @@
 #![tactic(auto)]
 
 mod adding;
+mod all_listed;
 mod alternative;
 mod arena;
-mod assembling;
 mod building;
 mod building_laws;
 mod cells;
@@ -31,6 +31,7 @@ mod join;
 mod join_laws;
 mod kind;
 mod kind_of_term;
+mod kinds_of_atoms;
 mod laws;
 mod levels;
 mod levels_laws;
@@ -38,12 +39,14 @@ mod listed;
 mod listing_laws;
 mod naming;
 mod numbering;
+mod parts_of_ground;
 mod placed;
 mod placed_laws;
 mod play_laws;
 mod starting;
 mod stating;
 mod stating_laws;
+mod tables;
 mod terms;
 #[cfg(test)]
 mod tests;

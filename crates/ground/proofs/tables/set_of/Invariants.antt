@@ -1,0 +1,7 @@
+use Rattle.std.proofs.Common.{◌≡◌, [], drop}
+use Rattle.ground.specs.Contexts.{terms_named}
+use Rattle.ground.specs.Founds.{with_numbers}
+use Rattle.ground.proofs.tables.set_of.Given as goal
+
+abbrev pub invariant-loop-one : goal.invariant-loop-one
+invariant-loop-one l = with_numbers [] (terms_named l.fn.named) ≡ with_numbers l.set.keys (terms_named (drop l.one-index l.named))

@@ -1,0 +1,7 @@
+use Rattle.std.proofs.Common.{◌≡◌, ◌++◌, drop}
+use Rattle.ground.specs.Contexts.{texts_named}
+use Rattle.ground.specs.Grounds.{texts_of}
+use Rattle.ground.proofs.tables.texts_named.Given as goal
+
+abbrev pub invariant-loop-one : goal.invariant-loop-one
+invariant-loop-one l = texts_of l.texts.items ++ texts_named (drop l.one-index l.named) ≡ texts_named l.fn.named

@@ -1,0 +1,74 @@
+// The parts of a ground that have no texts.
+ghost use Rattle.std.specs.Prelude.{◌≡◌, map, None, IfOk};
+ghost use Rattle.rules.specs.RuleSetView.{rules_in};
+ghost use Rattle.ground.specs.AllListed.{IsAllListed, ArePartsOf};
+ghost use Rattle.ground.specs.Contexts.{items_of, terms_named};
+ghost use Rattle.ground.specs.Founds.{numbers_of};
+ghost use Rattle.ground.specs.Grounds.{kept_of};
+ghost use Rattle.ground.specs.Limits.{excess_in};
+ghost use Rattle.ground.specs.SetWords.{words_of};
+
+use crate::all_listed::Listed;
+use crate::dropping::count_dropped;
+use crate::finishing::instances_of;
+use crate::ground::Instance;
+use crate::kind::Kind;
+use crate::kinds_of_atoms::kinds_of_atoms;
+use crate::starting::starts_of;
+use crate::tables::Tables;
+use rules::RuleSet;
+use std::alloc::{AllocError, Global};
+
+/// Which base propositions hold at the start, where the atoms stand in play, the kept instances, and how many
+/// atoms have no effect on play.
+#[derive(Drop)]
+pub struct Parts {
+    pub starts: Vec<bool>,
+    pub kinds: Vec<Kind>,
+    pub kept: Vec<Instance>,
+    pub dropped: usize,
+}
+
+/// The parts of the ground of a set of rules, from all that is listed of it.
+pub fn parts_of(
+    alloc: Global,
+    rules: &RuleSet,
+    listed: &Listed,
+    tables: &Tables,
+) -> Result<Parts, AllocError>
+    requires listed { IsAllListed (rules_in rules.now) (words_of rules.now) listed.now.arena listed.now.atoms.keys (map numbers_of listed.now.found.items) listed.now.fixed_atoms
+        listed.now.context.roles.items listed.now.context.base.items (items_of listed.now.context.inputs.items) }
+    requires within { excess_in (rules_in rules.now) ≡ None }
+    requires roles { tables.now.roles.keys ≡ terms_named listed.now.context.roles.items }
+    requires base { tables.now.base.keys ≡ terms_named listed.now.context.base.items }
+    requires inputs { map (λ s. s.keys) tables.now.inputs.items ≡ map terms_named (items_of listed.now.context.inputs.items) }
+    ensures { IfOk result (λ p. ArePartsOf (rules_in rules.now) p.starts.items p.kinds.items (map kept_of p.kept.items) p.dropped) }
+{
+    let words = rules.keywords();
+    let bases = tables.base.as_slice();
+    let atoms = listed.atoms.as_slice();
+    let starts = starts_of(alloc, &listed.arena, &listed.atoms, words.init, bases)?;
+    let kinds = kinds_of_atoms(
+        alloc,
+        rules,
+        &listed.arena,
+        atoms,
+        listed.fixed_atoms,
+        tables,
+    )?;
+    let kept = instances_of(alloc, &listed.found, &listed.atoms)?;
+    let dropped = count_dropped(
+        &listed.arena,
+        words,
+        &tables.base,
+        &tables.roles,
+        &tables.inputs,
+        atoms,
+    );
+    Ok(Parts {
+        starts,
+        kinds,
+        kept,
+        dropped,
+    })
+}
