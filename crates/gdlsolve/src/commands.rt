@@ -83,7 +83,12 @@ fn grammar<'a>(alloc: Global) -> Result<clap::Command<'a>, AllocError> {
         .subcommand(show)?
         .subcommand(check)?
         .subcommand(moves.arg(history(alloc))?)?
-        .subcommand(solve.arg(role(alloc))?.arg(depth(alloc))?.arg(history(alloc))?)
+        .subcommand(
+            solve
+                .arg(role(alloc))?
+                .arg(depth(alloc))?
+                .arg(history(alloc))?,
+        )
 }
 
 /// The command that was matched.

@@ -35,12 +35,7 @@ pub(crate) struct Play<G: Game> {
 
 impl<G: Game> Play<G> {
     /// Play that stands at a state, with memory for searches to this depth. Nothing else here takes memory.
-    pub(crate) fn new(
-        alloc: Global,
-        g: &G,
-        depth: u32,
-        here: G::Pos,
-    ) -> Result<Play<G>, AllocError>
+    pub(crate) fn new(alloc: Global, g: &G, depth: u32, here: G::Pos) -> Result<Play<G>, AllocError>
         requires { G.fits g.now here }
         ensures here { IfOk result (λ play. play.here ≡ here) }
         ensures play { IfOk result (λ play. IsPlayOf (G.fits g.now) (G.rules g.now).roles play) }

@@ -148,7 +148,7 @@ fn reply_for<G: Game>(
     requires { role < (G.rules g.now).roles }
     ensures { IfOk result (λ reply. (ended : Result State HistoryFault) × IsHistoryOf (named (G.rules g.now) (G.role_name g.now) (G.move_name g.now)) after.now ended
         × (record { output = reply.output.items; status = reply.status }
-            ≡ history_reply (named (G.rules g.now) (G.role_name g.now) (G.move_name g.now)) (solve_lines (named (G.rules g.now) (G.role_name g.now) (G.move_name g.now)) role depth) ended)) }
+        ≡ history_reply (named (G.rules g.now) (G.role_name g.now) (G.move_name g.now)) (solve_lines (named (G.rules g.now) (G.role_name g.now) (G.move_name g.now)) role depth) ended)) }
 {
     match position_after(alloc, g, after) {
         Ok(here) => Ok(answered(solved(alloc, g, role, depth, here)?)),

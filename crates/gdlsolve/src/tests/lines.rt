@@ -50,7 +50,14 @@ const OPEN: &[u8] =
 const SOLVED: [Row; 24] = [
     (MATCH, "a", 1, "", b"value 0\nmove h\nline 1 h t\n", 0),
     (MATCH, "b", 1, "", b"value 0\nmove h\nline 1 h h\n", 0),
-    (MATCH, " A ; the first", 1, "", b"value 0\nmove h\nline 1 h t\n", 0),
+    (
+        MATCH,
+        " A ; the first",
+        1,
+        "",
+        b"value 0\nmove h\nline 1 h t\n",
+        0,
+    ),
     (MATCH, "a", 0, "", b"value 0\nmove none\n", 0),
     (MATCH, "a", 0, "(h h)", b"value 100\nmove none\n", 0),
     (MATCH, "a", 5, "(h h)", b"value 100\nmove none\n", 0),
@@ -70,7 +77,14 @@ const SOLVED: [Row; 24] = [
     (IDLE, "a", 3, "", b"value 0\nmove none\n", 0),
     (LAST, "a", 2, "", b"value 0\nmove go\nline 1 go\n", 0),
     (LAST, "a", 2, "(go)", b"value 0\nmove none\n", 0),
-    (LONG, "a", 2, "", b"value 80\nmove (m 10)\nline 1 (m 10)\n", 0),
+    (
+        LONG,
+        "a",
+        2,
+        "",
+        b"value 80\nmove (m 10)\nline 1 (m 10)\n",
+        0,
+    ),
     (OPEN, "a", 1, "", b"value 0\nmove stay\nline 1 stay\n", 0),
 ];
 

@@ -29,12 +29,42 @@ const LEVEL: Table = Table {
 };
 
 const SOLVED: [Row; 9] = [
-    ("row", 1, "", b"value 30\nmove two\nline 1 two one two\n", true),
-    ("row", 64, "", b"value 30\nmove two\nline 1 two one two\n", true),
+    (
+        "row",
+        1,
+        "",
+        b"value 30\nmove two\nline 1 two one two\n",
+        true,
+    ),
+    (
+        "row",
+        64,
+        "",
+        b"value 30\nmove two\nline 1 two one two\n",
+        true,
+    ),
     ("row", 0, "", b"value 0\nmove none\n", true),
-    ("column", 1, "", b"value 50\nmove one\nline 1 one one one\n", true),
-    ("layer", 2, "", b"value 10\nmove one\nline 1 two two one\n", true),
-    (" ROW ;\n", 1, "", b"value 30\nmove two\nline 1 two one two\n", true),
+    (
+        "column",
+        1,
+        "",
+        b"value 50\nmove one\nline 1 one one one\n",
+        true,
+    ),
+    (
+        "layer",
+        2,
+        "",
+        b"value 10\nmove one\nline 1 two two one\n",
+        true,
+    ),
+    (
+        " ROW ;\n",
+        1,
+        "",
+        b"value 30\nmove two\nline 1 two one two\n",
+        true,
+    ),
     ("row", 1, "(two one two)", b"value 30\nmove none\n", true),
     ("row", 0, "(Two ONE two)", b"value 30\nmove none\n", true),
     ("layer", 64, "(two two two)", b"value 5\nmove none\n", true),
@@ -59,7 +89,13 @@ const REFUSED: [Row; 12] = [
     ("nobody", 1, "(one", b"refused S1 NoSuchRole\n", false),
     ("row", 1, "(one", b"refused H1 BadForm 0\n", false),
     ("row", 1, "(one)", b"refused H1 BadForm 1\n", false),
-    ("row", 0, "(one one three)", b"refused H2 NotLegal 1 layer\n", false),
+    (
+        "row",
+        0,
+        "(one one three)",
+        b"refused H2 NotLegal 1 layer\n",
+        false,
+    ),
     (
         "row",
         64,
@@ -70,9 +106,7 @@ const REFUSED: [Row; 12] = [
 ];
 
 #[test]
-fn faults_of_the_role_stand_before_those_of_the_history(
-    rt: HostRuntime,
-) -> Result<(), AllocError> {
+fn faults_of_the_role_stand_before_those_of_the_history(rt: HostRuntime) -> Result<(), AllocError> {
     for row in REFUSED {
         assert!(rt; solves(rt.alloc(), &LEVEL, row)?, "at {row:?}");
     }
@@ -87,7 +121,13 @@ fn first_least_reply_is_told(rt: HostRuntime) -> Result<(), AllocError> {
         worth: [50, 10, 10, 50, 5, 5, 5, 5],
         ends: [true; 8],
     };
-    let line = ("row", 1, "", b"value 10\nmove one\nline 1 one one two\n".as_slice(), true);
+    let line = (
+        "row",
+        1,
+        "",
+        b"value 10\nmove one\nline 1 one one two\n".as_slice(),
+        true,
+    );
     assert!(rt; solves(rt.alloc(), &table, line)?);
     Ok(())
 }
@@ -98,11 +138,29 @@ fn stuck_state_is_worth_nothing(rt: HostRuntime) -> Result<(), AllocError> {
         worth: [20, 20, 20, 20, 90, 90, 90, 90],
         ends: [true, true, true, true, false, false, false, false],
     };
-    let start = ("row", 3, "", b"value 20\nmove one\nline 1 one one one\n".as_slice(), true);
+    let start = (
+        "row",
+        3,
+        "",
+        b"value 20\nmove one\nline 1 one one one\n".as_slice(),
+        true,
+    );
     assert!(rt; solves(rt.alloc(), &table, start)?);
-    let stuck = ("row", 3, "(two one one)", b"value 0\nmove none\n".as_slice(), true);
+    let stuck = (
+        "row",
+        3,
+        "(two one one)",
+        b"value 0\nmove none\n".as_slice(),
+        true,
+    );
     assert!(rt; solves(rt.alloc(), &table, stuck)?);
-    let further = ("row", 3, "(two one one) (one one one)", b"refused H4 Stuck 2\n".as_slice(), false);
+    let further = (
+        "row",
+        3,
+        "(two one one) (one one one)",
+        b"refused H4 Stuck 2\n".as_slice(),
+        false,
+    );
     assert!(rt; solves(rt.alloc(), &table, further)?);
     Ok(())
 }
