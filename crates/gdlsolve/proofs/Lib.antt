@@ -9,6 +9,11 @@ pub mod WholeInput
 pub mod OneCheck
 pub mod Spacing
 pub mod Counting
+pub mod Ranges
 pub mod Describing
 pub mod Leading
+pub mod OneTree
+pub mod LineLemmas
+pub mod WholeValue
 pub mod Lines
+pub mod OneSolve

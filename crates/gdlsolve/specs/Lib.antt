@@ -5,4 +5,6 @@ pub mod Input
 pub mod Exits
 pub mod Histories
 pub mod Moving
+pub mod Solving
+pub mod Play
 pub mod Playing

@@ -14,6 +14,15 @@ pub enum Command<'a> {
         /// The text of the history, whose trees are its turns. It is empty for the start of the game.
         after: &'a str,
     },
+    /// Tells what a role can be sure of after a history, the move that makes sure of it, and the line of play.
+    Solve {
+        /// The text of the role.
+        role: &'a str,
+        /// How many turns are looked ahead.
+        depth: u32,
+        /// The text of the history, as of `Moves`.
+        after: &'a str,
+    },
 }
 
 /// How a run ends that read its input and wrote its answer.

@@ -43,6 +43,25 @@ fn history<'a>(alloc: Global) -> clap::Arg<'a> {
         .help("The turns that were played, each a list of a move for each role")
 }
 
+/// The option for the text of a role.
+fn role<'a>(alloc: Global) -> clap::Arg<'a> {
+    clap::Arg::new(alloc, "role")
+        .long("role")
+        .value_name("ROLE")
+        .required(true)
+        .help("The role to find a move for")
+}
+
+/// The option for how far to look ahead.
+fn depth<'a>(alloc: Global) -> clap::Arg<'a> {
+    clap::Arg::new(alloc, "depth")
+        .long("depth")
+        .value_name("TURNS")
+        .required(true)
+        .value_parser(clap::value_parser!(u32).range(0..=64))
+        .help("How many turns to look ahead, from 0 to 64")
+}
+
 /// The commands and their options.
 fn grammar<'a>(alloc: Global) -> Result<clap::Command<'a>, AllocError> {
     let show = clap::Command::new(alloc, "show").about(
@@ -54,13 +73,22 @@ fn grammar<'a>(alloc: Global) -> Result<clap::Command<'a>, AllocError> {
     let moves = clap::Command::new(alloc, "moves").about(
         "Tell how play stands after a history, with the goals of an ended game or the legal moves",
     );
+    let solve = clap::Command::new(alloc, "solve").about(
+        "Tell what a role can be sure of after a history, the move that makes sure of it, and the line of play",
+    );
     clap::Command::new(alloc, "gdlsolve")
         .about("Read the rules of a game on standard input, and answer on standard output")
         .no_binary_name(true)
         .subcommand_required(true)
         .subcommand(show)?
         .subcommand(check)?
-        .subcommand(moves.arg(history(alloc))?)
+        .subcommand(moves.arg(history(alloc))?)?
+        .subcommand(
+            solve
+                .arg(role(alloc))?
+                .arg(depth(alloc))?
+                .arg(history(alloc))?,
+        )
 }
 
 /// The command that was matched.
@@ -69,6 +97,11 @@ fn command_of<'a>(matches: &clap::ArgMatches<'a>) -> Option<Command<'a>> {
         Some(("show", _)) => Some(Command::Show),
         Some(("check", _)) => Some(Command::Check),
         Some(("moves", options)) => Some(Command::Moves {
+            after: options.get_str("after").unwrap_or(""),
+        }),
+        Some(("solve", options)) => Some(Command::Solve {
+            role: options.get_str("role")?,
+            depth: options.get_one("depth")?,
             after: options.get_str("after").unwrap_or(""),
         }),
         _ => None,

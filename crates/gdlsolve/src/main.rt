@@ -8,9 +8,12 @@ mod history;
 mod input;
 mod laws;
 mod moving;
+mod play;
 mod playing;
 mod reply;
+mod roles;
 mod running;
+mod solving;
 #[cfg(test)]
 mod tests;
 

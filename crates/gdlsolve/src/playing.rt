@@ -3,9 +3,11 @@ ghost use Rattle.std.specs.Prelude.{IfOk};
 ghost use Rattle.kif.specs.View.{trees_in};
 ghost use Rattle.gdlsolve.specs.Moving.{IsMovesReply};
 ghost use Rattle.gdlsolve.specs.Playing.{IsDescribed, IsPlayReply};
+ghost use Rattle.gdlsolve.specs.Solving.{IsSolveReply};
 
 use crate::moving::moves_reply;
 use crate::reply::{Reply, refused};
+use crate::solving::solve_reply;
 use ground::{GroundFault, instantiate};
 use kif::Expr;
 use position::RuleGame;
@@ -49,6 +51,23 @@ pub(crate) fn moved<T: AllocGlobal, A: Allocator>(
 {
     match game_of(rt, items)? {
         Described::Game(game) => moves_reply(rt.alloc(), &game, after),
+        Described::Refusal(reply) => Ok(reply),
+    }
+}
+
+/// The reply to `solve` over items, for the role of a text, within so many turns, after the history of a text.
+pub(crate) fn solved<T: AllocGlobal, A: Allocator>(
+    rt: &T,
+    items: &[Expr<A>],
+    role: &str,
+    depth: u32,
+    after: &str,
+) -> Result<Reply, AllocError>
+    ensures { IfOk result (λ reply. IsPlayReply (trees_in items.now) (λ g. IsSolveReply g role.now depth after.now)
+        (record { output = reply.output.items; status = reply.status })) }
+{
+    match game_of(rt, items)? {
+        Described::Game(game) => solve_reply(rt.alloc(), &game, role, depth, after),
         Described::Refusal(reply) => Ok(reply),
     }
 }

@@ -2,7 +2,9 @@
 mod checks;
 mod devices;
 mod games;
+mod lines;
 mod moves;
+mod solving;
 
 use crate::{Command, RunFault, Status, main_with, run};
 use devices::{Full, Silent, Slow, Torn};

@@ -1,0 +1,25 @@
+use Rattle.std.proofs.Common.{◌≡◌, ℕ, ◌+◌, ◌-◌, ◌≤◌, ◌++◌}
+use Rattle.maximin.specs.Room.{room_depth}
+use Rattle.position.specs.Value.{choice_of, line_of}
+use Rattle.gdlsolve.specs.Histories.{named}
+use Rattle.gdlsolve.specs.Play.{IsPlayOf}
+use Rattle.gdlsolve.specs.Solving.{turn_lines}
+use Rattle.gdlsolve.proofs.solving.add_turns.Given as goal
+
+-- what is added and the lines of the turns that are left are the lines of all turns
+abbrev pub invariant-loop-chosen : goal.invariant-loop-chosen
+invariant-loop-chosen g l =
+    let rules = g.G.Game.rules l.g in
+    let state = g.G.Game.state l.g in
+    let game = named rules (g.G.Game.role_name l.g) (g.G.Game.move_name l.g) in
+    record {
+      play : IsPlayOf (g.G.Game.fits l.g) rules.roles l.play;
+      deep : l.left ≤ room_depth l.play.room;
+      within : l.left ≤ l.depth;
+      chosen : l.chosen ≡ choice_of rules l.role l.left (state l.play.here);
+      lines : l.output.items ++ turn_lines game (l.depth - l.left + 1) (line_of rules l.role l.left (state l.play.here))
+          ≡ l.fn.output.items ++ turn_lines game 1 (line_of rules l.role l.depth (state l.fn.play.here));
+    }
+
+abbrev pub decreases-loop-chosen : goal.decreases-loop-chosen
+decreases-loop-chosen g l = l.left

@@ -1,0 +1,11 @@
+-- The memory of play.
+use Rattle.std.specs.Prelude.{ℕ, ◌≤◌}
+use Rattle.maximin.specs.Room.{IsRoomOf}
+use Rattle.gdlsolve.specs.declared.play.Play.{Play}
+
+-- play of a game with this many roles, whose positions have to meet `fits`
+pub record IsPlayOf {G P : Type 0} (fits : P → Type 0) (roles : ℕ) (play : Play G P) : Type 0 where
+  pub here : fits play.here
+  pub next : fits play.next
+  pub joint : roles ≤ play.joint.capacity
+  pub room : IsRoomOf fits roles play.room
