@@ -1,6 +1,5 @@
 -- The game of a description, and the limit that it passes.
 use Rattle.std.proofs.Common.{◌≡◌, ◌≢◌, ℕ, inr, List, refl, sym, ◌∙◌, ap, subst}
-use Rattle.std.specs.Prelude.{Some}
 use Rattle.kif.specs.Tree.{Tree}
 use Rattle.kif.specs.Refusal.{refusal_line}
 use Rattle.rules.specs.Clause.{Alternative}
@@ -17,7 +16,7 @@ use Rattle.position.specs.RuleState.{named_rules_of}
 use Rattle.position.proofs.GameRules.{game_of_ground}
 use Rattle.gdlsolve.specs.declared.command.Status.{Status}
 use Rattle.gdlsolve.specs.declared.command.Status.TheVariants.{Refused}
-use Rattle.gdlsolve.specs.Answers.{Reply, refusal}
+use Rattle.gdlsolve.specs.Answers.{refusal}
 use Rattle.gdlsolve.specs.Playing.{HasNoGame, IsItsGame}
 
 -- the game of the ground of the items is the game of the items

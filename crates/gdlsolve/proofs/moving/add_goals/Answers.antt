@@ -1,5 +1,3 @@
-use Rattle.std.proofs.Common.{◌∙◌, ap, sym, arith, List, ℕ, ◌≡◌, ◌++◌}
-use Rattle.std.specs.List.{flat_map, range_with_len}
 use Rattle.gdlsolve.specs.Histories.{named}
 use Rattle.gdlsolve.specs.Moving.{goal_line}
 use Rattle.gdlsolve.proofs.Lines.{one_number_more}

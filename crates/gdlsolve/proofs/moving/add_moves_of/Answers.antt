@@ -1,4 +1,4 @@
-use Rattle.std.proofs.Common.{◌≡◌, ℕ, ◌≤◌, ◌<◌, length, sym, ap, ◌∙◌, arith, rules as facts}
+use Rattle.std.proofs.Common.{◌<◌, length, arith}
 use Rattle.gdlsolve.specs.Histories.{named}
 use Rattle.gdlsolve.specs.Moving.{legal_line}
 use Rattle.position.proofs.LegalMoves.{legal_known, legal_place, legal_count}

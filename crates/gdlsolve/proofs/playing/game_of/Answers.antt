@@ -1,6 +1,5 @@
-use Rattle.std.proofs.Common.{rules, ◌≢◌}
+use Rattle.std.proofs.Common.{rules}
 use Rattle.kif.specs.View.{trees_in}
-use Rattle.ground.specs.declared.fault.GroundFault.TheVariants.{NoMemory}
 use Rattle.rules.specs.RuleSetView.{rules_in}
 use Rattle.gdlsolve.proofs.Describing.{its_game, passes_limit}
 use Rattle.gdlsolve.proofs.playing.game_of.Goals as goal
