@@ -1,5 +1,6 @@
 // Worked texts, through a run and through the command line, over readers and writers in memory.
 mod checks;
+mod counting;
 mod devices;
 mod games;
 mod lines;

@@ -1,5 +1,5 @@
 // Games and what `solve` answers, through a run and through the command line.
-use super::games::{MARKS, MATCH};
+use super::games::{FOUR, MARKS, MATCH};
 use super::{replies, told};
 use crate::{Command, Status, run};
 use std::alloc::AllocError;
@@ -23,10 +23,6 @@ fn solves(rt: &HostRuntime, row: Row) -> Result<bool, AllocError> {
     ];
     Ok(replies(rt, &command, &words, rules, want, exit))
 }
-
-/// One role with four moves, of which two are worth the most.
-const FOUR: &[u8] =
-    b"(role a) (val x 40) (val y 70) (val z 70) (val zz 10) (<= (input a ?m) (val ?m ?v)) (<= (base (did ?m)) (val ?m ?v)) (<= (legal a ?m) (val ?m ?v)) (<= (next (did ?m)) (does a ?m)) (<= (goal a ?v) (true (did ?m)) (val ?m ?v)) (<= terminal (true (did ?m)))";
 
 /// The first role wins less where the other two choose differently.
 const THREE: &[u8] =

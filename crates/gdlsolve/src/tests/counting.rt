@@ -1,0 +1,149 @@
+// Searches with windows over games of rules, and how many steps they make.
+ghost use Rattle.std.specs.Prelude.{◌<ℤ◌, ◌≤ℤ◌, pos, negsuc, IfOk};
+
+use super::games::{FOUR, LIVE};
+use ground::instantiate;
+use kif::read;
+use maximin::{Room, value_in};
+use position::{Game, RuleGame, replay};
+use propnet::Joint;
+use rules::RuleSet;
+use std::alloc::{AllocError, Global};
+use std::sync::atomic::{AtomicUsize, Ordering};
+use std::test::Fail;
+
+/// A game that counts its steps.
+#[derive(Drop)]
+struct Counted<G> {
+    inner: G,
+    steps: AtomicUsize,
+}
+
+impl<G: Game> Game for Counted<G> {
+    type Pos = G::Pos;
+
+    ghost rules = { λ g. G.rules g.inner };
+
+    ghost role_name = { λ g. G.role_name g.inner };
+
+    ghost move_name = { λ g. G.move_name g.inner };
+
+    ghost fits = { λ g. G.fits g.inner };
+
+    ghost state = { λ g. G.state g.inner };
+
+    ghost capacities = { λ g. G.capacities g.inner };
+
+    fn roles(&self) -> usize {
+        self.inner.roles()
+    }
+
+    fn role_text(&self, role: usize) -> &[u8] {
+        self.inner.role_text(role)
+    }
+
+    fn moves(&self, role: usize) -> usize {
+        self.inner.moves(role)
+    }
+
+    fn move_text(&self, role: usize, number: u32) -> &[u8] {
+        self.inner.move_text(role, number)
+    }
+
+    fn fresh(&self) -> Result<G::Pos, AllocError> {
+        self.inner.fresh()
+    }
+
+    fn ended(&self, p: &G::Pos) -> bool {
+        self.inner.ended(p)
+    }
+
+    fn goal(&self, p: &G::Pos, role: usize) -> u8 {
+        self.inner.goal(p, role)
+    }
+
+    fn legal(&self, p: &G::Pos, role: usize, place: usize) -> Option<u32> {
+        self.inner.legal(p, role, place)
+    }
+
+    fn step(&self, p: &G::Pos, joint: &Joint, q: &mut G::Pos) {
+        self.steps.fetch_add(1, Ordering::SeqCst);
+        self.inner.step(p, joint, q);
+    }
+
+    fn copy(&self, p: &G::Pos, q: &mut G::Pos) {
+        self.inner.copy(p, q);
+    }
+
+    ghost goal_within = { λ g. G.goal_within g.inner };
+
+    ghost moves_within = { λ g. G.moves_within g.inner };
+
+    ghost legal_within = { λ g. G.legal_within g.inner };
+
+    ghost legal_ascending = { λ g. G.legal_ascending g.inner };
+
+    ghost moves_in_printed_order = { λ g. G.moves_in_printed_order g.inner };
+
+    ghost role_names_differ = { λ g. G.role_names_differ g.inner };
+}
+
+/// The game that a text describes, before its first step.
+fn game_of(rt: &HostRuntime, text: &[u8]) -> Result<Counted<RuleGame>, Fail> {
+    let alloc = rt.alloc();
+    let items = read(alloc, text)?;
+    let rules = RuleSet::check(alloc, &items)?;
+    let inner = RuleGame::new(alloc, instantiate(rt, &rules)?)?;
+    Ok(Counted {
+        inner,
+        steps: AtomicUsize::new(0),
+    })
+}
+
+/// The state after a history.
+fn state_after<G: Game>(alloc: Global, g: &G, history: &[u8]) -> Result<G::Pos, Fail>
+    ensures { IfOk result (λ p. G.fits g.now p) }
+{
+    let mut p = g.fresh()?;
+    replay(alloc, g, &read(alloc, history)?, &mut p)?;
+    Ok(p)
+}
+
+/// The value of a state for the first role within one turn, found in a window.
+fn value_of<G: Game>(alloc: Global, g: &G, p: &G::Pos, window: (i16, i16)) -> Result<i16, Fail>
+    requires fits { G.fits g.now p.now }
+    requires low { negsuc 1 ≤ℤ window.0 }
+    requires order { window.0 <ℤ window.1 }
+    requires high { window.1 ≤ℤ pos 101 }
+{
+    if g.roles() == 0 {
+        return Err(Fail::new("a game without roles"));
+    }
+    let mut room = Room::new(alloc, g, 1)?;
+    Ok(value_in(g, p, 0, 1, window.0, window.1, &mut room))
+}
+
+#[test]
+fn one_reply_of_ten_is_enough_below_the_window(rt: HostRuntime) -> Result<(), Fail> {
+    let game = game_of(&rt, LIVE)?;
+    let here = state_after(rt.alloc(), &game, b"(y noop)")?;
+    game.steps.store(0, Ordering::SeqCst);
+    assert_eq!(rt; value_of(rt.alloc(), &game, &here, (-1, 101))?, 10);
+    assert_eq!(rt; game.steps.swap(0, Ordering::SeqCst), 10);
+    let low = value_of(rt.alloc(), &game, &here, (89, 101))?;
+    assert!(rt; 10 <= low && low <= 89);
+    assert_eq!(rt; game.steps.load(Ordering::SeqCst), 1);
+    Ok(())
+}
+
+#[test]
+fn answer_stands_on_the_side_of_the_value(rt: HostRuntime) -> Result<(), Fail> {
+    let game = game_of(&rt, FOUR)?;
+    let start = state_after(rt.alloc(), &game, b"")?;
+    let high = value_of(rt.alloc(), &game, &start, (10, 60))?;
+    assert!(rt; 60 <= high && high <= 70);
+    let low = value_of(rt.alloc(), &game, &start, (80, 90))?;
+    assert!(rt; 70 <= low && low <= 80);
+    assert_eq!(rt; value_of(rt.alloc(), &game, &start, (-1, 101))?, 70);
+    Ok(())
+}
