@@ -42,8 +42,8 @@ impl AtomTable {
         arena: Arena,
         atoms: IndexSet<usize>,
     ) -> Result<Self, AllocError>
-        requires { IsAtomTable (words_of rules.now) arena.now atoms.now.keys }
-        ensures { IfOk result (λ t. t ≡ atom_texts (words_of rules.now) arena.now atoms.now.keys) }
+        requires { IsAtomTable (words_of rules.now) arena atoms.keys }
+        ensures { IfOk result (λ t. t ≡ atom_texts (words_of rules.now) arena atoms.keys) }
     {
         let names = names_of(alloc, rules)?;
         Ok(AtomTable {
