@@ -1,10 +1,12 @@
 -- The texts of atoms by the numbers of their terms, and the bytes of a text.
 use Rattle.std.specs.Prelude.{ℕ, ◌≡◌, ◌<◌, ◌≤◌, List, length, map, slice_index}
 use Rattle.kif.specs.Tree.{text, further_text, trees_of}
+use Rattle.rules.specs.Clause.{Alternative, tree_of}
 use Rattle.ground.specs.declared.text_bytes.Place.{Place}
 use Rattle.ground.specs.declared.text_bytes.Place.TheVariants.{Byte, In}
 use Rattle.ground.specs.Arena.{Held, sizes_of}
 use Rattle.ground.specs.Keys.{AreBelow, term_at, trees}
+use Rattle.ground.specs.Listing.{listing}
 
 -- the text of a term
 abbrev pub term_text : List (List ℕ) → Held → ℕ → List ℕ
@@ -32,3 +34,7 @@ pub record IsAtomTable (words : List (List ℕ)) (held : Held) (atoms : List ℕ
   pub sizes : sizes_of words ≡ held.sizes
   pub below : AreBelow (length held.keys) atoms
   pub short : (i : ℕ) → i < length atoms → length (term_text words held (slice_index atoms i)) ≤ 4096
+
+-- the texts of the possible atoms of rules, in the order of their numbers
+abbrev pub listed_texts : List Alternative → List (List ℕ)
+listed_texts rules = map (λ x. text (tree_of x)) (listing rules).atoms
