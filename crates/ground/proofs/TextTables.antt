@@ -1,12 +1,11 @@
 -- Whether a text is that of a term, byte by byte, and the names of symbols as texts.
-use Rattle.std.proofs.Common.{ℕ, zero, suc, ◌<◌, ◌≤◌, ◌+◌, Bool, true, false, ◌≡◌, ◌≢◌, List, [], ◌∷◌, ◌++◌, length, map, drop, drop_of_length-le, take, get_or, refl, sym, ap, subst, ◌∙◌, arith, Vec}
+use Rattle.std.proofs.Common.{ℕ, zero, suc, ◌<◌, ◌≤◌, ◌+◌, Bool, true, false, ◌≡◌, List, [], ◌∷◌, ◌++◌, length, drop, drop_of_length-le, take, get_or, refl, sym, ap, subst, ◌∙◌, arith, Vec}
 use Rattle.std.specs.Prelude.{◌&&◌, ◌==◌, slice_index}
 use Rattle.std.proofs.Math.Seq.{drop-cons}
 use Rattle.std.proofs.lemmas.List.{take_all, take_more, length-map, get_or-map, map-append}
 use Rattle.kif.specs.Tree.{name_eq}
-use Rattle.ground.specs.Arena.{Held, cut, sizes_of}
+use Rattle.ground.specs.Arena.{Held, cut}
 use Rattle.ground.specs.AtomTexts.{term_text, atom_texts, IsAtomTable}
-use Rattle.ground.specs.Founds.{AreAtoms}
 use Rattle.ground.specs.Grounds.{text_at, texts_of}
 use Rattle.ground.specs.Keys.{word_at, AreBelow}
 use Rattle.ground.proofs.Lengths.{here_below}
