@@ -16,7 +16,7 @@ bounds-names-key c = named_word _ _ c.key-key.ensures.numbered _ c.requires.term
 pub index-requires : goal.index-requires
 index-requires c =
     let short = name_long (texts_of c.args.names.now) _ c.args.arena.now c.key-key.ensures.numbered _ c.requires.term _ c.key-key.ensures.is _
-        (name_of _ _ _ c.index-names-key.is (named_word _ _ c.key-key.ensures.numbered _ c.requires.term _ c.key-key.ensures.is c.requires.sizes)) _ c.if-key-eq1.true c.requires.offset in
+    (name_of _ _ _ c.index-names-key.is (named_word _ _ c.key-key.ensures.numbered _ c.requires.term _ c.key-key.ensures.is c.requires.sizes)) _ c.if-key-eq1.true c.requires.offset in
     omega (arith, short, c.index-names-key.result.ok.0)
 
 pub returns-then-key-eq1 : goal.returns-then-key-eq1
