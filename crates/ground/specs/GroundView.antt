@@ -1,8 +1,9 @@
 -- What a ground tells.
-use Rattle.std.specs.Prelude.{ℕ, List, map}
+use Rattle.std.specs.Prelude.{ℕ, ◌≡◌, List, map}
 use Rattle.rules.specs.Clause.{Alternative}
 use Rattle.ground.specs.declared.kind.Kind.{Kind}
 use Rattle.ground.specs.declared.ground.Ground.{Ground}
+use Rattle.ground.specs.AtomTexts.{listed_texts}
 use Rattle.ground.specs.Grounds.{Kept, kept_of, texts_of, IsGroundOf}
 
 abbrev pub roles_of : Ground → List (List ℕ)
@@ -17,9 +18,16 @@ inputs_of g = map (λ v. texts_of v.items) g.inputs.items
 abbrev pub kinds_of : Ground → List Kind
 kinds_of g = g.kinds.items
 
+abbrev pub atoms_of : Ground → List (List ℕ)
+atoms_of g = g.atom_table
+
 abbrev pub instances_of : Ground → List Kept
 instances_of g = map kept_of g.kept.items
 
 -- the ground is that of the rules
 abbrev pub IsGround : List Alternative → Ground → Type 0
 IsGround rules g = IsGroundOf rules (roles_of g) (base_of g) (inputs_of g) g.starts.items (kinds_of g) (instances_of g) g.dropped
+
+-- the texts of its atoms are those of the rules
+abbrev pub HasAtoms : List Alternative → Ground → Type 0
+HasAtoms rules g = atoms_of g ≡ listed_texts rules

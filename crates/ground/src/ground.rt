@@ -1,7 +1,8 @@
 // What an instantiation gives: the kept instances, and where their atoms stand in play.
-ghost use Rattle.std.specs.Prelude.{map};
+ghost use Rattle.std.specs.Prelude.{◌≡◌, length, map};
 ghost use Rattle.ground.specs.Grounds.{IsSomeGround, kept_of, texts_of};
 
+use crate::atom_table::AtomTable;
 use crate::kind::Kind;
 
 /// A kept instance, by the numbers of its atoms.
@@ -27,5 +28,7 @@ pub struct Ground {
     pub(crate) kinds: Vec<Kind>,
     pub(crate) kept: Vec<Instance>,
     pub(crate) dropped: usize,
+    pub(crate) atom_table: AtomTable,
     pub ghost sound: { ∥ IsSomeGround (texts_of roles.items) (texts_of base.items) (map (λ v. texts_of v.items) inputs.items) starts.items kinds.items (map kept_of kept.items) dropped ∥₁ },
+    pub ghost beside: { length kinds.items ≡ length atom_table },
 }

@@ -1,7 +1,8 @@
 // What an instantiation tells.
 ghost use Rattle.std.specs.Prelude.{◌≡◌, ◌<◌, length, slice_index_or, false};
+ghost use Rattle.kif.specs.Tree.{name_eq};
 ghost use Rattle.ground.specs.Grounds.{text_at, texts_at};
-ghost use Rattle.ground.specs.GroundView.{roles_of, base_of, inputs_of, kinds_of};
+ghost use Rattle.ground.specs.GroundView.{roles_of, base_of, inputs_of, kinds_of, atoms_of};
 ghost use Rattle.ground.specs.declared.kind.Kind.TheVariants.{Other};
 
 use crate::ground::{Ground, Instance};
@@ -76,6 +77,14 @@ impl Ground {
         ensures { result ≡ slice_index_or (kinds_of self.now) atom Other }
     {
         self.kinds[atom as usize]
+    }
+
+    /// Whether the canonical text of an atom is this one.
+    pub fn atom_is(&self, atom: u32, text: &[u8]) -> bool
+        requires { atom < length (kinds_of self.now) }
+        ensures { result ≡ name_eq text.now (text_at (atoms_of self.now) atom) }
+    {
+        self.atom_table.is_text(atom as usize, text)
     }
 
     /// The kept instances, in order.

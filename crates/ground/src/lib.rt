@@ -6,6 +6,7 @@ mod adding;
 mod all_listed;
 mod alternative;
 mod arena;
+mod atom_table;
 mod buckets;
 mod building;
 mod building_laws;
@@ -51,6 +52,7 @@ mod tables;
 mod terms;
 #[cfg(test)]
 mod tests;
+mod text_bytes;
 mod writing;
 
 pub use arena::Arena;

@@ -66,7 +66,7 @@ pub struct Texts {
 }
 
 /// The same bytes in memory of their own.
-fn copy_of(alloc: Global, text: &[u8]) -> Result<Vec<u8>, AllocError>
+pub fn copy_of(alloc: Global, text: &[u8]) -> Result<Vec<u8>, AllocError>
     ensures { IfOk result (λ copy. copy.items ≡ text.now) }
 {
     let mut copy = Vec::with_capacity(alloc, text.len())?;

@@ -236,3 +236,91 @@ fn goals_have_values_without_leading_zeros(rt: HostRuntime) -> Result<(), Fail> 
     );
     Ok(())
 }
+
+/// The atoms of the first description with their texts: those of fixed relations, what may be true and done, and the heads of the
+/// other relations.
+const ATOMS: [(u32, &[u8]); 25] = [
+    (0, b"(base done)"),
+    (1, b"(base same)"),
+    (2, b"(input a h)"),
+    (3, b"(input a t)"),
+    (4, b"(input b h)"),
+    (5, b"(input b t)"),
+    (6, b"(role a)"),
+    (7, b"(role b)"),
+    (8, b"(true done)"),
+    (9, b"(true same)"),
+    (10, b"(does a h)"),
+    (11, b"(does a t)"),
+    (12, b"(does b h)"),
+    (13, b"(does b t)"),
+    (14, b"(goal a 100)"),
+    (15, b"(goal a 0)"),
+    (16, b"(goal b 0)"),
+    (17, b"(goal b 100)"),
+    (18, b"(legal a h)"),
+    (19, b"(legal a t)"),
+    (20, b"(legal b h)"),
+    (21, b"(legal b t)"),
+    (22, b"(next done)"),
+    (23, b"(next same)"),
+    (24, b"terminal"),
+];
+
+/// Whether there is an atom of that number, and its text is this one.
+fn has_text(ground: &Ground, atom: u32, text: &[u8]) -> bool {
+    (atom as usize) < ground.atoms() && ground.atom_is(atom, text)
+}
+
+#[test]
+fn atoms_are_numbered_by_first_appearance(rt: HostRuntime) -> Result<(), Fail> {
+    let ground = ground_of(&rt, MATCH)??;
+    assert_eq!(rt; ground.atoms(), 25);
+    for (atom, text) in ATOMS {
+        assert!(rt; has_text(&ground, atom, text));
+    }
+    Ok(())
+}
+
+/// Texts that are not those of the atoms: others of the same length, a front, longer ones and none.
+const OTHERS: [(u32, &[u8]); 9] = [
+    (0, b"(base same)"),
+    (0, b"(base donf)"),
+    (0, b"[base done)"),
+    (0, b"(base done]"),
+    (0, b"(base_done)"),
+    (0, b"(base done"),
+    (0, b"(base done))"),
+    (0, b""),
+    (24, b"terminat"),
+];
+
+#[test]
+fn other_texts_are_no_atoms(rt: HostRuntime) -> Result<(), Fail> {
+    let ground = ground_of(&rt, MATCH)??;
+    for (atom, text) in OTHERS {
+        assert!(rt; !has_text(&ground, atom, text));
+    }
+    Ok(())
+}
+
+/// Terms in terms.
+const NESTED: &[u8] = b"(role a)(<= (p (f (g ?x (f ?x b)) (h c))) (role ?x))";
+
+/// Texts of its second atom, and whether they are.
+const NESTED_TEXTS: [(&[u8], bool); 5] = [
+    (b"(p (f (g a (f a b)) (h c)))", true),
+    (b"(p (f (g a (f a c)) (h c)))", false),
+    (b"(p (f (g a (f a b)) (h d)))", false),
+    (b"(p (f (g a (f a b) (h c))))", false),
+    (b"(p (f (g a (f a b)) (h c))", false),
+];
+
+#[test]
+fn terms_are_compared_in_terms(rt: HostRuntime) -> Result<(), Fail> {
+    let ground = ground_of(&rt, NESTED)??;
+    for (text, want) in NESTED_TEXTS {
+        assert_eq!(rt; has_text(&ground, 1, text), want);
+    }
+    Ok(())
+}
