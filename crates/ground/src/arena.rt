@@ -120,7 +120,7 @@ impl Arena {
         }
         let length = key_length(&self.lengths, key);
         self.lengths.push(length)?;
-        let Ok(number) = self.terms.intern(key) else {
+        let Ok(number) = self.terms.add(key) else {
             self.lengths.pop();
             return Err(AllocError);
         };
