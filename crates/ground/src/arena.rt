@@ -1,5 +1,5 @@
 // Ground terms by number, with the lengths of their texts.
-ghost use Rattle.std.specs.Prelude.{ℕ, List, ◌≡◌, ◌<◌, ◌≤◌, [], ◌∷◌, length, slice_index, IfOk, OnOk, OnErr, MatchOption, ◌≢◌};
+ghost use Rattle.std.specs.Prelude.{ℕ, List, Some, ◌-◌, ◌≡◌, ◌<◌, ◌≤◌, [], ◌∷◌, length, slice_index, IfSome, IfOk, OnOk, OnErr, MatchOption, ◌≢◌};
 ghost use Rattle.kif.specs.Tree.{text};
 ghost use Rattle.rules.specs.RuleSetView.{lists_of_set};
 ghost use Rattle.ground.specs.Keys.{key_at, term_at, trees, with_key, IsKey, AreBelow, parts_of, word_of};
@@ -105,6 +105,53 @@ impl Arena {
         self.lengths[number]
     }
 
+    /// A number near a key, if it has the key.
+    fn found_near(&self, near: Option<usize>, key: &[usize]) -> Option<usize>
+        ensures found { IfSome result (λ k. (k < length self.now.keys) × (key_at self.now.keys k ≡ key.now)) }
+        ensures numbered { AreNumbered (length self.now.sizes) self.now.keys }
+    {
+        let many = self.len();
+        let number = near?;
+        if number >= many {
+            return None;
+        }
+        if self.key(number) != key {
+            return None;
+        }
+        Some(number)
+    }
+
+    /// The number of a key as by `intern`; a number that may have it is tried first.
+    pub fn intern_near(&mut self, key: &[usize], near: Option<usize>) -> Result<usize, AllocError>
+        requires { IsKey (length self.old.sizes) (length self.old.keys) key.now }
+        ensures found { IfOk result (λ k. (k < length self.new.keys) × (key_at self.new.keys k ≡ key.now)) }
+        ensures kept { OnOk result (self.new.keys ≡ with_key self.old.keys key.now) }
+        ensures sizes { self.new.sizes ≡ self.old.sizes }
+        ensures failed { OnErr result (self.new.keys ≡ self.old.keys) }
+        ensures numbered { AreNumbered (length self.new.sizes) self.new.keys }
+    {
+        if let Some(number) = self.found_near(near, key) {
+            return Ok(number);
+        }
+        self.intern(key)
+    }
+
+    /// The number in the key of a term that has so many others behind it.
+    pub fn part_before(&self, number: Option<usize>, behind: usize) -> Option<usize>
+        ensures { (k : ℕ) → number ≡ Some k → k < length self.now.keys → behind < length (key_at self.now.keys k)
+            → result ≡ Some (slice_index (key_at self.now.keys k) (length (key_at self.now.keys k) - 1 - behind)) }
+    {
+        let known = number?;
+        if known >= self.len() {
+            return None;
+        }
+        let key = self.key(known);
+        if behind >= key.len() {
+            return None;
+        }
+        Some(key[key.len() - 1 - behind])
+    }
+
     /// The number of a key, which is the next one if it has none yet. After an error the terms are those
     /// before.
     pub fn intern(&mut self, key: &[usize]) -> Result<usize, AllocError>
@@ -120,7 +167,7 @@ impl Arena {
         }
         let length = key_length(&self.lengths, key);
         self.lengths.push(length)?;
-        let Ok(number) = self.terms.intern(key) else {
+        let Ok(number) = self.terms.add(key) else {
             self.lengths.pop();
             return Err(AllocError);
         };

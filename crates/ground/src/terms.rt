@@ -68,6 +68,17 @@ impl Terms {
         if let Some(number) = self.number(key) {
             return Ok(number);
         }
+        self.add(key)
+    }
+
+    /// The number of a key that has none yet, which is the next one. After an error the terms are those
+    /// before.
+    pub fn add(&mut self, key: &[usize]) -> Result<usize, AllocError>
+        requires { (k : ℕ) → k < length self.old → key_at self.old k ≢ key.now }
+        ensures found { IfOk result (λ k. (k < length self.new) × (key_at self.new k ≡ key.now)) }
+        ensures kept { OnOk result (self.new ≡ with_key self.old key.now) }
+        ensures failed { OnErr result (self.new ≡ self.old) }
+    {
         let number = self.keys.len();
         let owned = Vec::from_slice(self.alloc, key)?;
         self.keys.insert(owned)?;
