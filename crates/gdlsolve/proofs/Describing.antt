@@ -1,5 +1,6 @@
 -- The game of a description, and the limit that it passes.
 use Rattle.std.proofs.Common.{◌≡◌, ◌≢◌, ℕ, inr, List, refl, sym, ◌∙◌, ap, subst}
+use Rattle.std.specs.Prelude.{Result, Ok, Err, IfOk}
 use Rattle.kif.specs.Tree.{Tree}
 use Rattle.kif.specs.Refusal.{refusal_line}
 use Rattle.rules.specs.Clause.{Alternative}
@@ -12,12 +13,17 @@ use Rattle.ground.specs.GroundView.{IsGround}
 use Rattle.ground.specs.Limits.{excess_in}
 use Rattle.ground.specs.Progress.{IsFaultOf}
 use Rattle.ground.specs.Refusal.{fault_text}
+use Rattle.position.specs.declared.rule_game.RuleGame.{RuleGame}
+use Rattle.position.specs.NamedRules.{NamedRules}
 use Rattle.position.specs.RuleState.{named_rules_of}
 use Rattle.position.proofs.GameRules.{game_of_ground}
 use Rattle.gdlsolve.specs.declared.command.Status.{Status}
 use Rattle.gdlsolve.specs.declared.command.Status.TheVariants.{Refused}
-use Rattle.gdlsolve.specs.Answers.{refusal}
-use Rattle.gdlsolve.specs.Playing.{HasNoGame, IsItsGame}
+use Rattle.gdlsolve.specs.declared.playing.Described.{Described}
+use Rattle.gdlsolve.specs.declared.playing.Described.TheVariants.{Game}
+use Rattle.gdlsolve.specs.declared.reply.Reply as shown
+use Rattle.gdlsolve.specs.Answers.{Reply, refusal}
+use Rattle.gdlsolve.specs.Playing.{HasNoGame, IsItsGame, IsDescribed, IsPlayReply}
 
 -- the game of the ground of the items is the game of the items
 pub its_game : (items : List Tree) (rules : List Alternative) (g h : Ground) → HasNoFault items → rules ≡ alternatives items
@@ -35,3 +41,12 @@ passes_limit items rules (TooMany excess) output status lawful are passed other 
     let same : record { output = output; status = status } ≡ refusal (fault_text (TooMany excess)) = cc (line, is_status) in
     inr (lawful, excess, sym (ap excess_in are) ∙ passed, same)
 passes_limit items rules NoMemory output status lawful are passed other line is_status = absurd (other refl)
+
+-- what is told of the game of the items is the reply to the items
+pub tells_game : {E : Type 0} (items : List Tree) (told : NamedRules → Reply → Type 0) (d : Described) (game : RuleGame) (r : Result shown.Reply E)
+    → IsDescribed items d → d ≡ Game game
+    → IfOk r (λ reply. told (named_rules_of game.played) (record { output = reply.output.items; status = reply.status }))
+    → IfOk r (λ reply. IsPlayReply items told (record { output = reply.output.items; status = reply.status }))
+tells_game items told d game (Ok reply) is same h =
+    inr (named_rules_of game.played, subst (λ (e : Described). IsDescribed items e) same is, h)
+tells_game items told d game (Err e) is same h = h
