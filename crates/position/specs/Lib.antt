@@ -14,3 +14,4 @@ pub mod RulesGame
 pub mod Flats
 pub mod Plans
 pub mod SamePlay
+pub mod NetState
