@@ -22,3 +22,5 @@ pub mod Shown
 pub mod NetReads
 pub mod NetFacts
 pub mod Words
+pub mod Lanes
+pub mod ManyStates

@@ -1,5 +1,5 @@
 -- What each network of a ground has.
-use Rattle.std.proofs.Common.{◌≡◌, ℕ, ◌<◌, ◌≤◌, ◌*◌, length, get_or, List, [], Bool, true, ap, sym, subst, ◌∙◌, arith}
+use Rattle.std.proofs.Common.{◌≡◌, ℕ, ◌<◌, ◌≤◌, ◌*◌, length, get_or, List, [], ap, sym, ◌∙◌, arith}
 use Rattle.std.specs.Prelude.{◌==◌}
 use Rattle.std.proofs.Math.Logic.{∥∥₁_elim}
 use Rattle.std.proofs.Props.{props}
@@ -14,7 +14,7 @@ use Rattle.propnet.proofs.BuildLemmas.{stands_below}
 use Rattle.position.specs.Rules.{Turn, IsTurn}
 use Rattle.position.specs.RulePlay.{no_turn}
 use Rattle.position.specs.RuleState.{rules_of}
-use Rattle.position.specs.NetState.{is_on, view_of, words_for, AreViewsBelow, TellNow, TellNext}
+use Rattle.position.specs.NetState.{view_of, words_for, AreViewsBelow, TellNow, TellNext}
 use Rattle.position.specs.GroundFacts.{fits}
 use Rattle.position.proofs.NetReads.{view_told, transition_told}
 

@@ -1,6 +1,6 @@
 -- The values of a network tell what the game of the instantiation tells.
-use Rattle.std.proofs.Common.{◌≡◌, ℕ, zero, suc, ◌+◌, ◌*◌, ◌<◌, ◌≤◌, Bool, true, false, cond, ◌&&◌, List, [], length, map, get_or, refl, sym, ◌∙◌, ap, subst, arith, Option, Some, None, ◌↔◌, le-ltb, lt-ltb, eqb-true, eq-eqb, slice_get}
-use Rattle.std.specs.Prelude.{◌==◌, filter, nat_lt, slice_index, unwrap_or, IsTrue}
+use Rattle.std.proofs.Common.{◌≡◌, ℕ, ◌<◌, Bool, true, false, cond, ◌&&◌, List, length, map, get_or, refl, sym, ◌∙◌, ap, subst, arith, Option, Some, None, ◌↔◌, le-ltb, lt-ltb, eqb-true, eq-eqb}
+use Rattle.std.specs.Prelude.{◌==◌, nat_lt, slice_index, unwrap_or, IsTrue}
 use Rattle.std.proofs.Math.Logic.{∥∥₁_elim}
 use Rattle.std.proofs.Props.{props}
 use Rattle.std.proofs.lemmas.List.{length-map}
@@ -12,14 +12,13 @@ use Rattle.ground.specs.declared.kind.Kind.{Kind}
 use Rattle.ground.specs.declared.kind.Kind.TheVariants.{Fixed, Now, Does, Next, Legal, Goal, Terminal, Other}
 use Rattle.ground.specs.declared.ground.Ground.{Ground}
 use Rattle.ground.specs.Gates.{atom_at}
-use Rattle.ground.specs.Grounds.{Kept, numbered, texts_at}
-use Rattle.ground.specs.GroundView.{base_of, inputs_of, kinds_of, instances_of, IsGround}
+use Rattle.ground.specs.Grounds.{Kept, numbered}
+use Rattle.ground.specs.GroundView.{base_of, kinds_of, instances_of, IsGround}
 use Rattle.ground.specs.Kinds.{kind_of, place_in}
 use Rattle.ground.specs.Listing.{listing, role_list, base_list, input_list}
 use Rattle.ground.specs.Listed.{IsWellFormed}
 use Rattle.ground.specs.Meaning as meaning
 use Rattle.ground.specs.Meaning.{ordinary, source_of, Holds, nobody, IsRole, RightAs, atom1}
-use Rattle.rules.specs.Words.{w_next}
 use Rattle.ground.specs.Numbers.{number_of}
 use Rattle.ground.specs.Play as play
 use Rattle.ground.proofs.AtomKinds.{kind_sound}
@@ -27,11 +26,9 @@ use Rattle.ground.proofs.Context.{bases_in_order, inputs_in_order}
 use Rattle.ground.proofs.Fold.{roles_exact, bases_exact}
 use Rattle.ground.proofs.Numbered.{one_number}
 use Rattle.propnet.specs.declared.net.Net.{Net}
-use Rattle.propnet.specs.declared.node.Name.TheVariants.{View, Transition}
 use Rattle.propnet.specs.Agreement as agreement
 use Rattle.propnet.specs.Bodies.{needs_view}
 use Rattle.propnet.specs.Builders.{IsNetOf}
-use Rattle.propnet.specs.Building.{Stands}
 use Rattle.propnet.specs.Nets.{gates_of}
 use Rattle.propnet.specs.Network.{given, value}
 use Rattle.propnet.specs.Values.{bit}
@@ -41,10 +38,10 @@ use Rattle.position.specs.declared.naming.Naming.TheVariants.{ByNext}
 use Rattle.position.specs.Rules.{State, Turn, IsTurn}
 use Rattle.position.specs.Played.{tree_at}
 use Rattle.position.specs.RuleMeaning.{stands_at, state_of, chosen_at, joint_of}
-use Rattle.position.specs.RulePlay.{no_turn, stands_in, kind_at, holds, is_named}
+use Rattle.position.specs.RulePlay.{no_turn, kind_at, holds, is_named}
 use Rattle.position.specs.RuleState.{rules_of, holds_in}
 use Rattle.position.specs.NetState.{is_on, is_shown, state_bits, view_of}
-use Rattle.position.proofs.AfterRules.{place_within, within_input, agree_move, next_holds}
+use Rattle.position.proofs.AfterRules.{place_within, within_input, next_holds}
 use Rattle.position.proofs.ByNumbers.{numbers_exact, right_there}
 use Rattle.position.proofs.ByRules.{among_atom, number_at, kind_at_number, moving_kind, place_among, within_base, no_move, agree_now}
 use Rattle.position.proofs.GameRules.{game_of_ground}

@@ -1,6 +1,6 @@
 -- What is told of a state by the nodes of the atoms that are asked.
-use Rattle.std.proofs.Common.{◌≡◌, ℕ, ◌+◌, ◌<◌, ◌≤◌, Bool, true, false, cond, ◌&&◌, ◌||◌, List, [], ◌∷◌, length, map, zero, suc, refl, sym, ◌∙◌, ap, subst, arith, get_or}
-use Rattle.std.specs.Prelude.{All, filter, max, ◌==◌, Option, Some, None}
+use Rattle.std.proofs.Common.{◌≡◌, ℕ, ◌+◌, ◌<◌, ◌≤◌, Bool, true, false, cond, ◌&&◌, ◌||◌, List, [], ◌∷◌, length, map, zero, suc, refl, sym, ◌∙◌, ap, subst, arith}
+use Rattle.std.specs.Prelude.{All, filter, Option}
 use Rattle.std.specs.List.{list_any, range_with_len}
 use Rattle.std.proofs.lemmas.List.Elements.{All-map}
 use Rattle.ground.specs.declared.kind.Kind.{Kind}
@@ -9,7 +9,7 @@ use Rattle.ground.specs.Grounds.{texts_at}
 use Rattle.position.specs.declared.naming.Naming.{Naming}
 use Rattle.position.specs.declared.naming.Naming.TheVariants.{ByLegal}
 use Rattle.position.specs.declared.plan.Sought.{Sought}
-use Rattle.position.specs.declared.plan.Sought.TheVariants.{Given, Named, Goals, Ends}
+use Rattle.position.specs.declared.plan.Sought.TheVariants.{Named, Goals, Ends}
 use Rattle.position.specs.declared.plan.Standing.{Standing}
 use Rattle.position.specs.declared.rule_pos.RoleState.{RoleState}
 use Rattle.position.specs.RulePlay.{AreMarks, marked, named_below, kind_at, names, is_named, is_terminal, ends, goal_value, best_goal}

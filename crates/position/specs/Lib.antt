@@ -15,3 +15,6 @@ pub mod Flats
 pub mod Plans
 pub mod SamePlay
 pub mod NetState
+pub mod NetLanes
+pub mod RuleMany
+pub mod TableMany

@@ -1,5 +1,5 @@
 -- What a state of a game over a network keeps.
-use Rattle.std.specs.Prelude.{ℕ, ◌≡◌, ◌<◌, ◌+◌, ◌/◌, ◌==◌, Bool, true, false, List, [], ◌∷◌, length, map, filter, get_or, unwrap_or, Option, None, vec_capacity}
+use Rattle.std.specs.Prelude.{ℕ, ◌≡◌, ◌<◌, ◌+◌, ◌/◌, ◌==◌, Bool, true, false, List, ◌∷◌, length, map, filter, get_or, unwrap_or, Option, None, vec_capacity}
 use Rattle.std.specs.List.{range_with_len}
 use Rattle.ground.specs.declared.kind.Kind.{Kind}
 use Rattle.ground.specs.declared.kind.Kind.TheVariants.{Fixed, Now, Does, Next, Legal, Goal, Terminal, Other}

@@ -4,6 +4,8 @@ ghost use Rattle.propnet.specs.Builders.{IsNetOf};
 ghost use Rattle.position.specs.NetState.{IsNetPlanOf};
 
 use crate::game::Game;
+use crate::net_lanes::{net_steps, net_take, new_net_many, new_net_wide};
+use crate::net_many::{NetMany, NetWide};
 use crate::net_plan::NetPlan;
 use crate::net_planning::make_net_plan;
 use crate::net_playing::{start_net_state, step_net_state};
@@ -45,9 +47,14 @@ impl Game for NetGame {
     ghost use Rattle.ground.specs.GroundView.{roles_of, inputs_of};
     ghost use Rattle.position.specs.RuleState.{rules_of};
     ghost use Rattle.position.specs.NetState.{IsNetState, kept_state, net_capacities};
+    ghost use Rattle.position.specs.NetLanes.{HasWideRoom, HasManyRoom, lane_states, wide_capacities as capacities_wide, many_capacities as capacities_many};
     ghost use Rattle.position.specs.RuleLaws.{goal_at_most, few_moves_of, legal_below, legal_in_order, moves_in_order, roles_once};
 
     type Pos = NetPos;
+
+    type Wide = NetWide;
+
+    type Many = NetMany;
 
     ghost rules = { λ g. rules_of g.played };
 
@@ -60,6 +67,16 @@ impl Game for NetGame {
     ghost state = { λ g p. kept_state g.played p };
 
     ghost capacities = { λ _ p. net_capacities p };
+
+    ghost fits_wide = { λ g w. HasWideRoom g.net w };
+
+    ghost fits_many = { λ g m. HasManyRoom g.played m };
+
+    ghost states = { λ g m. lane_states g.played m };
+
+    ghost wide_capacities = { λ _ w. capacities_wide w };
+
+    ghost many_capacities = { λ _ m. capacities_many m };
 
     fn roles(&self) -> usize {
         self.played.roles()
@@ -101,6 +118,22 @@ impl Game for NetGame {
         q.words.copy_from_slice(&p.words);
         q.ended = p.ended;
         copy_roles(&p.roles, &mut q.roles);
+    }
+
+    fn new_wide(&self) -> Result<NetWide, AllocError> {
+        new_net_wide(self)
+    }
+
+    fn new_many(&self) -> Result<NetMany, AllocError> {
+        new_net_many(self)
+    }
+
+    fn steps(&self, p: &NetPos, joints: &[Joint], w: &mut NetWide, out: &mut NetMany) {
+        net_steps(self, p, joints, w, out);
+    }
+
+    fn take(&self, many: &NetMany, place: usize, q: &mut NetPos) {
+        net_take(self, many, place, q);
     }
 
     ghost goal_within = { λ g s r. goal_at_most g.played s r };

@@ -24,11 +24,7 @@ fn node_for(net: &Net, here: Standing) -> Standing
 }
 
 /// The nodes that tell of the atoms of a list.
-fn nodes_for(
-    alloc: Global,
-    net: &Net,
-    atoms: &[Standing],
-) -> Result<Vec<Standing>, AllocError>
+fn nodes_for(alloc: Global, net: &Net, atoms: &[Standing]) -> Result<Vec<Standing>, AllocError>
     ensures { IfOk result (λ nodes. nodes.items ≡ map (told_by net.now.views.items) atoms.now) }
 {
     let mut nodes = Vec::new(alloc);
@@ -68,11 +64,7 @@ fn plan_role_nodes(
 }
 
 /// The nodes that tell of each role.
-fn plan_roles_nodes(
-    alloc: Global,
-    ground: &Ground,
-    net: &Net,
-) -> Result<Vec<RolePlan>, AllocError>
+fn plan_roles_nodes(alloc: Global, ground: &Ground, net: &Net) -> Result<Vec<RolePlan>, AllocError>
     ensures size { IfOk result (λ plans. length plans.items ≡ length (inputs_of ground.now)) }
     ensures each { IfOk result (λ plans. (r : ℕ) (d : RolePlan) → r < length (inputs_of ground.now) → IsRoleNetPlanOf net.now.views.items (kinds_of ground.now) r (get_or plans.items r d)) }
 {

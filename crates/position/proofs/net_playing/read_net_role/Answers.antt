@@ -1,4 +1,4 @@
-use Rattle.std.proofs.Common.{◌≤◌, ◌*◌, ℕ, List, length, ap, subst, sym, ◌∙◌, arith}
+use Rattle.std.proofs.Common.{◌≤◌, ◌*◌, length, ap, subst, sym, ◌∙◌, arith}
 use Rattle.ground.specs.GroundView.{kinds_of}
 use Rattle.propnet.specs.Nets.{gates_of}
 use Rattle.position.specs.declared.naming.Naming.TheVariants.{ByLegal}

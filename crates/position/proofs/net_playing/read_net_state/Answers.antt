@@ -1,4 +1,4 @@
-use Rattle.std.proofs.Common.{◌≡◌, ◌≤◌, ◌*◌, ℕ, List, length, ap, subst, sym, ◌∙◌}
+use Rattle.std.proofs.Common.{◌≡◌, ◌≤◌, ◌*◌, ℕ, List, length, ap, subst, ◌∙◌}
 use Rattle.ground.specs.GroundView.{inputs_of, kinds_of}
 use Rattle.propnet.specs.Nets.{gates_of}
 use Rattle.position.specs.RuleState.{AreRead, holds_in}

@@ -1,4 +1,4 @@
-use Rattle.std.proofs.Common.{◌≡◌, ◌<◌, ℕ, List, length, get_or, ap, subst, ◌∙◌, arith}
+use Rattle.std.proofs.Common.{◌<◌, ℕ, List, length, get_or, ap, subst, ◌∙◌, arith}
 use Rattle.ground.specs.GroundView.{kinds_of, instances_of}
 use Rattle.position.specs.declared.naming.Naming.TheVariants.{ByNext}
 use Rattle.position.specs.RulePlay.{holds, is_named}

@@ -1,4 +1,4 @@
-use Rattle.std.proofs.Common.{◌≡◌, ◌<◌, ◌≤◌, ◌*◌, length, get_or, arith, subst, sym, ℕ}
+use Rattle.std.proofs.Common.{◌≡◌, ◌≤◌, ◌*◌, length, get_or, arith}
 use Rattle.propnet.specs.Nets.{gates_of}
 use Rattle.position.specs.GroundFacts.{fits}
 use Rattle.position.proofs.NetFacts.{transition_below, room_enough}

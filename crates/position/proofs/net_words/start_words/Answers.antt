@@ -1,4 +1,4 @@
-use Rattle.std.proofs.Common.{◌≡◌, List, ℕ, length, ap, sym, subst, ◌∙◌, ◌/◌, ◌+◌}
+use Rattle.std.proofs.Common.{List, ℕ, length, ap, sym, ◌∙◌}
 use Rattle.position.specs.GroundFacts.{fits}
 use Rattle.position.specs.NetState.{state_bits, words_for as count_for}
 use Rattle.position.proofs.Words.{written_over, bits_marked}

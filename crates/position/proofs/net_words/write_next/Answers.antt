@@ -1,4 +1,4 @@
-use Rattle.std.proofs.Common.{List, ℕ, length, get_or, ap, ◌∙◌}
+use Rattle.std.proofs.Common.{List, ℕ, length, ap, ◌∙◌}
 use Rattle.std.specs.Prelude.{◌==◌}
 use Rattle.position.specs.NetState.{is_on}
 use Rattle.position.proofs.Words.{written_over}
