@@ -128,7 +128,7 @@ fn put_if(mark: bool, number: u32, numbers: &mut Vec<u32>, count: usize) -> usiz
 /// Writes the numbers that are marked, ascending, and answers how many they are.
 pub(crate) fn list_marked(marks: &[bool], numbers: &mut Vec<u32>) -> usize
     requires room { length numbers.old.items ≡ length marks.now }
-    requires few { length marks.now ≤ 4096 }
+    requires few { length marks.now ≤ 2 ^ 32 }
     ensures listed { take result numbers.new.items ≡ marked marks.now }
     ensures count { result ≤ length numbers.new.items }
     ensures size { length numbers.new.items ≡ length numbers.old.items }
