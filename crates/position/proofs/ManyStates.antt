@@ -36,17 +36,6 @@ taken_map f h (x ∷ xs) (j ∷ js) few same =
     ap (λ (s : List ℕ). s ∷ map f (take (length js) xs)) (same 0 x (omega arith))
     ∙ ap (λ (ss : List (List ℕ)). h j.items ∷ ss) (taken_map f h xs js (omega arith) (λ k d lt. same (suc k) d (omega arith)))
 
-pub taken_at : {A : Type 0} (f : A → List ℕ) (xs : List A) (n k : ℕ) (d : A) → k < n → n ≤ length xs → get_or (map f (take n xs)) k [] ≡ f (get_or xs k d)
-taken_at f xs zero k d lt few = absurd (omega arith)
-taken_at f [] (suc n) k d lt few = absurd (omega arith)
-taken_at f (x ∷ xs) (suc n) zero d lt few = refl
-taken_at f (x ∷ xs) (suc n) (suc k) d lt few = taken_at f xs n k d (omega arith) (omega arith)
-
-pub taken_count : {A : Type 0} (f : A → List ℕ) (xs : List A) (n : ℕ) → n ≤ length xs → length (map f (take n xs)) ≡ n
-taken_count f xs zero few = refl
-taken_count f [] (suc n) few = absurd (omega arith)
-taken_count f (x ∷ xs) (suc n) few = ap suc (taken_count f xs n (omega arith))
-
 pub push_all : {A : Type 0} (P : A → Type 0) (ps : List A) (y : A) → P y → ((k : ℕ) (d : A) → k < length ps → P (get_or ps k d)) → (k : ℕ) (d : A) → k < length ps + 1 → P (get_or (ps ++ y ∷ []) k d)
 push_all P [] y one all zero d lt = one
 push_all P [] y one all (suc k) d lt = absurd (omega arith)
