@@ -18,3 +18,9 @@ pub mod OneGame
 pub mod Alike
 pub mod PlayRange
 pub mod SamePlays
+pub mod Shown
+pub mod NetReads
+pub mod NetFacts
+pub mod Words
+pub mod Lanes
+pub mod ManyStates
