@@ -1,6 +1,6 @@
 use Rattle.std.proofs.Common.{sym, ◌<◌}
 use Rattle.position.proofs.PlayRange.{choice_within}
-use Rattle.gdlsolve.proofs.solving.solved.Goals as goal
+use Rattle.gdlsolve.proofs.solving.value_lines.Goals as goal
 
 pub add_choice-requires-clause-chosen : goal.add_choice-requires-clause-chosen
 add_choice-requires-clause-chosen g c κs within =

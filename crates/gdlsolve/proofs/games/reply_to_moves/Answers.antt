@@ -2,7 +2,7 @@ use Rattle.std.proofs.Common.{rules}
 use Rattle.kif.specs.View.{trees_in}
 use Rattle.gdlsolve.specs.Moving.{IsMovesReply}
 use Rattle.gdlsolve.proofs.Describing.{tells_game}
-use Rattle.gdlsolve.proofs.playing.moved.Goals as goal
+use Rattle.gdlsolve.proofs.games.reply_to_moves.Goals as goal
 
 pub returns-in-Game : goal.returns-in-Game
 returns-in-Game g c =

@@ -10,8 +10,8 @@ use Rattle.ground.specs.Refusal.{fault_text}
 use Rattle.position.specs.NamedRules.{NamedRules}
 use Rattle.position.specs.RulesGame.{IsGameOf}
 use Rattle.position.specs.RuleState.{named_rules_of}
-use Rattle.gdlsolve.specs.declared.playing.Described.{Described}
-use Rattle.gdlsolve.specs.declared.playing.Described.TheVariants.{Game, Refusal}
+use Rattle.gdlsolve.specs.declared.games.Described.{Described}
+use Rattle.gdlsolve.specs.declared.games.Described.TheVariants.{Game, Refusal}
 use Rattle.gdlsolve.specs.Answers.{Reply, refusal}
 use Rattle.gdlsolve.specs.Checking.{RefusesItems}
 

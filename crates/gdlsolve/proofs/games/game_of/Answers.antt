@@ -2,7 +2,7 @@ use Rattle.std.proofs.Common.{rules}
 use Rattle.kif.specs.View.{trees_in}
 use Rattle.rules.specs.RuleSetView.{rules_in}
 use Rattle.gdlsolve.proofs.Describing.{its_game, passes_limit}
-use Rattle.gdlsolve.proofs.playing.game_of.Goals as goal
+use Rattle.gdlsolve.proofs.games.game_of.Goals as goal
 
 pub returns-in-Ok-instantiate : goal.returns-in-Ok-instantiate
 returns-in-Ok-instantiate g c =

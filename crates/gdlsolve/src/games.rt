@@ -2,7 +2,7 @@
 ghost use Rattle.std.specs.Prelude.{IfOk};
 ghost use Rattle.kif.specs.View.{trees_in};
 ghost use Rattle.gdlsolve.specs.Moving.{IsMovesReply};
-ghost use Rattle.gdlsolve.specs.Playing.{IsDescribed, IsPlayReply};
+ghost use Rattle.gdlsolve.specs.Games.{IsDescribed, IsPlayReply};
 ghost use Rattle.gdlsolve.specs.Solving.{IsSolveReply};
 
 use crate::moving::moves_reply;
@@ -41,7 +41,7 @@ fn game_of<T: AllocGlobal, A: Allocator>(rt: &T, items: &[Expr<A>]) -> Result<De
 }
 
 /// The reply to `moves` over items, after the history of a text.
-pub(crate) fn moved<T: AllocGlobal, A: Allocator>(
+pub(crate) fn reply_to_moves<T: AllocGlobal, A: Allocator>(
     rt: &T,
     items: &[Expr<A>],
     after: &str,
@@ -56,7 +56,7 @@ pub(crate) fn moved<T: AllocGlobal, A: Allocator>(
 }
 
 /// The reply to `solve` over items, for the role of a text, within so many turns, after the history of a text.
-pub(crate) fn solved<T: AllocGlobal, A: Allocator>(
+pub(crate) fn reply_to_solve<T: AllocGlobal, A: Allocator>(
     rt: &T,
     items: &[Expr<A>],
     role: &str,
