@@ -6,7 +6,7 @@ ghost use Rattle.maximin.specs.Room.{IsRoomOf, room_depth, room_capacities};
 
 use crate::level::{Level, new_level};
 use crate::search::{choice_at, reply_at, value_at};
-use position::Game;
+use position::{AtBound, Game};
 use propnet::Joint;
 use std::alloc::{AllocError, Global};
 
@@ -31,13 +31,15 @@ impl<G: Game> Room<G> {
 }
 
 /// The value of a state for a role, within a window. The value is what the role can be sure of within `depth` turns, whatever the
-/// others do: its goal where the game ends in time, else 0, as in a state in which some role has no legal move. An answer
-/// above a and below b is the value; a or less says that the value is no more than a, and b or more that it is no less than b.
+/// others do: its goal where the game ends in time, 0 where play comes to a state in which some role has no legal move, and else
+/// what `at` says of the state where the turns are over. An answer above a and below b is the value; a or less says that the value
+/// is no more than a, and b or more that it is no less than b.
 pub fn value_in<G: Game>(
     g: &G,
     p: &G::Pos,
     role: usize,
     depth: u32,
+    at: AtBound,
     a: i16,
     b: i16,
     room: &mut Room<G>,
@@ -49,12 +51,13 @@ pub fn value_in<G: Game>(
     requires low { negsuc 1 ≤ℤ a }
     requires order { a <ℤ b }
     requires high { b ≤ℤ pos 101 }
-    ensures answers { Answers (value (G.rules g.now) role depth (G.state g.now p.now)) a b result }
+    ensures answers { Answers (value (G.rules g.now) role depth at (G.state g.now p.now)) a b result }
     ensures room { IsRoomOf (G.fits g.now) (G.rules g.now).roles room.new }
     ensures deep { room_depth room.new ≡ room_depth room.old }
     ensures capacities { room_capacities (G.capacities g.now) room.new ≡ room_capacities (G.capacities g.now) room.old }
 {
-    value_at(g, p, role, depth as usize, a, b, room.levels.as_mut_slice())
+    let levels = room.levels.as_mut_slice();
+    value_at(g, p, role, depth as usize, at, a, b, levels)
 }
 
 /// The first legal move of the role, in printed order, that attains the value of the state. There is none where the game has ended,
@@ -64,18 +67,20 @@ pub fn choice<G: Game>(
     p: &G::Pos,
     role: usize,
     depth: u32,
+    at: AtBound,
     room: &mut Room<G>,
 ) -> Option<u32>
     requires fits { G.fits g.now p.now }
     requires role { role < (G.rules g.now).roles }
     requires room { IsRoomOf (G.fits g.now) (G.rules g.now).roles room.old }
     requires deep { depth ≤ room_depth room.old }
-    ensures choice { result ≡ choice_of (G.rules g.now) role depth (G.state g.now p.now) }
+    ensures choice { result ≡ choice_of (G.rules g.now) role depth at (G.state g.now p.now) }
     ensures room { IsRoomOf (G.fits g.now) (G.rules g.now).roles room.new }
     ensures deep { room_depth room.new ≡ room_depth room.old }
     ensures capacities { room_capacities (G.capacities g.now) room.new ≡ room_capacities (G.capacities g.now) room.old }
 {
-    choice_at(g, p, role, depth as usize, room.levels.as_mut_slice())
+    let levels = room.levels.as_mut_slice();
+    choice_at(g, p, role, depth as usize, at, levels)
 }
 
 /// Writes the first joint legal move that leaves the least value where the role plays `own`, which stands in its place. Joint moves are
@@ -86,6 +91,7 @@ pub fn first_reply<G: Game>(
     role: usize,
     own: u32,
     depth: u32,
+    at: AtBound,
     room: &mut Room<G>,
     out: &mut Joint,
 )
@@ -98,19 +104,12 @@ pub fn first_reply<G: Game>(
     requires room { IsRoomOf (G.fits g.now) (G.rules g.now).roles room.old }
     requires deep { depth ≤ room_depth room.old }
     requires out { (G.rules g.now).roles ≤ out.old.capacity }
-    ensures reply { reply_of (G.rules g.now) role (depth - 1) (G.state g.now p.now) own ≡ Some out.new.items }
+    ensures reply { reply_of (G.rules g.now) role (depth - 1) at (G.state g.now p.now) own ≡ Some out.new.items }
     ensures out { out.new.capacity ≡ out.old.capacity }
     ensures room { IsRoomOf (G.fits g.now) (G.rules g.now).roles room.new }
     ensures deep { room_depth room.new ≡ room_depth room.old }
     ensures capacities { room_capacities (G.capacities g.now) room.new ≡ room_capacities (G.capacities g.now) room.old }
 {
-    reply_at(
-        g,
-        p,
-        role,
-        own,
-        depth as usize - 1,
-        room.levels.as_mut_slice(),
-        out,
-    )
+    let levels = room.levels.as_mut_slice();
+    reply_at(g, p, role, own, depth as usize - 1, at, levels, out)
 }

@@ -1,12 +1,26 @@
 // The search, level by level.
-ghost use Rattle.std.specs.Prelude.{◌≡◌, ◌<◌, ◌≤◌, ◌<ℤ◌, ◌≤ℤ◌, pos, negsuc, false, Some, All, length};
+ghost use Rattle.std.specs.Prelude.{◌≡◌, ◌<◌, ◌≤◌, ◌<ℤ◌, ◌≤ℤ◌, pos, negsuc, false, Some, All, length, if◌then◌else◌};
+ghost use Rattle.position.specs.AtBound.{bound_worth};
 ghost use Rattle.position.specs.Rules.{is_stuck as stuck};
 ghost use Rattle.position.specs.Value.{Answers, choice_of, reply_of, value, worst};
 ghost use Rattle.maximin.specs.Level.{IsLevelOf, all_capacities};
 
 use crate::level::{Level, next_turn, start_turns, write_joint};
-use position::{Game, is_stuck};
+use position::{AtBound, Game, is_stuck};
 use propnet::Joint;
+
+/// What a state that is not ended is worth where no turn is left.
+fn bound_at<G: Game>(game: &G, from: &G::Pos, role: usize, at: AtBound) -> i16
+    requires fits { G.fits game.now from.now }
+    requires role { role < (G.rules game.now).roles }
+    ensures { result ≡ pos (if stuck (G.rules game.now) (G.state game.now from.now) then 0
+        else bound_worth at ((G.rules game.now).goal (G.state game.now from.now) role)) }
+{
+    match at {
+        AtBound::Goal if !is_stuck(game, from) => i16::from(game.goal(from, role)),
+        _ => 0,
+    }
+}
 
 /// The value of a state within a window.
 #[cycle(search)]
@@ -15,6 +29,7 @@ pub fn value_at<G: Game>(
     from: &G::Pos,
     role: usize,
     depth: usize,
+    at: AtBound,
     a: i16,
     b: i16,
     levels: &mut [Level<G::Pos>],
@@ -26,20 +41,23 @@ pub fn value_at<G: Game>(
     requires low { negsuc 1 ≤ℤ a }
     requires order { a <ℤ b }
     requires high { b ≤ℤ pos 101 }
-    ensures answers { Answers (value (G.rules game.now) role depth (G.state game.now from.now)) a b result }
+    ensures answers { Answers (value (G.rules game.now) role depth at (G.state game.now from.now)) a b result }
     ensures levels { All (IsLevelOf (G.fits game.now) (G.rules game.now).roles) levels.new }
     ensures capacities { all_capacities (G.capacities game.now) levels.new ≡ all_capacities (G.capacities game.now) levels.old }
 {
     if game.ended(from) {
         return i16::from(game.goal(from, role));
     }
-    if depth == 0 || is_stuck(game, from) {
+    if depth == 0 {
+        return bound_at(game, from, role, at);
+    }
+    if is_stuck(game, from) {
         return 0;
     }
     let mut best = a;
     let mut place = 0;
     while let Some(own) = game.legal(from, role, place) {
-        best = best.max(worst_at(game, from, role, own, depth - 1, best, b, levels));
+        best = best.max(worst_at(game, from, role, own, depth - 1, at, best, b, levels));
         if best >= b {
             return best;
         }
@@ -56,6 +74,7 @@ pub fn worst_at<G: Game>(
     role: usize,
     own: u32,
     depth: usize,
+    at: AtBound,
     a: i16,
     b: i16,
     levels: &mut [Level<G::Pos>],
@@ -69,7 +88,7 @@ pub fn worst_at<G: Game>(
     requires low { negsuc 1 ≤ℤ a }
     requires order { a <ℤ b }
     requires high { b ≤ℤ pos 101 }
-    ensures answers { Answers (worst (G.rules game.now) role depth (G.state game.now from.now) own) a b result }
+    ensures answers { Answers (worst (G.rules game.now) role depth at (G.state game.now from.now) own) a b result }
     ensures levels { All (IsLevelOf (G.fits game.now) (G.rules game.now).roles) levels.new }
     ensures capacities { all_capacities (G.capacities game.now) levels.new ≡ all_capacities (G.capacities game.now) levels.old }
 {
@@ -79,7 +98,7 @@ pub fn worst_at<G: Game>(
     let mut upper = b;
     loop {
         game.step(from, &level.cursor.joint, &mut level.position);
-        upper = upper.min(value_at(game, &level.position, role, depth, a, upper, rest));
+        upper = upper.min(value_at(game, &level.position, role, depth, at, a, upper, rest));
         if upper <= a || !next_turn(game, from, role, own, &mut level.cursor) {
             return upper;
         }
@@ -92,13 +111,14 @@ pub fn choice_at<G: Game>(
     from: &G::Pos,
     role: usize,
     depth: usize,
+    at: AtBound,
     levels: &mut [Level<G::Pos>],
 ) -> Option<u32>
     requires fits { G.fits game.now from.now }
     requires role { role < (G.rules game.now).roles }
     requires deep { depth ≤ length levels.old }
     requires levels { All (IsLevelOf (G.fits game.now) (G.rules game.now).roles) levels.old }
-    ensures choice { result ≡ choice_of (G.rules game.now) role depth (G.state game.now from.now) }
+    ensures choice { result ≡ choice_of (G.rules game.now) role depth at (G.state game.now from.now) }
     ensures levels { All (IsLevelOf (G.fits game.now) (G.rules game.now).roles) levels.new }
     ensures capacities { all_capacities (G.capacities game.now) levels.new ≡ all_capacities (G.capacities game.now) levels.old }
 {
@@ -109,7 +129,7 @@ pub fn choice_at<G: Game>(
     let mut chosen = 0;
     let mut place = 0;
     while let Some(own) = game.legal(from, role, place) {
-        let worst = worst_at(game, from, role, own, depth - 1, best, 101, levels);
+        let worst = worst_at(game, from, role, own, depth - 1, at, best, 101, levels);
         if worst > best {
             best = worst;
             chosen = place;
@@ -126,6 +146,7 @@ pub fn reply_at<G: Game>(
     role: usize,
     own: u32,
     depth: usize,
+    at: AtBound,
     levels: &mut [Level<G::Pos>],
     out: &mut Joint,
 )
@@ -136,7 +157,7 @@ pub fn reply_at<G: Game>(
     requires deep { depth < length levels.old }
     requires levels { All (IsLevelOf (G.fits game.now) (G.rules game.now).roles) levels.old }
     requires out { (G.rules game.now).roles ≤ out.old.capacity }
-    ensures reply { reply_of (G.rules game.now) role depth (G.state game.now from.now) own ≡ Some out.new.items }
+    ensures reply { reply_of (G.rules game.now) role depth at (G.state game.now from.now) own ≡ Some out.new.items }
     ensures out { out.new.capacity ≡ out.old.capacity }
     ensures levels { All (IsLevelOf (G.fits game.now) (G.rules game.now).roles) levels.new }
     ensures capacities { all_capacities (G.capacities game.now) levels.new ≡ all_capacities (G.capacities game.now) levels.old }
@@ -147,7 +168,7 @@ pub fn reply_at<G: Game>(
     let mut upper = 101;
     loop {
         game.step(from, &level.cursor.joint, &mut level.position);
-        let worth = value_at(game, &level.position, role, depth, -1, upper, rest);
+        let worth = value_at(game, &level.position, role, depth, at, -1, upper, rest);
         if worth < upper {
             upper = worth;
             write_joint(&level.cursor.joint, out);

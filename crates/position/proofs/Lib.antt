@@ -18,3 +18,4 @@ pub mod OneGame
 pub mod Alike
 pub mod PlayRange
 pub mod SamePlays
+pub mod PlainValues

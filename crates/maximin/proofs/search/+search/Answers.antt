@@ -38,13 +38,13 @@ value_at-returns-then-best-b-clause-answers g t c =
     let fits_m : SFits w16 c.max-best.result = search facts in
     let raised : to_z w16 (of_z w16 c.max-best.result) ≡ int_max best r =
     to_z-of_z w16 c.max-best.result fits_m ∙ c.max-best.ensures.value ∙ ap (λ z. int_max best z) (to_z-of_z w16 r fits_r) in
-    let most : int_max best r ≤ℤ int_max (pos (value rules c.args.role c.args.depth state)) a =
-    raised_most (value rules c.args.role c.args.depth state) (worst rules c.args.role (c.args.depth - 1) state c.in-Some.own) a b best r
-    (rw here.1 at (worst_le_value rules c.args.role c.args.depth state c.loop-own.place free here.0)) c.loop-own.invariant.at_most c.worst_at.ensures.answers in
+    let most : int_max best r ≤ℤ int_max (pos (value rules c.args.role c.args.depth c.args.at state)) a =
+    raised_most (value rules c.args.role c.args.depth c.args.at state) (worst rules c.args.role (c.args.depth - 1) c.args.at state c.in-Some.own) a b best r
+    (rw here.1 at (worst_le_value rules c.args.role c.args.depth c.args.at state c.loop-own.place free here.0)) c.loop-own.invariant.at_most c.worst_at.ensures.answers in
     let ea : a ≡ c.args.a = to_z-of_z w16 c.args.a c.ranges.a in
     let eb : b ≡ c.args.b = to_z-of_z w16 c.args.b c.ranges.b in
     let cut : b ≤ℤ int_max best r = rw raised at (le_z_true b _ c.if-best-b.true) in
-    rw (← ea, ← eb, raised) (cut_above (value rules c.args.role c.args.depth state) a b (int_max best r) cut most)
+    rw (← ea, ← eb, raised) (cut_above (value rules c.args.role c.args.depth c.args.at state) a b (int_max best r) cut most)
 
 pub value_at-overflow_add-place : goal.value_at-overflow_add-place
 value_at-overflow_add-place g t c =
@@ -81,9 +81,9 @@ value_at-loop-own-preserved g t c =
     let fits_m : SFits w16 c.max-best.result = search facts in
     let raised : to_z w16 (of_z w16 c.max-best.result) ≡ int_max best r =
     to_z-of_z w16 c.max-best.result fits_m ∙ c.max-best.ensures.value ∙ ap (λ z. int_max best z) (to_z-of_z w16 r fits_r) in
-    let most : int_max best r ≤ℤ int_max (pos (value rules c.args.role c.args.depth state)) a =
-    raised_most (value rules c.args.role c.args.depth state) (worst rules c.args.role (c.args.depth - 1) state c.in-Some.own) a b best r
-    (rw here.1 at (worst_le_value rules c.args.role c.args.depth state c.loop-own.place free here.0)) c.loop-own.invariant.at_most c.worst_at.ensures.answers in
+    let most : int_max best r ≤ℤ int_max (pos (value rules c.args.role c.args.depth c.args.at state)) a =
+    raised_most (value rules c.args.role c.args.depth c.args.at state) (worst rules c.args.role (c.args.depth - 1) c.args.at state c.in-Some.own) a b best r
+    (rw here.1 at (worst_le_value rules c.args.role c.args.depth c.args.at state c.loop-own.place free here.0)) c.loop-own.invariant.at_most c.worst_at.ensures.answers in
     record {
       levels = c.worst_at.ensures.levels;
       capacities = c.worst_at.ensures.capacities ∙ c.loop-own.invariant.capacities;
@@ -93,8 +93,8 @@ value_at-loop-own-preserved g t c =
       below = le_z_false b _ c.if-best-b.false;
       at_most = rw raised most;
       seen = below_more _ _
-          (λ k lt. rw raised (raised_seen (worst rules c.args.role (c.args.depth - 1) state (get_or legal k 0)) b best r (c.loop-own.invariant.seen k lt)))
-          (rw (raised, here.1) (raised_now (worst rules c.args.role (c.args.depth - 1) state c.in-Some.own) b best r c.worst_at.ensures.answers));
+          (λ k lt. rw raised (raised_seen (worst rules c.args.role (c.args.depth - 1) c.args.at state (get_or legal k 0)) b best r (c.loop-own.invariant.seen k lt)))
+          (rw (raised, here.1) (raised_now (worst rules c.args.role (c.args.depth - 1) c.args.at state c.in-Some.own) b best r c.worst_at.ensures.answers));
     }
 
 pub value_at-returns-clause-answers : goal.value_at-returns-clause-answers
@@ -104,7 +104,7 @@ value_at-returns-clause-answers g t c =
     let legal = rules.legal state c.args.role in
     let free : IsOpen rules c.args.depth state = record { turn = c.if-depth-eq0.false; going = sym c.ended.ensures ∙ c.if-ended.false; free = sym c.is_stuck.ensures ∙ c.if-is_stuck.false } in
     let past : length legal ≤ c.loop-own.place = none_past legal c.loop-own.place c.legal.result c.legal.ensures c.in_default.is in
-    let top = value_reached rules c.args.role c.args.depth state free c.requires.role in
+    let top = value_reached rules c.args.role c.args.depth c.args.at state free c.requires.role in
     let a = to_z w16 (of_z w16 c.args.a) in
     let b = to_z w16 (of_z w16 c.args.b) in
     let ea : a ≡ c.args.a = to_z-of_z w16 c.args.a c.ranges.a in
@@ -119,8 +119,8 @@ worst_at-loop-upper-init g t c =
     let rules = g.G.Game.rules c.args.game.now in
     let state = g.G.Game.state c.args.game.now c.args.from.now in
     let lists = choices rules state c.args.role c.args.own in
-    let worth : List ℕ → ℕ = λ j. value rules c.args.role c.args.depth (rules.after state j) in
-    let all = worst rules c.args.role c.args.depth state c.args.own in
+    let worth : List ℕ → ℕ = λ j. value rules c.args.role c.args.depth c.args.at (rules.after state j) in
+    let all = worst rules c.args.role c.args.depth c.args.at state c.args.own in
     let a = to_z w16 (of_z w16 c.args.a) in
     let b = to_z w16 (of_z w16 c.args.b) in
     let left = least (map worth (c.start_turns.new.cursor.joint.items ∷ later lists c.start_turns.new.cursor.places.items)) in
@@ -153,8 +153,8 @@ worst_at-returns-then-upper-a-clause-answers g t c =
     let rules = g.G.Game.rules c.args.game.now in
     let state = g.G.Game.state c.args.game.now c.args.from.now in
     let lists = choices rules state c.args.role c.args.own in
-    let worth : List ℕ → ℕ = λ j. value rules c.args.role c.args.depth (rules.after state j) in
-    let all = worst rules c.args.role c.args.depth state c.args.own in
+    let worth : List ℕ → ℕ = λ j. value rules c.args.role c.args.depth c.args.at (rules.after state j) in
+    let all = worst rules c.args.role c.args.depth c.args.at state c.args.own in
     let a = to_z w16 (of_z w16 c.args.a) in
     let b = to_z w16 (of_z w16 c.args.b) in
     let joint = c.loop-upper.level.cursor.joint.items in
@@ -190,8 +190,8 @@ worst_at-loop-upper-preserved g t c =
     let rules = g.G.Game.rules c.args.game.now in
     let state = g.G.Game.state c.args.game.now c.args.from.now in
     let lists = choices rules state c.args.role c.args.own in
-    let worth : List ℕ → ℕ = λ j. value rules c.args.role c.args.depth (rules.after state j) in
-    let all = worst rules c.args.role c.args.depth state c.args.own in
+    let worth : List ℕ → ℕ = λ j. value rules c.args.role c.args.depth c.args.at (rules.after state j) in
+    let all = worst rules c.args.role c.args.depth c.args.at state c.args.own in
     let a = to_z w16 (of_z w16 c.args.a) in
     let b = to_z w16 (of_z w16 c.args.b) in
     let joint = c.loop-upper.level.cursor.joint.items in

@@ -25,8 +25,8 @@ invariant-value_at-loop-own g l =
       in_list : l.place ≤ length (rules.legal state l.role);
       above : l.a ≤ℤ l.best;
       below : l.best <ℤ l.b;
-      at_most : l.best ≤ℤ int_max (pos (value rules l.role l.depth state)) l.a;
-      seen : (k : ℕ) → k < l.place → int_min (pos (worst rules l.role (l.depth - 1) state (get_or (rules.legal state l.role) k 0))) l.b ≤ℤ l.best;
+      at_most : l.best ≤ℤ int_max (pos (value rules l.role l.depth l.at state)) l.a;
+      seen : (k : ℕ) → k < l.place → int_min (pos (worst rules l.role (l.depth - 1) l.at state (get_or (rules.legal state l.role) k 0))) l.b ≤ℤ l.best;
     }
 
 abbrev pub decreases-value_at-loop-own : goal.decreases-value_at-loop-own
@@ -40,8 +40,8 @@ invariant-worst_at-loop-upper g l =
     let rules = g.G.Game.rules l.game in
     let state = g.G.Game.state l.game l.from in
     let lists = choices rules state l.role l.own in
-    let all = worst rules l.role l.depth state l.own in
-    let left = least (map (λ j. value rules l.role l.depth (rules.after state j)) (l.level.cursor.joint.items ∷ later lists l.level.cursor.places.items)) in
+    let all = worst rules l.role l.depth l.at state l.own in
+    let left = least (map (λ j. value rules l.role l.depth l.at (rules.after state j)) (l.level.cursor.joint.items ∷ later lists l.level.cursor.places.items)) in
     record {
       level : IsLevelOf (g.G.Game.fits l.game) rules.roles l.level;
       rest : All (IsLevelOf (g.G.Game.fits l.game) rules.roles) l.rest;

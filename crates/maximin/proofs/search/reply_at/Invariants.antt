@@ -12,7 +12,7 @@ invariant-loop-upper g l =
     let rules = g.G.Game.rules l.game in
     let state = g.G.Game.state l.game l.from in
     let lists = choices rules state l.role l.own in
-    let worth : Turn → ℕ = λ j. value rules l.role l.depth (rules.after state j) in
+    let worth : Turn → ℕ = λ j. value rules l.role l.depth l.at (rules.after state j) in
     record {
       level : IsLevelOf (g.G.Game.fits l.game) rules.roles l.level;
       rest : All (IsLevelOf (g.G.Game.fits l.game) rules.roles) l.rest;
@@ -21,7 +21,7 @@ invariant-loop-upper g l =
       deep : l.depth ≤ length l.rest;
       capacity : l.out.capacity ≡ l.fn.out.capacity;
       stands : StandsAt lists l.level.cursor.places.items l.level.cursor.joint.items;
-      is_first : IsFirst worth (turns_with rules state l.role l.own) (worst rules l.role l.depth state l.own)
+      is_first : IsFirst worth (turns_with rules state l.role l.own) (worst rules l.role l.depth l.at state l.own)
           (l.level.cursor.joint.items ∷ later lists l.level.cursor.places.items) l.upper l.out.items;
     }
 
