@@ -1,7 +1,7 @@
 use crate::{Cut, Gate, solve};
-use position::Game;
+use position::{AtBound, Game};
 use position::table::Table;
-use std::alloc::Global;
+use std::alloc::AllocGlobal;
 use std::process::Abort;
 use std::sync::atomic::{AtomicUsize, Ordering};
 use std::test::Fail;
@@ -30,9 +30,8 @@ fn table(ends: [bool; 8]) -> Table {
     }
 }
 
-fn answers<R: Threads + Abort + Sync>(
+fn answers<R: Threads + Abort + Sync + AllocGlobal>(
     rt: &R,
-    alloc: Global,
     table: &Table,
     depth: u32,
     value: i16,
@@ -55,7 +54,7 @@ fn answers<R: Threads + Abort + Sync>(
         let Some(cut) = Cut::new(levels) else {
             panic!(rt; "no cut")
         };
-        let answer = solve(rt, alloc, table, &start, 0, depth, &cut, &tally)?;
+        let answer = solve(rt, table, &start, 0, depth, AtBound::Zero, &cut, &tally)?;
         assert_eq!(rt; answer.value, value);
         assert_eq!(rt; answer.choice, Some(choice));
         // Tasks 0 to 7, each once.
@@ -67,7 +66,7 @@ fn answers<R: Threads + Abort + Sync>(
 #[test]
 fn each_cut_has_the_same_answer(rt: HostRuntime) -> Result<(), Fail> {
     let all = table([true, true, true, true, true, true, true, true]);
-    answers(&rt, rt.alloc(), &all, 1, 25, 1)
+    answers(&rt, &all, 1, 25, 1)
 }
 
 #[test]
@@ -80,7 +79,7 @@ fn no_turn_to_come(rt: HostRuntime) -> Result<(), Fail> {
     let Some(cut) = Cut::new(&[4, 2]) else {
         panic!(rt; "no cut")
     };
-    let answer = solve(&rt, rt.alloc(), &table, &start, 1, 0, &cut, &tally)?;
+    let answer = solve(&rt, &table, &start, 1, 0, AtBound::Zero, &cut, &tally)?;
     assert_eq!(rt; answer.value, 0);
     assert_eq!(rt; answer.choice, None);
     assert_eq!(rt; tally.passed.load(Ordering::SeqCst), 0);
