@@ -4,8 +4,8 @@ use Rattle.position.specs.Rules.{choices}
 use Rattle.position.proofs.LegalMoves.{none_past}
 use Rattle.maximin.proofs.Choices.{length-choices, choices_some}
 use Rattle.maximin.proofs.CursorSteps.{first_more, first_stands, first_picks}
-use Rattle.maximin.proofs.level.start_turns.Goals as goal
-use Rattle.maximin.proofs.level.start_turns.Goals.{in-Some, in_default}
+use Rattle.maximin.proofs.cursor.start_turns.Goals as goal
+use Rattle.maximin.proofs.cursor.start_turns.Goals.{in-Some, in_default}
 
 pub loop-other-preserved : goal.loop-other-preserved
 loop-other-preserved g c =

@@ -4,7 +4,7 @@ use Rattle.position.proofs.LegalMoves.{legal_count, none_past}
 use Rattle.position.specs.Rules.{choices}
 use Rattle.maximin.proofs.Choices.{length-choices, choices_some, choices_count}
 use Rattle.maximin.proofs.CursorSteps.{wrapped_more, wrapped_all, up_stands, up_later}
-use Rattle.maximin.proofs.level.next_turn.Goals as goal
+use Rattle.maximin.proofs.cursor.next_turn.Goals as goal
 
 pub overflow_add-place : goal.overflow_add-place
 overflow_add-place g c =

@@ -1,8 +1,8 @@
 use Rattle.std.proofs.Common.{◌≡◌}
 use Rattle.position.specs.Rules.{choices}
 use Rattle.maximin.specs.Cursor.{IsCursorOf, cursor_capacities}
-use Rattle.maximin.proofs.CursorSteps.{IsWrappedFrom}
-use Rattle.maximin.proofs.level.next_turn.Given as goal
+use Rattle.maximin.proofs.CursorSteps.{IsFirstBelow}
+use Rattle.maximin.proofs.cursor.start_turns.Given as goal
 
 abbrev pub invariant-loop-other : goal.invariant-loop-other
 invariant-loop-other g l =
@@ -11,5 +11,5 @@ invariant-loop-other g l =
     record {
       cursor : IsCursorOf rules.roles l.cursor;
       capacities : cursor_capacities l.cursor ≡ cursor_capacities l.initial.cursor;
-      wrapped : IsWrappedFrom lists l.other l.initial.cursor.places.items l.initial.cursor.joint.items l.cursor.places.items l.cursor.joint.items;
+      first : IsFirstBelow lists l.other l.cursor.places.items l.cursor.joint.items;
     }
