@@ -11,7 +11,7 @@ use Rattle.ground.specs.declared.kind.Kind.{Kind}
 use Rattle.ground.specs.declared.ground.Ground.{Ground}
 use Rattle.ground.specs.Grounds.{Kept}
 use Rattle.ground.specs.Fits.{count_all}
-use Rattle.ground.specs.Limits.{limits}
+use Rattle.ground.specs.Most.{limits}
 use Rattle.ground.specs.GroundView.{base_of, inputs_of, kinds_of, instances_of}
 use Rattle.propnet.specs.declared.node.Name.{Name}
 use Rattle.propnet.specs.declared.node.Name.TheVariants.{Base, Input, Not, And, View, Transition}
