@@ -19,11 +19,11 @@ use Rattle.position.specs.RuleState.{named_rules_of}
 use Rattle.position.proofs.GameRules.{game_of_ground}
 use Rattle.gdlsolve.specs.declared.command.Status.{Status}
 use Rattle.gdlsolve.specs.declared.command.Status.TheVariants.{Refused}
-use Rattle.gdlsolve.specs.declared.playing.Described.{Described}
-use Rattle.gdlsolve.specs.declared.playing.Described.TheVariants.{Game}
+use Rattle.gdlsolve.specs.declared.games.Described.{Described}
+use Rattle.gdlsolve.specs.declared.games.Described.TheVariants.{Game}
 use Rattle.gdlsolve.specs.declared.reply.Reply as shown
 use Rattle.gdlsolve.specs.Answers.{Reply, refusal}
-use Rattle.gdlsolve.specs.Playing.{HasNoGame, IsItsGame, IsDescribed, IsPlayReply}
+use Rattle.gdlsolve.specs.Games.{HasNoGame, IsItsGame, IsDescribed, IsPlayReply}
 
 -- the game of the ground of the items is the game of the items
 pub its_game : (items : List Tree) (rules : List Alternative) (g h : Ground) → HasNoFault items → rules ≡ alternatives items

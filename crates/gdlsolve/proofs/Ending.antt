@@ -40,6 +40,15 @@ refused_replied (Err Memory) command input left before after h e = absurd (omega
 refused_replied (Err Read) command input left before after h e = absurd (omega arith)
 refused_replied (Err Write) command input left before after h e = absurd (omega arith)
 
+pub answer_replied : (r : Result Status RunFault) (command : Command) (input left before after : Option (List ℕ))
+    → IfOk r (λ status. (written : List ℕ) × RepliesTo command input left (record { output = written; status = status }) × Appends before after written)
+    → exit_status r ≡ 0 → Replied Answer input left before after
+answer_replied (Ok Answer) command input left before after h e = (command, h.0, h.1, h.2)
+answer_replied (Ok Refused) command input left before after h e = absurd (omega arith)
+answer_replied (Err Memory) command input left before after h e = absurd (omega arith)
+answer_replied (Err Read) command input left before after h e = absurd (omega arith)
+answer_replied (Err Write) command input left before after h e = absurd (omega arith)
+
 pub help_is_no_refusal : (r : Result Status RunFault) → IfOk r (λ status. status ≡ Answer) → exit_status r ≡ 2 → ⊥
 help_is_no_refusal (Ok Answer) h e = omega arith
 help_is_no_refusal (Ok Refused) h e = cc

@@ -15,7 +15,7 @@ use Rattle.position.specs.NamedRules.{NamedRules}
 use Rattle.position.specs.SamePlay.{SamePlay}
 use Rattle.gdlsolve.proofs.OneCheck.{some_verdict, one_refusal, refused_or_lawful}
 use Rattle.gdlsolve.specs.Answers.{Reply, refusal}
-use Rattle.gdlsolve.specs.Playing.{PassesLimit, TellsGame, IsPlayReply}
+use Rattle.gdlsolve.specs.Games.{PassesLimit, TellsGame, IsPlayReply}
 
 -- items without a fault pass a limit, or have a game
 some_play_of : (items : List Tree) (told : NamedRules → Reply → Type 0) → ((g : NamedRules) → (reply : Reply) × told g reply)

@@ -7,4 +7,4 @@ pub mod Histories
 pub mod Moving
 pub mod Solving
 pub mod Play
-pub mod Playing
+pub mod Games

@@ -11,7 +11,7 @@ use Rattle.gdlsolve.specs.declared.command.Command.TheVariants.{Show, Check, Mov
 use Rattle.gdlsolve.specs.Answers.{Reply, answer, refusal}
 use Rattle.gdlsolve.specs.Checking.{IsCheckReply}
 use Rattle.gdlsolve.specs.Moving.{IsMovesReply}
-use Rattle.gdlsolve.specs.Playing.{IsPlayReply}
+use Rattle.gdlsolve.specs.Games.{IsPlayReply}
 use Rattle.gdlsolve.specs.Solving.{IsSolveReply}
 
 -- the canonical text of each tree, with a line end behind it

@@ -8,7 +8,7 @@ ghost use Rattle.gdlsolve.specs.Checking.{count_line, spaced, check_lines, IsChe
 ghost use Rattle.gdlsolve.specs.Replies.{IsReply, IsReplyTo, lines_of};
 
 use crate::command::Command;
-use crate::playing::{moved, solved};
+use crate::games::{reply_to_moves, reply_to_solve};
 use crate::reply::{Reply, answered, refused};
 use bumpalo::Bump;
 use kif::{Expr, KifFault, read, write};
@@ -86,8 +86,8 @@ fn answer_to<T: AllocGlobal, A: Allocator>(
     match command {
         Command::Show => Ok(answered(shown(rt.alloc(), trees)?)),
         Command::Check => checked(rt.alloc(), trees),
-        Command::Moves { after } => moved(rt, trees, after),
-        Command::Solve { role, depth, after } => solved(rt, trees, role, *depth, after),
+        Command::Moves { after } => reply_to_moves(rt, trees, after),
+        Command::Solve { role, depth, after } => reply_to_solve(rt, trees, role, *depth, after),
     }
 }
 

@@ -4,12 +4,13 @@
 mod answering;
 mod command;
 mod commands;
+mod games;
+mod grammar;
 mod history;
 mod input;
 mod laws;
 mod moving;
 mod play;
-mod playing;
 mod reply;
 mod roles;
 mod running;

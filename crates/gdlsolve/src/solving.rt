@@ -115,7 +115,7 @@ fn add_turns<G: Game>(
 }
 
 /// The value of a state for a role, the move that makes sure of it, and the line of play, as lines.
-fn solved<G: Game>(
+fn value_lines<G: Game>(
     alloc: Global,
     g: &G,
     role: usize,
@@ -151,7 +151,7 @@ fn reply_for<G: Game>(
         ≡ history_reply (named (G.rules g.now) (G.role_name g.now) (G.move_name g.now)) (solve_lines (named (G.rules g.now) (G.role_name g.now) (G.move_name g.now)) role depth) ended)) }
 {
     match position_after(alloc, g, after) {
-        Ok(here) => Ok(answered(solved(alloc, g, role, depth, here)?)),
+        Ok(here) => Ok(answered(value_lines(alloc, g, role, depth, here)?)),
         Err(HistoryFault::NoMemory) => Err(AllocError),
         Err(fault) => refused_history(alloc, g, fault),
     }

@@ -3,6 +3,7 @@ mod checks;
 mod counting;
 mod devices;
 mod games;
+mod helps;
 mod lines;
 mod moves;
 mod solving;
@@ -131,14 +132,6 @@ fn a_text_has_at_most_1048576_bytes(rt: HostRuntime) -> Result<(), Fail> {
         "what is behind the limit stays unread"
     );
     Ok(())
-}
-
-#[test]
-fn help_is_an_answer(rt: HostRuntime) {
-    let (status, output, errors) = told(&rt, &["--help"], b"(");
-    assert!(rt; status == 0 && !output.is_empty() && errors.is_empty());
-    let (status, output, errors) = told(&rt, &["show", "--help"], b"(");
-    assert!(rt; status == 0 && !output.is_empty() && errors.is_empty());
 }
 
 #[test]

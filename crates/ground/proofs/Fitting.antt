@@ -23,7 +23,8 @@ use Rattle.ground.specs.Meaning.{source_of, ordinary, atom1, atom2}
 use Rattle.ground.specs.InOrder.{AreInOrder}
 use Rattle.ground.specs.Kinds.{place_in, kind_of}
 use Rattle.ground.specs.Effects.{IsWithin}
-use Rattle.ground.specs.Limits.{limits, count_inputs}
+use Rattle.ground.specs.Limits.{count_inputs}
+use Rattle.ground.specs.Most.{limits}
 use Rattle.ground.specs.Listed.{IsWellFormed}
 use Rattle.ground.specs.Listing.{Instance, is_atom_in, with_atoms, Listing, heads, list_relation, list_relations, kept_of_relation, one_term, terms_of, context_atoms, moves_of, fixed_listing, listing, role_list, base_list, input_list}
 use Rattle.ground.specs.Gates.{gate}

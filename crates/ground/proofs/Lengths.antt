@@ -9,6 +9,7 @@ use Rattle.rules.specs.Clause.{tree_at}
 use Rattle.rules.specs.Safety.{is_name_in}
 use Rattle.ground.specs.Keys.{key_at, with_key, word_of, word_at, term_at, tree_of_key, trees_behind, trees, AreBelow, IsKey, AreKeys}
 use Rattle.ground.specs.Arena.{Held, cut, sizes_of, lengths_of, with_parts, key_length, AreNumbered, IsHeld}
+use Rattle.ground.specs.Most.{limits}
 use Rattle.ground.proofs.KeyNumbers.{not_in, last_or_before, with_known}
 use Rattle.ground.proofs.KeyTrees.{keys_kept, length_trees, tree_of_number}
 
@@ -24,10 +25,10 @@ next_below n i xs h b = (subst (λ (ys : List ℕ). AreBelow n ys) (drop-cons xs
 pub record Adding (lengths : List ℕ) (before : ℕ) (parts : List ℕ) (i total : ℕ) : Type 0 where
   pub same : with_parts lengths before parts ≡ with_parts lengths total (drop i parts)
   pub rest : AreBelow (length lengths) (drop i parts)
-  pub small : total ≤ 4097
+  pub small : total ≤ suc limits.text
 
 pub add_one : (lengths : List ℕ) (before : ℕ) (parts : List ℕ) (i total next : ℕ) → i < length parts → Adding lengths before parts i total
-    → next ≡ cut (total + 1 + get_or lengths (get_or parts i 0) 0) → next ≤ 4097 → Adding lengths before parts (suc i) next
+    → next ≡ cut (total + 1 + get_or lengths (get_or parts i 0) 0) → next ≤ suc limits.text → Adding lengths before parts (suc i) next
 add_one lengths before parts i total next h a e s = record {
   same =
       a.same ∙ ap (λ (ps : List ℕ). with_parts lengths total ps) (drop-cons parts i 0 h)
@@ -99,7 +100,7 @@ pub key_below : (many n : ℕ) (key : List ℕ) → many ≤ n → IsKey many n 
 key_below many n [] h k = absurd k
 key_below many n (w ∷ ps) h k = (let less = k.0 in omega (arith, h, less), k.1)
 
-short_more : (lengths : List ℕ) (n : ℕ) → ((i : ℕ) → get_or lengths i 0 ≤ 4097) → n ≤ 4097 → (i : ℕ) → get_or (lengths ++ n ∷ []) i 0 ≤ 4097
+short_more : (lengths : List ℕ) (n : ℕ) → ((i : ℕ) → get_or lengths i 0 ≤ suc limits.text) → n ≤ suc limits.text → (i : ℕ) → get_or (lengths ++ n ∷ []) i 0 ≤ suc limits.text
 short_more [] n s h zero = h
 short_more [] n s h (suc i) = omega arith
 short_more (l ∷ ls) n s h zero = s 0
@@ -135,7 +136,7 @@ trees_same : (words : List (List ℕ)) (many : ℕ) (keys : List (List ℕ)) (k 
 trees_same words many keys k = ap length (trees_with words keys k) ∙ length-append (trees words keys) (tree_of_key words (trees words keys) k ∷ []) ∙ omega arith
 
 held_new : (many : ℕ) (lengths : List ℕ) (keys : List (List ℕ)) (key : List ℕ) (n : ℕ) → IsHeld many lengths keys → IsKey many (length keys) key
-    → n ≡ key_length lengths key → n ≤ 4097 → AreNumbered many (keys ++ key ∷ []) → IsHeld many (lengths ++ n ∷ []) (keys ++ key ∷ [])
+    → n ≡ key_length lengths key → n ≤ suc limits.text → AreNumbered many (keys ++ key ∷ []) → IsHeld many (lengths ++ n ∷ []) (keys ++ key ∷ [])
 held_new many lengths keys key n h k e s a = record {
   numbered = a;
   beside = length-append lengths (n ∷ []) ∙ ap (λ (m : ℕ). m + 1) h.beside ∙ sym (length-append keys (key ∷ []));
@@ -156,7 +157,7 @@ held_new many lengths keys key n h k e s a = record {
 
 -- what stands in memory once a new key is numbered
 pub held_more : (many : ℕ) (lengths : List ℕ) (keys : List (List ℕ)) (key : List ℕ) (n : ℕ) (more : List ℕ) (new : List (List ℕ)) → IsHeld many lengths keys → IsKey many (length keys) key
-    → ((k : ℕ) → k < length keys → key_at keys k ≡ key → ⊥) → n ≡ key_length lengths key → n ≤ 4097 → more ≡ lengths ++ n ∷ [] → new ≡ with_key keys key → IsHeld many more new
+    → ((k : ℕ) → k < length keys → key_at keys k ≡ key → ⊥) → n ≡ key_length lengths key → n ≤ suc limits.text → more ≡ lengths ++ n ∷ [] → new ≡ with_key keys key → IsHeld many more new
 held_more many lengths keys key n more new h k none e s f g =
     let here : new ≡ keys ++ key ∷ [] = g ∙ ap (λ (b : Bool). cond b keys (keys ++ key ∷ [])) (not_in keys key none) in
     let a : AreNumbered many (keys ++ key ∷ []) = subst (λ (ks : List (List ℕ)). AreNumbered many ks) (sym g ∙ here) (numbered_more many keys key h.numbered k) in
@@ -216,14 +217,14 @@ take_whole zero (x ∷ xs) h = absurd (let bad : ⊥ = omega (arith, h) in bad)
 take_whole (suc n) [] h = refl
 take_whole (suc n) (x ∷ xs) h = ap (λ (ys : List ℕ). x ∷ ys) (take_whole n xs (omega (arith, h)))
 
-sizes_short : (words : List (List ℕ)) (i : ℕ) → get_or (sizes_of words) i 0 ≤ 4097
+sizes_short : (words : List (List ℕ)) (i : ℕ) → get_or (sizes_of words) i 0 ≤ suc limits.text
 sizes_short words i = let e = size_at words i in omega (arith, e)
 
 begun_all : (words : List (List ℕ)) (n : ℕ) (lengths : List ℕ) (keys : List (List ℕ)) → n ≡ length words → Begun words n lengths keys → IsHeld n lengths keys
 begun_all words n lengths keys e b = record {
   numbered = symbol_keys n keys b.count b.symbols;
   beside = long ∙ sym b.count;
-  short = λ i. subst (λ (ls : List ℕ). get_or ls i 0 ≤ 4097) (sym whole) (sizes_short words i);
+  short = λ i. subst (λ (ls : List ℕ). get_or ls i 0 ≤ suc limits.text) (sym whole) (sizes_short words i);
   texts = texts;
 }
   where

@@ -9,6 +9,7 @@ use Rattle.ground.specs.Arena.{Held, AreNumbered, cut, sizes_of}
 use Rattle.ground.specs.AtomTexts.{term_text, rest_text, IsByteAt, IsPlace}
 use Rattle.ground.specs.Grounds.{texts_of}
 use Rattle.ground.specs.Keys.{AreBelow, IsKey, key_at, parts_of, term_at, tree_of_key, trees, word_at}
+use Rattle.ground.specs.Most.{limits}
 use Rattle.ground.specs.declared.text_bytes.Place.{Place}
 use Rattle.ground.specs.declared.text_bytes.Place.TheVariants.{Byte, In}
 use Rattle.ground.proofs.KeyTrees.{below_more, tree_of_number}
@@ -31,7 +32,7 @@ byte_before front ys j h = sym (get_or_append_left front ys 0 j h)
 
 -- going through the parts: what is sought in all of them stands at an offset of the rest
 pub record Seeking (held : Held) (all : List ℕ) (offset i left : ℕ) : Type 0 where
-  pub small : left ≤ 4096
+  pub small : left ≤ limits.text
   pub near : left ≤ offset
   pub below : AreBelow (length held.keys) (drop i all)
   pub numbers : (n : ℕ) → AreBelow n all → AreBelow n (drop i all)
@@ -44,7 +45,7 @@ rest_begins : (words : List (List ℕ)) (held : Held) (all : List ℕ) (i : ℕ)
 rest_begins words held all i h = ap (λ (ps : List ℕ). rest_text words held ps) (drop-cons all i 0 h)
 
 module _ (held : Held) (all : List ℕ) (offset : ℕ) where
-  pub seek_begins : AreBelow (length held.keys) all → offset ≤ 4096 → Seeking held all offset 0 offset
+  pub seek_begins : AreBelow (length held.keys) all → offset ≤ limits.text → Seeking held all offset 0 offset
   seek_begins b s = record {
     small = s;
     near = omega arith;

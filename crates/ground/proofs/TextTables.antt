@@ -8,6 +8,7 @@ use Rattle.ground.specs.Arena.{Held, cut}
 use Rattle.ground.specs.AtomTexts.{term_text, atom_texts, IsAtomTable}
 use Rattle.ground.specs.Grounds.{text_at, texts_of}
 use Rattle.ground.specs.Keys.{word_at, AreBelow}
+use Rattle.ground.specs.Most.{limits}
 use Rattle.ground.proofs.Lengths.{here_below}
 
 -- Texts of different lengths are different.
@@ -67,10 +68,10 @@ all_same xs ys i s h l =
     none zs k f = drop_of_length-le zs f
 
 -- the length of a text that is no longer than a text may be
-pub exact_length : (size : ℕ) (xs : List ℕ) → length xs ≤ 4096 → size ≡ cut (length xs) → size ≡ length xs
+pub exact_length : (size : ℕ) (xs : List ℕ) → length xs ≤ limits.text → size ≡ cut (length xs) → size ≡ length xs
 exact_length size xs h e = omega (arith, h, e)
 
-pub same_length : (size : ℕ) (xs ys : List ℕ) → length ys ≤ 4096 → size ≡ cut (length ys) → size ≡ length xs → length xs ≡ length ys
+pub same_length : (size : ℕ) (xs ys : List ℕ) → length ys ≤ limits.text → size ≡ cut (length ys) → size ≡ length xs → length xs ≡ length ys
 same_length size xs ys h e f = sym f ∙ exact_length size ys h e
 
 -- The names of the symbols.
@@ -110,5 +111,5 @@ module _ (words : List (List ℕ)) (held : Held) (atoms : List ℕ) (n : ℕ) (v
       pub term_here : slice_index slice n < length held.keys
       term_here = subst (λ (ns : List ℕ). slice_index ns n < length held.keys) (sym slice_is) (below_at (length held.keys) atoms n number_inside t.below)
 
-      pub short_here : length (term_text words held (slice_index slice n)) ≤ 4096
-      short_here = subst (λ (ns : List ℕ). length (term_text words held (slice_index ns n)) ≤ 4096) (sym slice_is) (t.short n number_inside)
+      pub short_here : length (term_text words held (slice_index slice n)) ≤ limits.text
+      short_here = subst (λ (ns : List ℕ). length (term_text words held (slice_index ns n)) ≤ limits.text) (sym slice_is) (t.short n number_inside)

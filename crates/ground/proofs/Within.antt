@@ -10,7 +10,8 @@ use Rattle.rules.proofs.Tests.{IsAmong-append, IsAmong-append_left, IsAmong-appe
 use Rattle.ground.specs.declared.excess.Excess.{Excess}
 use Rattle.ground.specs.declared.excess.Excess.TheVariants.{Base, Inputs, Instances, Text}
 use Rattle.ground.specs.Listing.{Instance, kept_of_relation, with_atoms, Listing, heads, list_relation, list_relations, context_atoms, fixed_listing, role_list, base_list}
-use Rattle.ground.specs.Limits.{Limits, or_else, where_true, has_long_text, first_excess, count_inputs, excess_by}
+use Rattle.ground.specs.Limits.{or_else, where_true, has_long_text, first_excess, count_inputs, excess_by}
+use Rattle.ground.specs.Most.{Limits}
 use Rattle.ground.specs.Effects.{IsWithin}
 use Rattle.ground.proofs.Exact.{added}
 

@@ -1,7 +1,8 @@
 -- Ground terms with the lengths of their texts.
-use Rattle.std.specs.Prelude.{ℕ, ◌+◌, ◌<◌, ◌≤◌, ◌≡◌, min, List, [], ◌∷◌, length, map, take, slice_index}
+use Rattle.std.specs.Prelude.{ℕ, suc, ◌+◌, ◌<◌, ◌≤◌, ◌≡◌, min, List, [], ◌∷◌, length, map, take, slice_index}
 use Rattle.kif.specs.Tree.{Tree, text}
 use Rattle.ground.specs.Keys.{key_at, trees, AreKeys}
+use Rattle.ground.specs.Most.{limits}
 
 -- the lengths of the names of the symbols, and the keys
 pub record Held : Type 0 where
@@ -10,7 +11,7 @@ pub record Held : Type 0 where
 
 -- a length, cut behind the longest text that is allowed
 abbrev pub cut : ℕ → ℕ
-cut n = min n 4097
+cut n = min n (suc limits.text)
 
 abbrev pub sizes_of : List (List ℕ) → List ℕ
 sizes_of words = map (λ w. cut (length w)) words
@@ -40,5 +41,5 @@ key_length lengths (w ∷ (p ∷ ps)) = with_parts lengths (cut (slice_index len
 pub record IsHeld (many : ℕ) (lengths : List ℕ) (keys : List (List ℕ)) : Type 0 where
   pub numbered : AreNumbered many keys
   pub beside : length lengths ≡ length keys
-  pub short : (i : ℕ) → slice_index lengths i ≤ 4097
+  pub short : (i : ℕ) → slice_index lengths i ≤ suc limits.text
   pub texts : (words : List (List ℕ)) → sizes_of words ≡ take many lengths → lengths ≡ lengths_of (trees words keys)

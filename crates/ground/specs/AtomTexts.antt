@@ -7,6 +7,7 @@ use Rattle.ground.specs.declared.text_bytes.Place.TheVariants.{Byte, In}
 use Rattle.ground.specs.Arena.{Held, sizes_of}
 use Rattle.ground.specs.Keys.{AreBelow, term_at, trees}
 use Rattle.ground.specs.Listing.{listing}
+use Rattle.ground.specs.Most.{limits}
 
 -- the text of a term
 abbrev pub term_text : List (List ℕ) → Held → ℕ → List ℕ
@@ -33,7 +34,7 @@ atom_texts words held atoms = map (term_text words held) atoms
 pub record IsAtomTable (words : List (List ℕ)) (held : Held) (atoms : List ℕ) : Type 0 where
   pub sizes : sizes_of words ≡ held.sizes
   pub below : AreBelow (length held.keys) atoms
-  pub short : (i : ℕ) → i < length atoms → length (term_text words held (slice_index atoms i)) ≤ 4096
+  pub short : (i : ℕ) → i < length atoms → length (term_text words held (slice_index atoms i)) ≤ limits.text
 
 -- the texts of the possible atoms of rules, in the order of their numbers
 abbrev pub listed_texts : List Alternative → List (List ℕ)

@@ -6,7 +6,8 @@ use Rattle.rules.specs.Clause.{Atom, Alternative, tree_of}
 use Rattle.rules.specs.Dependence.{IsAmong}
 use Rattle.ground.specs.Meaning.{atom1, atom2, IsBase, IsInput}
 use Rattle.ground.specs.Listing.{Instance, listing, role_list, base_list}
-use Rattle.ground.specs.Limits.{Limits, count_inputs}
+use Rattle.ground.specs.Limits.{count_inputs}
+use Rattle.ground.specs.Most.{Limits}
 
 -- `init` or `next` outside `Base`, or `legal` of what is no input of a role
 abbrev pub HasNoEffect : List Alternative → Atom → Type 0

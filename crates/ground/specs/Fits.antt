@@ -6,7 +6,7 @@ use Rattle.std.specs.declared.cmp.Ordering.TheVariants.{Less}
 use Rattle.ground.specs.declared.kind.Kind.{Kind}
 use Rattle.ground.specs.declared.kind.Kind.TheVariants.{Fixed, Now, Does, Next, Legal, Goal, Terminal, Other}
 use Rattle.ground.specs.Grounds.{Kept, texts_at}
-use Rattle.ground.specs.Limits.{limits}
+use Rattle.ground.specs.Most.{limits}
 
 -- each text stands before all later ones in the order of bytes
 abbrev pub Rise : List (List ℕ) → Type 0

@@ -1,17 +1,19 @@
 // Ground terms by number, with the lengths of their texts.
-ghost use Rattle.std.specs.Prelude.{ℕ, List, Some, ◌-◌, ◌≡◌, ◌<◌, ◌≤◌, [], ◌∷◌, length, slice_index, IfSome, IfOk, OnOk, OnErr, MatchOption, ◌≢◌};
+ghost use Rattle.std.specs.Prelude.{ℕ, List, Some, ◌+◌, ◌-◌, ◌≡◌, ◌<◌, ◌≤◌, [], ◌∷◌, length, slice_index, IfSome, IfOk, OnOk, OnErr, MatchOption, ◌≢◌};
 ghost use Rattle.kif.specs.Tree.{text};
 ghost use Rattle.rules.specs.RuleSetView.{lists_of_set};
 ghost use Rattle.ground.specs.Keys.{key_at, term_at, trees, with_key, IsKey, AreBelow, parts_of, word_of};
 ghost use Rattle.ground.specs.Arena.{cut, sizes_of, with_parts, key_length, AreNumbered};
+ghost use Rattle.ground.specs.Most.{limits};
 
+use crate::excess::TEXT_LIMIT;
 use crate::terms::Terms;
 use rules::RuleSet;
 use std::alloc::{AllocError, Global};
 use std::marker::Model;
 
 /// Lengths are told apart up to this one, which is more than a text may have.
-const CUT: usize = 4_097;
+const CUT: usize = TEXT_LIMIT + 1;
 
 /// Ground terms and atoms, each with a number and the length of its text. The first of them are the
 /// names of the symbols, so a constant has the number of its symbol.
@@ -96,7 +98,7 @@ impl Arena {
         self.terms.number(key)
     }
 
-    /// The length of the text of a term, where names are those of the symbols; 4,097 if it is longer.
+    /// The length of the text of a term, where names are those of the symbols; one more than the limit if it is longer.
     pub fn length_of(&self, number: usize) -> usize
         requires { number < length self.now.keys }
         ensures { (words : List (List ℕ)) → sizes_of words ≡ self.now.sizes
@@ -184,11 +186,11 @@ fn cut(length: usize) -> usize
 
 /// The length of the text of a key whose parts have these lengths.
 fn key_length(lengths: &[usize], key: &[usize]) -> usize
-    requires short { (i : ℕ) → slice_index lengths.now i ≤ 4097 }
+    requires short { (i : ℕ) → slice_index lengths.now i ≤ limits.text + 1 }
     requires some { 0 < length key.now }
     requires within { AreBelow (length lengths.now) key.now }
     ensures exact { result ≡ key_length lengths.now key.now }
-    ensures cut { result ≤ 4097 }
+    ensures cut { result ≤ limits.text + 1 }
 {
     let word = lengths[key[0]];
     if key.len() == 1 {
@@ -199,11 +201,11 @@ fn key_length(lengths: &[usize], key: &[usize]) -> usize
 
 /// The length of a text of so many bytes once parts stand behind it.
 fn with_parts(lengths: &[usize], before: usize, parts: &[usize]) -> usize
-    requires short { (i : ℕ) → slice_index lengths.now i ≤ 4097 }
-    requires before { before ≤ 4097 }
+    requires short { (i : ℕ) → slice_index lengths.now i ≤ limits.text + 1 }
+    requires before { before ≤ limits.text + 1 }
     requires within { AreBelow (length lengths.now) parts.now }
     ensures exact { result ≡ with_parts lengths.now before parts.now }
-    ensures cut { result ≤ 4097 }
+    ensures cut { result ≤ limits.text + 1 }
 {
     let mut total = before;
     for part in parts {

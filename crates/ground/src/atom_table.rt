@@ -4,6 +4,7 @@ ghost use Rattle.kif.specs.Tree.{name_eq};
 ghost use Rattle.ground.specs.Arena.{sizes_of};
 ghost use Rattle.ground.specs.AtomTexts.{atom_texts, term_text, IsAtomTable};
 ghost use Rattle.ground.specs.Grounds.{text_at, texts_of};
+ghost use Rattle.ground.specs.Most.{limits};
 ghost use Rattle.ground.specs.SetWords.{words_of};
 
 use crate::arena::Arena;
@@ -78,7 +79,7 @@ fn names_of(alloc: Global, rules: &RuleSet) -> Result<Vec<Vec<u8>>, AllocError>
 fn is_term_text(arena: &Arena, names: &[Vec<u8>], term: usize, text: &[u8]) -> bool
     requires sizes { sizes_of (texts_of names.now) ≡ arena.now.sizes }
     requires term { term < length arena.now.keys }
-    requires short { length (term_text (texts_of names.now) arena.now term) ≤ 4096 }
+    requires short { length (term_text (texts_of names.now) arena.now term) ≤ limits.text }
     ensures { result ≡ name_eq text.now (term_text (texts_of names.now) arena.now term) }
 {
     if arena.length_of(term) != text.len() {

@@ -1,16 +1,28 @@
 // What a description may have too much of.
 use std::fmt;
 
+/// The most instances that are kept.
+pub const INSTANCES_LIMIT: usize = 262_144;
+
+/// The most bytes that the head of a kept instance has as canonical text.
+pub const TEXT_LIMIT: usize = 4_096;
+
+/// The most base propositions.
+pub const BASE_LIMIT: usize = 65_536;
+
+/// The most inputs of all roles together.
+pub const INPUTS_LIMIT: usize = 4_096;
+
 /// Of what a description has more than a limit allows, once its rules are instantiated.
 #[derive(Clone, Copy, Debug, PartialEq, Eq)]
 pub enum Excess {
-    /// There are more than 4,096 base propositions.
+    /// There are more base propositions than the limit.
     Base,
-    /// The roles together have more than 4,096 inputs.
+    /// The roles together have more inputs than the limit.
     Inputs,
-    /// There are more than 262,144 kept instances.
+    /// There are more kept instances than the limit.
     Instances,
-    /// The head of a kept instance is longer than 4,096 bytes as canonical text.
+    /// The canonical text of the head of a kept instance is longer than the limit.
     Text,
 }
 

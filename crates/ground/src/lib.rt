@@ -64,7 +64,7 @@ pub use columns::{add_columns, place_of};
 pub use columns_laws::{columns_stand_for_a_pattern, places_are_different};
 pub use context_step_laws::the_context_step_is_the_definition;
 pub use dropping::count_dropped;
-pub use excess::Excess;
+pub use excess::{BASE_LIMIT, Excess, INPUTS_LIMIT, INSTANCES_LIMIT, TEXT_LIMIT};
 pub use fault::GroundFault;
 pub use finishing::instances_of;
 pub use finishing_laws::the_last_pass_is_the_definition;

@@ -15,7 +15,8 @@ ghost use Rattle.ground.specs.Gates.{gate, IsGateRight, IsBodyRight};
 ghost use Rattle.ground.specs.Kinds.{kind_of, MeansKind};
 ghost use Rattle.ground.specs.Play.{AreInPrintedOrder, AreStart, AreAfter, AreLegal, IsGoal, starts, start_list, is_dropped};
 ghost use Rattle.ground.specs.Effects.{HasNoEffect, IsWithin};
-ghost use Rattle.ground.specs.Limits.{Limits, excess_by};
+ghost use Rattle.ground.specs.Limits.{excess_by};
+ghost use Rattle.ground.specs.Most.{Limits};
 
 /// A list in printed order is determined by its members. So there is one list for the start, one for
 /// the state after a turn, and one of the legal moves of each role; and each role has one goal value.

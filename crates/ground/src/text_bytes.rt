@@ -4,6 +4,7 @@ ghost use Rattle.ground.specs.Arena.{sizes_of};
 ghost use Rattle.ground.specs.AtomTexts.{term_text, rest_text, IsPlace};
 ghost use Rattle.ground.specs.Grounds.{texts_of};
 ghost use Rattle.ground.specs.Keys.{AreBelow};
+ghost use Rattle.ground.specs.Most.{limits};
 
 use crate::arena::Arena;
 
@@ -19,7 +20,7 @@ pub enum Place {
 /// What stands at an offset behind the word of a list with these parts.
 fn place_in_parts(arena: &Arena, parts: &[usize], offset: usize) -> Place
     requires parts { AreBelow (length arena.now.keys) parts.now }
-    requires small { offset ≤ 4096 }
+    requires small { offset ≤ limits.text }
     ensures { (words : List (List ℕ)) → sizes_of words ≡ arena.now.sizes → (n : ℕ) → AreBelow n parts.now → offset < length (rest_text words arena.now parts.now)
         → IsPlace words arena.now n (rest_text words arena.now parts.now) offset result }
 {
@@ -41,7 +42,7 @@ fn place_in_parts(arena: &Arena, parts: &[usize], offset: usize) -> Place
 fn place_in_term(arena: &Arena, names: &[Vec<u8>], term: usize, offset: usize) -> Place
     requires sizes { sizes_of (texts_of names.now) ≡ arena.now.sizes }
     requires term { term < length arena.now.keys }
-    requires small { offset ≤ 4096 }
+    requires small { offset ≤ limits.text }
     requires offset { offset < length (term_text (texts_of names.now) arena.now term) }
     ensures { IsPlace (texts_of names.now) arena.now term (term_text (texts_of names.now) arena.now term) offset result }
 {
@@ -63,7 +64,7 @@ fn place_in_term(arena: &Arena, names: &[Vec<u8>], term: usize, offset: usize) -
 pub fn byte_at(arena: &Arena, names: &[Vec<u8>], term: usize, offset: usize) -> u8
     requires sizes { sizes_of (texts_of names.now) ≡ arena.now.sizes }
     requires term { term < length arena.now.keys }
-    requires small { offset ≤ 4096 }
+    requires small { offset ≤ limits.text }
     requires offset { offset < length (term_text (texts_of names.now) arena.now term) }
     ensures { result ≡ slice_index (term_text (texts_of names.now) arena.now term) offset }
 {

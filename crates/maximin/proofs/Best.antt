@@ -4,6 +4,7 @@ use Rattle.std.proofs.lemmas.Bool.{cases_lt}
 use Rattle.std.proofs.lemmas.Bool.Decides.{nat_tests}
 use Rattle.std.specs.Prelude.{ℤ, pos, negsuc, ◌<ℤ◌, ◌≤ℤ◌, ◌==◌, ◌||◌, ◌⊎◌, if◌then◌else◌, find, Option, None, slice_get}
 use Rattle.position.specs.Rules.{Rules, State, is_stuck}
+use Rattle.position.specs.declared.at_bound.AtBound.{AtBound}
 use Rattle.position.specs.Value.{Answers, value, worst, choice_of}
 use Rattle.maximin.proofs.Values.{IsOpen, value_reached, worst_le_value}
 
@@ -74,16 +75,16 @@ find_first p (x ∷ xs) (suc i) inside here before =
     let not_first : p x ≡ false = before 0 (omega arith) in
     rw not_first (find_first p xs i (omega arith) here (λ k lt. before (suc k) (omega arith)))
 
-abbrev pub worst_at_place : Rules → ℕ → ℕ → State → ℕ → ℕ
-worst_at_place g role depth s k = worst g role (depth - 1) s (get_or (g.legal s role) k 0)
+abbrev pub worst_at_place : Rules → ℕ → ℕ → AtBound → State → ℕ → ℕ
+worst_at_place g role depth at s k = worst g role (depth - 1) at s (get_or (g.legal s role) k 0)
 
-best_is_value : (g : Rules) (role depth : ℕ) (s : State) (place : ℕ) (best : ℤ) (chosen : ℕ) → IsOpen g depth s → role < g.roles → place ≡ length (g.legal s role)
-    → IsBest (worst_at_place g role depth s) place best chosen → (chosen < length (g.legal s role)) × (worst_at_place g role depth s chosen ≡ value g role depth s)
-best_is_value g role depth s place best chosen h known all is =
-    let top = value_reached g role depth s h known in
+best_is_value : (g : Rules) (role depth : ℕ) (at : AtBound) (s : State) (place : ℕ) (best : ℤ) (chosen : ℕ) → IsOpen g depth s → role < g.roles → place ≡ length (g.legal s role)
+    → IsBest (worst_at_place g role depth at s) place best chosen → (chosen < length (g.legal s role)) × (worst_at_place g role depth at s chosen ≡ value g role depth at s)
+best_is_value g role depth at s place best chosen h known all is =
+    let top = value_reached g role depth at s h known in
     let some : 0 < place = omega (arith, top.1) in
     let inside : chosen < length (g.legal s role) = omega (arith, is.before some) in
-    let part = worst_le_value g role depth s chosen h inside in
+    let part = worst_le_value g role depth at s chosen h inside in
     let seen = is.seen top.0 (omega (arith, top.1)) in
     let reached = is.reached some in
     let same = top.2 in
@@ -97,20 +98,20 @@ either_true true c x y h = refl
 either_true false true x y h = refl
 either_true false false x y h = elim h [ inl e ↦ cc | inr e ↦ cc ]
 
-pub choice_none : (g : Rules) (role depth : ℕ) (s : State) → (g.ended s ≡ true) ⊎ (is_stuck g s ≡ true) → choice_of g role depth s ≡ None
-choice_none g role zero s h = refl
-choice_none g role (suc depth) s h = either_true (g.ended s) (is_stuck g s) None _ h
+pub choice_none : (g : Rules) (role depth : ℕ) (at : AtBound) (s : State) → (g.ended s ≡ true) ⊎ (is_stuck g s ≡ true) → choice_of g role depth at s ≡ None
+choice_none g role zero at s h = refl
+choice_none g role (suc depth) at s h = either_true (g.ended s) (is_stuck g s) None _ h
 
-pub choice_found : (g : Rules) (role depth : ℕ) (s : State) (place : ℕ) (best : ℤ) (chosen : ℕ) → IsOpen g depth s → role < g.roles → place ≡ length (g.legal s role)
-    → IsBest (worst_at_place g role depth s) place best chosen → choice_of g role depth s ≡ slice_get (g.legal s role) chosen
-choice_found g role zero s place best chosen h known all is = absurd (h.turn refl)
-choice_found g role (suc depth) s place best chosen h known all is =
-    let at = best_is_value g role (suc depth) s place best chosen h known all is in
+pub choice_found : (g : Rules) (role depth : ℕ) (at : AtBound) (s : State) (place : ℕ) (best : ℤ) (chosen : ℕ) → IsOpen g depth s → role < g.roles → place ≡ length (g.legal s role)
+    → IsBest (worst_at_place g role depth at s) place best chosen → choice_of g role depth at s ≡ slice_get (g.legal s role) chosen
+choice_found g role zero at s place best chosen h known all is = absurd (h.turn refl)
+choice_found g role (suc depth) at s place best chosen h known all is =
+    let best_one = best_is_value g role (suc depth) at s place best chosen h known all is in
     let same : suc depth - 1 ≡ depth = omega arith in
-    let here : worst g role depth s (get_or (g.legal s role) chosen 0) ≡ value g role (suc depth) s = rw same at at.1 in
-    let before : (k : ℕ) → k < chosen → worst g role depth s (get_or (g.legal s role) k 0) < value g role (suc depth) s =
-    λ k lt. let less = rw same at (is.first k lt) in let reached = rw same at (is.reached (omega (arith, at.0))) in omega (arith, ints) in
-    either_false (g.ended s) (is_stuck g s) None _ h.going h.free ∙ (find_first (λ m. worst g role depth s m == value g role (suc depth) s) (g.legal s role) chosen at.0
+    let here : worst g role depth at s (get_or (g.legal s role) chosen 0) ≡ value g role (suc depth) at s = rw same at best_one.1 in
+    let before : (k : ℕ) → k < chosen → worst g role depth at s (get_or (g.legal s role) k 0) < value g role (suc depth) at s =
+    λ k lt. let less = rw same at (is.first k lt) in let reached = rw same at (is.reached (omega (arith, best_one.0))) in omega (arith, ints) in
+    either_false (g.ended s) (is_stuck g s) None _ h.going h.free ∙ (find_first (λ m. worst g role depth at s m == value g role (suc depth) at s) (g.legal s role) chosen best_one.0
     (test_true _ _ here) (λ k lt. test_false _ _ (before k lt)))
   where
     test_true : (x y : ℕ) → x ≡ y → (x == y) ≡ true

@@ -4,6 +4,7 @@ use Rattle.std.proofs.lemmas.Grind.{common_steps}
 use Rattle.std.proofs.lemmas.List.{get_or-map}
 use Rattle.std.proofs.lemmas.Bool.{cases_eq}
 use Rattle.position.specs.Rules.{Rules, State, Turn, is_stuck, choices, IsTurn}
+use Rattle.position.specs.declared.at_bound.AtBound.{AtBound}
 use Rattle.position.specs.Value.{value, worst, greatest}
 use Rattle.maximin.specs.Turns.{StandsAt}
 use Rattle.maximin.proofs.Windows.{le_greatest, greatest_reached}
@@ -16,36 +17,40 @@ pub record IsOpen (g : Rules) (depth : ℕ) (s : State) : Type 0 where
   pub free : is_stuck g s ≡ false
 
 -- the worst of each own move
-abbrev pub worsts : Rules → ℕ → ℕ → State → List ℕ
-worsts g role depth s = map (λ m. worst g role (depth - 1) s m) (g.legal s role)
+abbrev pub worsts : Rules → ℕ → ℕ → AtBound → State → List ℕ
+worsts g role depth at s = map (λ m. worst g role (depth - 1) at s m) (g.legal s role)
 
-pub value_open : (g : Rules) (role depth : ℕ) (s : State) → IsOpen g depth s → value g role depth s ≡ greatest (worsts g role depth s)
-value_open g role zero s h = absurd (h.turn refl)
-value_open g role (suc depth) s h =
+pub value_open : (g : Rules) (role depth : ℕ) (at : AtBound) (s : State) → IsOpen g depth s → value g role depth at s ≡ greatest (worsts g role depth at s)
+value_open g role zero at s h = absurd (h.turn refl)
+value_open g role (suc depth) at s h =
     let same : suc depth - 1 ≡ depth = omega arith in
     rw (same, h.going, h.free) refl
 
-pub value_ended : (g : Rules) (role depth : ℕ) (s : State) → g.ended s ≡ true → value g role depth s ≡ g.goal s role
-value_ended g role zero s h = rw h refl
-value_ended g role (suc depth) s h = rw h refl
+pub value_ended : (g : Rules) (role depth : ℕ) (at : AtBound) (s : State) → g.ended s ≡ true → value g role depth at s ≡ g.goal s role
+value_ended g role zero at s h = rw h refl
+value_ended g role (suc depth) at s h = rw h refl
+
+pub value_stuck : (g : Rules) (role depth : ℕ) (at : AtBound) (s : State) → g.ended s ≡ false → is_stuck g s ≡ true → value g role depth at s ≡ 0
+value_stuck g role zero at s going stuck = rw (going, stuck) refl
+value_stuck g role (suc depth) at s going stuck = rw (going, stuck) refl
 
 length-map-all : (f : ℕ → ℕ) (xs : List ℕ) → length (map f xs) ≡ length xs
 length-map-all f xs = grind (arith, common_steps)
 
-pub worst_le_value : (g : Rules) (role depth : ℕ) (s : State) (k : ℕ) → IsOpen g depth s → k < length (g.legal s role)
-    → worst g role (depth - 1) s (get_or (g.legal s role) k 0) ≤ value g role depth s
-worst_le_value g role depth s k h inside =
-    let below = le_greatest (worsts g role depth s) k (omega (arith, length-map-all (λ m. worst g role (depth - 1) s m) (g.legal s role))) in
-    rw (value_open g role depth s h) (rw (get_or-map (λ m. worst g role (depth - 1) s m) (g.legal s role) k 0 0 inside) at below)
+pub worst_le_value : (g : Rules) (role depth : ℕ) (at : AtBound) (s : State) (k : ℕ) → IsOpen g depth s → k < length (g.legal s role)
+    → worst g role (depth - 1) at s (get_or (g.legal s role) k 0) ≤ value g role depth at s
+worst_le_value g role depth at s k h inside =
+    let below = le_greatest (worsts g role depth at s) k (omega (arith, length-map-all (λ m. worst g role (depth - 1) at s m) (g.legal s role))) in
+    rw (value_open g role depth at s h) (rw (get_or-map (λ m. worst g role (depth - 1) at s m) (g.legal s role) k 0 0 inside) at below)
 
-pub value_reached : (g : Rules) (role depth : ℕ) (s : State) → IsOpen g depth s → role < g.roles
-    → (k : ℕ) × (k < length (g.legal s role)) × (worst g role (depth - 1) s (get_or (g.legal s role) k 0) ≡ value g role depth s)
-value_reached g role depth s h known =
-    let count = length-map-all (λ m. worst g role (depth - 1) s m) (g.legal s role) in
+pub value_reached : (g : Rules) (role depth : ℕ) (at : AtBound) (s : State) → IsOpen g depth s → role < g.roles
+    → (k : ℕ) × (k < length (g.legal s role)) × (worst g role (depth - 1) at s (get_or (g.legal s role) k 0) ≡ value g role depth at s)
+value_reached g role depth at s h known =
+    let count = length-map-all (λ m. worst g role (depth - 1) at s m) (g.legal s role) in
     let some : 0 < length (g.legal s role) = legal_some g s role h.free known in
-    let at = greatest_reached (worsts g role depth s) (omega arith) in
-    let inside : at.0 < length (g.legal s role) = omega (arith, at.1) in
-    (at.0, inside, rw (value_open g role depth s h) (rw (get_or-map (λ m. worst g role (depth - 1) s m) (g.legal s role) at.0 0 0 inside) at at.2))
+    let top = greatest_reached (worsts g role depth at s) (omega arith) in
+    let inside : top.0 < length (g.legal s role) = omega (arith, top.1) in
+    (top.0, inside, rw (value_open g role depth at s h) (rw (get_or-map (λ m. worst g role (depth - 1) at s m) (g.legal s role) top.0 0 0 inside) at top.2))
 
 -- a cursor's joint move is a move of each role
 pub turn_known : (g : Rules) (s : State) (role own : ℕ) (places : List ℕ) (joint : Turn) → StandsAt (choices g s role own) places joint

@@ -6,55 +6,62 @@ ghost use Rattle.maximin.specs.Room.{IsRoomOf, room_depth, room_capacities};
 
 use crate::level::{Level, new_level};
 use crate::search::{choice_at, reply_at, value_at};
-use position::Game;
+use position::{AtBound, Game};
 use propnet::Joint;
 use std::alloc::{AllocError, Global};
 
-/// All the memory of a search: a position and a joint move for each turn that it looks ahead.
+/// All the memory of a search: room to step many joint moves at once, and for each turn that it looks ahead a run of joint moves, the
+/// states after them, and one state.
 #[derive(Drop)]
 pub struct Room<G: Game> {
-    levels: Vec<Level<G::Pos>>,
+    wide: G::Wide,
+    levels: Vec<Level<G::Pos, G::Many>>,
 }
 
 impl<G: Game> Room<G> {
     /// A room for searches of this game to at most this depth, in turns. Nothing else here takes memory.
     pub fn new(alloc: Global, g: &G, depth: u32) -> Result<Room<G>, AllocError>
-        ensures room { IfOk result (λ room. IsRoomOf (G.fits g.now) (G.rules g.now).roles room) }
+        ensures room { IfOk result (λ room. IsRoomOf (G.fits g.now) (G.fits_wide g.now) (G.fits_many g.now) (G.rules g.now).roles room) }
         ensures depth { IfOk result (λ room. room_depth room ≡ depth) }
     {
         let mut levels = Vec::new(alloc);
         for _ in 0..depth {
             levels.push(new_level(alloc, g)?)?;
         }
-        Ok(Room { levels })
+        let wide = g.new_wide()?;
+        Ok(Room { wide, levels })
     }
 }
 
 /// The value of a state for a role, within a window. The value is what the role can be sure of within `depth` turns, whatever the
-/// others do: its goal where the game ends in time, else 0, as in a state in which some role has no legal move. An answer
-/// above a and below b is the value; a or less says that the value is no more than a, and b or more that it is no less than b.
+/// others do: its goal where the game ends in time, 0 where play comes to a state in which some role has no legal move, and else
+/// what `at` says of the state where the turns are over. An answer above a and below b is the value; a or less says that the value
+/// is no more than a, and b or more that it is no less than b.
 pub fn value_in<G: Game>(
     g: &G,
     p: &G::Pos,
     role: usize,
     depth: u32,
+    at: AtBound,
     a: i16,
     b: i16,
     room: &mut Room<G>,
 ) -> i16
     requires fits { G.fits g.now p.now }
     requires role { role < (G.rules g.now).roles }
-    requires room { IsRoomOf (G.fits g.now) (G.rules g.now).roles room.old }
+    requires room { IsRoomOf (G.fits g.now) (G.fits_wide g.now) (G.fits_many g.now) (G.rules g.now).roles room.old }
     requires deep { depth ≤ room_depth room.old }
     requires low { negsuc 1 ≤ℤ a }
     requires order { a <ℤ b }
     requires high { b ≤ℤ pos 101 }
-    ensures answers { Answers (value (G.rules g.now) role depth (G.state g.now p.now)) a b result }
-    ensures room { IsRoomOf (G.fits g.now) (G.rules g.now).roles room.new }
+    ensures answers { Answers (value (G.rules g.now) role depth at (G.state g.now p.now)) a b result }
+    ensures room { IsRoomOf (G.fits g.now) (G.fits_wide g.now) (G.fits_many g.now) (G.rules g.now).roles room.new }
     ensures deep { room_depth room.new ≡ room_depth room.old }
-    ensures capacities { room_capacities (G.capacities g.now) room.new ≡ room_capacities (G.capacities g.now) room.old }
+    ensures capacities { room_capacities (G.capacities g.now) (G.wide_capacities g.now) (G.many_capacities g.now) room.new
+        ≡ room_capacities (G.capacities g.now) (G.wide_capacities g.now) (G.many_capacities g.now) room.old }
 {
-    value_at(g, p, role, depth as usize, a, b, room.levels.as_mut_slice())
+    let levels = room.levels.as_mut_slice();
+    value_at(g, p, role, depth as usize, at, a, b, &mut room.wide, levels)
 }
 
 /// The first legal move of the role, in printed order, that attains the value of the state. There is none where the game has ended,
@@ -64,18 +71,21 @@ pub fn choice<G: Game>(
     p: &G::Pos,
     role: usize,
     depth: u32,
+    at: AtBound,
     room: &mut Room<G>,
 ) -> Option<u32>
     requires fits { G.fits g.now p.now }
     requires role { role < (G.rules g.now).roles }
-    requires room { IsRoomOf (G.fits g.now) (G.rules g.now).roles room.old }
+    requires room { IsRoomOf (G.fits g.now) (G.fits_wide g.now) (G.fits_many g.now) (G.rules g.now).roles room.old }
     requires deep { depth ≤ room_depth room.old }
-    ensures choice { result ≡ choice_of (G.rules g.now) role depth (G.state g.now p.now) }
-    ensures room { IsRoomOf (G.fits g.now) (G.rules g.now).roles room.new }
+    ensures choice { result ≡ choice_of (G.rules g.now) role depth at (G.state g.now p.now) }
+    ensures room { IsRoomOf (G.fits g.now) (G.fits_wide g.now) (G.fits_many g.now) (G.rules g.now).roles room.new }
     ensures deep { room_depth room.new ≡ room_depth room.old }
-    ensures capacities { room_capacities (G.capacities g.now) room.new ≡ room_capacities (G.capacities g.now) room.old }
+    ensures capacities { room_capacities (G.capacities g.now) (G.wide_capacities g.now) (G.many_capacities g.now) room.new
+        ≡ room_capacities (G.capacities g.now) (G.wide_capacities g.now) (G.many_capacities g.now) room.old }
 {
-    choice_at(g, p, role, depth as usize, room.levels.as_mut_slice())
+    let levels = room.levels.as_mut_slice();
+    choice_at(g, p, role, depth as usize, at, &mut room.wide, levels)
 }
 
 /// Writes the first joint legal move that leaves the least value where the role plays `own`, which stands in its place. Joint moves are
@@ -86,6 +96,7 @@ pub fn first_reply<G: Game>(
     role: usize,
     own: u32,
     depth: u32,
+    at: AtBound,
     room: &mut Room<G>,
     out: &mut Joint,
 )
@@ -95,22 +106,26 @@ pub fn first_reply<G: Game>(
     requires going { (G.rules g.now).ended (G.state g.now p.now) ≡ false }
     requires free { stuck (G.rules g.now) (G.state g.now p.now) ≡ false }
     requires turn { 0 < depth }
-    requires room { IsRoomOf (G.fits g.now) (G.rules g.now).roles room.old }
+    requires room { IsRoomOf (G.fits g.now) (G.fits_wide g.now) (G.fits_many g.now) (G.rules g.now).roles room.old }
     requires deep { depth ≤ room_depth room.old }
     requires out { (G.rules g.now).roles ≤ out.old.capacity }
-    ensures reply { reply_of (G.rules g.now) role (depth - 1) (G.state g.now p.now) own ≡ Some out.new.items }
+    ensures reply { reply_of (G.rules g.now) role (depth - 1) at (G.state g.now p.now) own ≡ Some out.new.items }
     ensures out { out.new.capacity ≡ out.old.capacity }
-    ensures room { IsRoomOf (G.fits g.now) (G.rules g.now).roles room.new }
+    ensures room { IsRoomOf (G.fits g.now) (G.fits_wide g.now) (G.fits_many g.now) (G.rules g.now).roles room.new }
     ensures deep { room_depth room.new ≡ room_depth room.old }
-    ensures capacities { room_capacities (G.capacities g.now) room.new ≡ room_capacities (G.capacities g.now) room.old }
+    ensures capacities { room_capacities (G.capacities g.now) (G.wide_capacities g.now) (G.many_capacities g.now) room.new
+        ≡ room_capacities (G.capacities g.now) (G.wide_capacities g.now) (G.many_capacities g.now) room.old }
 {
+    let levels = room.levels.as_mut_slice();
     reply_at(
         g,
         p,
         role,
         own,
         depth as usize - 1,
-        room.levels.as_mut_slice(),
+        at,
+        &mut room.wide,
+        levels,
         out,
     )
 }

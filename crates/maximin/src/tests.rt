@@ -2,6 +2,7 @@
 ghost use Rattle.std.specs.Prelude.{◌<◌, ◌<ℤ◌, ◌≤ℤ◌, pos, negsuc};
 
 use crate::{Room, choice, first_reply, value_in};
+use position::AtBound::{Goal, Zero};
 use position::Game;
 use position::table::{Chosen, Table};
 use propnet::Joint;
@@ -125,7 +126,7 @@ fn value_of<G: Game>(g: &G, alloc: Global, window: (i16, i16)) -> Result<i16, Al
 {
     let mut room = Room::new(alloc, g, 1)?;
     let start = g.fresh()?;
-    Ok(value_in(g, &start, 0, 1, window.0, window.1, &mut room))
+    Ok(value_in(g, &start, 0, 1, Zero, window.0, window.1, &mut room))
 }
 
 /// The row can be sure of 10 by its first side, and of 30 by its second.
@@ -138,14 +139,23 @@ const LEVEL: Table = Table {
 fn each_role_has_its_value_and_choice(rt: HostRuntime) -> Result<(), AllocError> {
     let mut room = Room::new(rt.alloc(), &LEVEL, 1)?;
     let start = LEVEL.fresh()?;
-    assert_eq!(rt; value_in(&LEVEL, &start, 0, 1, -1, 101, &mut room), 30);
-    assert_eq!(rt; choice(&LEVEL, &start, 0, 1, &mut room), Some(1));
-    assert_eq!(rt; value_in(&LEVEL, &start, 1, 1, -1, 101, &mut room), 50);
-    assert_eq!(rt; choice(&LEVEL, &start, 1, 1, &mut room), Some(0));
-    assert_eq!(rt; value_in(&LEVEL, &start, 2, 1, -1, 101, &mut room), 10);
-    assert_eq!(rt; choice(&LEVEL, &start, 2, 1, &mut room), Some(0));
-    assert_eq!(rt; value_in(&LEVEL, &start, 0, 0, -1, 101, &mut room), 0);
-    assert_eq!(rt; choice(&LEVEL, &start, 0, 0, &mut room), None);
+    assert_eq!(rt;
+        value_in(&LEVEL, &start, 0, 1, Zero, -1, 101, &mut room),
+        30
+    );
+    assert_eq!(rt; choice(&LEVEL, &start, 0, 1, Zero, &mut room), Some(1));
+    assert_eq!(rt;
+        value_in(&LEVEL, &start, 1, 1, Zero, -1, 101, &mut room),
+        50
+    );
+    assert_eq!(rt; choice(&LEVEL, &start, 1, 1, Zero, &mut room), Some(0));
+    assert_eq!(rt;
+        value_in(&LEVEL, &start, 2, 1, Zero, -1, 101, &mut room),
+        10
+    );
+    assert_eq!(rt; choice(&LEVEL, &start, 2, 1, Zero, &mut room), Some(0));
+    assert_eq!(rt; value_in(&LEVEL, &start, 0, 0, Zero, -1, 101, &mut room), 0);
+    assert_eq!(rt; choice(&LEVEL, &start, 0, 0, Zero, &mut room), None);
     Ok(())
 }
 
@@ -157,8 +167,11 @@ fn first_of_equal_moves_is_chosen(rt: HostRuntime) -> Result<(), AllocError> {
     };
     let mut room = Room::new(rt.alloc(), &table, 1)?;
     let start = table.fresh()?;
-    assert_eq!(rt; value_in(&table, &start, 0, 1, -1, 101, &mut room), 40);
-    assert_eq!(rt; choice(&table, &start, 0, 1, &mut room), Some(0));
+    assert_eq!(rt;
+        value_in(&table, &start, 0, 1, Zero, -1, 101, &mut room),
+        40
+    );
+    assert_eq!(rt; choice(&table, &start, 0, 1, Zero, &mut room), Some(0));
     Ok(())
 }
 
@@ -168,13 +181,13 @@ fn first_of_equal_replies_is_told(rt: HostRuntime) -> Result<(), AllocError> {
     let mut room = Room::new(rt.alloc(), &LEVEL, 1)?;
     let start = LEVEL.fresh()?;
     let mut reply = SmallVec::new(rt.alloc());
-    first_reply(&LEVEL, &start, 0, 0, 1, &mut room, &mut reply);
+    first_reply(&LEVEL, &start, 0, 0, 1, Zero, &mut room, &mut reply);
     assert_eq!(rt; reply.as_slice(), [0, 0, 1].as_slice());
-    first_reply(&LEVEL, &start, 0, 1, 1, &mut room, &mut reply);
+    first_reply(&LEVEL, &start, 0, 1, 1, Zero, &mut room, &mut reply);
     assert_eq!(rt; reply.as_slice(), [1, 0, 1].as_slice());
-    first_reply(&LEVEL, &start, 1, 0, 1, &mut room, &mut reply);
+    first_reply(&LEVEL, &start, 1, 0, 1, Zero, &mut room, &mut reply);
     assert_eq!(rt; reply.as_slice(), [0, 0, 0].as_slice());
-    first_reply(&LEVEL, &start, 2, 0, 1, &mut room, &mut reply);
+    first_reply(&LEVEL, &start, 2, 0, 1, Zero, &mut room, &mut reply);
     assert_eq!(rt; reply.as_slice(), [1, 1, 0].as_slice());
     Ok(())
 }
@@ -188,12 +201,46 @@ fn stuck_state_is_worth_nothing(rt: HostRuntime) -> Result<(), AllocError> {
     };
     let mut room = Room::new(rt.alloc(), &table, 3)?;
     let start = table.fresh()?;
-    assert_eq!(rt; value_in(&table, &start, 0, 3, -1, 101, &mut room), 20);
-    assert_eq!(rt; choice(&table, &start, 0, 3, &mut room), Some(0));
+    assert_eq!(rt;
+        value_in(&table, &start, 0, 3, Zero, -1, 101, &mut room),
+        20
+    );
+    assert_eq!(rt; choice(&table, &start, 0, 3, Zero, &mut room), Some(0));
     let stuck = Chosen { cell: 5 };
     assert_eq!(rt; table.goal(&stuck, 0), 90);
-    assert_eq!(rt; value_in(&table, &stuck, 0, 3, -1, 101, &mut room), 0);
-    assert_eq!(rt; choice(&table, &stuck, 0, 3, &mut room), None);
+    assert_eq!(rt; value_in(&table, &stuck, 0, 3, Zero, -1, 101, &mut room), 0);
+    assert_eq!(rt; choice(&table, &stuck, 0, 3, Zero, &mut room), None);
+    Ok(())
+}
+
+// Nothing is chosen yet, and the row has the goal 70.
+#[test]
+fn goal_counts_at_the_bound_where_it_is_asked(rt: HostRuntime) -> Result<(), AllocError> {
+    let table = Table {
+        worth: [70, 20, 20, 20, 90, 90, 90, 90],
+        ends: [true, true, true, true, false, false, false, false],
+    };
+    let mut room = Room::new(rt.alloc(), &table, 1)?;
+    let start = table.fresh()?;
+    assert_eq!(rt;
+        value_in(&table, &start, 0, 0, Goal, -1, 101, &mut room),
+        70
+    );
+    assert_eq!(rt;
+        value_in(&table, &start, 1, 0, Goal, -1, 101, &mut room),
+        30
+    );
+    assert_eq!(rt; value_in(&table, &start, 0, 0, Zero, -1, 101, &mut room), 0);
+    assert_eq!(rt; choice(&table, &start, 0, 0, Goal, &mut room), None);
+    // A state without moves for some role is worth nothing at the bound either, and one that has ended its goal.
+    let stuck = Chosen { cell: 5 };
+    assert_eq!(rt; value_in(&table, &stuck, 0, 0, Goal, -1, 101, &mut room), 0);
+    let over = Chosen { cell: 1 };
+    assert_eq!(rt; value_in(&table, &over, 0, 0, Zero, -1, 101, &mut room), 70);
+    for at in [Zero, Goal] {
+        assert_eq!(rt; value_in(&table, &start, 0, 1, at, -1, 101, &mut room), 20);
+        assert_eq!(rt; choice(&table, &start, 0, 1, at, &mut room), Some(0));
+    }
     Ok(())
 }
 
@@ -201,12 +248,18 @@ fn stuck_state_is_worth_nothing(rt: HostRuntime) -> Result<(), AllocError> {
 fn deep_search_of_a_short_game(rt: HostRuntime) -> Result<(), AllocError> {
     let mut room = Room::new(rt.alloc(), &LEVEL, 64)?;
     let start = LEVEL.fresh()?;
-    assert_eq!(rt; value_in(&LEVEL, &start, 0, 64, -1, 101, &mut room), 30);
-    assert_eq!(rt; choice(&LEVEL, &start, 0, 64, &mut room), Some(1));
+    assert_eq!(rt;
+        value_in(&LEVEL, &start, 0, 64, Zero, -1, 101, &mut room),
+        30
+    );
+    assert_eq!(rt; choice(&LEVEL, &start, 0, 64, Zero, &mut room), Some(1));
     let over = Chosen { cell: 8 };
-    assert_eq!(rt; value_in(&LEVEL, &over, 0, 64, -1, 101, &mut room), 95);
-    assert_eq!(rt; value_in(&LEVEL, &over, 0, 0, -1, 101, &mut room), 95);
-    assert_eq!(rt; choice(&LEVEL, &over, 0, 64, &mut room), None);
+    assert_eq!(rt;
+        value_in(&LEVEL, &over, 0, 64, Zero, -1, 101, &mut room),
+        95
+    );
+    assert_eq!(rt; value_in(&LEVEL, &over, 0, 0, Zero, -1, 101, &mut room), 95);
+    assert_eq!(rt; choice(&LEVEL, &over, 0, 64, Zero, &mut room), None);
     Ok(())
 }
 

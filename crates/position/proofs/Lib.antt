@@ -18,6 +18,7 @@ pub mod OneGame
 pub mod Alike
 pub mod PlayRange
 pub mod SamePlays
+pub mod PlainValues
 pub mod Shown
 pub mod NetReads
 pub mod NetFacts

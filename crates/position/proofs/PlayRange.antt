@@ -13,6 +13,7 @@ use Rattle.position.specs.Played.{MoveNames, tree_at, is_turn_list, named_move, 
 use Rattle.position.specs.Refusal.{IsRoleOf}
 use Rattle.position.specs.Rules.{Rules, State, Turn, IsTurn, all_roles, is_stuck, picks, turns_with}
 use Rattle.position.specs.SamePlay.{AreLegalMoves}
+use Rattle.position.specs.declared.at_bound.AtBound.{AtBound}
 use Rattle.position.specs.Value.{value, worst, choice_of, reply_of, line_of}
 use Rattle.position.proofs.Alike.{all_below, found_within, all_flat}
 
@@ -56,29 +57,29 @@ module _ (g : Rules) (known : AreLegalMoves g) where
       let one = picks_within g.moves (λ q. cond (q == role) (own ∷ []) (g.legal s q)) 0 g.roles (λ q less. chosen_within s role own q below (omega arith)) k d lt in
       record { of_each_role = one.size; each_known = λ q less. subst (λ (i : ℕ). slice_index (get_or (turns_with g s role own) k d) q < g.moves i) (omega arith) (one.each q less) }
 
-  pub choice_within : (role depth : ℕ) (s : State) → role < g.roles → IfSome (choice_of g role depth s) (λ m. m < g.moves role)
-  choice_within role zero s lt = tt
-  choice_within role (suc depth) s lt = go (g.ended s || is_stuck g s)
+  pub choice_within : (role depth : ℕ) (at : AtBound) (s : State) → role < g.roles → IfSome (choice_of g role depth at s) (λ m. m < g.moves role)
+  choice_within role zero at s lt = tt
+  choice_within role (suc depth) at s lt = go (g.ended s || is_stuck g s)
     where
-      go : (b : Bool) → IfSome (cond b None (find (λ m. worst g role depth s m == value g role (suc depth) s) (g.legal s role))) (λ m. m < g.moves role)
+      go : (b : Bool) → IfSome (cond b None (find (λ m. worst g role depth at s m == value g role (suc depth) at s) (g.legal s role))) (λ m. m < g.moves role)
       go true = tt
       go false = found_within (λ m. m < g.moves role) _ (g.legal s role) (known s role lt)
 
-  pub reply_within : (role depth : ℕ) (s : State) (own : ℕ) → own < g.moves role → IfSome (reply_of g role depth s own) (IsTurn g)
-  reply_within role depth s own below = found_within (IsTurn g) _ (turns_with g s role own) (turns_within s role own below)
+  pub reply_within : (role depth : ℕ) (at : AtBound) (s : State) (own : ℕ) → own < g.moves role → IfSome (reply_of g role depth at s own) (IsTurn g)
+  reply_within role depth at s own below = found_within (IsTurn g) _ (turns_with g s role own) (turns_within s role own below)
 
-  pub line_within : (role depth : ℕ) (s : State) → role < g.roles → All (IsTurn g) (line_of g role depth s)
-  line_within role zero s lt = All-nil (IsTurn g)
-  line_within role (suc depth) s lt = go (choice_of g role (suc depth) s) (choice_within role (suc depth) s lt) (λ t. line_within role depth t lt)
+  pub line_within : (role depth : ℕ) (at : AtBound) (s : State) → role < g.roles → All (IsTurn g) (line_of g role depth at s)
+  line_within role zero at s lt = All-nil (IsTurn g)
+  line_within role (suc depth) at s lt = go (choice_of g role (suc depth) at s) (choice_within role (suc depth) at s lt) (λ t. line_within role depth at t lt)
     where
-      with_reply : (o : Option Turn) → IfSome o (IsTurn g) → ((t : State) → All (IsTurn g) (line_of g role depth t)) → All (IsTurn g) (option_map_or (λ j. j ∷ line_of g role depth (g.after s j)) o [])
+      with_reply : (o : Option Turn) → IfSome o (IsTurn g) → ((t : State) → All (IsTurn g) (line_of g role depth at t)) → All (IsTurn g) (option_map_or (λ j. j ∷ line_of g role depth at (g.after s j)) o [])
       with_reply None h more = All-nil (IsTurn g)
       with_reply (Some j) h more = All-cons (IsTurn g) j _ h (more (g.after s j))
 
-      go : (o : Option ℕ) → IfSome o (λ m. m < g.moves role) → ((t : State) → All (IsTurn g) (line_of g role depth t))
-          → All (IsTurn g) (option_map_or (λ own. option_map_or (λ j. j ∷ line_of g role depth (g.after s j)) (reply_of g role depth s own) []) o [])
+      go : (o : Option ℕ) → IfSome o (λ m. m < g.moves role) → ((t : State) → All (IsTurn g) (line_of g role depth at t))
+          → All (IsTurn g) (option_map_or (λ own. option_map_or (λ j. j ∷ line_of g role depth at (g.after s j)) (reply_of g role depth at s own) []) o [])
       go None h more = All-nil (IsTurn g)
-      go (Some own) h more = with_reply (reply_of g role depth s own) (reply_within role depth s own h) more
+      go (Some own) h more = with_reply (reply_of g role depth at s own) (reply_within role depth at s own h) more
 
   -- Histories.
 

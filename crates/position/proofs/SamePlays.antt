@@ -13,6 +13,8 @@ use Rattle.position.specs.NamedRules.{NamedRules}
 use Rattle.position.specs.Played.{tree_at, named_move, named_turn, state_after, form_faults, illegal_faults, turn_faults, play_faults, first_fault, played}
 use Rattle.position.specs.Rules.{Rules, State, Turn, IsTurn, all_roles, is_stuck, picks, turns_with}
 use Rattle.position.specs.SamePlay.{SamePlay}
+use Rattle.position.specs.declared.at_bound.AtBound.{AtBound}
+use Rattle.position.specs.AtBound.{bound_worth}
 use Rattle.position.specs.Value.{greatest, least, least_after, value, worst, choice_of, reply_of, line_of}
 use Rattle.position.proofs.Alike.{all_below, each_below, maps_alike, filters_alike, finds_alike, any_alike, options_alike, if_weaker, none_left}
 use Rattle.position.proofs.FirstFaults.{state_more}
@@ -46,8 +48,8 @@ first_alike {X} F G x y a (suc n) each last =
     go (fault ∷ fs) e same rest = rw (same, e) refl
 
 -- the line that begins with an own move
-abbrev line_by : Rules → ℕ → ℕ → State → ℕ → List Turn
-line_by g role depth s own = option_map_or (λ j. j ∷ line_of g role depth (g.after s j)) (reply_of g role depth s own) []
+abbrev line_by : Rules → ℕ → ℕ → AtBound → State → ℕ → List Turn
+line_by g role depth at s own = option_map_or (λ j. j ∷ line_of g role depth at (g.after s j)) (reply_of g role depth at s own) []
 
 module _ (g h : NamedRules) (same : SamePlay g h) where
   roles_alike : all_roles g.rules ≡ all_roles h.rules
@@ -76,62 +78,64 @@ module _ (g h : NamedRules) (same : SamePlay g h) where
       (λ k d lt. ap u (same.after s _ (turns_within g.rules same.known s role own below k d lt)) ∙ alike _)
       ∙ ap (map (λ j. v (h.rules.after s j))) (turns_alike s role own))
 
-  pub value_alike : (role : ℕ) → role < g.rules.roles → (depth : ℕ) (s : State) → value g.rules role depth s ≡ value h.rules role depth s
-  value_alike role lt zero s =
-      ap (λ (b : Bool). cond b (g.rules.goal s role) 0) (same.ended s) ∙ ap (λ (n : ℕ). cond (h.rules.ended s) n 0) (same.goal s role lt)
-  value_alike role lt (suc depth) s =
-      let best : map (λ m. least_after g.rules (value g.rules role depth) s role m) (g.rules.legal s role) ≡ map (λ m. least_after h.rules (value h.rules role depth) s role m) (h.rules.legal s role) =
+  pub value_alike : (role : ℕ) → role < g.rules.roles → (depth : ℕ) (at : AtBound) (s : State) → value g.rules role depth at s ≡ value h.rules role depth at s
+  value_alike role lt zero at s =
+      ap (λ (b : Bool). cond b (g.rules.goal s role) (cond (is_stuck g.rules s) 0 (bound_worth at (g.rules.goal s role)))) (same.ended s)
+      ∙ ap (λ (n : ℕ). cond (h.rules.ended s) n (cond (is_stuck g.rules s) 0 (bound_worth at n))) (same.goal s role lt)
+      ∙ ap (λ (b : Bool). cond (h.rules.ended s) (h.rules.goal s role) (cond b 0 (bound_worth at (h.rules.goal s role)))) (stuck_alike s)
+  value_alike role lt (suc depth) at s =
+      let best : map (λ m. least_after g.rules (value g.rules role depth at) s role m) (g.rules.legal s role) ≡ map (λ m. least_after h.rules (value h.rules role depth at) s role m) (h.rules.legal s role) =
       maps_alike _ _ (g.rules.legal s role)
-      (λ k d below. least_alike (value g.rules role depth) (value h.rules role depth) (value_alike role lt depth) s role _ (same.known s role lt k d below))
-      ∙ ap (map (λ m. least_after h.rules (value h.rules role depth) s role m)) (same.legal s role lt) in
-      ap (λ (b : Bool). cond b (g.rules.goal s role) (cond (is_stuck g.rules s) 0 (greatest (map (λ m. least_after g.rules (value g.rules role depth) s role m) (g.rules.legal s role))))) (same.ended s)
-      ∙ ap (λ (n : ℕ). cond (h.rules.ended s) n (cond (is_stuck g.rules s) 0 (greatest (map (λ m. least_after g.rules (value g.rules role depth) s role m) (g.rules.legal s role))))) (same.goal s role lt)
-      ∙ ap (λ (b : Bool). cond (h.rules.ended s) (h.rules.goal s role) (cond b 0 (greatest (map (λ m. least_after g.rules (value g.rules role depth) s role m) (g.rules.legal s role))))) (stuck_alike s)
+      (λ k d below. least_alike (value g.rules role depth at) (value h.rules role depth at) (value_alike role lt depth at) s role _ (same.known s role lt k d below))
+      ∙ ap (map (λ m. least_after h.rules (value h.rules role depth at) s role m)) (same.legal s role lt) in
+      ap (λ (b : Bool). cond b (g.rules.goal s role) (cond (is_stuck g.rules s) 0 (greatest (map (λ m. least_after g.rules (value g.rules role depth at) s role m) (g.rules.legal s role))))) (same.ended s)
+      ∙ ap (λ (n : ℕ). cond (h.rules.ended s) n (cond (is_stuck g.rules s) 0 (greatest (map (λ m. least_after g.rules (value g.rules role depth at) s role m) (g.rules.legal s role))))) (same.goal s role lt)
+      ∙ ap (λ (b : Bool). cond (h.rules.ended s) (h.rules.goal s role) (cond b 0 (greatest (map (λ m. least_after g.rules (value g.rules role depth at) s role m) (g.rules.legal s role))))) (stuck_alike s)
       ∙ ap (λ (ns : List ℕ). cond (h.rules.ended s) (h.rules.goal s role) (cond (is_stuck h.rules s) 0 (greatest ns))) best
 
-  pub worst_alike : (role : ℕ) → role < g.rules.roles → (depth : ℕ) (s : State) (own : ℕ) → own < g.rules.moves role
-      → worst g.rules role depth s own ≡ worst h.rules role depth s own
-  worst_alike role lt depth s own below = least_alike (value g.rules role depth) (value h.rules role depth) (value_alike role lt depth) s role own below
+  pub worst_alike : (role : ℕ) → role < g.rules.roles → (depth : ℕ) (at : AtBound) (s : State) (own : ℕ) → own < g.rules.moves role
+      → worst g.rules role depth at s own ≡ worst h.rules role depth at s own
+  worst_alike role lt depth at s own below = least_alike (value g.rules role depth at) (value h.rules role depth at) (value_alike role lt depth at) s role own below
 
-  pub choice_alike : (role : ℕ) → role < g.rules.roles → (depth : ℕ) (s : State) → choice_of g.rules role depth s ≡ choice_of h.rules role depth s
-  choice_alike role lt zero s = refl
-  choice_alike role lt (suc depth) s =
-      let found : find (λ m. worst g.rules role depth s m == value g.rules role (suc depth) s) (g.rules.legal s role) ≡ find (λ m. worst h.rules role depth s m == value h.rules role (suc depth) s) (h.rules.legal s role) =
-      finds_alike (λ m. worst g.rules role depth s m == value g.rules role (suc depth) s) (λ m. worst h.rules role depth s m == value h.rules role (suc depth) s) (g.rules.legal s role)
+  pub choice_alike : (role : ℕ) → role < g.rules.roles → (depth : ℕ) (at : AtBound) (s : State) → choice_of g.rules role depth at s ≡ choice_of h.rules role depth at s
+  choice_alike role lt zero at s = refl
+  choice_alike role lt (suc depth) at s =
+      let found : find (λ m. worst g.rules role depth at s m == value g.rules role (suc depth) at s) (g.rules.legal s role) ≡ find (λ m. worst h.rules role depth at s m == value h.rules role (suc depth) at s) (h.rules.legal s role) =
+      finds_alike (λ m. worst g.rules role depth at s m == value g.rules role (suc depth) at s) (λ m. worst h.rules role depth at s m == value h.rules role (suc depth) at s) (g.rules.legal s role)
       (λ k d below.
-      ap (λ (n : ℕ). n == value g.rules role (suc depth) s) (worst_alike role lt depth s _ (same.known s role lt k d below))
-      ∙ ap (λ (n : ℕ). worst h.rules role depth s (get_or (g.rules.legal s role) k d) == n) (value_alike role lt (suc depth) s))
-      ∙ ap (find (λ m. worst h.rules role depth s m == value h.rules role (suc depth) s)) (same.legal s role lt) in
-      ap (λ (b : Bool). cond (b || is_stuck g.rules s) None (find (λ m. worst g.rules role depth s m == value g.rules role (suc depth) s) (g.rules.legal s role))) (same.ended s)
-      ∙ ap (λ (b : Bool). cond (h.rules.ended s || b) None (find (λ m. worst g.rules role depth s m == value g.rules role (suc depth) s) (g.rules.legal s role))) (stuck_alike s)
+      ap (λ (n : ℕ). n == value g.rules role (suc depth) at s) (worst_alike role lt depth at s _ (same.known s role lt k d below))
+      ∙ ap (λ (n : ℕ). worst h.rules role depth at s (get_or (g.rules.legal s role) k d) == n) (value_alike role lt (suc depth) at s))
+      ∙ ap (find (λ m. worst h.rules role depth at s m == value h.rules role (suc depth) at s)) (same.legal s role lt) in
+      ap (λ (b : Bool). cond (b || is_stuck g.rules s) None (find (λ m. worst g.rules role depth at s m == value g.rules role (suc depth) at s) (g.rules.legal s role))) (same.ended s)
+      ∙ ap (λ (b : Bool). cond (h.rules.ended s || b) None (find (λ m. worst g.rules role depth at s m == value g.rules role (suc depth) at s) (g.rules.legal s role))) (stuck_alike s)
       ∙ ap (λ (o : Option ℕ). cond (h.rules.ended s || is_stuck h.rules s) None o) found
 
-  pub reply_alike : (role : ℕ) → role < g.rules.roles → (depth : ℕ) (s : State) (own : ℕ) → own < g.rules.moves role
-      → reply_of g.rules role depth s own ≡ reply_of h.rules role depth s own
-  reply_alike role lt depth s own below =
-      finds_alike (λ j. value g.rules role depth (g.rules.after s j) == worst g.rules role depth s own) (λ j. value h.rules role depth (h.rules.after s j) == worst h.rules role depth s own) (turns_with g.rules s role own)
+  pub reply_alike : (role : ℕ) → role < g.rules.roles → (depth : ℕ) (at : AtBound) (s : State) (own : ℕ) → own < g.rules.moves role
+      → reply_of g.rules role depth at s own ≡ reply_of h.rules role depth at s own
+  reply_alike role lt depth at s own below =
+      finds_alike (λ j. value g.rules role depth at (g.rules.after s j) == worst g.rules role depth at s own) (λ j. value h.rules role depth at (h.rules.after s j) == worst h.rules role depth at s own) (turns_with g.rules s role own)
       (λ k d within.
       let j = get_or (turns_with g.rules s role own) k d in
       let next = same.after s j (turns_within g.rules same.known s role own below k d within) in
-      ap (λ (t : State). value g.rules role depth t == worst g.rules role depth s own) next
-      ∙ ap (λ (n : ℕ). n == worst g.rules role depth s own) (value_alike role lt depth (h.rules.after s j))
-      ∙ ap (λ (n : ℕ). value h.rules role depth (h.rules.after s j) == n) (worst_alike role lt depth s own below))
-      ∙ ap (find (λ j. value h.rules role depth (h.rules.after s j) == worst h.rules role depth s own)) (turns_alike s role own)
+      ap (λ (t : State). value g.rules role depth at t == worst g.rules role depth at s own) next
+      ∙ ap (λ (n : ℕ). n == worst g.rules role depth at s own) (value_alike role lt depth at (h.rules.after s j))
+      ∙ ap (λ (n : ℕ). value h.rules role depth at (h.rules.after s j) == n) (worst_alike role lt depth at s own below))
+      ∙ ap (find (λ j. value h.rules role depth at (h.rules.after s j) == worst h.rules role depth at s own)) (turns_alike s role own)
 
-  pub line_alike : (role : ℕ) → role < g.rules.roles → (depth : ℕ) (s : State) → line_of g.rules role depth s ≡ line_of h.rules role depth s
-  line_alike role lt zero s = refl
-  line_alike role lt (suc depth) s =
-      options_alike (line_by g.rules role depth s) (line_by h.rules role depth s) (choice_of g.rules role (suc depth) s) []
-      (if_weaker (λ m. m < g.rules.moves role) (λ own. line_by g.rules role depth s own ≡ line_by h.rules role depth s own) (choice_of g.rules role (suc depth) s) (each (line_alike role lt depth)) (choice_within g.rules same.known role (suc depth) s lt))
-      ∙ ap (λ (o : Option ℕ). option_map_or (line_by h.rules role depth s) o []) (choice_alike role lt (suc depth) s)
+  pub line_alike : (role : ℕ) → role < g.rules.roles → (depth : ℕ) (at : AtBound) (s : State) → line_of g.rules role depth at s ≡ line_of h.rules role depth at s
+  line_alike role lt zero at s = refl
+  line_alike role lt (suc depth) at s =
+      options_alike (line_by g.rules role depth at s) (line_by h.rules role depth at s) (choice_of g.rules role (suc depth) at s) []
+      (if_weaker (λ m. m < g.rules.moves role) (λ own. line_by g.rules role depth at s own ≡ line_by h.rules role depth at s own) (choice_of g.rules role (suc depth) at s) (each (line_alike role lt depth at)) (choice_within g.rules same.known role (suc depth) at s lt))
+      ∙ ap (λ (o : Option ℕ). option_map_or (line_by h.rules role depth at s) o []) (choice_alike role lt (suc depth) at s)
     where
-      each : ((t : State) → line_of g.rules role depth t ≡ line_of h.rules role depth t) → (own : ℕ) → own < g.rules.moves role → line_by g.rules role depth s own ≡ line_by h.rules role depth s own
+      each : ((t : State) → line_of g.rules role depth at t ≡ line_of h.rules role depth at t) → (own : ℕ) → own < g.rules.moves role → line_by g.rules role depth at s own ≡ line_by h.rules role depth at s own
       each more own below =
-          options_alike (λ j. j ∷ line_of g.rules role depth (g.rules.after s j)) (λ j. j ∷ line_of h.rules role depth (h.rules.after s j)) (reply_of g.rules role depth s own) []
-          (if_weaker (IsTurn g.rules) _ (reply_of g.rules role depth s own)
-          (λ j turn. ap (λ (t : State). j ∷ line_of g.rules role depth t) (same.after s j turn) ∙ ap (λ (js : List Turn). j ∷ js) (more (h.rules.after s j)))
-          (reply_within g.rules same.known role depth s own below))
-          ∙ ap (λ (o : Option Turn). option_map_or (λ j. j ∷ line_of h.rules role depth (h.rules.after s j)) o []) (reply_alike role lt depth s own below)
+          options_alike (λ j. j ∷ line_of g.rules role depth at (g.rules.after s j)) (λ j. j ∷ line_of h.rules role depth at (h.rules.after s j)) (reply_of g.rules role depth at s own) []
+          (if_weaker (IsTurn g.rules) _ (reply_of g.rules role depth at s own)
+          (λ j turn. ap (λ (t : State). j ∷ line_of g.rules role depth at t) (same.after s j turn) ∙ ap (λ (js : List Turn). j ∷ js) (more (h.rules.after s j)))
+          (reply_within g.rules same.known role depth at s own below))
+          ∙ ap (λ (o : Option Turn). option_map_or (λ j. j ∷ line_of h.rules role depth at (h.rules.after s j)) o []) (reply_alike role lt depth at s own below)
 
   -- Histories.
 

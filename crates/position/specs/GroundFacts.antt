@@ -4,7 +4,7 @@ use Rattle.std.proofs.lemmas.List.{get_or_past}
 use Rattle.ground.specs.declared.ground.Ground.{Ground}
 use Rattle.ground.specs.Grounds.{texts_at}
 use Rattle.ground.specs.Fits.{FitTogether, count_all}
-use Rattle.ground.specs.Limits.{limits}
+use Rattle.ground.specs.Most.{limits}
 use Rattle.ground.specs.GroundView.{roles_of, base_of, inputs_of, kinds_of, instances_of}
 use Rattle.ground.proofs.Fitting.{fit_together}
 

@@ -1,5 +1,7 @@
 pub mod Rules
+pub mod AtBound
 pub mod Value
+pub mod PlainValue
 pub mod Played
 pub mod Refusal
 pub mod Table

@@ -1,6 +1,7 @@
 //! What it means to play a game, whichever way its states are kept.
 #![tactic(auto)]
 
+mod at_bound;
 mod evaluation;
 mod fault;
 mod flattening;
@@ -29,11 +30,15 @@ pub mod table;
 #[cfg(test)]
 mod tests;
 
+pub use at_bound::AtBound;
 pub use fault::HistoryFault;
 pub use game::Game;
 pub use net_game::NetGame;
 pub use net_pos::NetPos;
-pub use play_laws::{play_stays_within_the_game, same_play_is_played_the_same};
+pub use play_laws::{
+    nothing_at_the_bound_is_the_plain_value, play_stays_within_the_game,
+    same_play_is_played_the_same,
+};
 pub use refusal::add_history_refusal;
 pub use replaying::replay;
 pub use rule_game::RuleGame;

@@ -4,7 +4,7 @@ ghost use Rattle.std.specs.Prelude.{◌<◌};
 mod network;
 
 use crate::table::Table;
-use crate::{Game, add_history_refusal, is_stuck, replay};
+use crate::{AtBound, Game, add_history_refusal, is_stuck, replay};
 use kif::read;
 use std::alloc::Global;
 use std::io::Write;
@@ -112,4 +112,14 @@ fn refusal_leaves_the_position(rt: HostRuntime) -> Result<(), Fail> {
         assert_eq!(rt; got.as_slice(), want);
     }
     Ok(())
+}
+
+#[test]
+fn bound_is_read_by_its_word(rt: HostRuntime) {
+    assert!(rt; AtBound::parse(b"zero") == Some(AtBound::Zero));
+    assert!(rt; AtBound::parse(b"goal") == Some(AtBound::Goal));
+    let others: [&[u8]; 7] = [b"", b"Zero", b"GOAL", b"goa", b"goals", b"zero ", b"0"];
+    for text in others {
+        assert!(rt; AtBound::parse(text).is_none());
+    }
 }

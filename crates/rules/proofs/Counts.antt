@@ -12,6 +12,7 @@ use Rattle.rules.specs.Items.{readings, list_readings, readings_in_turn, reading
 use Rattle.rules.specs.Words.{w_or, w_and, w_not}
 use Rattle.rules.specs.Parts.{HasNoWord}
 use Rattle.rules.specs.Connectives.{IsNoConnective, IsConnectiveOf}
+use Rattle.rules.specs.Limits.{most_alternatives}
 
 length-behind_each : (a : List Literal) (bs : List (List Literal)) → length (behind_each a bs) ≡ length bs
 length-behind_each a [] = refl
@@ -39,7 +40,7 @@ readings_of_all-more es i e h same =
 
 -- a sum and a product up to a number
 
-min_sum : (c x y : ℕ) → min 65 (min 65 (c + min 65 x) + y) ≡ min 65 (c + (x + y))
+min_sum : (c x y : ℕ) → min (suc most_alternatives) (min (suc most_alternatives) (c + min (suc most_alternatives) x) + y) ≡ min (suc most_alternatives) (c + (x + y))
 min_sum c x y = omega arith
 
 either_way : (a b : ℕ) → (a ≤ b) ⊎ (b ≤ a)
@@ -47,33 +48,33 @@ either_way zero b = inl (omega arith)
 either_way (suc a) zero = inr (omega arith)
 either_way (suc a) (suc b) = elim (either_way a b) [ inl h ↦ inl (let k = h in omega arith) | inr h ↦ inr (let k = h in omega arith) ]
 
-min_times : (a b : ℕ) → min 65 (min 65 a * b) ≡ min 65 (a * b)
+min_times : (a b : ℕ) → min (suc most_alternatives) (min (suc most_alternatives) a * b) ≡ min (suc most_alternatives) (a * b)
 min_times a zero = omega arith
-min_times a (suc b) = go (either_way a 65)
+min_times a (suc b) = go (either_way a (suc most_alternatives))
   where
-    go : (a ≤ 65) ⊎ (65 ≤ a) → min 65 (min 65 a * suc b) ≡ min 65 (a * suc b)
-    go (inl h) = ap (λ (k : ℕ). min 65 (k * suc b)) (let e : min 65 a ≡ a = omega arith in e)
-    go (inr h) = let d = mul-suc a b in let f = mul-suc (min 65 a) b in omega arith
+    go : (a ≤ suc most_alternatives) ⊎ (suc most_alternatives ≤ a) → min (suc most_alternatives) (min (suc most_alternatives) a * suc b) ≡ min (suc most_alternatives) (a * suc b)
+    go (inl h) = ap (λ (k : ℕ). min (suc most_alternatives) (k * suc b)) (let e : min (suc most_alternatives) a ≡ a = omega arith in e)
+    go (inr h) = let d = mul-suc a b in let f = mul-suc (min (suc most_alternatives) a) b in omega arith
 
-min_times_right : (a b : ℕ) → min 65 (a * min 65 b) ≡ min 65 (a * b)
+min_times_right : (a b : ℕ) → min (suc most_alternatives) (a * min (suc most_alternatives) b) ≡ min (suc most_alternatives) (a * b)
 min_times_right a b =
-    ap (min 65) (mul_comm a (min 65 b)) ∙ min_times b a ∙ ap (min 65) (mul_comm b a)
+    ap (min (suc most_alternatives)) (mul_comm a (min (suc most_alternatives) b)) ∙ min_times b a ∙ ap (min (suc most_alternatives)) (mul_comm b a)
 
-min_product : (c x y : ℕ) → min 65 (min 65 (c * min 65 x) * y) ≡ min 65 (c * (x * y))
+min_product : (c x y : ℕ) → min (suc most_alternatives) (min (suc most_alternatives) (c * min (suc most_alternatives) x) * y) ≡ min (suc most_alternatives) (c * (x * y))
 min_product c x y =
-    min_times (c * min 65 x) y
-    ∙ ap (min 65) (mul_assoc c (min 65 x) y)
-    ∙ ap (min 65) (sym (mul_assoc c (min 65 x) y) ∙ ap (λ (k : ℕ). k * y) (mul_comm c (min 65 x)) ∙ mul_assoc (min 65 x) c y)
+    min_times (c * min (suc most_alternatives) x) y
+    ∙ ap (min (suc most_alternatives)) (mul_assoc c (min (suc most_alternatives) x) y)
+    ∙ ap (min (suc most_alternatives)) (sym (mul_assoc c (min (suc most_alternatives) x) y) ∙ ap (λ (k : ℕ). k * y) (mul_comm c (min (suc most_alternatives) x)) ∙ mul_assoc (min (suc most_alternatives) x) c y)
     ∙ min_times x (c * y)
-    ∙ ap (min 65) (sym (mul_assoc x c y) ∙ ap (λ (k : ℕ). k * y) (mul_comm x c) ∙ mul_assoc c x y)
+    ∙ ap (min (suc most_alternatives)) (sym (mul_assoc x c y) ∙ ap (λ (k : ℕ). k * y) (mul_comm x c) ∙ mul_assoc c x y)
 
-pub sum_more : (whole c c' x m y y' : ℕ) → whole ≡ min 65 (c + y') → y' ≡ x + y → m ≡ min 65 x → c' ≡ min (c + m) 65 → whole ≡ min 65 (c' + y)
+pub sum_more : (whole c c' x m y y' : ℕ) → whole ≡ min (suc most_alternatives) (c + y') → y' ≡ x + y → m ≡ min (suc most_alternatives) x → c' ≡ min (c + m) (suc most_alternatives) → whole ≡ min (suc most_alternatives) (c' + y)
 sum_more whole c c' x m y y' e f g h = let k = min_sum c x y in omega arith
 
-pub product_more : (whole c c' x m y y' : ℕ) → whole ≡ min 65 (c * y') → y' ≡ x * y → m ≡ min 65 x → c' ≡ min (c * m) 65 → whole ≡ min 65 (c' * y)
+pub product_more : (whole c c' x m y y' : ℕ) → whole ≡ min (suc most_alternatives) (c * y') → y' ≡ x * y → m ≡ min (suc most_alternatives) x → c' ≡ min (c * m) (suc most_alternatives) → whole ≡ min (suc most_alternatives) (c' * y)
 product_more whole c c' x m y y' e f g h =
-    e ∙ ap (λ (k : ℕ). min 65 (c * k)) f ∙ sym (min_product c x y)
-    ∙ ap (λ (k : ℕ). min 65 (k * y)) (ap (λ (k : ℕ). min 65 (c * k)) (sym g) ∙ (let turn : min 65 (c * m) ≡ c' = omega arith in turn))
+    e ∙ ap (λ (k : ℕ). min (suc most_alternatives) (c * k)) f ∙ sym (min_product c x y)
+    ∙ ap (λ (k : ℕ). min (suc most_alternatives) (k * y)) (ap (λ (k : ℕ). min (suc most_alternatives) (c * k)) (sym g) ∙ (let turn : min (suc most_alternatives) (c * m) ≡ c' = omega arith in turn))
 
 -- what a list is counted as
 
@@ -89,14 +90,14 @@ pub readings_of_and : (w : List ℕ) (rest : Trees) → w ≡ w_and → readings
 readings_of_and w rest e = ap (λ (v : List ℕ). readings (list (tree (name v) rest))) e
 
 -- the count at the limit stands for more than 64
-pub many_tested : (n : ℕ) → (min 65 n == 65) ≡ nat_lt 64 n
+pub many_tested : (n : ℕ) → (min (suc most_alternatives) n == suc most_alternatives) ≡ nat_lt most_alternatives n
 many_tested n = grind (arith, nat_tests)
 
 pub length-item_alternatives : (t : Tree) → length (item_alternatives t) ≡ length (readings_of_all (body_trees t))
 length-item_alternatives t = length-map (readings_of_all (body_trees t)) (λ (b : List Literal). record { head = item_head t; body = b })
 
-pub counted : (t : Tree) (body : Trees) (n : ℕ) → body_trees t ≡ body → n ≡ min 65 (length (readings_of_all body)) → (n == 65) ≡ nat_lt 64 (length (item_alternatives t))
+pub counted : (t : Tree) (body : Trees) (n : ℕ) → body_trees t ≡ body → n ≡ min (suc most_alternatives) (length (readings_of_all body)) → (n == suc most_alternatives) ≡ nat_lt most_alternatives (length (item_alternatives t))
 counted t body n e f =
-    ap (λ (k : ℕ). k == 65) (f ∙ ap (λ (ts : Trees). min 65 (length (readings_of_all ts))) (sym e))
+    ap (λ (k : ℕ). k == suc most_alternatives) (f ∙ ap (λ (ts : Trees). min (suc most_alternatives) (length (readings_of_all ts))) (sym e))
     ∙ many_tested (length (readings_of_all (body_trees t)))
-    ∙ ap (nat_lt 64) (sym (length-item_alternatives t))
+    ∙ ap (nat_lt most_alternatives) (sym (length-item_alternatives t))

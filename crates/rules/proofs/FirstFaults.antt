@@ -11,6 +11,7 @@ use Rattle.rules.specs.Safety.{is_safe, are_safe, variables, count_different}
 use Rattle.rules.specs.Profile.{Fault, Limit, rules_limit, variables_limit, alternatives_limit, roles_limit, limit_passed, too_many_at, with_new, role_in, roles_from, first_failing, first_too_many, or_else, bad_form, bad_keyword, too_many, not_safe, recursive, bad_dependence, no_role, misuses_word, is_unsafe, is_recursive, depends_badly, rests_on_move, some_body, does_relation, none_of, roles, fault_in}
 use Rattle.rules.specs.Lawful.{UsesWordsWell, IsSafe, KeepsLimits, relation, RestsWell}
 use Rattle.rules.specs.Faults.{PassesWith, limit_place, StandsAt, IsFirst, RestsOn, HasForm, IsSafeItem, LeadsTo, RestsOnItself, IsOfTurn, IsOfAllTime, RestsBadly, Each, AllKeepLimits, IsFirstOver, HasFault}
+use Rattle.rules.specs.Limits.{most_items, most_variables, most_alternatives, most_roles}
 use Rattle.rules.proofs.Equality.{relation_eq_yes, relation_eq_self}
 use Rattle.rules.proofs.Tests.{or_cases, or_left, or_right, not_true, not_false}
 use Rattle.rules.proofs.Accepted.{none_fails, not_not, fixed_tested, body_found, straight_acyclic}
@@ -221,24 +222,24 @@ none_under rs n t h roles_limit p = let k = (limits_said n rs t h).2 in omega ar
 under_none : (rs : List Tree) (n : ℕ) (t : Tree) → ((m : Limit) → PassesWith (with_new rs (role_in t)) n t m → ⊥) → limit_passed n rs t ≡ None
 under_none rs n t h =
     limits_found n rs t (λ e. h rules_limit e)
-    (record { variables = low 32 (count_different (variables t)) (λ p. h variables_limit p); alternatives = low 64 (length (item_alternatives t)) (λ p. h alternatives_limit p) })
-    (low 8 (length (with_new rs (role_in t))) (λ p. h roles_limit p))
+    (record { variables = low most_variables (count_different (variables t)) (λ p. h variables_limit p); alternatives = low most_alternatives (length (item_alternatives t)) (λ p. h alternatives_limit p) })
+    (low most_roles (length (with_new rs (role_in t))) (λ p. h roles_limit p))
   where
     low : (m k : ℕ) → (m < k → ⊥) → k ≤ m
     low m k d = grind (arith, d)
 
 some_over : (rs : List Tree) (n : ℕ) (t : Tree) (l : Limit) → limit_passed n rs t ≡ Some l → PassesFirst n t (with_new rs (role_in t)) l
-some_over rs n t l h = go (n == 4097) (nat_lt 32 (count_different (variables t))) (nat_lt 64 (length (item_alternatives t))) (nat_lt 8 (length (with_new rs (role_in t)))) refl refl refl refl h
+some_over rs n t l h = go (n == suc most_items) (nat_lt most_variables (count_different (variables t))) (nat_lt most_alternatives (length (item_alternatives t))) (nat_lt most_roles (length (with_new rs (role_in t)))) refl refl refl refl h
   where
-    go : (a b c d : Bool) → (n == 4097) ≡ a → nat_lt 32 (count_different (variables t)) ≡ b → nat_lt 64 (length (item_alternatives t)) ≡ c → nat_lt 8 (length (with_new rs (role_in t))) ≡ d
+    go : (a b c d : Bool) → (n == suc most_items) ≡ a → nat_lt most_variables (count_different (variables t)) ≡ b → nat_lt most_alternatives (length (item_alternatives t)) ≡ c → nat_lt most_roles (length (with_new rs (role_in t))) ≡ d
         → cond a (Some rules_limit) (cond b (Some variables_limit) (cond c (Some alternatives_limit) (cond d (Some roles_limit) None))) ≡ Some l
         → PassesFirst n t (with_new rs (role_in t)) l
-    go true b c d e f g i k = subst (PassesFirst n t (with_new rs (role_in t))) (let s : rules_limit ≡ l = cc in s) (record { passes = eqb-true n 4097 e; sooner = λ m lt. absurd (omega arith) })
+    go true b c d e f g i k = subst (PassesFirst n t (with_new rs (role_in t))) (let s : rules_limit ≡ l = cc in s) (record { passes = eqb-true n (suc most_items) e; sooner = λ m lt. absurd (omega arith) })
     go false true c d e f g i k = subst (PassesFirst n t (with_new rs (role_in t))) (let s : variables_limit ≡ l = cc in s)
-        (record { passes = over 32 (count_different (variables t)) f; sooner = before_variables })
+        (record { passes = over most_variables (count_different (variables t)) f; sooner = before_variables })
       where
         before_variables : (m : Limit) → limit_place m < 1 → PassesWith (with_new rs (role_in t)) n t m → ⊥
-        before_variables rules_limit lt p = let q : (n == 4097) ≡ true = eq-eqb n 4097 p in absurd cc
+        before_variables rules_limit lt p = let q : (n == suc most_items) ≡ true = eq-eqb n (suc most_items) p in absurd cc
         before_variables variables_limit lt p = absurd (omega arith)
         before_variables alternatives_limit lt p = absurd (omega arith)
         before_variables roles_limit lt p = absurd (omega arith)
@@ -246,7 +247,7 @@ some_over rs n t l h = go (n == 4097) (nat_lt 32 (count_different (variables t))
         over : (m k : ℕ) → nat_lt m k ≡ true → m < k
         over m k h = grind (arith, nat_tests)
     go false false true d e f g i k = subst (PassesFirst n t (with_new rs (role_in t))) (let s : alternatives_limit ≡ l = cc in s)
-        (record { passes = over 64 (length (item_alternatives t)) g; sooner = before_alternatives })
+        (record { passes = over most_alternatives (length (item_alternatives t)) g; sooner = before_alternatives })
       where
         over : (m k : ℕ) → nat_lt m k ≡ true → m < k
         over m k h = grind (arith, nat_tests)
@@ -255,12 +256,12 @@ some_over rs n t l h = go (n == 4097) (nat_lt 32 (count_different (variables t))
         not_over m k h lt = grind (arith, nat_tests)
 
         before_alternatives : (m : Limit) → limit_place m < 2 → PassesWith (with_new rs (role_in t)) n t m → ⊥
-        before_alternatives rules_limit lt p = let q : (n == 4097) ≡ true = eq-eqb n 4097 p in absurd cc
-        before_alternatives variables_limit lt p = not_over 32 (count_different (variables t)) f p
+        before_alternatives rules_limit lt p = let q : (n == suc most_items) ≡ true = eq-eqb n (suc most_items) p in absurd cc
+        before_alternatives variables_limit lt p = not_over most_variables (count_different (variables t)) f p
         before_alternatives alternatives_limit lt p = absurd (omega arith)
         before_alternatives roles_limit lt p = absurd (omega arith)
     go false false false true e f g i k = subst (PassesFirst n t (with_new rs (role_in t))) (let s : roles_limit ≡ l = cc in s)
-        (record { passes = over 8 (length (with_new rs (role_in t))) i; sooner = before_roles })
+        (record { passes = over most_roles (length (with_new rs (role_in t))) i; sooner = before_roles })
       where
         over : (m k : ℕ) → nat_lt m k ≡ true → m < k
         over m k h = grind (arith, nat_tests)
@@ -269,9 +270,9 @@ some_over rs n t l h = go (n == 4097) (nat_lt 32 (count_different (variables t))
         not_over m k h lt = grind (arith, nat_tests)
 
         before_roles : (m : Limit) → limit_place m < 3 → PassesWith (with_new rs (role_in t)) n t m → ⊥
-        before_roles rules_limit lt p = let q : (n == 4097) ≡ true = eq-eqb n 4097 p in absurd cc
-        before_roles variables_limit lt p = not_over 32 (count_different (variables t)) f p
-        before_roles alternatives_limit lt p = not_over 64 (length (item_alternatives t)) g p
+        before_roles rules_limit lt p = let q : (n == suc most_items) ≡ true = eq-eqb n (suc most_items) p in absurd cc
+        before_roles variables_limit lt p = not_over most_variables (count_different (variables t)) f p
+        before_roles alternatives_limit lt p = not_over most_alternatives (length (item_alternatives t)) g p
         before_roles roles_limit lt p = absurd (omega arith)
     go false false false false e f g i k = absurd cc
 

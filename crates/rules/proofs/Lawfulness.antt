@@ -10,6 +10,7 @@ use Rattle.rules.specs.Items.{is_item, item_head, item_alternatives, body_trees,
 use Rattle.rules.specs.Safety.{variables, variables_in, is_binding, bound, needed, is_name_in, are_names_in, is_safe, are_safe, count_different}
 use Rattle.rules.specs.Profile.{Fault, Limit, rules_limit, variables_limit, alternatives_limit, roles_limit, limit_passed, too_many_at, first_too_many, with_new, role_in, roles_from, is_tree_in, or_else, first_failing, bad_form, bad_keyword, not_safe, recursive, bad_dependence, none_of, Use, uses, heads_well, stands_well, body_stands_well, bodies_stand_well, is_empty, is_role_well, misuses_word, is_unsafe, is_recursive, some_body, some_literal, does_relation, rests_on_move, depends_badly, roles, HasNoFault}
 use Rattle.rules.specs.Lawful.{MayHead, MayStand, UsesWordsWell, IsBound, IsSafe, KeepsLimits, relation, RestsWell, IsLawful}
+use Rattle.rules.specs.Limits.{most_items, most_variables, most_alternatives, most_roles}
 use Rattle.rules.proofs.Equality.{relation_eq_yes, relation_eq_self}
 use Rattle.rules.proofs.Tests.{or_cases, or_left, or_right, not_true, not_false, decide, IsAmong-append, IsAmong-append_left, IsAmong-append_right}
 use Rattle.rules.proofs.Accepted.{or_none, none_fails, accepted_acyclic, rule_item, same_head, not_not, right_if, fixed_tested, body_found}
@@ -184,31 +185,31 @@ safety_found rule s = names_found (variables_in rule.head.terms ++ needed rule.b
 
 -- Limits.
 
-pub limits_said : (n : ℕ) (before : List Tree) (t : Tree) → limit_passed n before t ≡ None → (n ≡ 4097 → ⊥) × KeepsLimits t × (length (with_new before (role_in t)) ≤ 8)
-limits_said n before t h = go (n == 4097) (nat_lt 32 (count_different (variables t))) (nat_lt 64 (length (item_alternatives t))) (nat_lt 8 (length (with_new before (role_in t)))) refl refl refl refl h
+pub limits_said : (n : ℕ) (before : List Tree) (t : Tree) → limit_passed n before t ≡ None → (n ≡ suc most_items → ⊥) × KeepsLimits t × (length (with_new before (role_in t)) ≤ most_roles)
+limits_said n before t h = go (n == suc most_items) (nat_lt most_variables (count_different (variables t))) (nat_lt most_alternatives (length (item_alternatives t))) (nat_lt most_roles (length (with_new before (role_in t)))) refl refl refl refl h
   where
-    go : (a b c d : Bool) → (n == 4097) ≡ a → nat_lt 32 (count_different (variables t)) ≡ b → nat_lt 64 (length (item_alternatives t)) ≡ c → nat_lt 8 (length (with_new before (role_in t))) ≡ d
+    go : (a b c d : Bool) → (n == suc most_items) ≡ a → nat_lt most_variables (count_different (variables t)) ≡ b → nat_lt most_alternatives (length (item_alternatives t)) ≡ c → nat_lt most_roles (length (with_new before (role_in t))) ≡ d
         → cond a (Some rules_limit) (cond b (Some variables_limit) (cond c (Some alternatives_limit) (cond d (Some roles_limit) None))) ≡ None
-        → (n ≡ 4097 → ⊥) × KeepsLimits t × (length (with_new before (role_in t)) ≤ 8)
+        → (n ≡ suc most_items → ⊥) × KeepsLimits t × (length (with_new before (role_in t)) ≤ most_roles)
     go true b c d e f g i k = absurd cc
     go false true c d e f g i k = absurd cc
     go false false true d e f g i k = absurd cc
     go false false false true e f g i k = absurd cc
     go false false false false e f g i k = (
-      (λ s. let q : (n == 4097) ≡ true = eq-eqb n 4097 s in absurd cc),
-      record { variables = low 32 (count_different (variables t)) f; alternatives = low 64 (length (item_alternatives t)) g },
-      low 8 (length (with_new before (role_in t))) i,
+      (λ s. let q : (n == suc most_items) ≡ true = eq-eqb n (suc most_items) s in absurd cc),
+      record { variables = low most_variables (count_different (variables t)) f; alternatives = low most_alternatives (length (item_alternatives t)) g },
+      low most_roles (length (with_new before (role_in t))) i,
     )
       where
         low : (m k : ℕ) → nat_lt m k ≡ false → k ≤ m
         low m k h = grind (arith, nat_tests)
 
-pub limits_found : (n : ℕ) (before : List Tree) (t : Tree) → (n ≡ 4097 → ⊥) → KeepsLimits t → length (with_new before (role_in t)) ≤ 8 → limit_passed n before t ≡ None
+pub limits_found : (n : ℕ) (before : List Tree) (t : Tree) → (n ≡ suc most_items → ⊥) → KeepsLimits t → length (with_new before (role_in t)) ≤ most_roles → limit_passed n before t ≡ None
 limits_found n before t d k l =
-    rw (differs (n == 4097) refl, within 32 (count_different (variables t)) k.variables, within 64 (length (item_alternatives t)) k.alternatives, within 8 (length (with_new before (role_in t))) l) refl
+    rw (differs (n == suc most_items) refl, within most_variables (count_different (variables t)) k.variables, within most_alternatives (length (item_alternatives t)) k.alternatives, within most_roles (length (with_new before (role_in t))) l) refl
   where
-    differs : (b : Bool) → (n == 4097) ≡ b → (n == 4097) ≡ false
-    differs true e = absurd (d (eqb-true n 4097 e))
+    differs : (b : Bool) → (n == suc most_items) ≡ b → (n == suc most_items) ≡ false
+    differs true e = absurd (d (eqb-true n (suc most_items) e))
     differs false e = e
 
     within : (m k : ℕ) → k ≤ m → nat_lt m k ≡ false
@@ -228,24 +229,24 @@ roles_from_longer rs (t ∷ ts) = let a = with_new_longer rs (role_in t) in let 
 
 -- no limit is passed from item n on
 pub record KeepLimits (n : ℕ) (before ts : List Tree) : Type 0 where
-  pub few : n + length ts ≤ 4097
+  pub few : n + length ts ≤ suc most_items
   pub each : (t : Tree) → IsAmong t ts → KeepsLimits t
-  pub few_roles : length (roles_from before ts) ≤ 8
+  pub few_roles : length (roles_from before ts) ≤ most_roles
 
 pub none_too_many : (n : ℕ) (o : Option Limit) (rest : Option Fault) → or_else (too_many_at n o) rest ≡ None → (o ≡ None) × (rest ≡ None)
 none_too_many n None rest h = (refl, h)
 none_too_many n (Some l) rest h = absurd cc
 
-pub many_said : (n : ℕ) (before ts : List Tree) → n ≤ 4097 → length before ≤ 8 → first_too_many n before ts ≡ None → KeepLimits n before ts
+pub many_said : (n : ℕ) (before ts : List Tree) → n ≤ suc most_items → length before ≤ most_roles → first_too_many n before ts ≡ None → KeepLimits n before ts
 many_said n before [] le few h = record { few = omega arith; each = λ t a. absurd a; few_roles = few }
 many_said n before (t ∷ ts) le few h =
     let k = none_too_many n (limit_passed n before t) (first_too_many (suc n) (with_new before (role_in t)) ts) h in
     let l = limits_said n before t k.0 in
-    let low : suc n ≤ 4097 = below n le l.0 in
+    let low : suc n ≤ suc most_items = below n le l.0 in
     let rest = many_said (suc n) (with_new before (role_in t)) ts low l.2 k.1 in
     record { few = (let r = rest.few in omega arith); each = λ u a. one u l.1 rest.each a; few_roles = rest.few_roles }
   where
-    below : (m : ℕ) → m ≤ 4097 → (m ≡ 4097 → ⊥) → suc m ≤ 4097
+    below : (m : ℕ) → m ≤ suc most_items → (m ≡ suc most_items → ⊥) → suc m ≤ suc most_items
     below m h d = grind (arith, d)
 
     one : (u : Tree) → KeepsLimits t → ((v : Tree) → IsAmong v ts → KeepsLimits v) → (u ≡ t) ⊎ IsAmong u ts → KeepsLimits u

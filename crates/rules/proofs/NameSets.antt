@@ -12,6 +12,7 @@ use Rattle.kif.proofs.Equality.{name_eq_yes, name_eq_self}
 use Rattle.kif.proofs.Writing.{parts_from, no_parts}
 use Rattle.rules.specs.Names.{names_behind, HasSameNames, AreDifferent, Gathers}
 use Rattle.rules.specs.Safety.{is_name_in, variables, variables_in, count_different}
+use Rattle.rules.specs.Limits.{most_variables}
 use Rattle.rules.proofs.Tests.{or_cases, or_left, or_right}
 
 pub is_name_in-append : (n : List ℕ) (xs ys : List (List ℕ)) → is_name_in n (xs ++ ys) ≡ (is_name_in n xs || is_name_in n ys)
@@ -133,7 +134,7 @@ gathers_new n old new d h e = record {
       ap count_different e ∙ (let k : count_different (old ++ n ∷ []) ≡ length (old ++ n ∷ []) = omega arith in k) ∙ ap length (sym e);
 }
 
-pub too_many : (n : List ℕ) (old : List (List ℕ)) → AreDifferent old → false ≡ is_name_in n old → length old ≡ 32 → 32 < count_different (n ∷ old)
+pub too_many : (n : List ℕ) (old : List (List ℕ)) → AreDifferent old → false ≡ is_name_in n old → length old ≡ most_variables → most_variables < count_different (n ∷ old)
 too_many n old d h e = let c = count_new n old h in omega arith
 
 or_turn : (v r s : Bool) → (r || (v || s)) ≡ ((v || r) || s)
@@ -158,7 +159,7 @@ or_within true r s h = refl
 or_within false true s h = refl
 or_within false false s h = h
 
-pub many_already : (rest v r s whole : List (List ℕ)) → rest ≡ v ++ r → HasSameNames (rest ++ s) whole → 32 < count_different (v ++ s) → 32 < count_different whole
+pub many_already : (rest v r s whole : List (List ℕ)) → rest ≡ v ++ r → HasSameNames (rest ++ s) whole → most_variables < count_different (v ++ s) → most_variables < count_different whole
 many_already rest v r s whole e h m =
     let k = count_le (v ++ s) whole (λ n j.
     sym (h n) ∙ ap (λ (xs : List (List ℕ)). is_name_in n (xs ++ s)) e ∙ is_name_in-append n (v ++ r) s
@@ -193,13 +194,13 @@ names_behind-last [] r = refl
 names_behind-last (s ∷ rs) r = ap (λ (ns : List (List ℕ)). s.now ∷ ns) (names_behind-last rs r)
 
 -- what a full or a large enough room for names says
-pub fits_or_not : (b : Bool) (old new more : List (List ℕ)) → old ≡ [] → length new ≤ 32 → OnTrue b (Gathers old new more) → OnFalse b (32 < count_different (more ++ old))
-    → not b ≡ nat_lt 32 (count_different more)
+pub fits_or_not : (b : Bool) (old new more : List (List ℕ)) → old ≡ [] → length new ≤ most_variables → OnTrue b (Gathers old new more) → OnFalse b (most_variables < count_different (more ++ old))
+    → not b ≡ nat_lt most_variables (count_different more)
 fits_or_not true old new more e l y n =
     let s = same_count new more (λ m. y.same m ∙ ap (λ (xs : List (List ℕ)). is_name_in m (more ++ xs)) e ∙ ap (is_name_in m) (append-nil more)) in
     let d = y.different in
-    let le : count_different more ≤ 32 = omega arith in
+    let le : count_different more ≤ most_variables = omega arith in
     grind (arith, nat_tests)
 fits_or_not false old new more e l y n =
-    let lt : 32 < count_different more = subst (λ (xs : List (List ℕ)). 32 < count_different xs) (ap (λ (xs : List (List ℕ)). more ++ xs) e ∙ append-nil more) n in
+    let lt : most_variables < count_different more = subst (λ (xs : List (List ℕ)). most_variables < count_different xs) (ap (λ (xs : List (List ℕ)). more ++ xs) e ∙ append-nil more) n in
     grind (arith, nat_tests)

@@ -17,6 +17,7 @@ use Rattle.rules.specs.Items.{atom_in, head_tree, body_trees, item_head, is_some
 use Rattle.rules.specs.Parts.{HasNoWord}
 use Rattle.rules.specs.Profile.{Fault, Limit, roles_limit, too_many, or_else, too_many_at, first_too_many, is_tree_in, limit_passed, first_of, role_in, with_new, roles_from, roles}
 use Rattle.rules.specs.Stated.{AddsRole, AreRolePlaces, role_at, roles_at, HasExcess, HasRoleLimitAlone}
+use Rattle.rules.specs.Limits.{most_roles}
 
 -- Lists of trees compared part by part.
 
@@ -73,7 +74,7 @@ pub adds_old : (items : List Tree) (old : List ℕ) (place : ℕ) (r : Tree) →
 adds_old items old place r p e h = record { roles = sym (with_new_old r (roles_at items old) h) ∙ ap (with_new (roles_at items old)) (sym e); places = p }
 
 pub adds_new : (items : List Tree) (old new : List ℕ) (place : ℕ) (r : Tree) → AreRolePlaces items old → place < length items → role_at items place ≡ r ∷ [] → false ≡ is_tree_in r (roles_at items old)
-    → new ≡ old ++ place ∷ [] → length old < 8 → AddsRole items old new place
+    → new ≡ old ++ place ∷ [] → length old < most_roles → AddsRole items old new place
 adds_new items old new place r p lt e h n room = record {
   roles = same ∙ sym (with_new_new r (roles_at items old) h) ∙ ap (with_new (roles_at items old)) (sym e);
   places = record {
@@ -86,10 +87,10 @@ adds_new items old new place r p lt e h n room = record {
     same : roles_at items new ≡ roles_at items old ++ r ∷ []
     same = ap (roles_at items) n ∙ roles_at-last items old place ∙ ap (λ (ts : List Tree). roles_at items old ++ ts) e
 
-pub adds_too_many : (items : List Tree) (old : List ℕ) (place : ℕ) (r : Tree) → AreRolePlaces items old → role_at items place ≡ r ∷ [] → false ≡ is_tree_in r (roles_at items old) → length old ≡ 8
-    → 8 < length (with_new (roles_at items old) (role_at items place))
+pub adds_too_many : (items : List Tree) (old : List ℕ) (place : ℕ) (r : Tree) → AreRolePlaces items old → role_at items place ≡ r ∷ [] → false ≡ is_tree_in r (roles_at items old) → length old ≡ most_roles
+    → most_roles < length (with_new (roles_at items old) (role_at items place))
 adds_too_many items old place r p e h full =
-    let P : List Tree → Type 0 = λ ts. 8 < length ts in
+    let P : List Tree → Type 0 = λ ts. most_roles < length ts in
     subst P (sym (ap (with_new (roles_at items old)) e ∙ with_new_new r (roles_at items old) h))
     (let a = length-append (roles_at items old) (r ∷ []) in let c = p.each_one in omega arith)
 
@@ -178,20 +179,20 @@ excess_here es i e places excess l h same x =
     l.fault ∙ ap (first_too_many (i + 1) (roles_at (trees_in es) places)) (parts_from es i e h same)
     ∙ too_many_here (i + 1) (roles_at (trees_in es) places) (tree_of e) _ (limit_of excess) (x (roles_at (trees_in es) places))
 
-above : (n : ℕ) → 8 < n → nat_lt 8 n ≡ true
+above : (n : ℕ) → most_roles < n → nat_lt most_roles n ≡ true
 above n h = grind (arith, nat_tests)
 
-not_above : (n : ℕ) → n ≤ 8 → nat_lt 8 n ≡ false
+not_above : (n : ℕ) → n ≤ most_roles → nat_lt most_roles n ≡ false
 not_above n h = grind (arith, nat_tests)
 
 pub roles_here : {A : Type 0} (es : List (Expr A)) (i : ℕ) (e : Expr A) (places : List ℕ) → IsListedTo es i places → i < length es → e ≡ get_or es i e
-    → HasRoleLimitAlone (i + 1) (tree_of e) → 8 < length (with_new (roles_at (trees_in es) places) (role_at (trees_in es) i))
+    → HasRoleLimitAlone (i + 1) (tree_of e) → most_roles < length (with_new (roles_at (trees_in es) places) (role_at (trees_in es) i))
     → first_too_many 1 [] (trees_in es) ≡ Some (too_many (i + 1) roles_limit)
 roles_here es i e places l h same x many =
     l.fault ∙ ap (first_too_many (i + 1) (roles_at (trees_in es) places)) (parts_from es i e h same)
     ∙ too_many_here (i + 1) (roles_at (trees_in es) places) (tree_of e) _ roles_limit
     (x (roles_at (trees_in es) places)
-    ∙ ap (λ (ts : List Tree). cond (nat_lt 8 (length (with_new (roles_at (trees_in es) places) ts))) (Some roles_limit) None) (sym (role_at-here es i e h same))
+    ∙ ap (λ (ts : List Tree). cond (nat_lt most_roles (length (with_new (roles_at (trees_in es) places) ts))) (Some roles_limit) None) (sym (role_at-here es i e h same))
     ∙ ap (λ (b : Bool). cond b (Some roles_limit) None) (above _ many))
 
 pub listed_more : {A : Type 0} (es : List (Expr A)) (i : ℕ) (e : Expr A) (places more : List ℕ) → IsListedTo es i places → i < length es → e ≡ get_or es i e
@@ -202,7 +203,7 @@ listed_more es i e places more l h same x a =
     let size = ap length new in
     let few = a.places.few in
     let each = a.places.each_one in
-    let low : length (with_new (roles_at (trees_in es) places) (role_in (tree_of e))) ≤ 8 = omega arith in
+    let low : length (with_new (roles_at (trees_in es) places) (role_in (tree_of e))) ≤ most_roles = omega arith in
     record {
       fault = l.fault ∙ ap (first_too_many (i + 1) (roles_at (trees_in es) places)) (parts_from es i e h same)
           ∙ too_many_later (i + 1) (i + 1 + 1) (roles_at (trees_in es) places) (tree_of e) (trees_in (drop (i + 1) es)) (omega arith)

@@ -2,6 +2,7 @@
 use Rattle.std.specs.Prelude.{ℕ, zero, suc, true, false, ◌≡◌, ◌<◌, ◌≤◌, ◌⊎◌, List, [], ◌∷◌, length, take}
 use Rattle.kif.specs.Tree.{Tree}
 use Rattle.rules.specs.Words.{w_base, w_input, w_init, w_legal, w_goal, w_terminal}
+use Rattle.rules.specs.Limits.{most_items, most_variables, most_alternatives, most_roles}
 use Rattle.rules.specs.Clause.{Literal, Alternative, Relation, relation_of, atom_of}
 use Rattle.rules.specs.Dependence.{IsAmong, is_distinct, Depends, IsAcyclic, IsFixed}
 use Rattle.rules.specs.Items.{is_item, item_head, item_alternatives, alternatives}
@@ -66,16 +67,16 @@ Each P items = (t : Tree) → IsAmong t items → P t
 
 -- the limits of the whole list and of each item
 pub record AllKeepLimits (items : List Tree) : Type 0 where
-  pub few_items : length items ≤ 4096
+  pub few_items : length items ≤ most_items
   pub each : Each KeepsLimits items
-  pub few_roles : length (roles items) ≤ 8
+  pub few_roles : length (roles items) ≤ most_roles
 
 -- item n passes the limit, where the roles up to it are these
 abbrev pub PassesWith : List Tree → ℕ → Tree → Limit → Type 0
-PassesWith rs n t rules_limit = n ≡ 4097
-PassesWith rs n t variables_limit = 32 < count_different (variables t)
-PassesWith rs n t alternatives_limit = 64 < length (item_alternatives t)
-PassesWith rs n t roles_limit = 8 < length rs
+PassesWith rs n t rules_limit = n ≡ suc most_items
+PassesWith rs n t variables_limit = most_variables < count_different (variables t)
+PassesWith rs n t alternatives_limit = most_alternatives < length (item_alternatives t)
+PassesWith rs n t roles_limit = most_roles < length rs
 
 -- the same, by the roles of the items up to it
 abbrev pub Passes : List Tree → ℕ → Tree → Limit → Type 0

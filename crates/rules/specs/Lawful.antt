@@ -2,6 +2,7 @@
 use Rattle.std.specs.Prelude.{ℕ, suc, Bool, true, false, ◌≡◌, ◌≤◌, ◌<◌, ◌⊎◌, List, [], length, Option, Some, None, slice_get}
 use Rattle.kif.specs.Tree.{Tree, no_trees}
 use Rattle.rules.specs.Words.{w_role, w_base, w_input, w_init, w_legal, w_goal, w_terminal}
+use Rattle.rules.specs.Limits.{most_items, most_variables, most_alternatives, most_roles}
 use Rattle.rules.specs.Clause.{Literal, Alternative, Relation, relation_of, atom_of}
 use Rattle.rules.specs.Dependence.{IsAmong, DependsDirectly, Depends, IsAcyclic, IsFixed}
 use Rattle.rules.specs.Items.{is_item, item_head, item_alternatives, body_trees, alternatives}
@@ -36,8 +37,8 @@ pub record IsSafe (rule : Alternative) : Type 0 where
 
 -- how much an item may hold
 pub record KeepsLimits (t : Tree) : Type 0 where
-  pub variables : count_different (variables t) ≤ 32
-  pub alternatives : length (item_alternatives t) ≤ 64
+  pub variables : count_different (variables t) ≤ most_variables
+  pub alternatives : length (item_alternatives t) ≤ most_alternatives
 
 abbrev pub relation : List ℕ → ℕ → Relation
 relation w n = record { word = w; arity = n }
@@ -56,9 +57,9 @@ pub record RestsWell (rules : List Alternative) : Type 0 where
 pub record IsLawful (items : List Tree) : Type 0 where
   pub forms : (t : Tree) → IsAmong t items → is_item t ≡ true
   pub words : (t : Tree) → IsAmong t items → UsesWordsWell t
-  pub few_items : length items ≤ 4096
+  pub few_items : length items ≤ most_items
   pub limits : (t : Tree) → IsAmong t items → KeepsLimits t
-  pub few_roles : length (roles items) ≤ 8
+  pub few_roles : length (roles items) ≤ most_roles
   pub safe : (rule : Alternative) → IsAmong rule (alternatives items) → IsSafe rule
   pub acyclic : IsAcyclic (alternatives items)
   pub rests : RestsWell (alternatives items)

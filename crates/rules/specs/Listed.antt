@@ -4,6 +4,7 @@ use Rattle.std.specs.declared.cmp.Ordering.TheVariants.{Less}
 use Rattle.kif.specs.Tree.{Tree}
 use Rattle.rules.specs.Clause.{Atom, Literal, Alternative, Relation, relation_of, atom_of}
 use Rattle.rules.specs.Dependence.{IsAmong}
+use Rattle.rules.specs.Limits.{most_roles}
 use Rattle.rules.specs.Items.{is_constant, is_connective, is_term, are_terms, alternatives}
 use Rattle.rules.specs.Order.{relation_cmp}
 use Rattle.rules.specs.Profile.{roles}
@@ -43,10 +44,10 @@ pub record IsLawfulRole (r : Tree) : Type 0 where
   pub term : is_term r ≡ true
   pub no_variable : variables r ≡ []
 
--- all that an accepted list of items speaks of has lawful names, and there are 1 to 8 roles
+-- all that an accepted list of items speaks of has lawful names, and there is a role and there are no more than the limit
 pub record HasLawfulNames (items : List Tree) : Type 0 where
   pub heads : (rule : Alternative) → IsAmong rule (alternatives items) → IsLawfulAtom rule.head
   pub bodies : (rule : Alternative) → IsAmong rule (alternatives items) → (l : Literal) → IsAmong l rule.body → IsLawfulAtom (atom_of l)
   pub are_roles : (r : Tree) → IsAmong r (roles items) → IsLawfulRole r
   pub some_role : 1 ≤ length (roles items)
-  pub few_roles : length (roles items) ≤ 8
+  pub few_roles : length (roles items) ≤ most_roles

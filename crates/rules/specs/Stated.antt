@@ -1,6 +1,7 @@
 -- The roles that items at given places state, and which limit an item passes.
 use Rattle.std.specs.Prelude.{ℕ, suc, zero, All, ◌≡◌, ◌<◌, ◌≤◌, List, [], ◌∷◌, ◌++◌, length, nat_lt, cond, Some, None}
 use Rattle.kif.specs.Tree.{Tree}
+use Rattle.rules.specs.Limits.{most_roles}
 use Rattle.rules.specs.Profile.{roles_limit, too_many, first_too_many, limit_passed, role_in, with_new}
 use Rattle.rules.specs.declared.fault.Excess.{Excess}
 use Rattle.rules.specs.declared.fault.RuleFault.{RuleFault}
@@ -34,13 +35,13 @@ HasExcess n t excess = (before : List Tree) → limit_passed n before t ≡ Some
 
 -- item n passes no limit but that of roles, if it states one too many
 abbrev pub HasRoleLimitAlone : ℕ → Tree → Type 0
-HasRoleLimitAlone n t = (before : List Tree) → limit_passed n before t ≡ cond (nat_lt 8 (length (with_new before (role_in t)))) (Some roles_limit) None
+HasRoleLimitAlone n t = (before : List Tree) → limit_passed n before t ≡ cond (nat_lt most_roles (length (with_new before (role_in t)))) (Some roles_limit) None
 
 -- at each of the places an item states a role
 pub record AreRolePlaces (items : List Tree) (places : List ℕ) : Type 0 where
   pub within : All (λ k. k < length items) places
   pub each_one : length (roles_at items places) ≡ length places
-  pub few : length places ≤ 8
+  pub few : length places ≤ most_roles
 
 -- the new places have the role of one item more, if it was not there
 pub record AddsRole (items : List Tree) (old new : List ℕ) (place : ℕ) : Type 0 where

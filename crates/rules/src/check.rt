@@ -16,9 +16,10 @@ use crate::fault::RuleFault;
 use crate::forms::first_bad_form;
 use crate::keywords::number_keywords;
 use crate::layout::layout_of;
+use crate::limits::ROLES_LIMIT;
 use crate::places::first_misused_word;
 use crate::role_texts::role_texts;
-use crate::roles::{ROLES_MAX, roles_within_limits};
+use crate::roles::roles_within_limits;
 use crate::rule_set::{Keywords, RuleSet};
 use arrayvec::ArrayVec;
 use kif::Expr;
@@ -26,7 +27,7 @@ use std::alloc::{Allocator, Global};
 
 /// The places of the items that state each role for the first time, if the tests of forms, words and
 /// limits are passed. They take no memory.
-fn first_tests<A: Allocator>(items: &[Expr<A>]) -> Result<ArrayVec<usize, ROLES_MAX>, RuleFault>
+fn first_tests<A: Allocator>(items: &[Expr<A>]) -> Result<ArrayVec<usize, ROLES_LIMIT>, RuleFault>
     ensures passed { OnOk result (PassesFirstTests (trees_in items.now)) }
     ensures roles { IfOk result (λ places. roles_at (trees_in items.now) places.items ≡ roles (trees_in items.now)) }
     ensures places { IfOk result (λ places. AreRolePlaces (trees_in items.now) places.items) }

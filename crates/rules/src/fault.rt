@@ -6,13 +6,13 @@ use thiserror::Error;
 /// Of what an item, or the list of items, has more than a limit allows.
 #[derive(Clone, Copy, Debug, PartialEq, Eq)]
 pub enum Excess {
-    /// There are more than 4,096 items.
+    /// There are more items than the limit.
     Rules,
-    /// The item has more than 32 different variables.
+    /// The item has more different variables than the limit.
     Variables,
-    /// The item stands for more than 64 alternatives.
+    /// The item stands for more alternatives than the limit.
     Alternatives,
-    /// The item states a ninth role.
+    /// The item states one role more than the limit.
     Roles,
 }
 

@@ -11,7 +11,7 @@ ghost use Rattle.rules.specs.Profile.{bad_form};
 ghost use Rattle.rules.specs.Connectives.{IsConnectiveOf};
 ghost use Rattle.rules.specs.Parts.{HasNoWord};
 
-use kif::Expr;
+use kif::{Expr, NAME_LIMIT};
 use std::alloc::Allocator;
 
 /// Whether two names have the same bytes.
@@ -41,7 +41,7 @@ fn is_lawful_name(bytes: &[u8]) -> bool
 {
     match bytes {
         [] => false,
-        _ => bytes.len() <= 255 && may_all_name(bytes),
+        _ => bytes.len() <= NAME_LIMIT && may_all_name(bytes),
     }
 }
 

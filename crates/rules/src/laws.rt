@@ -59,7 +59,7 @@ pub fn relations_stand_in_order()
     ensures { (rules : List Alternative) → IsOrderOfHeads rules (relations_in_order rules) }
 {}
 
-/// All that an accepted list of items speaks of has lawful names, and it has 1 to 8 roles.
+/// All that an accepted list of items speaks of has lawful names, and it has at least one role and no more than the limit.
 pub fn accepted_items_have_lawful_names()
     ensures { (items : List Tree) → HasNoFault items → HasLawfulNames items }
 {}

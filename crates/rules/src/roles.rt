@@ -3,22 +3,17 @@ ghost use Rattle.std.specs.Prelude.{◌≡◌, ◌<◌, ◌+◌, [], ◌∷◌, 
 ghost use Rattle.kif.specs.Tree.{tree_eq, trees_eq, trees_of};
 ghost use Rattle.kif.specs.View.{tree_of, trees_in};
 ghost use Rattle.std.specs.Bool.{OnTrue, OnFalse};
+ghost use Rattle.rules.specs.Limits.{most_roles};
 ghost use Rattle.rules.specs.Profile.{first_too_many, is_tree_in, role_in, roles, with_new};
 ghost use Rattle.rules.specs.Stated.{AddsRole, AreRolePlaces, IsSurplus, role_at, roles_at, HasExcess, HasRoleLimitAlone};
 
 use crate::fault::{Excess, RuleFault};
 use crate::forms::{is_same_name, split_item, split_word};
-use crate::limits::has_many_alternatives;
+use crate::limits::{ITEMS_LIMIT, ROLES_LIMIT, has_many_alternatives};
 use crate::variables::has_many_variables;
 use arrayvec::ArrayVec;
 use kif::Expr;
 use std::alloc::Allocator;
-
-/// The number of items that a rule set may have.
-const RULES_MAX: usize = 4096;
-
-/// The number of roles that a rule set may have.
-pub(crate) const ROLES_MAX: usize = 8;
 
 /// Whether two trees are the same.
 #[cycle(sameness)]
@@ -97,7 +92,7 @@ fn is_stated<A: Allocator>(role: &Expr<A>, items: &[Expr<A>], places: &[usize]) 
 fn excess_of<A: Allocator>(place: usize, item: &Expr<A>) -> Option<Excess>
     ensures { MatchOption result (HasRoleLimitAlone (place + 1) (tree_of item.now)) (λ excess. HasExcess (place + 1) (tree_of item.now) excess) }
 {
-    if place == RULES_MAX {
+    if place == ITEMS_LIMIT {
         Some(Excess::Rules)
     } else if has_many_variables(item) {
         Some(Excess::Variables)
@@ -113,12 +108,12 @@ fn excess_of<A: Allocator>(place: usize, item: &Expr<A>) -> Option<Excess>
 fn add_role<A: Allocator>(
     place: usize,
     items: &[Expr<A>],
-    places: &mut ArrayVec<usize, ROLES_MAX>,
+    places: &mut ArrayVec<usize, ROLES_LIMIT>,
 ) -> bool
     requires here { place < length items.now }
     requires places { AreRolePlaces (trees_in items.now) places.old.items }
     ensures added { OnTrue result (AddsRole (trees_in items.now) places.old.items places.new.items place) }
-    ensures many { OnFalse result (8 < length (with_new (roles_at (trees_in items.now) places.old.items) (role_at (trees_in items.now) place))) }
+    ensures many { OnFalse result (most_roles < length (with_new (roles_at (trees_in items.now) places.old.items) (role_at (trees_in items.now) place))) }
 {
     let Some(role) = role_of(&items[place]) else {
         return true;
@@ -136,7 +131,7 @@ fn add_role<A: Allocator>(
 /// first item that passes a limit.
 pub(crate) fn roles_within_limits<A: Allocator>(
     items: &[Expr<A>],
-) -> Result<ArrayVec<usize, ROLES_MAX>, RuleFault>
+) -> Result<ArrayVec<usize, ROLES_LIMIT>, RuleFault>
     ensures within { OnOk result (first_too_many 1 [] (trees_in items.now) ≡ None) }
     ensures roles { IfOk result (λ places. roles_at (trees_in items.now) places.items ≡ roles (trees_in items.now)) }
     ensures places { IfOk result (λ places. AreRolePlaces (trees_in items.now) places.items) }

@@ -1,7 +1,7 @@
 // Games and what `solve` answers, through a run and through the command line.
 use super::games::{FOUR, MARKS, MATCH};
 use super::{replies, told};
-use crate::{Command, Status, run};
+use crate::Command;
 use std::alloc::AllocError;
 
 /// A description, a role, a depth, a history, what is written, and the exit status.
@@ -43,7 +43,7 @@ const LONG: &[u8] =
 const OPEN: &[u8] =
     b"(role a)(base hi)(input a stay)(input a up)(legal a stay)(legal a up)(<= (next hi) (does a up))(<= (goal a 60) (true hi))";
 
-const SOLVED: [Row; 24] = [
+const SOLVED: [Row; 26] = [
     (MATCH, "a", 1, "", b"value 0\nmove h\nline 1 h t\n", 0),
     (MATCH, "b", 1, "", b"value 0\nmove h\nline 1 h h\n", 0),
     (
@@ -58,6 +58,8 @@ const SOLVED: [Row; 24] = [
     (MATCH, "a", 0, "(h h)", b"value 100\nmove none\n", 0),
     (MATCH, "a", 5, "(h h)", b"value 100\nmove none\n", 0),
     (MATCH, "c", 1, "(h x)", b"refused S1 NoSuchRole\n", 2),
+    (MATCH, "-a", 1, "", b"refused S1 NoSuchRole\n", 2),
+    (MATCH, "--depth", 1, "", b"refused S1 NoSuchRole\n", 2),
     (MATCH, "a b", 1, "", b"refused S1 NoSuchRole\n", 2),
     (MATCH, "(a)", 1, "", b"refused S1 NoSuchRole\n", 2),
     (MATCH, "(a", 1, "", b"refused S1 NoSuchRole\n", 2),
@@ -121,29 +123,21 @@ const MARKED: [Row; 3] = [
 ];
 
 #[test]
-fn the_first_turns_are_solved(rt: HostRuntime) -> Result<(), AllocError> {
+fn the_first_turn_is_solved(rt: HostRuntime) -> Result<(), AllocError> {
     assert!(rt; solves(&rt, MARKED[0])?);
     Ok(())
 }
 
-/// Whether a run of `solve` answers what the row says.
-fn is_solved(rt: &HostRuntime, row: Row) -> bool {
-    let (rules, role, depth, after, want, _) = row;
-    let command = Command::Solve { role, depth, after };
-    let mut input = rules;
-    let mut output = Vec::new(rt.alloc());
-    let ended = run(rt, &command, &mut input, &mut output);
-    ended == Ok(Status::Answer) && output.as_slice() == want
+#[test]
+fn a_game_of_many_turns_is_solved(rt: HostRuntime) -> Result<(), AllocError> {
+    assert!(rt; solves(&rt, MARKED[1])?);
+    Ok(())
 }
 
 #[test]
-fn a_game_of_many_turns_is_solved(rt: HostRuntime) {
-    assert!(rt; is_solved(&rt, MARKED[1]));
-}
-
-#[test]
-fn a_game_is_solved_behind_its_first_turn(rt: HostRuntime) {
-    assert!(rt; is_solved(&rt, MARKED[2]));
+fn a_game_is_solved_behind_its_first_turn(rt: HostRuntime) -> Result<(), AllocError> {
+    assert!(rt; solves(&rt, MARKED[2])?);
+    Ok(())
 }
 
 #[test]

@@ -213,10 +213,11 @@ fn a_history_has_at_most_1048576_bytes(rt: HostRuntime) -> Result<(), Fail> {
 
 #[test]
 fn words_that_are_no_history_are_told(rt: HostRuntime) {
-    let lists: [&[&str]; 6] = [
+    let lists: [&[&str]; 7] = [
         &["moves", "(go)"],
         &["moves", "--after"],
         &["moves", "-a", "(go)"],
+        &["moves", "--after", "(go)", "--after", "(go)"],
         &["moves", "--before", "(go)"],
         &["show", "--after", "(go)"],
         &["check", "--after", "(go)"],
@@ -231,7 +232,10 @@ fn words_that_are_no_history_are_told(rt: HostRuntime) {
 }
 
 #[test]
-fn help_tells_of_histories(rt: HostRuntime) {
-    let (status, output, errors) = told(&rt, &["moves", "--help"], b"(");
-    assert!(rt; status == 0 && !output.is_empty() && errors.is_empty());
+fn a_history_may_begin_with_a_dash(rt: HostRuntime) {
+    let refusal = b"refused H1 BadForm 1\n";
+    assert!(rt; moves(&rt, IDLE, "-x", refusal, 2));
+    assert!(rt; moves(&rt, IDLE, "--after", refusal, 2));
+    let (status, output, errors) = told(&rt, &["moves", "--after=-x"], IDLE);
+    assert!(rt; status == 2 && output.as_slice() == refusal.as_slice() && errors.is_empty());
 }

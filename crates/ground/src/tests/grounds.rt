@@ -77,7 +77,7 @@ fn told(rt: &HostRuntime, text: &[u8]) -> Result<Vec<u8>, Fail> {
 }
 
 /// Descriptions with their base propositions, inputs, instances and dropped heads.
-const COUNTED: [(&[u8], &[u8]); 11] = [
+const COUNTED: [(&[u8], &[u8]); 12] = [
     (MATCH, b"2 4 21 0"),
     (TTT, b"29 20 401 0"),
     (
@@ -111,6 +111,14 @@ const COUNTED: [(&[u8], &[u8]); 11] = [
     (b"(role a)(d 1)(e 2)(<= (p ?x) (d ?x) (e ?x))", b"0 0 3 0"),
     // An instance whose negated atom is not possible.
     (b"(role a)(<= (p a) (not (q a)) (not (true b)))", b"0 0 2 0"),
+    // As many roles as there may be.
+    (
+        b"(role r1)(role r2)(role r3)(role r4)(role r5)(role r6)(role r7)(role r8)(role r9)(role r10)(role r11)
+            (role r12)(role r13)(role r14)(role r15)(role r16)(base on)(<= (input ?r go) (role ?r))
+            (<= (legal ?r go) (role ?r))(<= (next on) (does r1 go))(<= terminal (true on))
+            (<= (goal ?r 55) (role ?r) (true on))",
+        b"1 16 67 0",
+    ),
     // A repeated fact counts again.
     (b"(role a)(role a)(d 1)(d 1)", b"0 0 4 0"),
 ];
@@ -124,14 +132,25 @@ fn descriptions_have_their_counts(rt: HostRuntime) -> Result<(), Fail> {
     Ok(())
 }
 
-/// Eight terms, four of which make a base proposition.
-const WIDE: &[u8] = b"(role a)(d 0)(d 1)(d 2)(d 3)(d 4)(d 5)(d 6)(d 7)
+/// Nine terms, four of which make a base proposition.
+const NINE: &[u8] = b"(role a)(d 0)(d 1)(d 2)(d 3)(d 4)(d 5)(d 6)(d 7)(d 8)
     (<= (base (n ?a ?b ?c ?d)) (d ?a) (d ?b) (d ?c) (d ?d))";
 
-const WIDER: &[u8] = b"(role a)(d 0)(d 1)(d 2)(d 3)(d 4)(d 5)(d 6)(d 7)(d 8)
+/// Sixteen terms, so that there are as many base propositions as there may be.
+const SIXTEEN: &[u8] = b"(role a)(d 0)(d 1)(d 2)(d 3)(d 4)(d 5)(d 6)(d 7)
+    (d 8)(d 9)(d 10)(d 11)(d 12)(d 13)(d 14)(d 15)
     (<= (base (n ?a ?b ?c ?d)) (d ?a) (d ?b) (d ?c) (d ?d))";
 
-/// As many inputs.
+/// One base proposition more.
+const ONE_MORE: &[u8] = b"(role a)(d 0)(d 1)(d 2)(d 3)(d 4)(d 5)(d 6)(d 7)
+    (d 8)(d 9)(d 10)(d 11)(d 12)(d 13)(d 14)(d 15)
+    (<= (base (n ?a ?b ?c ?d)) (d ?a) (d ?b) (d ?c) (d ?d))(base last)";
+
+const SEVENTEEN: &[u8] = b"(role a)(d 0)(d 1)(d 2)(d 3)(d 4)(d 5)(d 6)(d 7)
+    (d 8)(d 9)(d 10)(d 11)(d 12)(d 13)(d 14)(d 15)(d 16)
+    (<= (base (n ?a ?b ?c ?d)) (d ?a) (d ?b) (d ?c) (d ?d))";
+
+/// Eight terms, four of which make an input.
 const BROAD: &[u8] = b"(role a)(d 0)(d 1)(d 2)(d 3)(d 4)(d 5)(d 6)(d 7)
     (<= (input a (n ?a ?b ?c ?d)) (d ?a) (d ?b) (d ?c) (d ?d))";
 
@@ -150,8 +169,24 @@ const LONGER: &[u8] =
 
 #[test]
 fn a_limit_may_be_reached(rt: HostRuntime) -> Result<(), Fail> {
-    assert_eq!(rt; told(&rt, WIDE)?.as_slice(), b"4096 0 4105 0".as_slice());
+    assert_eq!(rt; told(&rt, NINE)?.as_slice(), b"6561 0 6571 0".as_slice());
     assert_eq!(rt; told(&rt, LONG)?.as_slice(), b"0 0 11 0".as_slice());
+    Ok(())
+}
+
+#[test]
+fn as_many_base_propositions_may_be_as_the_limit(rt: HostRuntime) -> Result<(), Fail> {
+    let wide = told(&rt, SIXTEEN)?;
+    assert_eq!(rt; wide.as_slice(), b"65536 0 65553 0".as_slice());
+    Ok(())
+}
+
+#[test]
+fn one_base_proposition_more_is_too_many(rt: HostRuntime) -> Result<(), Fail> {
+    let wider = told(&rt, ONE_MORE)?;
+    assert_eq!(rt; wider.as_slice(), b"N1 TooMany base".as_slice());
+    let widest = told(&rt, SEVENTEEN)?;
+    assert_eq!(rt; widest.as_slice(), b"N1 TooMany base".as_slice());
     Ok(())
 }
 
@@ -167,7 +202,6 @@ fn inputs_are_counted_in_all(rt: HostRuntime) -> Result<(), Fail> {
 
 #[test]
 fn the_limit_that_is_passed_is_named(rt: HostRuntime) -> Result<(), Fail> {
-    assert_eq!(rt; told(&rt, WIDER)?.as_slice(), b"N1 TooMany base".as_slice());
     assert_eq!(rt;
         told(&rt, LONGER)?.as_slice(),
         b"N1 TooMany text".as_slice()

@@ -20,7 +20,7 @@ fn answer_to(alloc: Global, text: &[u8]) -> Result<Vec<u8>, Fail> {
     Ok(out)
 }
 
-const ROWS: [(&[u8], &[u8]); 12] = [
+const ROWS: [(&[u8], &[u8]); 13] = [
     (b"(role a)", b"accepted"),
     (b"(role a)(base q)(<= (next q) (true q))", b"accepted"),
     // Each fault, and which one comes first.
@@ -28,8 +28,14 @@ const ROWS: [(&[u8], &[u8]); 12] = [
     (b"(<= (p ?x) (not (q ?x)))(not a)", b"G1 BadForm 2"),
     (b"(role)(<= (p ?x) (p ?x))", b"G2 BadKeyword 1"),
     (
-        b"(role 1)(role 2)(role 3)(role 4)(role 5)(role 6)(role 7)(role 8)(role 9)(<= (p ?x) q)",
-        b"G7 TooMany 9 roles",
+        b"(role 1)(role 2)(role 3)(role 4)(role 5)(role 6)(role 7)(role 8)(role 9)(role 10)(role 11)(role 12)(role 13)
+            (role 14)(role 15)(role 16)(role 1)(role 16)",
+        b"accepted",
+    ),
+    (
+        b"(role 1)(role 2)(role 3)(role 4)(role 5)(role 6)(role 7)(role 8)(role 9)(role 10)(role 11)(role 12)(role 13)
+            (role 14)(role 15)(role 16)(role 17)(<= (p ?x) q)",
+        b"G7 TooMany 17 roles",
     ),
     (b"(<= (p ?x) (not (q ?x)))", b"G3 Unsafe 1"),
     (b"(role a)(<= (p ?x) (p ?x))(<= (q ?x) r)", b"G3 Unsafe 3"),

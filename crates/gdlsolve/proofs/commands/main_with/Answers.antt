@@ -1,5 +1,5 @@
-use Rattle.std.proofs.Common.{◌∙◌, sym}
-use Rattle.gdlsolve.proofs.Ending.{at_most_four, never_two_at_memory, never_one, starved_is_silent, refused_replied, help_is_no_refusal}
+use Rattle.std.proofs.Common.{◌∙◌, sym, inl, inr, rules}
+use Rattle.gdlsolve.proofs.Ending.{at_most_four, never_two_at_memory, never_one, starved_is_silent, refused_replied, answer_replied, help_is_no_refusal}
 use Rattle.gdlsolve.proofs.commands.main_with.Goals as goal
 
 pub returns-in-Run-clause-statuses : goal.returns-in-Run-clause-statuses
@@ -28,3 +28,12 @@ returns-in-Help-clause-starved g c = λ e. starved_is_silent c.write_help-ended.
 
 pub returns-in_default-clause-refused : goal.returns-in_default-clause-refused
 returns-in_default-clause-refused g c = λ e. absurd (never_two_at_memory (sym c.status_of.ensures ∙ e))
+
+pub returns-in-Run-clause-answered : goal.returns-in-Run-clause-answered
+returns-in-Run-clause-answered g c = λ e. inl (answer_replied c.run-ended.result _ _ _ _ _ c.run-ended.ensures.answers (sym c.status_of-in-Run.ensures ∙ e))
+
+pub returns-in_default-clause-answered : goal.returns-in_default-clause-answered
+returns-in_default-clause-answered g c = λ e. inr (search rules)
+
+pub returns-in-Help-clause-answered : goal.returns-in-Help-clause-answered
+returns-in-Help-clause-answered g c = λ e. inr (search rules)

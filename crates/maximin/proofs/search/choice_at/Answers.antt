@@ -42,16 +42,18 @@ loop-own-preserved g c =
     let state = g.G.Game.state c.args.game.now c.args.from.now in
     let here = legal_place rules state c.args.role c.loop-own.place c.in-Some.own c.legal.result c.legal.ensures c.in-Some.is in
     let law = g.met.G.Game g.world.𝓛 g.world.𝓜 g.world.𝓡 ((λ _ x. x), (λ x. x), (λ x. x), λ x. x) in
-    let worth = worst_at_place rules c.args.role c.args.depth state in
+    let worth = worst_at_place rules c.args.role c.args.depth c.args.at state in
     let best = to_z w16 c.loop-own.best-bits in
     let few : worth c.loop-own.place ≤ 100 =
-    worst_at_most rules c.args.role (λ s r. law.goal_within c.args.game.now s r) (c.args.depth - 1) state (get_or (rules.legal state c.args.role) c.loop-own.place 0) in
+    worst_at_most rules c.args.role (λ s r. law.goal_within c.args.game.now s r) (c.args.depth - 1) c.args.at state (get_or (rules.legal state c.args.role) c.loop-own.place 0) in
     let answers : Answers (worth c.loop-own.place) best (pos 101) c.worst_at-worst.result = rw here.1 c.worst_at-worst.ensures.answers in
     let fits : SFits w16 c.worst_at-worst.result = search facts in
     let same = to_z-of_z w16 c.worst_at-worst.result fits in
     record {
       levels = c.worst_at-worst.ensures.levels;
+      wide = c.worst_at-worst.ensures.wide;
       capacities = c.worst_at-worst.ensures.capacities ∙ c.loop-own.invariant.capacities;
+      wide_capacities = c.worst_at-worst.ensures.wide_capacities ∙ c.loop-own.invariant.wide_capacities;
       deep = omega arith;
       in_list = omega (arith, here.0);
       is_best = elim c.if-worst-best.branch [
@@ -70,4 +72,4 @@ returns-clause-choice g c =
     let state = g.G.Game.state c.args.game.now c.args.from.now in
     let free : IsOpen rules c.args.depth state = record { turn = c.if-depth-eq0.false; going = sym c.ended.ensures ∙ c.if-ended.false; free = sym c.is_stuck.ensures ∙ c.if-is_stuck.false } in
     let past : length (rules.legal state c.args.role) ≤ c.loop-own.place = none_past (rules.legal state c.args.role) c.loop-own.place c.legal.result c.legal.ensures c.in_default.is in
-    c.legal-2.ensures ∙ sym (choice_found rules c.args.role c.args.depth state c.loop-own.place _ c.loop-own.chosen free c.requires.role (omega arith) c.loop-own.invariant.is_best)
+    c.legal-2.ensures ∙ sym (choice_found rules c.args.role c.args.depth c.args.at state c.loop-own.place _ c.loop-own.chosen free c.requires.role (omega arith) c.loop-own.invariant.is_best)

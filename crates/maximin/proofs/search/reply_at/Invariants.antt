@@ -12,16 +12,20 @@ invariant-loop-upper g l =
     let rules = g.G.Game.rules l.game in
     let state = g.G.Game.state l.game l.from in
     let lists = choices rules state l.role l.own in
-    let worth : Turn → ℕ = λ j. value rules l.role l.depth (rules.after state j) in
+    let worth : Turn → ℕ = λ j. value rules l.role l.depth l.at (rules.after state j) in
     record {
-      level : IsLevelOf (g.G.Game.fits l.game) rules.roles l.level;
-      rest : All (IsLevelOf (g.G.Game.fits l.game) rules.roles) l.rest;
-      capacities : level_capacities (g.G.Game.capacities l.game) l.level ≡ level_capacities (g.G.Game.capacities l.game) l.initial.level;
-      rest_capacities : all_capacities (g.G.Game.capacities l.game) l.rest ≡ all_capacities (g.G.Game.capacities l.game) l.initial.rest;
+      level : IsLevelOf (g.G.Game.fits l.game) (g.G.Game.fits_many l.game) rules.roles l.level;
+      rest : All (IsLevelOf (g.G.Game.fits l.game) (g.G.Game.fits_many l.game) rules.roles) l.rest;
+      wide : g.G.Game.fits_wide l.game l.wide;
+      capacities : level_capacities (g.G.Game.capacities l.game) (g.G.Game.many_capacities l.game) l.level
+          ≡ level_capacities (g.G.Game.capacities l.game) (g.G.Game.many_capacities l.game) l.initial.level;
+      rest_capacities : all_capacities (g.G.Game.capacities l.game) (g.G.Game.many_capacities l.game) l.rest
+          ≡ all_capacities (g.G.Game.capacities l.game) (g.G.Game.many_capacities l.game) l.initial.rest;
+      wide_capacities : g.G.Game.wide_capacities l.game l.wide ≡ g.G.Game.wide_capacities l.game l.fn.wide;
       deep : l.depth ≤ length l.rest;
       capacity : l.out.capacity ≡ l.fn.out.capacity;
       stands : StandsAt lists l.level.cursor.places.items l.level.cursor.joint.items;
-      is_first : IsFirst worth (turns_with rules state l.role l.own) (worst rules l.role l.depth state l.own)
+      is_first : IsFirst worth (turns_with rules state l.role l.own) (worst rules l.role l.depth l.at state l.own)
           (l.level.cursor.joint.items ∷ later lists l.level.cursor.places.items) l.upper l.out.items;
     }
 

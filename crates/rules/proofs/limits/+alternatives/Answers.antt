@@ -1,8 +1,9 @@
-use Rattle.std.proofs.Common.{ℕ, min, length, List, refl, sym, ap, ◌∙◌, arith}
+use Rattle.std.proofs.Common.{suc, ℕ, min, length, List, refl, sym, ap, ◌∙◌, arith}
 use Rattle.kif.specs.Tree.{trees_of}
 use Rattle.kif.specs.View.{trees_in}
 use Rattle.rules.specs.Clause.{Literal}
 use Rattle.rules.specs.Items.{readings}
+use Rattle.rules.specs.Limits.{most_alternatives}
 use Rattle.rules.proofs.FormTests.{tree_is_slice, tree_is_word}
 use Rattle.rules.proofs.Sizes.{rest_smaller, part_smaller}
 use Rattle.rules.proofs.Counts.{no_word_no_reading, readings_in_turn-more, readings_of_all-more, sum_more, product_more}
@@ -10,8 +11,8 @@ use Rattle.rules.proofs.limits.+alternatives.Goals as goal
 
 pub count_readings-returns-in-None : goal.count_readings-returns-in-None
 count_readings-returns-in-None g t c =
-    sym (ap (λ ts. min 65 (length (readings ts))) (tree_is_slice _ _ _ c.in-List.is c.deref.ensures.value)
-    ∙ ap (λ (bs : List (List Literal)). min 65 (length bs)) (no_word_no_reading _ c.in-None.ensures))
+    sym (ap (λ ts. min (suc most_alternatives) (length (readings ts))) (tree_is_slice _ _ _ c.in-List.is c.deref.ensures.value)
+    ∙ ap (λ (bs : List (List Literal)). min (suc most_alternatives) (length bs)) (no_word_no_reading _ c.in-None.ensures))
 
 pub count_readings_in_turn-count_readings-requires : goal.count_readings_in_turn-count_readings-requires
 count_readings_in_turn-count_readings-requires g t c κs within =

@@ -1,7 +1,8 @@
-use Rattle.std.proofs.Common.{◌≡◌, ◌≤◌, ◌+◌, ◌*◌, ℕ, min, length, drop}
+use Rattle.std.proofs.Common.{suc, ◌≡◌, ◌≤◌, ◌+◌, ◌*◌, ℕ, min, length, drop}
 use Rattle.kif.specs.Tree.{trees_of}
 use Rattle.kif.specs.View.{tree_of, trees_in}
 use Rattle.rules.specs.Items.{readings_in_turn, readings_of_all}
+use Rattle.rules.specs.Limits.{most_alternatives}
 use Rattle.rules.proofs.Sizes.{tree_size, trees_size}
 use Rattle.rules.proofs.limits.+alternatives.Given as goal
 
@@ -16,10 +17,10 @@ decreases-count_readings_of_all g l = trees_size (trees_in l.parts.now)
 
 abbrev pub invariant-count_readings_in_turn-loop-part : goal.invariant-count_readings_in_turn-loop-part
 invariant-count_readings_in_turn-loop-part g l =
-    (min 65 (length (readings_in_turn (trees_of (trees_in l.parts)))) ≡ min 65 (l.count + length (readings_in_turn (trees_of (trees_in (drop l.part-index l.parts))))))
-    × (l.count ≤ 65)
+    (min (suc most_alternatives) (length (readings_in_turn (trees_of (trees_in l.parts)))) ≡ min (suc most_alternatives) (l.count + length (readings_in_turn (trees_of (trees_in (drop l.part-index l.parts))))))
+    × (l.count ≤ suc most_alternatives)
 
 abbrev pub invariant-count_readings_of_all-loop-part : goal.invariant-count_readings_of_all-loop-part
 invariant-count_readings_of_all-loop-part g l =
-    (min 65 (length (readings_of_all (trees_of (trees_in l.parts)))) ≡ min 65 (l.count * length (readings_of_all (trees_of (trees_in (drop l.part-index l.parts))))))
-    × (l.count ≤ 65)
+    (min (suc most_alternatives) (length (readings_of_all (trees_of (trees_in l.parts)))) ≡ min (suc most_alternatives) (l.count * length (readings_of_all (trees_of (trees_in (drop l.part-index l.parts))))))
+    × (l.count ≤ suc most_alternatives)

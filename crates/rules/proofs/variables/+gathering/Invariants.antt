@@ -3,6 +3,7 @@ use Rattle.kif.specs.Tree.{trees_of}
 use Rattle.kif.specs.View.{tree_of, trees_in}
 use Rattle.rules.specs.Names.{names_behind, HasSameNames, AreDifferent}
 use Rattle.rules.specs.Safety.{variables_in}
+use Rattle.rules.specs.Limits.{most_variables}
 use Rattle.rules.proofs.Sizes.{tree_size, trees_size}
 use Rattle.rules.proofs.variables.+gathering.Given as goal
 
@@ -16,4 +17,4 @@ abbrev pub invariant-gather_all-loop-part : goal.invariant-gather_all-loop-part
 invariant-gather_all-loop-part g l =
     HasSameNames (variables_in (trees_of (trees_in (drop l.part-index l.parts))) ++ names_behind l.seen.items) (variables_in (trees_of (trees_in l.parts)) ++ names_behind l.fn.seen.items)
     × AreDifferent (names_behind l.seen.items)
-    × (length l.seen.items ≤ 32)
+    × (length l.seen.items ≤ most_variables)

@@ -1,6 +1,7 @@
 use Rattle.std.proofs.Common.{ℕ, List, ◌∷◌, [], ◌++◌, ◌<◌, refl, sym, ap, subst, ◌∙◌}
 use Rattle.rules.specs.Names.{names_behind, Gathers}
 use Rattle.rules.specs.Safety.{is_name_in, count_different}
+use Rattle.rules.specs.Limits.{most_variables}
 use Rattle.rules.proofs.NameSets.{gathers_none, gathers_old, gathers_new, too_many, variables_of_name, variables_of_constant, length-names_behind, names_behind-last}
 use Rattle.rules.proofs.variables.gather_name.Goals as goal
 
@@ -27,6 +28,6 @@ pub returns-in-Err-clause-many : goal.returns-in-Err-clause-many
 returns-in-Err-clause-many c =
     let old = names_behind c.args.seen.now.items in
     let absent = c.if-is_among.ensures ∙ ap (λ rs. is_name_in c.args.word.now (names_behind rs)) c.deref.ensures.0 in
-    let P : List (List ℕ) → Type 0 = λ vs. 32 < count_different (vs ++ old) in
+    let P : List (List ℕ) → Type 0 = λ vs. most_variables < count_different (vs ++ old) in
     subst P (sym (variables_of_name c.args.word.now c.if-not-is_variable_name.ensures))
     (too_many c.args.word.now old c.requires.different absent (length-names_behind c.args.seen.now.items ∙ c.in-Err.ensures.full))

@@ -2,6 +2,7 @@ use Rattle.std.proofs.Common.{ℕ, List, ◌≡◌, ◌≤◌, ◌∙◌, ap, le
 use Rattle.kif.specs.Tree.{name_eq}
 use Rattle.ground.specs.AtomTexts.{term_text}
 use Rattle.ground.specs.Grounds.{texts_of}
+use Rattle.ground.specs.Most.{limits}
 use Rattle.ground.proofs.TextTables.{slice_inside, text_here, term_here, short_here}
 use Rattle.ground.proofs.atom_table.AtomTable.is_text.Goals as goal
 
@@ -13,7 +14,7 @@ is_term_text-requires-clause-term c = term_here (texts_of c.self.inside.names.it
 
 pub is_term_text-requires-clause-short : goal.is_term_text-requires-clause-short
 is_term_text-requires-clause-short c =
-    subst (λ (names : List (Vec ℕ Global)). length (term_text (texts_of names) c.self.inside.arena (slice_index c.as_slice-atoms.result.now c.args.atom)) ≤ 4096) (sym c.deref.ensures.value)
+    subst (λ (names : List (Vec ℕ Global)). length (term_text (texts_of names) c.self.inside.arena (slice_index c.as_slice-atoms.result.now c.args.atom)) ≤ limits.text) (sym c.deref.ensures.value)
     (short_here (texts_of c.self.inside.names.items) c.self.inside.arena _ _ _ c.self.view_is c.requires _ c.as_slice-atoms.ensures.keys c.self.invariant)
 
 pub returns : goal.returns

@@ -1,0 +1,153 @@
+// The words of the command line: the commands and their options, and the texts of their help.
+use crate::command::Command;
+use clap::error::ErrorKind;
+use std::alloc::{AllocError, Global};
+
+/// The version that `--version` tells.
+const VERSION: &str = "0.1.0";
+
+/// What stands below the help of the program.
+const CLOSING: &str = "Exit status:
+  0  an answer, or help
+  1  words that are no command
+  2  a refusal: one line that names the fault
+  3  no memory
+  4  the input or the output failed
+
+Examples:
+  gdlsolve check < game.kif
+  gdlsolve moves --after \"((mark 1 1) noop)\" < game.kif
+  gdlsolve solve --role xplayer --depth 9 < game.kif";
+
+/// What stands below the help of `moves`.
+const MOVES_EXAMPLE: &str = "Example:
+  gdlsolve moves --after \"((mark 1 1) noop)\" < game.kif";
+
+/// What stands below the help of `solve`.
+const SOLVE_EXAMPLE: &str = "Example:
+  gdlsolve solve --role oplayer --depth 8 --after \"((mark 1 1) noop)\" < game.kif";
+
+/// What the words ask for.
+#[derive(Drop)]
+pub(crate) enum Request<'a> {
+    /// A command to run.
+    Run(Command<'a>),
+    /// A text for the output: help, or the version.
+    Help(clap::Error),
+    /// A text for the errors, since the words are no command.
+    Misuse(clap::Error),
+}
+
+/// The option for the text of a history.
+fn history<'a>(alloc: Global) -> clap::Arg<'a> {
+    clap::Arg::new(alloc, "after")
+        .long("after")
+        .value_name("TEXT")
+        .allow_hyphen_values(true)
+        .help("The turns that were played, each a list of a move for each role")
+}
+
+/// The option for the text of a role.
+fn role<'a>(alloc: Global) -> clap::Arg<'a> {
+    clap::Arg::new(alloc, "role")
+        .long("role")
+        .value_name("ROLE")
+        .required(true)
+        .allow_hyphen_values(true)
+        .help("The role to find a move for")
+}
+
+/// The option for how far to look ahead.
+fn depth<'a>(alloc: Global) -> clap::Arg<'a> {
+    clap::Arg::new(alloc, "depth")
+        .long("depth")
+        .value_name("TURNS")
+        .required(true)
+        .value_parser(clap::value_parser!(u32).range(0..=64))
+        .help("How many turns to look ahead, from 0 to 64")
+}
+
+/// The command `show`.
+fn show<'a>(alloc: Global) -> clap::Command<'a> {
+    clap::Command::new(alloc, "show").about("Write the canonical text of each tree, one a line")
+}
+
+/// The command `check`.
+fn check<'a>(alloc: Global) -> clap::Command<'a> {
+    clap::Command::new(alloc, "check").about(
+        "Name the first fault of the rules, or count what they have",
+    )
+}
+
+/// The command `moves` with its options.
+fn moves<'a>(alloc: Global) -> Result<clap::Command<'a>, AllocError> {
+    clap::Command::new(alloc, "moves")
+        .about(
+            "Tell how play stands after a history, with the goals of an ended game or the legal moves",
+        )
+        .after_help(MOVES_EXAMPLE)
+        .arg(history(alloc))
+}
+
+/// The command `solve` with its options.
+fn solve<'a>(alloc: Global) -> Result<clap::Command<'a>, AllocError> {
+    clap::Command::new(alloc, "solve")
+        .about(
+            "Tell what a role can be sure of after a history, the move that makes sure of it, and the line of play",
+        )
+        .after_help(SOLVE_EXAMPLE)
+        .arg(role(alloc))?
+        .arg(depth(alloc))?
+        .arg(history(alloc))
+}
+
+/// The commands and their options.
+fn grammar<'a>(alloc: Global) -> Result<clap::Command<'a>, AllocError> {
+    clap::Command::new(alloc, "gdlsolve")
+        .about("Read the rules of a game on standard input, and answer on standard output")
+        .bin_name("gdlsolve")?
+        .version(VERSION)
+        .after_help(CLOSING)
+        .no_binary_name(true)
+        .subcommand_required(true)
+        .subcommand(show(alloc))?
+        .subcommand(check(alloc))?
+        .subcommand(moves(alloc)?)?
+        .subcommand(solve(alloc)?)
+}
+
+/// The command that was matched.
+fn command_of<'a>(matches: &clap::ArgMatches<'a>) -> Option<Command<'a>> {
+    match matches.subcommand() {
+        Some(("show", _)) => Some(Command::Show),
+        Some(("check", _)) => Some(Command::Check),
+        Some(("moves", options)) => Some(Command::Moves {
+            after: options.get_str("after").unwrap_or(""),
+        }),
+        Some(("solve", options)) => Some(Command::Solve {
+            role: options.get_str("role")?,
+            depth: options.get_one("depth")?,
+            after: options.get_str("after").unwrap_or(""),
+        }),
+        _ => None,
+    }
+}
+
+/// The request that the words make.
+pub(crate) fn request_of<'a>(
+    alloc: Global,
+    words: &'a [&'a str],
+) -> Result<Request<'a>, clap::Error> {
+    let mut grammar = grammar(alloc)?;
+    match grammar.try_get_matches_from_mut(words) {
+        Ok(matches) => match command_of(&matches) {
+            Some(command) => Ok(Request::Run(command)),
+            None => Ok(Request::Misuse(grammar.error(ErrorKind::MissingSubcommand, "no command")?)),
+        },
+        Err(error) => match error.kind() {
+            ErrorKind::OutOfMemory => Err(error),
+            ErrorKind::DisplayHelp | ErrorKind::DisplayVersion => Ok(Request::Help(error)),
+            _ => Ok(Request::Misuse(error)),
+        },
+    }
+}

@@ -1,0 +1,97 @@
+// The texts of help, whole.
+use super::told;
+
+/// Words, and what is written for them.
+type Row<'a> = (&'a [&'a str], &'a str);
+
+const PROGRAM: &str = "Read the rules of a game on standard input, and answer on standard output
+
+Usage: gdlsolve <COMMAND>
+
+Commands:
+  show   Write the canonical text of each tree, one a line
+  check  Name the first fault of the rules, or count what they have
+  moves  Tell how play stands after a history, with the goals of an ended game or the legal moves
+  solve  Tell what a role can be sure of after a history, the move that makes sure of it, and the line of play
+  help   Print this message or the help of the given subcommand(s)
+
+Options:
+  -h, --help     Print help
+  -V, --version  Print version
+
+Exit status:
+  0  an answer, or help
+  1  words that are no command
+  2  a refusal: one line that names the fault
+  3  no memory
+  4  the input or the output failed
+
+Examples:
+  gdlsolve check < game.kif
+  gdlsolve moves --after \"((mark 1 1) noop)\" < game.kif
+  gdlsolve solve --role xplayer --depth 9 < game.kif
+";
+
+const SHOW: &str = "Write the canonical text of each tree, one a line
+
+Usage: gdlsolve show
+
+Options:
+  -h, --help  Print help
+";
+
+const CHECK: &str = "Name the first fault of the rules, or count what they have
+
+Usage: gdlsolve check
+
+Options:
+  -h, --help  Print help
+";
+
+const MOVES: &str = "Tell how play stands after a history, with the goals of an ended game or the legal moves
+
+Usage: gdlsolve moves [OPTIONS]
+
+Options:
+      --after <TEXT>  The turns that were played, each a list of a move for each role
+  -h, --help          Print help
+
+Example:
+  gdlsolve moves --after \"((mark 1 1) noop)\" < game.kif
+";
+
+const SOLVE: &str = "Tell what a role can be sure of after a history, the move that makes sure of it, and the line of play
+
+Usage: gdlsolve solve [OPTIONS] --role <ROLE> --depth <TURNS>
+
+Options:
+      --role <ROLE>    The role to find a move for
+      --depth <TURNS>  How many turns to look ahead, from 0 to 64
+      --after <TEXT>   The turns that were played, each a list of a move for each role
+  -h, --help           Print help
+
+Example:
+  gdlsolve solve --role oplayer --depth 8 --after \"((mark 1 1) noop)\" < game.kif
+";
+
+#[test]
+fn help_is_an_answer(rt: HostRuntime) {
+    let rows: [Row; 9] = [
+        (&["--help"], PROGRAM),
+        (&["-h"], PROGRAM),
+        (&["help"], PROGRAM),
+        (&["show", "--help"], SHOW),
+        (&["check", "--help"], CHECK),
+        (&["moves", "--help"], MOVES),
+        (&["solve", "--help"], SOLVE),
+        (&["help", "solve"], SOLVE),
+        (&["--version"], "gdlsolve 0.1.0\n"),
+    ];
+    for (words, want) in rows {
+        let (status, output, errors) = told(&rt, words, b"(");
+        assert!(rt;
+            status == 0 && output.as_slice() == want.as_bytes() && errors.is_empty(),
+            "at {words:?}: {output:?}"
+        );
+    }
+}
