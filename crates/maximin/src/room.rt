@@ -99,7 +99,7 @@ pub fn choice<G: Game>(
 }
 
 /// Writes the first joint legal move that leaves the least value where the role plays `own`, which stands in its place. Joint moves are
-/// compared role by role, the first role first, each by its printed order.
+/// compared role by role, the first role first, each by its printed order. `out` has to have room for a move of each role.
 pub fn first_reply<G: Game>(
     g: &G,
     p: &G::Pos,

@@ -10,7 +10,7 @@ use smallvec::SmallVec;
 use std::alloc::{AllocError, Global};
 use std::sync::atomic::{AtomicUsize, Ordering};
 
-/// A game that counts its steps.
+/// A game that counts the states that are asked of it: those of a step, and those taken out of many.
 #[derive(Drop)]
 struct Counted<G> {
     inner: G,
