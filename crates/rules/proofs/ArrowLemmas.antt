@@ -1,21 +1,21 @@
 -- The graph of what items join is the graph of dependence.
-use Rattle.std.proofs.Common.{ℕ, suc, zero, ◌≡◌, ◌+◌, ◌<◌, ◌≤◌, ◌⊎◌, inl, inr, Bool, true, false, List, [], ◌∷◌, ◌++◌, length, map, drop, refl, sym, ◌∙◌, ap, subst, arith, get_or}
+use Rattle.std.proofs.Common.{ℕ, suc, zero, ◌≡◌, ◌<◌, ◌⊎◌, inl, inr, List, [], ◌∷◌, ◌++◌, length, refl, sym, ◌∙◌, ap, subst, arith, get_or}
 use Rattle.std.specs.Prelude.{slice_index_or, vec_len}
 use Rattle.kif.specs.Tree.{Tree}
 use Rattle.rules.specs.Clause as said
 use Rattle.rules.specs.Clause.{relation_of}
-use Rattle.rules.specs.Dependence.{IsAmong, is_distinct, DependsDirectly}
+use Rattle.rules.specs.Dependence.{IsAmong}
 use Rattle.rules.specs.Items.{item_head, item_alternatives, alternatives}
 use Rattle.rules.specs.declared.graph.Arrow.{Arrow}
 use Rattle.rules.specs.declared.graph.Graph.{Graph}
 use Rattle.rules.specs.declared.item_links.Links.{Links}
 use Rattle.rules.specs.declared.signatures.Signature.{Signature}
 use Rattle.rules.specs.Graph.{arrow_at, Leads, ReachesIn, Reaches, IsCyclic, IsReachedFrom}
-use Rattle.rules.specs.Numbers.{AreDifferent, word_at}
+use Rattle.rules.specs.Numbers.{AreDifferent}
 use Rattle.rules.specs.Signatures.{signature_at}
 use Rattle.rules.specs.Store.{Data, relation_at}
 use Rattle.rules.specs.Adding.{AreDifferentSignatures, HaveNames}
-use Rattle.rules.specs.Numbering.{IsGraphOf, LeadsBetween, IsInBodies, AreBodyNumbers}
+use Rattle.rules.specs.Numbering.{IsGraphOf, IsInBodies}
 use Rattle.rules.specs.Drafts.{LinkStandsFor, StandForItems}
 use Rattle.rules.specs.ItemLinks.{IsWithin}
 use Rattle.rules.specs.Arrows.{arrows_from, arrows_in}

@@ -1,5 +1,5 @@
 -- Drafts.
-use Rattle.std.proofs.Common.{ℕ, suc, zero, ◌≡◌, ◌+◌, ◌-◌, ◌<◌, ◌≤◌, Bool, true, false, not, cond, ◌&&◌, List, [], ◌∷◌, ◌++◌, length, map, take, drop, refl, sym, ◌∙◌, ap, subst, arith, append_assoc, get_or, Some}
+use Rattle.std.proofs.Common.{ℕ, ◌≡◌, ◌+◌, ◌-◌, ◌<◌, ◌≤◌, Bool, true, false, not, cond, List, [], ◌∷◌, ◌++◌, length, map, take, refl, sym, ◌∙◌, ap, subst, arith, append_assoc, get_or, Some}
 use Rattle.std.specs.Prelude.{Vec}
 use Rattle.std.proofs.lemmas.List.{map-append, append-nil}
 use Rattle.kif.specs.Tree.{Tree}
@@ -10,10 +10,9 @@ use Rattle.rules.specs.declared.clauses.Span.{Span}
 use Rattle.rules.specs.declared.items.Item.{Item}
 use Rattle.rules.specs.declared.clauses.Literal.{Literal}
 use Rattle.rules.specs.Dependence.{is_distinct}
-use Rattle.rules.specs.Numbering.{AreBodyNumbers}
 use Rattle.rules.specs.Items.{item_head, item_alternatives, alternatives, body_trees, readings_of_all}
 use Rattle.rules.specs.Profile.{first_failing, not_safe, is_unsafe}
-use Rattle.rules.specs.Safety.{is_safe, are_safe}
+use Rattle.rules.specs.Safety.{are_safe}
 use Rattle.rules.specs.Numbers.{AreDifferent}
 use Rattle.rules.specs.Spread.{lists_of}
 use Rattle.rules.specs.Store.{Data, relation_at, no_literal}
@@ -23,7 +22,7 @@ use Rattle.rules.specs.declared.draft.Draft.{Draft}
 use Rattle.rules.specs.declared.item_links.Links.{Links}
 use Rattle.rules.specs.StoreView.{data_of}
 use Rattle.rules.specs.Bodies.{named_relation, named_relations, all_named_relations, HaveSame, has_literal}
-use Rattle.rules.specs.Marks.{literal_in, IsInside, AreInside, AreAllInside, is_safe_by, are_safe_by}
+use Rattle.rules.specs.Marks.{literal_in, IsInside, AreAllInside, are_safe_by}
 use Rattle.rules.specs.Drafts.{Numbered, numbered, numbered_with, numbered_of, AddsSafe, LinksItem, StandForAlternatives, LinkStandsFor, StandForItems, some_literal_in, rests_on_any, IsDraftOf, AddsItem}
 use Rattle.kif.specs.View.{tree_of, trees_in}
 use Rattle.kif.specs.declared.expr.Expr.{Expr}

@@ -9,7 +9,7 @@ use Rattle.std.proofs.Math.ListN.{get_or-append}
 use Rattle.std.proofs.Math.Seq.{get_or-append_seam}
 use Rattle.rules.specs.declared.components.Walk.{Walk}
 use Rattle.rules.specs.declared.graph.Arrow.{Arrow}
-use Rattle.rules.specs.Graph.{arrow_at, Leads, ReachesIn, Reaches, AreLinked, Stands}
+use Rattle.rules.specs.Graph.{arrow_at, Leads, ReachesIn, Reaches, AreLinked}
 use Rattle.rules.specs.Grouping.{LeadsOn, AreComponents, IsOpen, StandsBehind, Follows, IsPassed, unseen, Grouping, IsWalk, work_left, IsCut, AreNumberedFrom, IsLookedAt, numbered, opened, joined}
 use Rattle.rules.proofs.GraphLemmas.{same_or, last_or}
 use Rattle.rules.proofs.Search.{three, sum-set, read_nat, read_arrow}
@@ -90,9 +90,10 @@ module _ (arrows : List Arrow) (n m : ℕ) (ends places open' starts pending num
       (omega (arith, f, g), new_place open' q (get_or (set places q (length open' + 1)) p 0 - 1) (omega (arith, f)) ∙ sym e)
   listed p h (inr o) =
       let f = at_other p o in let g = longer open' q in let old = w.listed p (was_open p o h) in
-      let less = old.0 in let some = (was_open p o h).placed in
-      (omega (arith, f, g, less),
-      ap (λ (x : ℕ). get_or (open' ++ q ∷ []) (x - 1) 0) f ∙ old_place open' q (get_or places p 0 - 1) (omega (arith, less, some)) ∙ old.1)
+      let less = old.0 in let some = (was_open p o h).placed in (
+        omega (arith, f, g, less),
+        ap (λ (x : ℕ). get_or (open' ++ q ∷ []) (x - 1) 0) f ∙ old_place open' q (get_or places p 0 - 1) (omega (arith, less, some)) ∙ old.1,
+      )
 
   are_open : (i : ℕ) → (i < length open') ⊎ (i ≡ length open')
       → IsOpen n (set places q (length open' + 1)) numbers (get_or (open' ++ q ∷ []) i 0) × (get_or (set places q (length open' + 1)) (get_or (open' ++ q ∷ []) i 0) 0 ≡ i + 1)

@@ -1,17 +1,15 @@
 -- Items in memory.
-use Rattle.std.proofs.Common.{ℕ, suc, zero, ◌≡◌, ◌+◌, ◌-◌, ◌<◌, ◌≤◌, Bool, true, false, List, [], ◌∷◌, ◌++◌, length, map, take, drop, refl, sym, ◌∙◌, ap, subst, arith, get_or}
+use Rattle.std.proofs.Common.{ℕ, ◌≡◌, ◌+◌, ◌-◌, ◌<◌, ◌≤◌, true, List, length, drop, sym, ◌∙◌, ap, subst, arith, get_or}
 use Rattle.std.proofs.lemmas.List.{get_or-drop, length-drop}
 use Rattle.kif.specs.Tree.{Tree, Trees}
 use Rattle.kif.proofs.Equality.{both}
-use Rattle.rules.specs.Clause as said
-use Rattle.rules.specs.declared.clauses.Atom.{Atom}
 use Rattle.rules.specs.declared.clauses.Span.{Span}
 use Rattle.rules.specs.declared.items.Item.{Item}
-use Rattle.rules.specs.Items.{is_item, is_atom, are_literals, head_tree, body_trees, item_head, readings_of_all, atom_in}
+use Rattle.rules.specs.Items.{is_item, is_atom, are_literals, head_tree, body_trees, readings_of_all, atom_in}
 use Rattle.rules.specs.Spread.{lists_of}
 use Rattle.rules.specs.Store.{Data}
 use Rattle.rules.specs.Adding.{Extends, HasVariables, StandOnce, AddsAtom, Spreads, StandsFor, StandForLists}
-use Rattle.rules.specs.ItemView.{ItemStandsFor, ReadsItem}
+use Rattle.rules.specs.ItemView.{ReadsItem}
 use Rattle.rules.proofs.AddingLemmas.{extends_trans, begins_at, begins_long}
 
 pub item_atom : (t h : Tree) → head_tree t ≡ h → is_item t ≡ true → is_atom h ≡ true
@@ -63,4 +61,3 @@ reads_item a b c i t h ts head body from to x s =
 
     once : StandOnce (drop i.variables.from c.variables)
     once = s.grows.variables (x.grows.variables (subst (λ (n : ℕ). StandOnce (drop n a.variables)) (sym from) (none_once a.variables)))
-

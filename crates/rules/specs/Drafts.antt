@@ -1,5 +1,5 @@
 -- What a draft of a rule set holds.
-use Rattle.std.specs.Prelude.{ℕ, ◌≡◌, ◌<◌, Bool, true, false, cond, List, [], ◌∷◌, ◌++◌, map, length, Some}
+use Rattle.std.specs.Prelude.{ℕ, ◌≡◌, ◌<◌, Bool, true, false, List, [], ◌∷◌, ◌++◌, map, length, Some}
 use Rattle.kif.specs.Tree.{Tree}
 use Rattle.rules.specs.declared.clauses.Alternative.{Alternative}
 use Rattle.rules.specs.declared.clauses.Atom.{Atom}

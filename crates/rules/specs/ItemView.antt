@@ -1,5 +1,5 @@
 -- An item in memory, and what it stands for.
-use Rattle.std.specs.Prelude.{ℕ, ◌≡◌, ◌≤◌, List, length, drop}
+use Rattle.std.specs.Prelude.{◌≡◌, ◌≤◌, length, drop}
 use Rattle.kif.specs.Tree.{Tree}
 use Rattle.rules.specs.declared.items.Item.{Item}
 use Rattle.rules.specs.Items.{item_head, body_trees, readings_of_all}

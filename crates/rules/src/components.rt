@@ -98,7 +98,8 @@ impl Walk {
     fn close(&mut self, start: usize)
         requires some { 0 < length self.old.starts.items }
         requires last { slice_index self.old.starts.items (length self.old.starts.items - 1) ≡ start }
-        requires nodes { (i : ℕ) → i < length self.old.open_nodes.items → slice_index self.old.open_nodes.items i < length self.old.numbers.items }
+        requires nodes { (i : ℕ) → i < length self.old.open_nodes.items
+            → slice_index self.old.open_nodes.items i < length self.old.numbers.items }
         requires start { start ≤ length self.old.open_nodes.items }
         requires room { self.old.count < 2 ^ 63 }
         ensures starts { self.old.starts.items ≡ self.new.starts.items ++ start ∷ [] }
@@ -155,7 +156,8 @@ fn look_at(walk: &mut Walk, target: usize) -> Result<(), AllocError>
 fn step(graph: &Graph, walk: &mut Walk) -> Result<(), AllocError>
     requires some { 0 < length walk.old.open_nodes.items }
     requires walk { IsWalk graph.now.arrows.items (length graph.now.ends.items) 0 walk.old }
-    ensures walk { OnOk result ((m : ℕ) → IsWalk graph.now.arrows.items (length graph.now.ends.items) m walk.old → IsWalk graph.now.arrows.items (length graph.now.ends.items) m walk.new) }
+    ensures walk { OnOk result ((m : ℕ) → IsWalk graph.now.arrows.items (length graph.now.ends.items) m walk.old
+        → IsWalk graph.now.arrows.items (length graph.now.ends.items) m walk.new) }
     ensures falls { OnOk result (work_of walk.new < work_of walk.old) }
 {
     let start = walk.starts[walk.starts.len() - 1];

@@ -1,4 +1,4 @@
-use Rattle.std.proofs.Common.{rules, arith, ◌≡◌, length}
+use Rattle.std.proofs.Common.{arith}
 use Rattle.rules.proofs.GroupLemmas.{numbered_walk}
 use Rattle.rules.proofs.components.components_of.Goals as goal
 

@@ -1,5 +1,5 @@
-use Rattle.std.proofs.Common.{◌∙◌, length, rules, arith}
-use Rattle.rules.proofs.GroupLemmas.{IsLast, IsNewest, IsNext, closed_at, followed_at, followed_work, last_in, low_in, newest, next_arrow, next_inside, place_inside, taken_at_last}
+use Rattle.std.proofs.Common.{◌∙◌, rules, arith}
+use Rattle.rules.proofs.GroupLemmas.{closed_at, followed_at, followed_work, last_in, low_in, newest, next_arrow, next_inside, place_inside, taken_at_last}
 use Rattle.rules.proofs.components.step.Goals as goal
 
 pub returns-in_default-clause-walk : goal.returns-in_default-clause-walk

@@ -1,5 +1,5 @@
-use Rattle.std.proofs.Common.{length, arith}
-use Rattle.rules.proofs.GroupLemmas.{rooted_walk, read_zero, with_root}
+use Rattle.std.proofs.Common.{arith}
+use Rattle.rules.proofs.GroupLemmas.{rooted_walk, read_zero}
 use Rattle.rules.proofs.components.visit.Goals as goal
 
 pub loop-walk-init : goal.loop-walk-init

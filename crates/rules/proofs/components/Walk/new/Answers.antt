@@ -1,4 +1,4 @@
-use Rattle.std.proofs.Common.{refl, rules, ◌∙◌}
+use Rattle.std.proofs.Common.{refl, ◌∙◌}
 use Rattle.std.specs.List.{each_same}
 use Rattle.rules.proofs.GroupLemmas.{fresh_walk, same_walk}
 use Rattle.rules.proofs.components.Walk.new.Goals as goal
