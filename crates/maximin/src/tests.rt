@@ -20,6 +20,10 @@ struct Counted<G> {
 impl<G: Game> Game for Counted<G> {
     type Pos = G::Pos;
 
+    type Wide = G::Wide;
+
+    type Many = G::Many;
+
     ghost rules = { λ g. G.rules g.inner };
 
     ghost role_name = { λ g. G.role_name g.inner };
@@ -31,6 +35,16 @@ impl<G: Game> Game for Counted<G> {
     ghost state = { λ g. G.state g.inner };
 
     ghost capacities = { λ g. G.capacities g.inner };
+
+    ghost fits_wide = { λ g. G.fits_wide g.inner };
+
+    ghost fits_many = { λ g. G.fits_many g.inner };
+
+    ghost states = { λ g. G.states g.inner };
+
+    ghost wide_capacities = { λ g. G.wide_capacities g.inner };
+
+    ghost many_capacities = { λ g. G.many_capacities g.inner };
 
     fn roles(&self) -> usize {
         self.inner.roles()
@@ -71,6 +85,23 @@ impl<G: Game> Game for Counted<G> {
 
     fn copy(&self, p: &G::Pos, q: &mut G::Pos) {
         self.inner.copy(p, q);
+    }
+
+    fn new_wide(&self) -> Result<G::Wide, AllocError> {
+        self.inner.new_wide()
+    }
+
+    fn new_many(&self) -> Result<G::Many, AllocError> {
+        self.inner.new_many()
+    }
+
+    fn steps(&self, p: &G::Pos, joints: &[Joint], w: &mut G::Wide, out: &mut G::Many) {
+        self.inner.steps(p, joints, w, out);
+    }
+
+    fn take(&self, many: &G::Many, place: usize, q: &mut G::Pos) {
+        self.steps.fetch_add(1, Ordering::SeqCst);
+        self.inner.take(many, place, q);
     }
 
     ghost goal_within = { λ g. G.goal_within g.inner };

@@ -33,7 +33,7 @@ use Rattle.position.proofs.Trees.{trees_picked, picked_filter, placed, place_at,
 use Rattle.position.proofs.ByRules.{place_among, kind_holds, within_base}
 use Rattle.position.proofs.LegalRules.{same_answer, in_order_once}
 
-place_within : (t : Tree) (ts : List Tree) (n : ℕ) → place_in t ts ≡ Some n → n < length ts
+pub place_within : (t : Tree) (ts : List Tree) (n : ℕ) → place_in t ts ≡ Some n → n < length ts
 place_within t [] n e = absurd cc
 place_within t (u ∷ us) n e = go (tree_eq t u) (place_in t us) refl e (λ m k. place_within t us m k)
   where
@@ -62,7 +62,7 @@ module _ (rules : List Alternative) (w : IsWellFormed rules) (s : List ℕ) (j :
   is_role : (r : Tree) (q : ℕ) → place_in r (role_list rules) ≡ Some q → IsRole rules r
   is_role r q e = (roles_exact rules w r).0 (place_among r (role_list rules) q e)
 
-  within_input : IsWithinInput rules (joint_of rules j)
+  pub within_input : IsWithinInput rules (joint_of rules j)
   within_input r m e = go (place_in r (role_list rules)) refl e
     where
       go : (o : Option ℕ) → place_in r (role_list rules) ≡ o → chosen_at (input_list rules r) j o ≡ Some m → IsInput rules r m
@@ -71,7 +71,7 @@ module _ (rules : List Alternative) (w : IsWellFormed rules) (s : List ℕ) (j :
           let same : tree_at (input_list rules r) (slice_index j q) ≡ m = cc in
           (inputs_exact rules w r m (is_role r q f)).0 (subst (λ (t : Tree). IsAmong t (input_list rules r)) same (among_tree (input_list rules r) (slice_index j q) (move_within r q f)))
 
-  agree_move : Agree rules (state_of rules s) (joint_of rules j) s j
+  pub agree_move : Agree rules (state_of rules s) (joint_of rules j) s j
   agree_move x listed moving = (there (kind_of rules x) refl, back (source_of x) refl)
     where
       there : (k : Kind) → kind_of rules x ≡ k → is_given s j k ≡ true → RightAs (state_of rules s) (joint_of rules j) ⊥ (source_of x)
@@ -112,7 +112,7 @@ module _ (rules : List Alternative) (w : IsWellFormed rules) (s : List ℕ) (j :
       back (distinct t u) e h = let f = (fixed_tested rules w.acyclic (relation_of x)).1 (distinct_fixed rules w x t u e) in absurd cc
       back ordinary e h = absurd h
 
-  next_holds : (k : ℕ) → k < length (base_list rules)
+  pub next_holds : (k : ℕ) → k < length (base_list rules)
       → (is_named (map (kind_of rules) (listing rules).atoms) (holds (map (kind_of rules) (listing rules).atoms) (map (numbered rules) (listing rules).kept) s j) ByNext k ≡ true)
       ↔ Holds rules (state_of rules s) (joint_of rules j) (atom1 w_next (tree_at (base_list rules) k))
   next_holds k lt =

@@ -46,7 +46,7 @@ among_atom [] a lt = absurd (omega arith)
 among_atom (x ∷ xs) zero lt = inl refl
 among_atom (x ∷ xs) (suc a) lt = inr (among_atom xs a (omega arith))
 
-number_at : (atoms : List Atom) → AreDistinct atoms → (a : ℕ) → a < length atoms → number_of (atom_at atoms a) atoms ≡ a
+pub number_at : (atoms : List Atom) → AreDistinct atoms → (a : ℕ) → a < length atoms → number_of (atom_at atoms a) atoms ≡ a
 number_at [] d a lt = absurd (omega arith)
 number_at (x ∷ xs) d zero lt = let e = (atom_test x x).1 refl in rw e refl
 number_at (x ∷ xs) d (suc a) lt = go (atom_eq (atom_at xs a) x) refl (number_at xs d.1 a (omega arith))
@@ -125,7 +125,7 @@ module _ (rules : List Alternative) (w : IsWellFormed rules) where
   abbrev kept : List Kept
   kept = map (numbered rules) (listing rules).kept
 
-  moving_kind : (x : Atom) (k : Kind) → kind_of rules x ≡ k → (k ≡ Fixed → ⊥) → is_fixed rules (relation_of x) ≡ false
+  pub moving_kind : (x : Atom) (k : Kind) → kind_of rules x ≡ k → (k ≡ Fixed → ⊥) → is_fixed rules (relation_of x) ≡ false
   moving_kind x k e other = go (is_fixed rules (relation_of x)) refl
     where
       go : (b : Bool) → is_fixed rules (relation_of x) ≡ b → b ≡ false

@@ -19,3 +19,9 @@ pub mod Alike
 pub mod PlayRange
 pub mod SamePlays
 pub mod PlainValues
+pub mod Shown
+pub mod NetReads
+pub mod NetFacts
+pub mod Words
+pub mod Lanes
+pub mod ManyStates

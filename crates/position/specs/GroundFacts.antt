@@ -4,22 +4,32 @@ use Rattle.std.proofs.lemmas.List.{get_or_past}
 use Rattle.ground.specs.declared.ground.Ground.{Ground}
 use Rattle.ground.specs.Grounds.{texts_at}
 use Rattle.ground.specs.Fits.{FitTogether, count_all}
+use Rattle.ground.specs.Limits.{limits}
 use Rattle.ground.specs.GroundView.{roles_of, base_of, inputs_of, kinds_of, instances_of}
 use Rattle.ground.proofs.Fitting.{fit_together}
 
 pub fits : (g : Ground) → FitTogether (roles_of g) (base_of g) (inputs_of g) g.starts.items (kinds_of g) (instances_of g)
 fits g = fit_together _ _ _ _ _ _ _ g.sound
 
-small_sum : (n : ℕ) → n ≤ 262144 + (4096 + 4096) → n ≤ 2 ^ 32
-small_sum n h = omega arith
+most_atoms : limits.instances + (limits.base + limits.inputs) ≤ 2 ^ 32
+most_atoms = omega arith
+
+most_inputs : limits.inputs ≤ 2 ^ 32
+most_inputs = omega arith
+
+at_most : (n m : ℕ) → n ≤ m → m ≤ 2 ^ 32 → n ≤ 2 ^ 32
+at_most n m h few = omega arith
 
 pub few_atoms : (g : Ground) → length (kinds_of g) ≤ 2 ^ 32
-few_atoms g = small_sum _ (fits g).few_atoms
+few_atoms g = at_most _ _ (fits g).few_atoms most_atoms
 
 part_below : (lists : List (List (List ℕ))) (r : ℕ) → length (texts_at lists r) ≤ count_all lists
 part_below [] r = let e = ap (λ (ts : List (List ℕ)). length ts) (get_or_past [] r [] (omega arith)) in omega arith
 part_below (ts ∷ rest) zero = omega arith
 part_below (ts ∷ rest) (suc r) = let below = part_below rest r in omega arith
 
-pub few_moves : (g : Ground) (r : ℕ) → length (texts_at (inputs_of g) r) ≤ 4096
-few_moves g r = let a = part_below (inputs_of g) r in let b = (fits g).few_inputs in omega arith
+part_few : (ts : List (List ℕ)) (lists : List (List (List ℕ))) → length ts ≤ count_all lists → count_all lists ≤ 2 ^ 32 → length ts ≤ 2 ^ 32
+part_few ts lists below few = omega arith
+
+pub few_moves : (g : Ground) (r : ℕ) → length (texts_at (inputs_of g) r) ≤ 2 ^ 32
+few_moves g r = part_few (texts_at (inputs_of g) r) (inputs_of g) (part_below (inputs_of g) r) (at_most _ _ (fits g).few_inputs most_inputs)

@@ -16,3 +16,7 @@ pub mod RulesGame
 pub mod Flats
 pub mod Plans
 pub mod SamePlay
+pub mod NetState
+pub mod NetLanes
+pub mod RuleMany
+pub mod TableMany

@@ -7,6 +7,15 @@ mod fault;
 mod flattening;
 mod game;
 mod naming;
+mod net_game;
+mod net_lanes;
+mod net_many;
+mod net_plan;
+mod net_planning;
+mod net_playing;
+mod net_pos;
+mod net_reading;
+mod net_words;
 mod plan;
 mod planning;
 mod play_laws;
@@ -15,6 +24,7 @@ mod refusal;
 mod replaying;
 mod rule_game;
 mod rule_laws;
+mod rule_many;
 mod rule_pos;
 mod stuck;
 pub mod table;
@@ -24,6 +34,8 @@ mod tests;
 pub use at_bound::AtBound;
 pub use fault::HistoryFault;
 pub use game::Game;
+pub use net_game::NetGame;
+pub use net_pos::NetPos;
 pub use play_laws::{
     nothing_at_the_bound_is_the_plain_value, play_stays_within_the_game,
     same_play_is_played_the_same,

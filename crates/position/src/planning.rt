@@ -48,7 +48,7 @@ fn add_standing(
 }
 
 /// The atoms that are sought, in order.
-fn list_standing(
+pub(crate) fn list_standing(
     alloc: Global,
     ground: &Ground,
     sought: Sought,

@@ -20,7 +20,7 @@ pub(crate) fn number_of(by: Naming, kind: Kind) -> Option<u32>
 }
 
 /// Marks the number that an atom of this kind names, if the atom holds and the number has a mark.
-fn note(holds: bool, kind: Kind, by: Naming, marks: &mut Vec<bool>)
+pub(crate) fn note(holds: bool, kind: Kind, by: Naming, marks: &mut Vec<bool>)
     ensures size { length marks.new.items ≡ length marks.old.items }
     ensures each { (k : ℕ) → k < length marks.old.items → slice_index_or marks.new.items k false ≡ (slice_index_or marks.old.items k false || (holds && names by kind k)) }
     ensures capacity { vec_capacity marks.new ≡ vec_capacity marks.old }
@@ -37,7 +37,7 @@ fn note(holds: bool, kind: Kind, by: Naming, marks: &mut Vec<bool>)
 }
 
 /// Takes all marks away.
-fn clear(marks: &mut Vec<bool>)
+pub(crate) fn clear(marks: &mut Vec<bool>)
     ensures size { length marks.new.items ≡ length marks.old.items }
     ensures each { (k : ℕ) → k < length marks.old.items → slice_index_or marks.new.items k false ≡ false }
     ensures capacity { vec_capacity marks.new ≡ vec_capacity marks.old }
@@ -61,7 +61,7 @@ pub(crate) fn mark_named(list: &[Standing], right: &[bool], by: Naming, marks: &
 }
 
 /// The value that an atom of this kind gives a role, if it holds, else 0.
-fn value_of(holds: bool, kind: Kind, role: usize) -> u8
+pub(crate) fn value_of(holds: bool, kind: Kind, role: usize) -> u8
     ensures { result ≡ (if holds then goal_value role kind else 0) }
 {
     match kind {
@@ -71,7 +71,7 @@ fn value_of(holds: bool, kind: Kind, role: usize) -> u8
 }
 
 /// The greater of two values.
-fn greater(value: u8, other: u8) -> u8
+pub(crate) fn greater(value: u8, other: u8) -> u8
     ensures { result ≡ max value other }
 {
     value.max(other)
@@ -91,7 +91,7 @@ pub(crate) fn best_goal(list: &[Standing], right: &[bool], role: usize) -> u8
 }
 
 /// Whether an atom of this kind ends the game, if it holds.
-fn is_end(holds: bool, kind: Kind) -> bool
+pub(crate) fn is_end(holds: bool, kind: Kind) -> bool
     ensures { result ≡ (holds && is_terminal kind) }
 {
     holds && kind == Kind::Terminal
@@ -128,7 +128,7 @@ fn put_if(mark: bool, number: u32, numbers: &mut Vec<u32>, count: usize) -> usiz
 /// Writes the numbers that are marked, ascending, and answers how many they are.
 pub(crate) fn list_marked(marks: &[bool], numbers: &mut Vec<u32>) -> usize
     requires room { length numbers.old.items ≡ length marks.now }
-    requires few { length marks.now ≤ 4096 }
+    requires few { length marks.now ≤ 2 ^ 32 }
     ensures listed { take result numbers.new.items ≡ marked marks.now }
     ensures count { result ≤ length numbers.new.items }
     ensures size { length numbers.new.items ≡ length numbers.old.items }

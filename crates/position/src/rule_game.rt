@@ -1,10 +1,11 @@
 // The game of an instantiation.
-ghost use Rattle.std.specs.Prelude.{◌≡◌, IfOk};
+ghost use Rattle.std.specs.Prelude.{◌≡◌, ⊤, [], IfOk};
 ghost use Rattle.position.specs.Plans.{IsPlanOf};
 
 use crate::game::Game;
 use crate::plan::Plan;
 use crate::planning::make_plan;
+use crate::rule_many::{RuleMany, RuleWide, new_rule_states, step_each};
 use crate::rule_pos::{RulePos, copy_roles, legal_at, start_state, step_state};
 use ground::Ground;
 use propnet::Joint;
@@ -38,9 +39,14 @@ impl Game for RuleGame {
     ghost use Rattle.ground.specs.GroundView.{roles_of, inputs_of};
     ghost use Rattle.position.specs.RulePlay.{marked};
     ghost use Rattle.position.specs.RuleState.{IsStateOf, rules_of, capacities};
+    ghost use Rattle.position.specs.RuleMany.{IsManyOf, kept_states, capacities_many};
     ghost use Rattle.position.specs.RuleLaws.{goal_at_most, few_moves_of, legal_below, legal_in_order, moves_in_order, roles_once};
 
     type Pos = RulePos;
+
+    type Wide = RuleWide;
+
+    type Many = RuleMany;
 
     ghost rules = { λ g. rules_of g.played };
 
@@ -53,6 +59,16 @@ impl Game for RuleGame {
     ghost state = { λ _ p. marked p.base.items };
 
     ghost capacities = { λ _ p. capacities p };
+
+    ghost fits_wide = { λ _ _. ⊤ };
+
+    ghost fits_many = { λ g m. IsManyOf g.played m };
+
+    ghost states = { λ _ m. kept_states m };
+
+    ghost wide_capacities = { λ _ _. [] };
+
+    ghost many_capacities = { λ _ m. capacities_many m };
 
     fn roles(&self) -> usize {
         self.played.roles()
@@ -94,6 +110,26 @@ impl Game for RuleGame {
         q.base.copy_from_slice(&p.base);
         q.ended = p.ended;
         copy_roles(&p.roles, &mut q.roles);
+    }
+
+    fn new_wide(&self) -> Result<RuleWide, AllocError> {
+        Ok(RuleWide {})
+    }
+
+    fn new_many(&self) -> Result<RuleMany, AllocError> {
+        Ok(RuleMany {
+            states: new_rule_states(self)?,
+            count: 0,
+        })
+    }
+
+    fn steps(&self, p: &RulePos, joints: &[Joint], _w: &mut RuleWide, out: &mut RuleMany) {
+        step_each(self, p, joints, &mut out.states);
+        out.count = joints.len();
+    }
+
+    fn take(&self, many: &RuleMany, place: usize, q: &mut RulePos) {
+        self.copy(&many.states[place], q);
     }
 
     ghost goal_within = { λ g s r. goal_at_most g.played s r };

@@ -127,7 +127,7 @@ fn new_role(alloc: Global, moves: usize) -> Result<RoleState, AllocError>
 }
 
 /// Room for what is told of each role.
-fn new_roles(alloc: Global, ground: &Ground) -> Result<Vec<RoleState>, AllocError>
+pub(crate) fn new_roles(alloc: Global, ground: &Ground) -> Result<Vec<RoleState>, AllocError>
     ensures { IfOk result (λ roles. HaveRoom (inputs_of ground.now) roles.items) }
 {
     let mut roles = Vec::new(alloc);

@@ -1,5 +1,7 @@
 // A game of one turn, small enough to know each of its values by heart.
-ghost use Rattle.std.specs.Prelude.{◌≡◌, ◌≤◌, All, EachIndex, slice_index, [], ◌∷◌, codes};
+ghost use Rattle.std.specs.Prelude.{◌≡◌, ⊤, ◌<◌, ◌≤◌, ◌+◌, ◌*◌, ℕ, All, EachIndex, slice_index, length, [], ◌∷◌, codes};
+ghost use Rattle.propnet.specs.Nets.{joint_at};
+ghost use Rattle.position.specs.Rules.{IsTurn};
 ghost use Rattle.position.specs.Table.{table_rules, side_name, choice_name};
 
 use crate::game::Game;
@@ -21,10 +23,50 @@ pub struct Chosen {
     pub cell: u8,
 }
 
+/// No working room: cells are found one by one.
+#[derive(Drop)]
+pub struct NoRoom {}
+
+/// Up to 64 choices.
+#[derive(Drop)]
+pub struct Cells {
+    pub cells: [u8; 64],
+    /// How many of them are told of.
+    pub count: usize,
+}
+
+/// The cell that a joint move chooses, counted from 1.
+fn cell_of(joint: &Joint) -> u8
+    requires { IsTurn (table_rules [] []) joint.now.items }
+    ensures cell { result ≡ 1 + 4 * slice_index joint.now.items 0 + 2 * slice_index joint.now.items 1 + slice_index joint.now.items 2 }
+    ensures within { result ≤ 8 }
+{
+    1 + 4 * joint[0] as u8 + 2 * joint[1] as u8 + joint[2] as u8
+}
+
+/// Writes the cells that joint moves choose.
+fn choose_each(joints: &[Joint], cells: &mut [u8])
+    requires room { length joints.now ≤ length cells.old }
+    requires joints { All (λ j. IsTurn (table_rules [] []) j.items) joints.now }
+    requires within { (k : ℕ) → k < length cells.old → slice_index cells.old k ≤ 8 }
+    ensures size { length joints.now ≤ length cells.new }
+    ensures within { (k : ℕ) → k < length cells.old → slice_index cells.new k ≤ 8 }
+    ensures after { (k : ℕ) → k < length joints.now → slice_index cells.new k ∷ [] ≡ (table_rules [] []).after [] (joint_at joints.now k) }
+{
+    for k in 0..joints.len() {
+        cells[k] = cell_of(&joints[k]);
+    }
+}
+
 impl Game for Table {
+    ghost use Rattle.position.specs.TableMany.{AreCells, chosen_states};
     ghost use Rattle.position.specs.TableLaws.{goal_at_most, two_moves, legal_at_most, legal_in_order, choices_in_order, sides_differ};
 
     type Pos = Chosen;
+
+    type Wide = NoRoom;
+
+    type Many = Cells;
 
     ghost rules = { λ g. table_rules g.worth g.ends };
 
@@ -37,6 +79,16 @@ impl Game for Table {
     ghost state = { λ _ p. p.cell ∷ [] };
 
     ghost capacities = { λ _ _. [] };
+
+    ghost fits_wide = { λ _ _. ⊤ };
+
+    ghost fits_many = { λ _ m. AreCells m };
+
+    ghost states = { λ _ m. chosen_states m };
+
+    ghost wide_capacities = { λ _ _. [] };
+
+    ghost many_capacities = { λ _ _. [] };
 
     fn roles(&self) -> usize {
         3
@@ -85,6 +137,26 @@ impl Game for Table {
 
     fn copy(&self, p: &Chosen, q: &mut Chosen) {
         q.cell = p.cell;
+    }
+
+    fn new_wide(&self) -> Result<NoRoom, AllocError> {
+        Ok(NoRoom {})
+    }
+
+    fn new_many(&self) -> Result<Cells, AllocError> {
+        Ok(Cells {
+            cells: [0; 64],
+            count: 0,
+        })
+    }
+
+    fn steps(&self, _p: &Chosen, joints: &[Joint], _w: &mut NoRoom, out: &mut Cells) {
+        choose_each(joints, &mut out.cells);
+        out.count = joints.len();
+    }
+
+    fn take(&self, many: &Cells, place: usize, q: &mut Chosen) {
+        q.cell = many.cells[place];
     }
 
     ghost goal_within = { λ g s r. goal_at_most g.worth g.ends s r g.at_most_100 };

@@ -1,6 +1,35 @@
-//! The network of propositions of a game. Today it has the joint move alone.
+//! The network of propositions of a game: its nodes, and their values in a state and a joint move.
 #![tactic(auto)]
 
+mod bits;
+mod builder;
+mod building;
+mod compiling;
+mod eval;
+mod fault;
+mod grouping;
+mod laws;
+mod marking;
+mod net;
+mod net_view;
+mod node;
+mod nodes;
+mod pushing;
+mod sourcing;
+#[cfg(test)]
+mod tests;
+mod wide;
+mod words;
+
+pub use bits::{get_bit, put_bit};
+pub use fault::NetFault;
+pub use laws::{
+    each_name_is_one_node, factoring_keeps_values, sharing_keeps_values,
+    values_solve_the_equations, views_say_what_holds,
+};
+pub use net::Net;
+pub use node::{Name, Node};
+pub use nodes::Nodes;
 use smallvec::SmallVec;
 use std::alloc::Global;
 

@@ -1,0 +1,99 @@
+-- What a state of a game over a network keeps.
+use Rattle.std.specs.Prelude.{ℕ, ◌≡◌, ◌<◌, ◌+◌, ◌/◌, ◌==◌, Bool, true, false, List, ◌∷◌, length, map, filter, get_or, unwrap_or, Option, None, vec_capacity}
+use Rattle.std.specs.List.{range_with_len}
+use Rattle.ground.specs.declared.kind.Kind.{Kind}
+use Rattle.ground.specs.declared.kind.Kind.TheVariants.{Fixed, Now, Does, Next, Legal, Goal, Terminal, Other}
+use Rattle.ground.specs.declared.ground.Ground.{Ground}
+use Rattle.ground.specs.GroundView.{inputs_of, kinds_of, instances_of}
+use Rattle.propnet.specs.declared.net.Net.{Net}
+use Rattle.propnet.specs.Values.{bit}
+use Rattle.propnet.specs.Nets.{gates_of}
+use Rattle.position.specs.declared.naming.Naming.TheVariants.{ByNext, ByLegal}
+use Rattle.position.specs.declared.plan.Sought.TheVariants.{Named, Goals, Ends}
+use Rattle.position.specs.declared.plan.Standing.{Standing}
+use Rattle.position.specs.declared.plan.RolePlan.{RolePlan}
+use Rattle.position.specs.declared.net_plan.NetPlan.{NetPlan}
+use Rattle.position.specs.declared.net_pos.NetPos.{NetPos}
+use Rattle.position.specs.Rules.{State, Turn}
+use Rattle.position.specs.RulePlay.{kind_at, holds, is_named, ends}
+use Rattle.position.specs.Plans.{all_standing}
+use Rattle.position.specs.RuleState.{holds_in, HaveRoom, AreRead, all_capacities}
+
+-- the bit with this number is 1
+abbrev pub is_on : List ℕ → ℕ → Bool
+is_on words n = bit words n == 1
+
+-- the state whose base propositions below n have bits
+abbrev pub state_bits : List ℕ → ℕ → State
+state_bits words n = filter (is_on words) (range_with_len 0 n)
+
+-- the number of the view of an atom, or 0
+abbrev pub view_of : List (Option ℕ) → ℕ → ℕ
+view_of views a = unwrap_or (get_or views a None) 0
+
+-- the node that tells of an atom in place of the atom
+abbrev pub told_by : List (Option ℕ) → Standing → Standing
+told_by views p = record { atom = view_of views p.atom; kind = p.kind }
+
+-- what is asked of each state: its end, goals and legal moves
+abbrev pub is_shown : Kind → Bool
+is_shown Fixed = false
+is_shown (Now p) = false
+is_shown (Does r m) = false
+is_shown (Next p) = false
+is_shown (Legal r m) = true
+is_shown (Goal r v) = true
+is_shown Terminal = true
+is_shown Other = false
+
+-- two tests agree on the atoms that are asked
+abbrev pub Alike : List Kind → (ℕ → Bool) → (ℕ → Bool) → Type 0
+Alike kinds f g = (a : ℕ) → a < length kinds → is_shown (kind_at kinds a) ≡ true → f a ≡ g a
+
+-- the views of the atoms that are asked are below n
+abbrev pub AreViewsBelow : List Kind → List (Option ℕ) → ℕ → Type 0
+AreViewsBelow kinds views n = (a : ℕ) → a < length kinds → is_shown (kind_at kinds a) ≡ true → view_of views a < n
+
+-- the nodes that tell of a role
+pub record IsRoleNetPlanOf (views : List (Option ℕ)) (kinds : List Kind) (r : ℕ) (plan : RolePlan) : Type 0 where
+  pub legals : plan.legals.items ≡ map (told_by views) (all_standing (Named (ByLegal r)) kinds)
+  pub goals : plan.goals.items ≡ map (told_by views) (all_standing (Goals r) kinds)
+
+-- the lists have the nodes that tell of each state
+pub record IsNetPlanOf (g : Ground) (net : Net) (plan : NetPlan) : Type 0 where
+  pub ends : plan.ends.items ≡ map (told_by net.views.items) (all_standing Ends (kinds_of g))
+  pub size : length plan.roles.items ≡ length (inputs_of g)
+  pub roles : (r : ℕ) (d : RolePlan) → r < length (inputs_of g) → IsRoleNetPlanOf net.views.items (kinds_of g) r (get_or plan.roles.items r d)
+
+-- as many words as hold so many bits, or one more
+abbrev pub words_for : ℕ → ℕ
+words_for n = n / 64 + 1
+
+-- the bits of the nodes tell what is asked of the state that the words keep
+abbrev pub TellNow : Ground → Net → List ℕ → List ℕ → Type 0
+TellNow g net words bits = Alike (kinds_of g) (λ a. is_on bits (view_of net.views.items a)) (holds_in g (state_bits words (length g.starts.items)))
+
+-- the bits of the transitions tell the state after the one that the words keep
+abbrev pub TellNext : Ground → Net → List ℕ → Turn → List ℕ → Type 0
+TellNext g net words j bits = (p : ℕ) → p < length g.starts.items
+    → is_on bits (get_or net.transitions.items p 0) ≡ is_named (kinds_of g) (holds (kinds_of g) (instances_of g) (state_bits words (length g.starts.items)) j) ByNext p
+
+-- there is room for a state of the game
+pub record HasNetRoom (g : Ground) (net : Net) (p : NetPos) : Type 0 where
+  pub words : length p.words.items ≡ words_for (length g.starts.items)
+  pub bits : length p.bits.items ≡ words_for (length (gates_of net))
+  pub roles : HaveRoom (inputs_of g) p.roles.items
+
+-- the state that the words keep
+abbrev pub kept_state : Ground → NetPos → State
+kept_state g p = state_bits p.words.items (length g.starts.items)
+
+-- what is told of the state is so
+pub record IsNetState (g : Ground) (net : Net) (p : NetPos) : Type 0 where
+  pub room : HasNetRoom g net p
+  pub ended : p.ended ≡ ends (kinds_of g) (holds_in g (kept_state g p))
+  pub roles : AreRead (kinds_of g) (holds_in g (kept_state g p)) (inputs_of g) p.roles.items
+
+-- the capacities of what the state keeps
+abbrev pub net_capacities : NetPos → List ℕ
+net_capacities p = vec_capacity p.words ∷ vec_capacity p.bits ∷ vec_capacity p.roles ∷ all_capacities p.roles.items
