@@ -1,12 +1,14 @@
 -- The least of the tasks of a move, task by task.
-use Rattle.std.proofs.Common.{◌≡◌, ℕ, ◌+◌, ◌-◌, ◌<◌, ◌≤◌, zero, suc, min, max, refl, arith, inl, inr, get_or}
+use Rattle.std.proofs.Common.{◌≡◌, ℕ, ◌+◌, ◌-◌, ◌<◌, ◌≤◌, zero, suc, min, max, refl, ◌∙◌, length, arith, inl, inr, get_or}
 use Rattle.std.proofs.lemmas.Bool.{cases_lt}
 use Rattle.std.proofs.lemmas.List.{get_or-replicate}
 use Rattle.std.proofs.lemmas.Int.{ints}
-use Rattle.std.specs.Prelude.{ℤ, pos, negsuc, ◌≤ℤ◌, replicate}
+use Rattle.std.specs.Prelude.{ℤ, pos, negsuc, ◌≤ℤ◌, false, replicate, slice_get}
 use Rattle.position.specs.Rules.{Rules, State}
 use Rattle.position.specs.declared.at_bound.AtBound.{AtBound}
-use Rattle.position.specs.Value.{Answers as Result, worst}
+use Rattle.position.specs.Value.{Answers as Result, value, worst, choice_of}
+use Rattle.maximin.proofs.Values.{IsOpen, value_reached, worst_le_value}
+use Rattle.maximin.proofs.Best.{IsBest, worst_at_place, choice_found}
 use Rattle.board.specs.Values.{least, worth}
 use Rattle.board.specs.Boards.{kept, table_of}
 use Rattle.board.specs.Windows.{Answers}
@@ -14,7 +16,7 @@ use Rattle.board.proofs.Least.{least_le, least_under}
 use Rattle.share.specs.Tasks.{own_at, task_value}
 use Rattle.share.specs.Node.{board_setup, IsNode}
 use Rattle.share.specs.declared.plan.Plan.{Plan}
-use Rattle.share.proofs.Plans.{replies_some}
+use Rattle.share.proofs.Plans.{plan_free, replies_some}
 use Rattle.share.proofs.Roots.{worth_is}
 use Rattle.share.proofs.Shifts.{answers_kept}
 
@@ -60,3 +62,23 @@ module _ (g : Rules) (s : State) (role depth : ℕ) (at : AtBound) (plan : Plan)
       let is = worth_is g s role depth at plan node 0 0 0 own inside in
       let same : least (table own) m ≡ worst g role (depth - 1) at s (own_at g s role own) + 2 = rw size at is in
       answers_kept (worst g role (depth - 1) at s (own_at g s role own)) low (pos 101) r above_low (omega (arith, ints)) above_r (rw same at found)
+
+  -- the greatest of all moves is the value
+  pub best_value : (place : ℕ) (best : ℤ) (chosen : ℕ) → g.ended s ≡ false → place ≡ plan.moves → IsBest (worst_at_place g role depth at s) place best chosen → best ≡ pos (value g role depth at s)
+  best_value place best chosen going all is =
+      let free : IsOpen g depth s = record { turn = λ e. absurd (omega (arith, node.turn)); going = going; free = plan_free g s role plan node.planned } in
+      let moves = node.planned.moves in
+      let top = value_reached g role depth at s free node.known in
+      let some : 0 < place = omega (arith, top.1, all, moves) in
+      let inside : chosen < length (g.legal s role) = omega (arith, is.before some, all, moves) in
+      let part = worst_le_value g role depth at s chosen free inside in
+      let seen = is.seen top.0 (omega (arith, top.1, all, moves)) in
+      let reached = is.reached some in
+      let same = top.2 in
+      omega (arith, ints)
+
+  -- and the first move that has it is the choice
+  pub best_choice : (place : ℕ) (best : ℤ) (chosen : ℕ) → g.ended s ≡ false → place ≡ plan.moves → IsBest (worst_at_place g role depth at s) place best chosen → choice_of g role depth at s ≡ slice_get (g.legal s role) chosen
+  best_choice place best chosen going all is =
+      let free : IsOpen g depth s = record { turn = λ e. absurd (omega (arith, node.turn)); going = going; free = plan_free g s role plan node.planned } in
+      choice_found g role depth at s place best chosen free node.known (all ∙ node.planned.moves) is

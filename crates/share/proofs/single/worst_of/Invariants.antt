@@ -15,6 +15,6 @@ invariant-loop-reply g l =
       least : IsLeast (table_of (task_value rules l.node.role l.node.depth l.node.at state) l.own) l.reply (kept l.best) (kept l.upper);
       range : (negsuc 1 ≤ℤ l.upper) × (l.upper ≤ℤ pos 101);
       step : IsStepOf (g.G.Game.fits l.node.game.now) rules.roles l.step;
-      room : IsRoomOf (g.G.Game.fits l.node.game.now) rules.roles l.room;
+      room : IsRoomOf (g.G.Game.fits l.node.game.now) (g.G.Game.fits_wide l.node.game.now) (g.G.Game.fits_many l.node.game.now) rules.roles l.room;
       deep : room_depth l.room ≡ room_depth l.initial.room;
     }
