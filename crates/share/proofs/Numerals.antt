@@ -1,10 +1,10 @@
 -- The texts of the levels of a cut.
-use Rattle.std.proofs.Common.{◌≡◌, ℕ, ◌+◌, ◌*◌, ◌/◌, ◌%◌, ◌<◌, ◌≤◌, true, false, List, [], ◌∷◌, ◌++◌, length, zero, suc, refl, sym, ◌∙◌, ap, subst, arith, inl, inr, get_or, take, drop}
+use Rattle.std.proofs.Common.{◌≡◌, ℕ, ◌+◌, ◌-◌, ◌*◌, ◌/◌, ◌%◌, ◌<◌, ◌≤◌, true, false, List, [], ◌∷◌, ◌++◌, length, zero, suc, refl, sym, ◌∙◌, ap, subst, arith, inl, inr, get_or, take, drop}
 use Rattle.std.proofs.lemmas.Bool.{cases_lt}
 use Rattle.std.proofs.lemmas.Bool.Decides.{nat_tests}
 use Rattle.std.proofs.lemmas.Fmt.{decimal_digit, decimal_step, decimal_injective}
 use Rattle.std.proofs.lemmas.List.Splits.{slice_split_none, slice_split_at, slice_split_first, length-slice_split, join_with_byte-slice_split}
-use Rattle.std.proofs.lemmas.List.{length-map, take_all}
+use Rattle.std.proofs.lemmas.List.{length-map, length-drop, take_all}
 use Rattle.std.proofs.lemmas.List.Sums.{fails_before_first, prefix_len-le-length}
 use Rattle.std.specs.Option.{option_map}
 use Rattle.std.specs.Prelude.{◌==◌, not, is_some, All, map, Option, Some, None, IfSome, IfNone}
@@ -174,3 +174,7 @@ first_bytes text end n pieces e parts = elim (cases_lt end (length text)) [
 
 pub part_place : (text : List ℕ) (end : ℕ) → end ≡ position_or_len is_x text → end ≤ length text
 part_place text end e = rw e (prefix_len-le-length (λ x. not (is_x x)) text)
+
+-- what is left of a text from a place on, read to its end
+pub rest_taken : (k : ℕ) (text : List ℕ) → take (length text - k) (drop k text) ≡ drop k text
+rest_taken k text = take_all (length text - k) (drop k text) (omega (arith, length-drop k text))

@@ -1,8 +1,8 @@
-use Rattle.std.proofs.Common.{◌≡◌, ◌+◌, [], ◌∷◌, ◌∙◌, ap, sym, take, drop, length, arith, rules as facts}
+use Rattle.std.proofs.Common.{◌≡◌, ℕ, List, ◌+◌, [], ◌∷◌, ◌∙◌, ap, sym, take, drop, length, arith, rules as facts}
 use Rattle.std.specs.Fmt.{decimal}
 use Rattle.std.specs.List.{slice_split}
 use Rattle.share.specs.Cuts.{is_x}
-use Rattle.share.proofs.Numerals.{BeginsNone, when_none, first_bytes, first_part, only_part, part_place}
+use Rattle.share.proofs.Numerals.{BeginsNone, when_none, first_bytes, first_part, only_part, part_place, rest_taken}
 use Rattle.share.proofs.cut.split_level.Goals as goal
 
 pub returns-in_err-level-clause-none : goal.returns-in_err-level-clause-none
@@ -22,4 +22,4 @@ returns-clause-some c =
     let end = c.first_x-end.result in
     let level : decimal c.in_ok-level.level ≡ take end text = c.in_ok-level.ensures.some.2 in
     let place = part_place text end c.first_x-end.ensures in
-    first_part text end c.first_x-end.ensures (omega (arith, place)) ∙ ap (λ xs. xs ∷ slice_split is_x (drop (end + 1) text)) (sym level)
+    first_part text end c.first_x-end.ensures (omega (arith, place)) ∙ ap (λ xs. xs ∷ slice_split is_x (drop (end + 1) text)) (sym level) ∙ ap (λ (rest : List ℕ). decimal c.in_ok-level.level ∷ slice_split is_x rest) (sym (rest_taken (end + 1) text))
