@@ -17,3 +17,6 @@ pub mod LineLemmas
 pub mod WholeValue
 pub mod Lines
 pub mod OneSolve
+pub mod NoRole
+pub mod OneNet
+pub mod Measuring

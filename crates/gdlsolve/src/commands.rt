@@ -95,5 +95,9 @@ pub fn main_with<T: AllocGlobal, R: Read, W: Write, E: Write>(
             let _ = write!(errors, "{text}");
             MISUSED
         }
+        Request::Misread(line) => {
+            let _ = writeln!(errors, "{line}");
+            MISUSED
+        }
     }
 }

@@ -16,7 +16,7 @@ use crate::play::Play;
 use crate::reply::{Reply, answered, refused};
 use crate::roles::role_named;
 use maximin::{choice, value_in};
-use position::{Game, HistoryFault};
+use position::{AtBound, Game, HistoryFault};
 use propnet::Joint;
 use std::alloc::{AllocError, Global};
 use std::io::Write;
@@ -74,16 +74,16 @@ fn add_choice<G: Game>(
 }
 
 /// The value of a state for a role.
-fn value_of<G: Game>(g: &G, role: usize, depth: u32, play: &mut Play<G>) -> u16
+fn value_of<G: Game>(g: &G, role: usize, depth: u32, at: AtBound, play: &mut Play<G>) -> u16
     requires role { role < (G.rules g.now).roles }
-    requires play { IsPlayOf (G.fits g.now) (G.rules g.now).roles play.old }
+    requires play { IsPlayOf (G.fits g.now) (G.fits_wide g.now) (G.fits_many g.now) (G.rules g.now).roles play.old }
     requires deep { depth ≤ room_depth play.old.room }
-    ensures value { result ≡ value (G.rules g.now) role depth (G.state g.now play.old.here) }
+    ensures value { result ≡ value (G.rules g.now) role depth at (G.state g.now play.old.here) }
     ensures same { play.new.here ≡ play.old.here }
-    ensures play { IsPlayOf (G.fits g.now) (G.rules g.now).roles play.new }
+    ensures play { IsPlayOf (G.fits g.now) (G.fits_wide g.now) (G.fits_many g.now) (G.rules g.now).roles play.new }
     ensures deep { room_depth play.new.room ≡ room_depth play.old.room }
 {
-    value_in(g, &play.here, role, depth, -1, 101, &mut play.room).unsigned_abs()
+    value_in(g, &play.here, role, depth, at, -1, 101, &mut play.room).unsigned_abs()
 }
 
 /// Adds the lines of the turns that follow a state whose first move is `chosen`, the first with this number. After an error the output
@@ -92,24 +92,25 @@ fn add_turns<G: Game>(
     g: &G,
     role: usize,
     depth: u32,
+    at: AtBound,
     first: Option<u32>,
     play: &mut Play<G>,
     output: &mut Vec<u8>,
 ) -> Result<(), AllocError>
     requires role { role < (G.rules g.now).roles }
-    requires play { IsPlayOf (G.fits g.now) (G.rules g.now).roles play.old }
+    requires play { IsPlayOf (G.fits g.now) (G.fits_wide g.now) (G.fits_many g.now) (G.rules g.now).roles play.old }
     requires deep { depth ≤ room_depth play.old.room }
-    requires first { first ≡ choice_of (G.rules g.now) role depth (G.state g.now play.old.here) }
+    requires first { first ≡ choice_of (G.rules g.now) role depth at (G.state g.now play.old.here) }
     ensures { OnOk result (output.new.items ≡ output.old.items
-        ++ turn_lines (named (G.rules g.now) (G.role_name g.now) (G.move_name g.now)) 1 (line_of (G.rules g.now) role depth (G.state g.now play.old.here))) }
+        ++ turn_lines (named (G.rules g.now) (G.role_name g.now) (G.move_name g.now)) 1 (line_of (G.rules g.now) role depth at (G.state g.now play.old.here))) }
 {
     let mut chosen = first;
     let mut left = depth;
     while let Some(own) = chosen {
-        play.turn(g, role, own, left);
+        play.turn(g, role, own, left, at);
         add_turn(g, (depth - left) as usize + 1, &play.joint, output)?;
         left -= 1;
-        chosen = choice(g, &play.here, role, left, &mut play.room);
+        chosen = choice(g, &play.here, role, left, at, &mut play.room);
     }
     Ok(())
 }
@@ -120,20 +121,21 @@ fn value_lines<G: Game>(
     g: &G,
     role: usize,
     depth: u32,
+    at: AtBound,
     here: G::Pos,
 ) -> Result<Vec<u8>, AllocError>
     requires fits { G.fits g.now here }
     requires role { role < (G.rules g.now).roles }
     ensures { IfOk result (λ output. output.items
-        ≡ solve_lines (named (G.rules g.now) (G.role_name g.now) (G.move_name g.now)) role depth (G.state g.now here)) }
+        ≡ solve_lines (named (G.rules g.now) (G.role_name g.now) (G.move_name g.now)) role depth at (G.state g.now here)) }
 {
     let mut play = Play::new(alloc, g, depth, here)?;
     let mut output = Vec::new(alloc);
-    let value = value_of(g, role, depth, &mut play);
+    let value = value_of(g, role, depth, at, &mut play);
     writeln!(output, "value {value}").map_err(|_| AllocError)?;
-    let chosen = choice(g, &play.here, role, depth, &mut play.room);
+    let chosen = choice(g, &play.here, role, depth, at, &mut play.room);
     add_choice(g, role, chosen, &mut output)?;
-    add_turns(g, role, depth, chosen, &mut play, &mut output)?;
+    add_turns(g, role, depth, at, chosen, &mut play, &mut output)?;
     Ok(output)
 }
 
@@ -143,15 +145,16 @@ fn reply_for<G: Game>(
     g: &G,
     role: usize,
     depth: u32,
+    at: AtBound,
     after: &str,
 ) -> Result<Reply, AllocError>
     requires { role < (G.rules g.now).roles }
     ensures { IfOk result (λ reply. (ended : Result State HistoryFault) × IsHistoryOf (named (G.rules g.now) (G.role_name g.now) (G.move_name g.now)) after.now ended
         × (record { output = reply.output.items; status = reply.status }
-        ≡ history_reply (named (G.rules g.now) (G.role_name g.now) (G.move_name g.now)) (solve_lines (named (G.rules g.now) (G.role_name g.now) (G.move_name g.now)) role depth) ended)) }
+        ≡ history_reply (named (G.rules g.now) (G.role_name g.now) (G.move_name g.now)) (solve_lines (named (G.rules g.now) (G.role_name g.now) (G.move_name g.now)) role depth at) ended)) }
 {
     match position_after(alloc, g, after) {
-        Ok(here) => Ok(answered(value_lines(alloc, g, role, depth, here)?)),
+        Ok(here) => Ok(answered(value_lines(alloc, g, role, depth, at, here)?)),
         Err(HistoryFault::NoMemory) => Err(AllocError),
         Err(fault) => refused_history(alloc, g, fault),
     }
@@ -164,13 +167,14 @@ pub(crate) fn solve_reply<G: Game>(
     g: &G,
     role: &str,
     depth: u32,
+    at: AtBound,
     after: &str,
 ) -> Result<Reply, AllocError>
-    ensures { IfOk result (λ reply. IsSolveReply (named (G.rules g.now) (G.role_name g.now) (G.move_name g.now)) role.now depth after.now
+    ensures { IfOk result (λ reply. IsSolveReply (named (G.rules g.now) (G.role_name g.now) (G.move_name g.now)) role.now depth at after.now
         (record { output = reply.output.items; status = reply.status })) }
 {
     match role_named(alloc, g, role)? {
-        Some(number) => reply_for(alloc, g, number, depth, after),
+        Some(number) => reply_for(alloc, g, number, depth, at, after),
         None => refused(alloc, &"S1 NoSuchRole"),
     }
 }

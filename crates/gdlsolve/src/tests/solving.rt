@@ -3,8 +3,8 @@ ghost use Rattle.std.specs.Prelude.{◌≡◌};
 
 use crate::command::Status;
 use crate::solving::solve_reply;
-use position::Game;
 use position::table::Table;
+use position::{AtBound, Game};
 use std::alloc::{AllocError, Global};
 
 /// A role, a depth, a history, what is written, and whether it is an answer.
@@ -13,7 +13,7 @@ type Row<'a> = (&'a str, u32, &'a str, &'a [u8], bool);
 /// Whether `solve` writes what the row says.
 fn solves<G: Game>(alloc: Global, g: &G, row: Row) -> Result<bool, AllocError> {
     let (role, depth, after, want, answers) = row;
-    let reply = solve_reply(alloc, g, role, depth, after)?;
+    let reply = solve_reply(alloc, g, role, depth, AtBound::Zero, after)?;
     let wanted = if answers {
         Status::Answer
     } else {

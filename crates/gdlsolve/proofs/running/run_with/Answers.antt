@@ -2,7 +2,7 @@ use Rattle.std.proofs.Common.{◌≡◌, rules}
 use Rattle.std.specs.Prelude.{Result, Ok, Err, IfErr}
 use Rattle.gdlsolve.specs.Answers.{Reply}
 use Rattle.gdlsolve.proofs.WholeInput.{replies_to}
-use Rattle.gdlsolve.proofs.running.run.Goals as goal
+use Rattle.gdlsolve.proofs.running.run_with.Goals as goal
 
 if_err : {X E : Type 0} (r : Result X E) (P : E → Type 0) → ((e : E) → P e) → IfErr r P
 if_err (Ok x) P f = tt
