@@ -110,7 +110,7 @@ impl Gate for Tally {
     }
 }
 
-fn tally() -> Tally {
+fn new_tally() -> Tally {
     Tally {
         passed: AtomicUsize::new(0),
     }
@@ -212,7 +212,7 @@ impl Watch for Meeting {
     }
 }
 
-fn meeting(one: [u32; 2], other: [u32; 2]) -> Meeting {
+fn meeting_of(one: [u32; 2], other: [u32; 2]) -> Meeting {
     Meeting {
         one,
         other,
@@ -226,9 +226,9 @@ fn meeting(one: [u32; 2], other: [u32; 2]) -> Meeting {
 fn two_workers_search_at_once(rt: HostRuntime) -> Result<(), Fail> {
     let game = Watched {
         inner: game_of(&rt, FOUR)?,
-        watch: meeting([0, 0], [1, 0]),
+        watch: meeting_of([0, 0], [1, 0]),
     };
-    let gate = tally();
+    let gate = new_tally();
     let answer = solved(&rt, &game, 1, b"2", &gate)?;
     assert_eq!(rt; answer.value, 70);
     assert_eq!(rt; answer.choice, Some(1));
@@ -242,9 +242,9 @@ fn two_workers_search_at_once(rt: HostRuntime) -> Result<(), Fail> {
 fn two_inner_workers_search_at_once(rt: HostRuntime) -> Result<(), Fail> {
     let game = Watched {
         inner: game_of(&rt, LIVE)?,
-        watch: meeting([0, 1], [0, 2]),
+        watch: meeting_of([0, 1], [0, 2]),
     };
-    let gate = tally();
+    let gate = new_tally();
     let answer = solved(&rt, &game, 2, b"1x2", &gate)?;
     assert_eq!(rt; answer.value, 90);
     assert_eq!(rt; answer.choice, Some(1));
@@ -314,7 +314,7 @@ const CUTS: [&[u8]; 7] = [b"1", b"2", b"2x2", b"2x4", b"16x4", b"1x1x1", b"2x2x2
 fn each_cut_has_the_same_answer(rt: HostRuntime) -> Result<(), Fail> {
     let game = game_of(&rt, LIVE)?;
     for cut in CUTS {
-        let gate = tally();
+        let gate = new_tally();
         let answer = solved(&rt, &game, 2, cut, &gate)?;
         assert_eq!(rt; answer.value, 90);
         assert_eq!(rt; answer.choice, Some(1));
@@ -327,7 +327,7 @@ fn each_cut_has_the_same_answer(rt: HostRuntime) -> Result<(), Fail> {
 fn every_task_of_the_limit_passes_the_gate(rt: HostRuntime) -> Result<(), Fail> {
     let game = game_of(&rt, WIDE)?;
     for cut in [b"1".as_slice(), b"4"] {
-        let gate = tally();
+        let gate = new_tally();
         let answer = solved(&rt, &game, 1, cut, &gate)?;
         assert_eq!(rt; answer.value, 30);
         assert_eq!(rt; answer.choice, Some(0));
@@ -340,7 +340,7 @@ fn every_task_of_the_limit_passes_the_gate(rt: HostRuntime) -> Result<(), Fail> 
 fn no_task_past_the_limit_passes_the_gate(rt: HostRuntime) -> Result<(), Fail> {
     let game = game_of(&rt, WIDER)?;
     for cut in [b"1".as_slice(), b"4"] {
-        let gate = tally();
+        let gate = new_tally();
         let answer = solved(&rt, &game, 1, cut, &gate)?;
         assert_eq!(rt; answer.value, 30);
         assert_eq!(rt; answer.choice, Some(0));

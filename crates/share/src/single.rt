@@ -49,11 +49,7 @@ fn worst_of<G: Game, K: Gate>(
 
 /// The value of the node and the place of its first best move, by the calling thread at its desk. A later move is searched for
 /// whether it is better than the best so far, and not for whether it is as good.
-pub fn answer_single<G: Game, K: Gate>(
-    node: &Node<'_, G>,
-    gate: &K,
-    desk: Desk<G>,
-) -> (i16, u32)
+pub fn answer_single<G: Game, K: Gate>(node: &Node<'_, G>, gate: &K, desk: Desk<G>) -> (i16, u32)
     requires fits { G.fits node.now.game.now node.now.from.now }
     requires steps { All (IsStepOf (G.fits node.now.game.now) (G.rules node.now.game.now).roles) desk.steps.items }
     requires some { 0 < length desk.steps.items }
