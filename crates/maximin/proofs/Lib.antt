@@ -7,3 +7,4 @@ pub mod Parts
 pub mod Best
 pub mod Bounds
 pub mod Reply
+pub mod Runs

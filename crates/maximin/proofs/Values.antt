@@ -30,6 +30,10 @@ pub value_ended : (g : Rules) (role depth : ℕ) (at : AtBound) (s : State) → 
 value_ended g role zero at s h = rw h refl
 value_ended g role (suc depth) at s h = rw h refl
 
+pub value_stuck : (g : Rules) (role depth : ℕ) (at : AtBound) (s : State) → g.ended s ≡ false → is_stuck g s ≡ true → value g role depth at s ≡ 0
+value_stuck g role zero at s going stuck = rw (going, stuck) refl
+value_stuck g role (suc depth) at s going stuck = rw (going, stuck) refl
+
 length-map-all : (f : ℕ → ℕ) (xs : List ℕ) → length (map f xs) ≡ length xs
 length-map-all f xs = grind (arith, common_steps)
 

@@ -33,6 +33,17 @@ lowered_most all here left a upper r h x = let top = x.at_most in omega (arith, 
 pub lowered_end : (all here : ℕ) (a upper r : ℤ) → int_min upper (pos here) ≤ℤ int_max (pos all) a → Answers here a upper r → int_min upper r ≤ℤ int_max (pos all) a
 lowered_end all here a upper r h x = let top = x.at_most in omega (arith, ints, clamps)
 
+-- no state so far is worth less than the upper bound, unless that is a or less
+pub lowered_seen : (w : ℕ) (a upper r : ℤ) → upper ≤ℤ int_max (pos w) a → int_min upper r ≤ℤ int_max (pos w) a
+lowered_seen w a upper r h = omega (arith, ints, clamps)
+
+pub lowered_now : (w : ℕ) (a upper r : ℤ) → Answers w a upper r → int_min upper r ≤ℤ int_max (pos w) a
+lowered_now w a upper r h = let top = h.at_most in omega (arith, ints, clamps)
+
+-- the value itself answers in each window
+pub exact : (v : ℕ) (a b r : ℤ) → r ≡ pos v → Answers v a b r
+exact v a b r same = record { at_least = omega (arith, ints, clamps); at_most = omega (arith, ints, clamps) }
+
 pub cut_below : (v : ℕ) (a b upper : ℤ) → upper ≤ℤ a → int_min (pos v) b ≤ℤ upper → Answers v a b upper
 cut_below v a b upper cut low = record { at_least = low; at_most = omega (arith, ints, clamps) }
 

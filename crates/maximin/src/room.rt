@@ -10,23 +10,26 @@ use position::{AtBound, Game};
 use propnet::Joint;
 use std::alloc::{AllocError, Global};
 
-/// All the memory of a search: a position and a joint move for each turn that it looks ahead.
+/// All the memory of a search: room to step many joint moves at once, and for each turn that it looks ahead a run of joint moves, the
+/// states after them, and one state.
 #[derive(Drop)]
 pub struct Room<G: Game> {
-    levels: Vec<Level<G::Pos>>,
+    wide: G::Wide,
+    levels: Vec<Level<G::Pos, G::Many>>,
 }
 
 impl<G: Game> Room<G> {
     /// A room for searches of this game to at most this depth, in turns. Nothing else here takes memory.
     pub fn new(alloc: Global, g: &G, depth: u32) -> Result<Room<G>, AllocError>
-        ensures room { IfOk result (λ room. IsRoomOf (G.fits g.now) (G.rules g.now).roles room) }
+        ensures room { IfOk result (λ room. IsRoomOf (G.fits g.now) (G.fits_wide g.now) (G.fits_many g.now) (G.rules g.now).roles room) }
         ensures depth { IfOk result (λ room. room_depth room ≡ depth) }
     {
         let mut levels = Vec::new(alloc);
         for _ in 0..depth {
             levels.push(new_level(alloc, g)?)?;
         }
-        Ok(Room { levels })
+        let wide = g.new_wide()?;
+        Ok(Room { wide, levels })
     }
 }
 
@@ -46,18 +49,19 @@ pub fn value_in<G: Game>(
 ) -> i16
     requires fits { G.fits g.now p.now }
     requires role { role < (G.rules g.now).roles }
-    requires room { IsRoomOf (G.fits g.now) (G.rules g.now).roles room.old }
+    requires room { IsRoomOf (G.fits g.now) (G.fits_wide g.now) (G.fits_many g.now) (G.rules g.now).roles room.old }
     requires deep { depth ≤ room_depth room.old }
     requires low { negsuc 1 ≤ℤ a }
     requires order { a <ℤ b }
     requires high { b ≤ℤ pos 101 }
     ensures answers { Answers (value (G.rules g.now) role depth at (G.state g.now p.now)) a b result }
-    ensures room { IsRoomOf (G.fits g.now) (G.rules g.now).roles room.new }
+    ensures room { IsRoomOf (G.fits g.now) (G.fits_wide g.now) (G.fits_many g.now) (G.rules g.now).roles room.new }
     ensures deep { room_depth room.new ≡ room_depth room.old }
-    ensures capacities { room_capacities (G.capacities g.now) room.new ≡ room_capacities (G.capacities g.now) room.old }
+    ensures capacities { room_capacities (G.capacities g.now) (G.wide_capacities g.now) (G.many_capacities g.now) room.new
+        ≡ room_capacities (G.capacities g.now) (G.wide_capacities g.now) (G.many_capacities g.now) room.old }
 {
     let levels = room.levels.as_mut_slice();
-    value_at(g, p, role, depth as usize, at, a, b, levels)
+    value_at(g, p, role, depth as usize, at, a, b, &mut room.wide, levels)
 }
 
 /// The first legal move of the role, in printed order, that attains the value of the state. There is none where the game has ended,
@@ -72,15 +76,16 @@ pub fn choice<G: Game>(
 ) -> Option<u32>
     requires fits { G.fits g.now p.now }
     requires role { role < (G.rules g.now).roles }
-    requires room { IsRoomOf (G.fits g.now) (G.rules g.now).roles room.old }
+    requires room { IsRoomOf (G.fits g.now) (G.fits_wide g.now) (G.fits_many g.now) (G.rules g.now).roles room.old }
     requires deep { depth ≤ room_depth room.old }
     ensures choice { result ≡ choice_of (G.rules g.now) role depth at (G.state g.now p.now) }
-    ensures room { IsRoomOf (G.fits g.now) (G.rules g.now).roles room.new }
+    ensures room { IsRoomOf (G.fits g.now) (G.fits_wide g.now) (G.fits_many g.now) (G.rules g.now).roles room.new }
     ensures deep { room_depth room.new ≡ room_depth room.old }
-    ensures capacities { room_capacities (G.capacities g.now) room.new ≡ room_capacities (G.capacities g.now) room.old }
+    ensures capacities { room_capacities (G.capacities g.now) (G.wide_capacities g.now) (G.many_capacities g.now) room.new
+        ≡ room_capacities (G.capacities g.now) (G.wide_capacities g.now) (G.many_capacities g.now) room.old }
 {
     let levels = room.levels.as_mut_slice();
-    choice_at(g, p, role, depth as usize, at, levels)
+    choice_at(g, p, role, depth as usize, at, &mut room.wide, levels)
 }
 
 /// Writes the first joint legal move that leaves the least value where the role plays `own`, which stands in its place. Joint moves are
@@ -101,15 +106,26 @@ pub fn first_reply<G: Game>(
     requires going { (G.rules g.now).ended (G.state g.now p.now) ≡ false }
     requires free { stuck (G.rules g.now) (G.state g.now p.now) ≡ false }
     requires turn { 0 < depth }
-    requires room { IsRoomOf (G.fits g.now) (G.rules g.now).roles room.old }
+    requires room { IsRoomOf (G.fits g.now) (G.fits_wide g.now) (G.fits_many g.now) (G.rules g.now).roles room.old }
     requires deep { depth ≤ room_depth room.old }
     requires out { (G.rules g.now).roles ≤ out.old.capacity }
     ensures reply { reply_of (G.rules g.now) role (depth - 1) at (G.state g.now p.now) own ≡ Some out.new.items }
     ensures out { out.new.capacity ≡ out.old.capacity }
-    ensures room { IsRoomOf (G.fits g.now) (G.rules g.now).roles room.new }
+    ensures room { IsRoomOf (G.fits g.now) (G.fits_wide g.now) (G.fits_many g.now) (G.rules g.now).roles room.new }
     ensures deep { room_depth room.new ≡ room_depth room.old }
-    ensures capacities { room_capacities (G.capacities g.now) room.new ≡ room_capacities (G.capacities g.now) room.old }
+    ensures capacities { room_capacities (G.capacities g.now) (G.wide_capacities g.now) (G.many_capacities g.now) room.new
+        ≡ room_capacities (G.capacities g.now) (G.wide_capacities g.now) (G.many_capacities g.now) room.old }
 {
     let levels = room.levels.as_mut_slice();
-    reply_at(g, p, role, own, depth as usize - 1, at, levels, out)
+    reply_at(
+        g,
+        p,
+        role,
+        own,
+        depth as usize - 1,
+        at,
+        &mut room.wide,
+        levels,
+        out,
+    )
 }

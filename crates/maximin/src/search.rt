@@ -1,11 +1,13 @@
 // The search, level by level.
-ghost use Rattle.std.specs.Prelude.{◌≡◌, ◌<◌, ◌≤◌, ◌<ℤ◌, ◌≤ℤ◌, pos, negsuc, false, Some, All, length, if◌then◌else◌};
+ghost use Rattle.std.specs.Prelude.{◌≡◌, ◌<◌, ◌≤◌, ◌<ℤ◌, ◌≤ℤ◌, pos, negsuc, false, Some, All, length, map, if◌then◌else◌};
 ghost use Rattle.position.specs.AtBound.{bound_worth};
 ghost use Rattle.position.specs.Rules.{is_stuck as stuck};
-ghost use Rattle.position.specs.Value.{Answers, choice_of, reply_of, value, worst};
+ghost use Rattle.position.specs.Value.{Answers, choice_of, least, reply_of, value, worst};
 ghost use Rattle.maximin.specs.Level.{IsLevelOf, all_capacities};
 
-use crate::level::{Level, next_turn, start_turns, write_joint};
+use crate::cursor::{next_turn, start_turns, write_joint};
+use crate::level::Level;
+use crate::run::{LONGEST_RUN, gather};
 use position::{AtBound, Game, is_stuck};
 use propnet::Joint;
 
@@ -32,18 +34,23 @@ pub fn value_at<G: Game>(
     at: AtBound,
     a: i16,
     b: i16,
-    levels: &mut [Level<G::Pos>],
+    wide: &mut G::Wide,
+    levels: &mut [Level<G::Pos, G::Many>],
 ) -> i16
     requires fits { G.fits game.now from.now }
     requires role { role < (G.rules game.now).roles }
     requires deep { depth ≤ length levels.old }
-    requires levels { All (IsLevelOf (G.fits game.now) (G.rules game.now).roles) levels.old }
+    requires wide { G.fits_wide game.now wide.old }
+    requires levels { All (IsLevelOf (G.fits game.now) (G.fits_many game.now) (G.rules game.now).roles) levels.old }
     requires low { negsuc 1 ≤ℤ a }
     requires order { a <ℤ b }
     requires high { b ≤ℤ pos 101 }
     ensures answers { Answers (value (G.rules game.now) role depth at (G.state game.now from.now)) a b result }
-    ensures levels { All (IsLevelOf (G.fits game.now) (G.rules game.now).roles) levels.new }
-    ensures capacities { all_capacities (G.capacities game.now) levels.new ≡ all_capacities (G.capacities game.now) levels.old }
+    ensures wide { G.fits_wide game.now wide.new }
+    ensures wide_capacities { G.wide_capacities game.now wide.new ≡ G.wide_capacities game.now wide.old }
+    ensures levels { All (IsLevelOf (G.fits game.now) (G.fits_many game.now) (G.rules game.now).roles) levels.new }
+    ensures capacities { all_capacities (G.capacities game.now) (G.many_capacities game.now) levels.new
+        ≡ all_capacities (G.capacities game.now) (G.many_capacities game.now) levels.old }
 {
     if game.ended(from) {
         return i16::from(game.goal(from, role));
@@ -57,7 +64,7 @@ pub fn value_at<G: Game>(
     let mut best = a;
     let mut place = 0;
     while let Some(own) = game.legal(from, role, place) {
-        best = best.max(worst_at(game, from, role, own, depth - 1, at, best, b, levels));
+        best = best.max(worst_at(game, from, role, own, depth - 1, at, best, b, wide, levels));
         if best >= b {
             return best;
         }
@@ -77,32 +84,108 @@ pub fn worst_at<G: Game>(
     at: AtBound,
     a: i16,
     b: i16,
-    levels: &mut [Level<G::Pos>],
+    wide: &mut G::Wide,
+    levels: &mut [Level<G::Pos, G::Many>],
 ) -> i16
     requires fits { G.fits game.now from.now }
     requires role { role < (G.rules game.now).roles }
     requires own { own < (G.rules game.now).moves role }
     requires open { stuck (G.rules game.now) (G.state game.now from.now) ≡ false }
     requires deep { depth < length levels.old }
-    requires levels { All (IsLevelOf (G.fits game.now) (G.rules game.now).roles) levels.old }
+    requires wide { G.fits_wide game.now wide.old }
+    requires levels { All (IsLevelOf (G.fits game.now) (G.fits_many game.now) (G.rules game.now).roles) levels.old }
     requires low { negsuc 1 ≤ℤ a }
     requires order { a <ℤ b }
     requires high { b ≤ℤ pos 101 }
     ensures answers { Answers (worst (G.rules game.now) role depth at (G.state game.now from.now) own) a b result }
-    ensures levels { All (IsLevelOf (G.fits game.now) (G.rules game.now).roles) levels.new }
-    ensures capacities { all_capacities (G.capacities game.now) levels.new ≡ all_capacities (G.capacities game.now) levels.old }
+    ensures wide { G.fits_wide game.now wide.new }
+    ensures wide_capacities { G.wide_capacities game.now wide.new ≡ G.wide_capacities game.now wide.old }
+    ensures levels { All (IsLevelOf (G.fits game.now) (G.fits_many game.now) (G.rules game.now).roles) levels.new }
+    ensures capacities { all_capacities (G.capacities game.now) (G.many_capacities game.now) levels.new
+        ≡ all_capacities (G.capacities game.now) (G.many_capacities game.now) levels.old }
 {
     let (first, rest) = levels.split_at_mut(1);
     let level = &mut first[0];
     start_turns(game, from, role, own, &mut level.cursor);
     let mut upper = b;
-    loop {
-        game.step(from, &level.cursor.joint, &mut level.position);
-        upper = upper.min(value_at(game, &level.position, role, depth, at, a, upper, rest));
-        if upper <= a || !next_turn(game, from, role, own, &mut level.cursor) {
+    let mut most = 1;
+    'runs: loop {
+        let more = gather(
+            game,
+            from,
+            role,
+            own,
+            &mut level.cursor,
+            most,
+            &mut level.run,
+        );
+        let count = level.run.count;
+        game.steps(from, &level.run.joints[..count], wide, &mut level.many);
+        let least = least_at(
+            game,
+            &level.many,
+            count,
+            role,
+            depth,
+            at,
+            a,
+            upper,
+            wide,
+            &mut level.position,
+            rest,
+        );
+        upper = upper.min(least);
+        if upper <= a || !more {
+            return upper;
+        }
+        most = LONGEST_RUN.min(most * 8);
+    }
+}
+
+/// The least value of some states, within a window.
+#[cycle(search)]
+fn least_at<G: Game>(
+    game: &G,
+    many: &G::Many,
+    count: usize,
+    role: usize,
+    depth: usize,
+    at: AtBound,
+    a: i16,
+    b: i16,
+    wide: &mut G::Wide,
+    position: &mut G::Pos,
+    levels: &mut [Level<G::Pos, G::Many>],
+) -> i16
+    requires many { G.fits_many game.now many.now }
+    requires count { count ≡ length (G.states game.now many.now) }
+    requires some { 0 < count }
+    requires role { role < (G.rules game.now).roles }
+    requires deep { depth ≤ length levels.old }
+    requires wide { G.fits_wide game.now wide.old }
+    requires position { G.fits game.now position.old }
+    requires levels { All (IsLevelOf (G.fits game.now) (G.fits_many game.now) (G.rules game.now).roles) levels.old }
+    requires low { negsuc 1 ≤ℤ a }
+    requires order { a <ℤ b }
+    requires high { b ≤ℤ pos 101 }
+    ensures answers { Answers (least (map (value (G.rules game.now) role depth at) (G.states game.now many.now))) a b result }
+    ensures wide { G.fits_wide game.now wide.new }
+    ensures wide_capacities { G.wide_capacities game.now wide.new ≡ G.wide_capacities game.now wide.old }
+    ensures position { G.fits game.now position.new }
+    ensures position_capacities { G.capacities game.now position.new ≡ G.capacities game.now position.old }
+    ensures levels { All (IsLevelOf (G.fits game.now) (G.fits_many game.now) (G.rules game.now).roles) levels.new }
+    ensures capacities { all_capacities (G.capacities game.now) (G.many_capacities game.now) levels.new
+        ≡ all_capacities (G.capacities game.now) (G.many_capacities game.now) levels.old }
+{
+    let mut upper = b;
+    for place in 0..count {
+        game.take(many, place, position);
+        upper = upper.min(value_at(game, position, role, depth, at, a, upper, wide, levels));
+        if upper <= a {
             return upper;
         }
     }
+    upper
 }
 
 /// The first move of the role that attains the value of the state.
@@ -112,15 +195,20 @@ pub fn choice_at<G: Game>(
     role: usize,
     depth: usize,
     at: AtBound,
-    levels: &mut [Level<G::Pos>],
+    wide: &mut G::Wide,
+    levels: &mut [Level<G::Pos, G::Many>],
 ) -> Option<u32>
     requires fits { G.fits game.now from.now }
     requires role { role < (G.rules game.now).roles }
     requires deep { depth ≤ length levels.old }
-    requires levels { All (IsLevelOf (G.fits game.now) (G.rules game.now).roles) levels.old }
+    requires wide { G.fits_wide game.now wide.old }
+    requires levels { All (IsLevelOf (G.fits game.now) (G.fits_many game.now) (G.rules game.now).roles) levels.old }
     ensures choice { result ≡ choice_of (G.rules game.now) role depth at (G.state game.now from.now) }
-    ensures levels { All (IsLevelOf (G.fits game.now) (G.rules game.now).roles) levels.new }
-    ensures capacities { all_capacities (G.capacities game.now) levels.new ≡ all_capacities (G.capacities game.now) levels.old }
+    ensures wide { G.fits_wide game.now wide.new }
+    ensures wide_capacities { G.wide_capacities game.now wide.new ≡ G.wide_capacities game.now wide.old }
+    ensures levels { All (IsLevelOf (G.fits game.now) (G.fits_many game.now) (G.rules game.now).roles) levels.new }
+    ensures capacities { all_capacities (G.capacities game.now) (G.many_capacities game.now) levels.new
+        ≡ all_capacities (G.capacities game.now) (G.many_capacities game.now) levels.old }
 {
     if depth == 0 || game.ended(from) || is_stuck(game, from) {
         return None;
@@ -129,7 +217,18 @@ pub fn choice_at<G: Game>(
     let mut chosen = 0;
     let mut place = 0;
     while let Some(own) = game.legal(from, role, place) {
-        let worst = worst_at(game, from, role, own, depth - 1, at, best, 101, levels);
+        let worst = worst_at(
+            game,
+            from,
+            role,
+            own,
+            depth - 1,
+            at,
+            best,
+            101,
+            wide,
+            levels,
+        );
         if worst > best {
             best = worst;
             chosen = place;
@@ -147,7 +246,8 @@ pub fn reply_at<G: Game>(
     own: u32,
     depth: usize,
     at: AtBound,
-    levels: &mut [Level<G::Pos>],
+    wide: &mut G::Wide,
+    levels: &mut [Level<G::Pos, G::Many>],
     out: &mut Joint,
 )
     requires fits { G.fits game.now from.now }
@@ -155,12 +255,16 @@ pub fn reply_at<G: Game>(
     requires own { own < (G.rules game.now).moves role }
     requires open { stuck (G.rules game.now) (G.state game.now from.now) ≡ false }
     requires deep { depth < length levels.old }
-    requires levels { All (IsLevelOf (G.fits game.now) (G.rules game.now).roles) levels.old }
+    requires wide { G.fits_wide game.now wide.old }
+    requires levels { All (IsLevelOf (G.fits game.now) (G.fits_many game.now) (G.rules game.now).roles) levels.old }
     requires out { (G.rules game.now).roles ≤ out.old.capacity }
     ensures reply { reply_of (G.rules game.now) role depth at (G.state game.now from.now) own ≡ Some out.new.items }
     ensures out { out.new.capacity ≡ out.old.capacity }
-    ensures levels { All (IsLevelOf (G.fits game.now) (G.rules game.now).roles) levels.new }
-    ensures capacities { all_capacities (G.capacities game.now) levels.new ≡ all_capacities (G.capacities game.now) levels.old }
+    ensures wide { G.fits_wide game.now wide.new }
+    ensures wide_capacities { G.wide_capacities game.now wide.new ≡ G.wide_capacities game.now wide.old }
+    ensures levels { All (IsLevelOf (G.fits game.now) (G.fits_many game.now) (G.rules game.now).roles) levels.new }
+    ensures capacities { all_capacities (G.capacities game.now) (G.many_capacities game.now) levels.new
+        ≡ all_capacities (G.capacities game.now) (G.many_capacities game.now) levels.old }
 {
     let (first, rest) = levels.split_at_mut(1);
     let level = &mut first[0];
@@ -168,7 +272,17 @@ pub fn reply_at<G: Game>(
     let mut upper = 101;
     loop {
         game.step(from, &level.cursor.joint, &mut level.position);
-        let worth = value_at(game, &level.position, role, depth, at, -1, upper, rest);
+        let worth = value_at(
+            game,
+            &level.position,
+            role,
+            depth,
+            at,
+            -1,
+            upper,
+            wide,
+            rest,
+        );
         if worth < upper {
             upper = worth;
             write_joint(&level.cursor.joint, out);

@@ -1,6 +1,6 @@
 -- The list of legal moves, place by place.
 use Rattle.std.proofs.Common.{◌≡◌, ℕ, ◌+◌, ◌<◌, ◌≤◌, ◌^◌, Bool, true, false, List, [], ◌∷◌, length, drop, sym, ◌∙◌, ap, refl, arith, get_or, add-one, inl, inr}
-use Rattle.std.specs.Prelude.{All, Option, Some, None, slice_get, find, IsTrue, ◌↔◌}
+use Rattle.std.specs.Prelude.{All, IfSome, Option, Some, None, slice_get, find, IsTrue, ◌↔◌}
 use Rattle.std.specs.List.Sorted.{IsStrictlyIncreasing}
 use Rattle.std.proofs.Math.Seq.{drop-cons}
 use Rattle.std.proofs.Math.ListN.{drop_of_length-le}
@@ -17,6 +17,10 @@ legal_known g s q place x r h e found =
     let there : slice_get (g.legal s q) place ≡ Some x = sym e ∙ found in
     let known : get_or (g.legal s q) place 0 < g.moves q = h place 0 (slice_get_within (g.legal s q) place x there) in
     rw (get_or_from_slice_get (g.legal s q) place x 0 there) at known
+
+pub legal_all : (g : Rules) (s : State) (q place : ℕ) (r : Option ℕ) → All (λ m. m < g.moves q) (g.legal s q) → r ≡ slice_get (g.legal s q) place → IfSome r (λ m. m < g.moves q)
+legal_all g s q place None h e = tt
+legal_all g s q place (Some x) h e = legal_known g s q place x (Some x) h e refl
 
 pub legal_place : (g : Rules) (s : State) (q place x : ℕ) (r : Option ℕ) → r ≡ slice_get (g.legal s q) place → r ≡ Some x → (place < length (g.legal s q)) × (get_or (g.legal s q) place 0 ≡ x)
 legal_place g s q place x r e found =

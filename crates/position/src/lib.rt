@@ -14,7 +14,6 @@ mod net_plan;
 mod net_planning;
 mod net_playing;
 mod net_pos;
-mod net_reading;
 mod net_words;
 mod plan;
 mod planning;

@@ -11,33 +11,32 @@ ghost use Rattle.position.specs.NetState.{is_on, view_of, words_for as count_for
 use crate::naming::Naming;
 use crate::net_game::NetGame;
 use crate::net_pos::NetPos;
-use crate::net_reading::{mark_told, told_end, told_goal};
 use crate::net_words::{eval_after, eval_now, start_words, words_for, write_next};
-use crate::reading::list_marked;
+use crate::reading::{best_goal, has_ended, list_marked, mark_named};
 use crate::rule_pos::{RoleState, new_roles};
 use propnet::Joint;
 use std::alloc::AllocError;
 
 /// Writes what the bits of the nodes tell of a role.
-fn read_net_role(game: &NetGame, bits: &[u64], role: usize, out: &mut RoleState)
+fn read_net_role(game: &NetGame, bits: &Vec<u64>, role: usize, out: &mut RoleState)
     requires role { role < length (inputs_of game.now.played) }
-    requires bits { length bits.now ≡ count_for (length (gates_of game.now.net)) }
+    requires bits { length bits.now.items ≡ count_for (length (gates_of game.now.net)) }
     requires room { HasRoleRoom (length (texts_at (inputs_of game.now.played) role)) out.old }
-    ensures read { IsRoleRead (kinds_of game.now.played) (λ a. is_on bits.now (view_of game.now.net.views.items a)) role (length (texts_at (inputs_of game.now.played) role)) out.new }
+    ensures read { IsRoleRead (kinds_of game.now.played) (λ a. is_on bits.now.items (view_of game.now.net.views.items a)) role (length (texts_at (inputs_of game.now.played) role)) out.new }
     ensures room { HasRoleRoom (length (texts_at (inputs_of game.now.played) role)) out.new }
     ensures capacities { role_capacities out.new ≡ role_capacities out.old }
 {
     let plan = &game.plan.roles[role];
-    mark_told(&plan.legals, bits, Naming::ByLegal(role), &mut out.marks);
+    mark_named(&plan.legals, bits, Naming::ByLegal(role), &mut out.marks);
     out.count = list_marked(&out.marks, &mut out.moves);
-    out.goal = told_goal(&plan.goals, bits, role);
+    out.goal = best_goal(&plan.goals, bits, role);
 }
 
 /// Writes what the bits of the nodes tell of each role.
-fn read_net_roles(game: &NetGame, bits: &[u64], roles: &mut Vec<RoleState>)
-    requires bits { length bits.now ≡ count_for (length (gates_of game.now.net)) }
+fn read_net_roles(game: &NetGame, bits: &Vec<u64>, roles: &mut Vec<RoleState>)
+    requires bits { length bits.now.items ≡ count_for (length (gates_of game.now.net)) }
     requires room { HaveRoom (inputs_of game.now.played) roles.old.items }
-    ensures read { AreRead (kinds_of game.now.played) (λ a. is_on bits.now (view_of game.now.net.views.items a)) (inputs_of game.now.played) roles.new.items }
+    ensures read { AreRead (kinds_of game.now.played) (λ a. is_on bits.now.items (view_of game.now.net.views.items a)) (inputs_of game.now.played) roles.new.items }
     ensures room { HaveRoom (inputs_of game.now.played) roles.new.items }
     ensures capacities { all_capacities roles.new.items ≡ all_capacities roles.old.items }
     ensures capacity { vec_capacity roles.new ≡ vec_capacity roles.old }
@@ -55,7 +54,7 @@ pub(crate) fn read_net_state(game: &NetGame, p: &mut NetPos)
     ensures capacities { net_capacities p.new ≡ net_capacities p.old }
 {
     eval_now(game, &p.words, &mut p.bits);
-    p.ended = told_end(&game.plan.ends, &p.bits);
+    p.ended = has_ended(&game.plan.ends, &p.bits);
     read_net_roles(game, &p.bits, &mut p.roles);
 }
 

@@ -1,12 +1,50 @@
-// What is told of a state by the kinds of the atoms that hold.
-ghost use Rattle.std.specs.Prelude.{◌≡◌, ◌<◌, ◌≤◌, ◌+◌, ◌^◌, ◌&&◌, ◌||◌, ◌++◌, [], ◌∷◌, ℕ, All, false, length, max, take, slice_index_or, vec_capacity, if◌then◌else◌};
+// What is told of a state by the kinds of the atoms that hold, or whose nodes are 1.
+ghost use Rattle.std.specs.Prelude.{◌≡◌, ◌<◌, ◌≤◌, ◌+◌, ◌*◌, ◌^◌, ◌&&◌, ◌||◌, ◌++◌, [], ◌∷◌, ℕ, Bool, All, false, length, max, take, slice_index_or, vec_capacity, if◌then◌else◌};
 ghost use Rattle.position.specs.RulePlay.{AreMarks, marked, number_named, names, goal_value, is_terminal};
 ghost use Rattle.position.specs.Plans.{names_among, goal_among, ends_among};
+ghost use Rattle.position.specs.NetState.{is_on};
 
 use crate::evaluation::put_mark;
 use crate::naming::Naming;
 use crate::plan::Standing;
 use ground::Kind;
+use propnet::get_bit;
+
+/// What holds, by the numbers of atoms or of the nodes that tell of them.
+pub(crate) trait Marks {
+    /// The numbers below this one have a mark.
+    ghost bound: { Self → ℕ };
+
+    /// Whether a number is marked.
+    ghost marks: { Self → ℕ → Bool };
+
+    /// Whether a number is marked.
+    fn is_marked(&self, number: u32) -> bool
+        requires { number < bound self.now }
+        ensures { result ≡ marks self.now number };
+}
+
+/// A mark for each number.
+impl Marks for Vec<bool> {
+    ghost bound = { λ right. length right.items };
+
+    ghost marks = { λ right n. slice_index_or right.items n false };
+
+    fn is_marked(&self, number: u32) -> bool {
+        self[number as usize]
+    }
+}
+
+/// A bit for each number: bit `n % 64` of word `n / 64`.
+impl Marks for Vec<u64> {
+    ghost bound = { λ bits. 64 * length bits.items };
+
+    ghost marks = { λ bits n. is_on bits.items n };
+
+    fn is_marked(&self, number: u32) -> bool {
+        get_bit(self, number as usize) == 1
+    }
+}
 
 /// The number that an atom of this kind names.
 pub(crate) fn number_of(by: Naming, kind: Kind) -> Option<u32>
@@ -20,7 +58,7 @@ pub(crate) fn number_of(by: Naming, kind: Kind) -> Option<u32>
 }
 
 /// Marks the number that an atom of this kind names, if the atom holds and the number has a mark.
-pub(crate) fn note(holds: bool, kind: Kind, by: Naming, marks: &mut Vec<bool>)
+fn note(holds: bool, kind: Kind, by: Naming, marks: &mut Vec<bool>)
     ensures size { length marks.new.items ≡ length marks.old.items }
     ensures each { (k : ℕ) → k < length marks.old.items → slice_index_or marks.new.items k false ≡ (slice_index_or marks.old.items k false || (holds && names by kind k)) }
     ensures capacity { vec_capacity marks.new ≡ vec_capacity marks.old }
@@ -37,7 +75,7 @@ pub(crate) fn note(holds: bool, kind: Kind, by: Naming, marks: &mut Vec<bool>)
 }
 
 /// Takes all marks away.
-pub(crate) fn clear(marks: &mut Vec<bool>)
+fn clear(marks: &mut Vec<bool>)
     ensures size { length marks.new.items ≡ length marks.old.items }
     ensures each { (k : ℕ) → k < length marks.old.items → slice_index_or marks.new.items k false ≡ false }
     ensures capacity { vec_capacity marks.new ≡ vec_capacity marks.old }
@@ -48,20 +86,25 @@ pub(crate) fn clear(marks: &mut Vec<bool>)
 }
 
 /// Marks exactly the numbers that atoms of a list that hold name.
-pub(crate) fn mark_named(list: &[Standing], right: &[bool], by: Naming, marks: &mut Vec<bool>)
-    requires { All (λ p. p.atom < length right.now) list.now }
-    ensures marks { AreMarks marks.new.items (length marks.old.items) (names_among list.now (λ a. slice_index_or right.now a false) by) }
+pub(crate) fn mark_named<M: Marks>(
+    list: &[Standing],
+    right: &M,
+    by: Naming,
+    marks: &mut Vec<bool>,
+)
+    requires { All (λ p. p.atom < M.bound right.now) list.now }
+    ensures marks { AreMarks marks.new.items (length marks.old.items) (names_among list.now (M.marks right.now) by) }
     ensures capacity { vec_capacity marks.new ≡ vec_capacity marks.old }
 {
     clear(marks);
     for place in 0..list.len() {
         let here = list[place];
-        note(right[here.atom as usize], here.kind, by, marks);
+        note(right.is_marked(here.atom), here.kind, by, marks);
     }
 }
 
 /// The value that an atom of this kind gives a role, if it holds, else 0.
-pub(crate) fn value_of(holds: bool, kind: Kind, role: usize) -> u8
+fn value_of(holds: bool, kind: Kind, role: usize) -> u8
     ensures { result ≡ (if holds then goal_value role kind else 0) }
 {
     match kind {
@@ -71,41 +114,41 @@ pub(crate) fn value_of(holds: bool, kind: Kind, role: usize) -> u8
 }
 
 /// The greater of two values.
-pub(crate) fn greater(value: u8, other: u8) -> u8
+fn greater(value: u8, other: u8) -> u8
     ensures { result ≡ max value other }
 {
     value.max(other)
 }
 
 /// The greatest goal of a role among the atoms of a list that hold, or 0.
-pub(crate) fn best_goal(list: &[Standing], right: &[bool], role: usize) -> u8
-    requires { All (λ p. p.atom < length right.now) list.now }
-    ensures { result ≡ goal_among list.now (λ a. slice_index_or right.now a false) role }
+pub(crate) fn best_goal<M: Marks>(list: &[Standing], right: &M, role: usize) -> u8
+    requires { All (λ p. p.atom < M.bound right.now) list.now }
+    ensures { result ≡ goal_among list.now (M.marks right.now) role }
 {
     let mut best = 0;
     for place in 0..list.len() {
         let here = list[place];
-        best = greater(value_of(right[here.atom as usize], here.kind, role), best);
+        best = greater(value_of(right.is_marked(here.atom), here.kind, role), best);
     }
     best
 }
 
 /// Whether an atom of this kind ends the game, if it holds.
-pub(crate) fn is_end(holds: bool, kind: Kind) -> bool
+fn is_end(holds: bool, kind: Kind) -> bool
     ensures { result ≡ (holds && is_terminal kind) }
 {
     holds && kind == Kind::Terminal
 }
 
 /// Whether an atom of a list that holds ends the game.
-pub(crate) fn has_ended(list: &[Standing], right: &[bool]) -> bool
-    requires { All (λ p. p.atom < length right.now) list.now }
-    ensures { result ≡ ends_among list.now (λ a. slice_index_or right.now a false) }
+pub(crate) fn has_ended<M: Marks>(list: &[Standing], right: &M) -> bool
+    requires { All (λ p. p.atom < M.bound right.now) list.now }
+    ensures { result ≡ ends_among list.now (M.marks right.now) }
 {
     let mut ended = false;
     for place in 0..list.len() {
         let here = list[place];
-        ended |= is_end(right[here.atom as usize], here.kind);
+        ended |= is_end(right.is_marked(here.atom), here.kind);
     }
     ended
 }

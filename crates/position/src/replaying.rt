@@ -48,7 +48,7 @@ fn check_forms<A: Allocator>(roles: usize, turns: &[Expr<A>]) -> Result<(), Hist
 }
 
 /// A joint move of a game, to be written over.
-fn new_joint(alloc: Global, roles: usize) -> Result<Joint, AllocError>
+pub(crate) fn new_joint(alloc: Global, roles: usize) -> Result<Joint, AllocError>
     ensures { IfOk result (λ joint. small_vec_len joint ≡ roles) }
 {
     let mut joint = SmallVec::new(alloc);
@@ -59,7 +59,7 @@ fn new_joint(alloc: Global, roles: usize) -> Result<Joint, AllocError>
 }
 
 /// Writes the move of a role.
-fn put_move(joint: &mut Joint, role: usize, number: u32)
+pub(crate) fn put_move(joint: &mut Joint, role: usize, number: u32)
     requires { role < small_vec_len joint.old }
     ensures { joint.new.items ≡ slice_set joint.old.items role number }
 {

@@ -37,11 +37,11 @@ pub struct RulePos {
 }
 
 /// Writes what the atoms that hold tell of a role.
-fn read_role(game: &RuleGame, right: &[bool], role: usize, out: &mut RoleState)
+fn read_role(game: &RuleGame, right: &Vec<bool>, role: usize, out: &mut RoleState)
     requires role { role < length (inputs_of game.now.played) }
-    requires right { length right.now ≡ length (kinds_of game.now.played) }
+    requires right { length right.now.items ≡ length (kinds_of game.now.played) }
     requires room { HasRoleRoom (length (texts_at (inputs_of game.now.played) role)) out.old }
-    ensures read { IsRoleRead (kinds_of game.now.played) (λ a. slice_index_or right.now a false) role (length (texts_at (inputs_of game.now.played) role)) out.new }
+    ensures read { IsRoleRead (kinds_of game.now.played) (λ a. slice_index_or right.now.items a false) role (length (texts_at (inputs_of game.now.played) role)) out.new }
     ensures room { HasRoleRoom (length (texts_at (inputs_of game.now.played) role)) out.new }
     ensures capacities { role_capacities out.new ≡ role_capacities out.old }
 {
@@ -52,10 +52,10 @@ fn read_role(game: &RuleGame, right: &[bool], role: usize, out: &mut RoleState)
 }
 
 /// Writes what the atoms that hold tell of each role.
-fn read_roles(game: &RuleGame, right: &[bool], roles: &mut Vec<RoleState>)
-    requires right { length right.now ≡ length (kinds_of game.now.played) }
+fn read_roles(game: &RuleGame, right: &Vec<bool>, roles: &mut Vec<RoleState>)
+    requires right { length right.now.items ≡ length (kinds_of game.now.played) }
     requires room { HaveRoom (inputs_of game.now.played) roles.old.items }
-    ensures read { AreRead (kinds_of game.now.played) (λ a. slice_index_or right.now a false) (inputs_of game.now.played) roles.new.items }
+    ensures read { AreRead (kinds_of game.now.played) (λ a. slice_index_or right.now.items a false) (inputs_of game.now.played) roles.new.items }
     ensures room { HaveRoom (inputs_of game.now.played) roles.new.items }
     ensures capacities { all_capacities roles.new.items ≡ all_capacities roles.old.items }
     ensures capacity { vec_capacity roles.new ≡ vec_capacity roles.old }

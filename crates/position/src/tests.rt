@@ -1,6 +1,8 @@
 // Histories over the table.
 ghost use Rattle.std.specs.Prelude.{◌<◌};
 
+mod network;
+
 use crate::table::Table;
 use crate::{AtBound, Game, add_history_refusal, is_stuck, replay};
 use kif::read;

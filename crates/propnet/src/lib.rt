@@ -8,6 +8,7 @@ mod compiling;
 mod eval;
 mod fault;
 mod grouping;
+mod inputs;
 mod laws;
 mod marking;
 mod net;

@@ -1,19 +1,23 @@
-use Rattle.std.proofs.Common.{◌≡◌, ℕ, ◌+◌, ◌-◌, ◌<◌, ◌≤◌, length, ◌∷◌, List, get_or, arith, sym, ◌∙◌, ap, w16, min, refl, rules as facts, below_more}
+use Rattle.std.proofs.Common.{◌≡◌, ℕ, ◌+◌, ◌-◌, ◌<◌, ◌≤◌, length, [], ◌∷◌, List, take, get_or, arith, sym, ◌∙◌, ap, subst, w16, min, refl, rules as facts, below_more}
 use Rattle.std.proofs.lemmas.Int.{ints, to_z-of_z}
 use mir.Val.{SFits, of_z, to_z}
 use Rattle.std.specs.Prelude.{pos, ◌≤ℤ◌, map}
 use Rattle.std.specs.Int.{int_min, int_max}
-use Rattle.position.specs.Rules.{choices}
+use Rattle.smallvec.specs.SmallVec.{SmallVec}
+use Rattle.position.specs.Rules.{Turn, choices, IsTurn}
 use Rattle.position.specs.Value.{Answers, value, worst, least}
+use Rattle.maximin.specs.declared.level.Level.{Level}
 use Rattle.maximin.specs.Turns.{later}
 use Rattle.maximin.specs.Cursor.{cursor_capacities}
+use Rattle.maximin.specs.Run.{turns_in, run_capacities}
 use Rattle.maximin.specs.Level.{IsLevelOf, level_capacities}
-use Rattle.maximin.proofs.Windows.{raised_most, raised_seen, raised_now, raised_above, cut_above, lowered_least, lowered_most, lowered_end, cut_below, least_head, start_least, start_most, lowered_below, le_z_true, le_z_false}
-use Rattle.maximin.proofs.Values.{IsOpen, worst_le_value, value_reached, turn_known}
-use Rattle.maximin.proofs.Parts.{All-first_and_rest, joined, all_kept}
+use Rattle.maximin.proofs.Windows.{raised_most, raised_seen, raised_now, raised_above, cut_above, lowered_least, lowered_most, lowered_end, lowered_seen, lowered_now, exact, cut_below, start_least, start_most, lowered_below, le_z_true, le_z_false}
+use Rattle.maximin.proofs.Values.{IsOpen, worst_le_value, value_reached, value_ended, value_stuck}
+use Rattle.maximin.proofs.Parts.{All-first_and_rest, four_joined, all_kept}
+use Rattle.maximin.proofs.Runs.{known_each, some_taken, worths_after, least_worth_below, least_worth_reached, least_behind, least_of_run, fewer_behind}
 use Rattle.position.proofs.LegalMoves.{legal_known, legal_place, legal_count, none_past}
 use Rattle.maximin.proofs.search.+search.Goals as goal
-use Rattle.maximin.proofs.search.+search.Goals.{worst_at-then-upper-a-via-then-upper-a, worst_at-then-upper-a-via-else-upper-a+then-not-next_turn}
+use Rattle.maximin.proofs.search.+search.Goals.{worst_at-then-upper-a-via-then-upper-a, worst_at-then-upper-a-via-else-upper-a+then-not-more}
 
 pub value_at-worst_at-requires-clause-own : goal.value_at-worst_at-requires-clause-own
 value_at-worst_at-requires-clause-own g t c κs within =
@@ -86,7 +90,9 @@ value_at-loop-own-preserved g t c =
     (rw here.1 at (worst_le_value rules c.args.role c.args.depth c.args.at state c.loop-own.place free here.0)) c.loop-own.invariant.at_most c.worst_at.ensures.answers in
     record {
       levels = c.worst_at.ensures.levels;
+      wide = c.worst_at.ensures.wide;
       capacities = c.worst_at.ensures.capacities ∙ c.loop-own.invariant.capacities;
+      wide_capacities = c.worst_at.ensures.wide_capacities ∙ c.loop-own.invariant.wide_capacities;
       deep = omega arith;
       in_list = omega (arith, here.0);
       above = rw raised (raised_above a best r c.loop-own.invariant.above);
@@ -114,8 +120,94 @@ value_at-returns-clause-answers g t c =
       at_most = c.loop-own.invariant.at_most;
     }
 
-pub worst_at-loop-upper-init : goal.worst_at-loop-upper-init
-worst_at-loop-upper-init g t c =
+pub value_at-returns-then-ended-clause-answers : goal.value_at-returns-then-ended-clause-answers
+value_at-returns-then-ended-clause-answers g t c =
+    let rules = g.G.Game.rules c.args.game.now in
+    let state = g.G.Game.state c.args.game.now c.args.from.now in
+    let fits : SFits w16 c.from.result = search facts in
+    let same = to_z-of_z w16 c.from.result fits in
+    exact (value rules c.args.role c.args.depth c.args.at state) c.args.a c.args.b (to_z w16 (of_z w16 c.from.result))
+    (same ∙ c.from.ensures ∙ ap pos (c.goal.ensures ∙ sym (value_ended rules c.args.role c.args.depth c.args.at state (sym c.ended.ensures ∙ c.if-ended.true))))
+
+pub value_at-returns-then-is_stuck-clause-answers : goal.value_at-returns-then-is_stuck-clause-answers
+value_at-returns-then-is_stuck-clause-answers g t c =
+    let rules = g.G.Game.rules c.args.game.now in
+    let state = g.G.Game.state c.args.game.now c.args.from.now in
+    exact (value rules c.args.role c.args.depth c.args.at state) c.args.a c.args.b (pos 0)
+    (ap pos (sym (value_stuck rules c.args.role c.args.depth c.args.at state (sym c.ended.ensures ∙ c.if-ended.false) (sym c.is_stuck.ensures ∙ c.if-is_stuck.true))))
+
+pub least_at-loop-place-preserved : goal.least_at-loop-place-preserved
+least_at-loop-place-preserved g t c =
+    let rules = g.G.Game.rules c.args.game.now in
+    let states = g.G.Game.states c.args.game.now c.args.many.now in
+    let worth : List ℕ → ℕ = λ s. value rules c.args.role c.args.depth c.args.at s in
+    let all = least (map worth states) in
+    let here = worth (get_or states c.loop-place.place []) in
+    let a = to_z w16 (of_z w16 c.args.a) in
+    let b = to_z w16 (of_z w16 c.args.b) in
+    let r = c.value_at.result in
+    let upper = to_z w16 c.loop-place.upper-bits in
+    let fits_r : SFits w16 r = search facts in
+    let fits_m : SFits w16 c.min-upper.result = search facts in
+    let lowered : to_z w16 (of_z w16 c.min-upper.result) ≡ int_min upper r =
+    to_z-of_z w16 c.min-upper.result fits_m ∙ c.min-upper.ensures.value ∙ ap (λ z. int_min upper z) (to_z-of_z w16 r fits_r) in
+    let answers : Answers here a upper r = rw c.take.ensures.taken at c.value_at.ensures.answers in
+    let part : all ≤ here = least_worth_below worth states c.loop-place.place (omega (arith, c.requires.count, c.loop-place-test.true)) in
+    record {
+      position = c.take.ensures.fits;
+      levels = c.value_at.ensures.levels;
+      wide = c.value_at.ensures.wide;
+      position_capacities = c.take.ensures.capacities ∙ c.loop-place.invariant.position_capacities;
+      capacities = c.value_at.ensures.capacities ∙ c.loop-place.invariant.capacities;
+      wide_capacities = c.value_at.ensures.wide_capacities ∙ c.loop-place.invariant.wide_capacities;
+      deep = omega arith;
+      above = le_z_false _ a c.if-upper-a.false;
+      below = rw lowered (lowered_below b upper r c.loop-place.invariant.below);
+      at_least = rw lowered (lowered_least all here a b upper r part c.loop-place.invariant.at_least c.loop-place.invariant.below answers);
+      seen = below_more _ _
+          (λ k lt. rw lowered (lowered_seen (worth (get_or states k [])) a upper r (c.loop-place.invariant.seen k lt)))
+          (rw lowered (lowered_now here a upper r answers));
+    }
+
+pub least_at-returns-then-upper-a-clause-answers : goal.least_at-returns-then-upper-a-clause-answers
+least_at-returns-then-upper-a-clause-answers g t c =
+    let rules = g.G.Game.rules c.args.game.now in
+    let states = g.G.Game.states c.args.game.now c.args.many.now in
+    let worth : List ℕ → ℕ = λ s. value rules c.args.role c.args.depth c.args.at s in
+    let all = least (map worth states) in
+    let here = worth (get_or states c.loop-place.place []) in
+    let a = to_z w16 (of_z w16 c.args.a) in
+    let b = to_z w16 (of_z w16 c.args.b) in
+    let r = c.value_at.result in
+    let upper = to_z w16 c.loop-place.upper-bits in
+    let fits_r : SFits w16 r = search facts in
+    let fits_m : SFits w16 c.min-upper.result = search facts in
+    let lowered : to_z w16 (of_z w16 c.min-upper.result) ≡ int_min upper r =
+    to_z-of_z w16 c.min-upper.result fits_m ∙ c.min-upper.ensures.value ∙ ap (λ z. int_min upper z) (to_z-of_z w16 r fits_r) in
+    let answers : Answers here a upper r = rw c.take.ensures.taken at c.value_at.ensures.answers in
+    let part : all ≤ here = least_worth_below worth states c.loop-place.place (omega (arith, c.requires.count, c.loop-place-test.true)) in
+    let low : int_min (pos all) b ≤ℤ int_min upper r = lowered_least all here a b upper r part c.loop-place.invariant.at_least c.loop-place.invariant.below answers in
+    let ea : a ≡ c.args.a = to_z-of_z w16 c.args.a c.ranges.a in
+    let eb : b ≡ c.args.b = to_z-of_z w16 c.args.b c.ranges.b in
+    rw (← ea, ← eb, lowered) (cut_below all a b (int_min upper r) (rw lowered at (le_z_true _ a c.if-upper-a.true)) low)
+
+pub least_at-returns-clause-answers : goal.least_at-returns-clause-answers
+least_at-returns-clause-answers g t c =
+    let rules = g.G.Game.rules c.args.game.now in
+    let states = g.G.Game.states c.args.game.now c.args.many.now in
+    let worth : List ℕ → ℕ = λ s. value rules c.args.role c.args.depth c.args.at s in
+    let a = to_z w16 (of_z w16 c.args.a) in
+    let b = to_z w16 (of_z w16 c.args.b) in
+    let ea : a ≡ c.args.a = to_z-of_z w16 c.args.a c.ranges.a in
+    let eb : b ≡ c.args.b = to_z-of_z w16 c.args.b c.ranges.b in
+    let bottom = least_worth_reached worth states (omega (arith, c.requires.count, c.requires.some)) in
+    rw (← ea, ← eb) record {
+      at_least = c.loop-place.invariant.at_least;
+      at_most = rw bottom.2 at (c.loop-place.invariant.seen bottom.0 (omega (arith, bottom.1, c.requires.count, c.loop-place-test.false)));
+    }
+
+pub worst_at-runs-init : goal.worst_at-runs-init
+worst_at-runs-init g t c =
     let rules = g.G.Game.rules c.args.game.now in
     let state = g.G.Game.state c.args.game.now c.args.from.now in
     let lists = choices rules state c.args.role c.args.own in
@@ -126,12 +218,17 @@ worst_at-loop-upper-init g t c =
     let left = least (map worth (c.start_turns.new.cursor.joint.items ∷ later lists c.start_turns.new.cursor.places.items)) in
     let same : all ≡ left = ap (λ (turns : List (List ℕ)). least (map worth turns)) c.start_turns.ensures.first in
     let first = c.requires.levels 0 c.index-first-0.result (omega arith) in
+    let there = c.split_at_mut-first.ensures.by_index.0 0 c.index-first-0.result (omega arith) in
     record {
-      level = record { position = rw (c.split_at_mut-first.ensures.by_index.0 0 c.index-first-0.result (omega arith)) first.position; cursor = c.start_turns.ensures.cursor };
+      level = record { position = rw there first.position; cursor = c.start_turns.ensures.cursor; run = rw there first.run; many = rw there first.many };
       rest = λ k d below. rw (c.split_at_mut-first.ensures.by_index.1 k d) (c.requires.levels (1 + k) d (omega arith));
+      wide = c.requires.wide;
       capacities = refl;
       rest_capacities = refl;
+      wide_capacities = refl;
       deep = omega arith;
+      some = omega arith;
+      few = omega arith;
       stands = c.start_turns.ensures.stands;
       above = omega (arith, ints);
       below = omega (arith, ints);
@@ -140,104 +237,148 @@ worst_at-loop-upper-init g t c =
       at_most = start_most all left a b same;
     }
 
-pub worst_at-step-requires-clause-joint : goal.worst_at-step-requires-clause-joint
-worst_at-step-requires-clause-joint g t c =
+pub worst_at-steps-requires-clause-joints : goal.worst_at-steps-requires-clause-joints
+worst_at-steps-requires-clause-joints g t c =
     let rules = g.G.Game.rules c.args.game.now in
-    let state = g.G.Game.state c.args.game.now c.args.from.now in
-    let law = g.met.G.Game g.world.𝓛 g.world.𝓜 g.world.𝓡 ((λ _ x. x), (λ x. x), (λ x. x), λ x. x) in
-    turn_known rules state c.args.role c.args.own c.loop-upper.level.cursor.places.items c.loop-upper.level.cursor.joint.items c.loop-upper.invariant.stands c.requires.own
-    (λ q below. law.legal_within c.args.game.now state q below)
+    known_each (λ j. IsTurn rules j) (take c.gather-more.new.run.count c.deref.result.now) (rw c.deref.ensures.value c.gather-more.ensures.known)
 
 pub worst_at-returns-then-upper-a-clause-answers : goal.worst_at-returns-then-upper-a-clause-answers
 worst_at-returns-then-upper-a-clause-answers g t c =
     let rules = g.G.Game.rules c.args.game.now in
     let state = g.G.Game.state c.args.game.now c.args.from.now in
     let lists = choices rules state c.args.role c.args.own in
-    let worth : List ℕ → ℕ = λ j. value rules c.args.role c.args.depth c.args.at (rules.after state j) in
+    let value_of : List ℕ → ℕ = λ s. value rules c.args.role c.args.depth c.args.at s in
+    let worth : List ℕ → ℕ = λ j. value_of (rules.after state j) in
     let all = worst rules c.args.role c.args.depth c.args.at state c.args.own in
+    let run = c.gather-more.new.run in
+    let here = least (map worth (turns_in run)) in
+    let left = c.runs.level.cursor.joint.items ∷ later lists c.runs.level.cursor.places.items in
     let a = to_z w16 (of_z w16 c.args.a) in
     let b = to_z w16 (of_z w16 c.args.b) in
-    let joint = c.loop-upper.level.cursor.joint.items in
-    let r = c.value_at.result in
-    let upper = to_z w16 c.loop-upper.upper-bits in
+    let r = c.least_at-least.result in
+    let upper = to_z w16 c.runs.upper-bits in
     let fits_r : SFits w16 r = search facts in
     let fits_m : SFits w16 c.min-upper.result = search facts in
     let lowered : to_z w16 (of_z w16 c.min-upper.result) ≡ int_min upper r =
     to_z-of_z w16 c.min-upper.result fits_m ∙ c.min-upper.ensures.value ∙ ap (λ z. int_min upper z) (to_z-of_z w16 r fits_r) in
-    let answers : Answers (worth joint) a upper r = rw c.step.ensures.after at c.value_at.ensures.answers in
+    let worths : map value_of (g.G.Game.states c.args.game.now c.steps.new.out) ≡ map worth (turns_in run) =
+    ap (map value_of) (c.steps.ensures.after ∙ ap (λ (js : List (SmallVec ℕ)). map (λ (j : SmallVec ℕ). rules.after state j.items) (take run.count js)) c.deref.ensures.value)
+    ∙ worths_after value_of (rules.after state) (take run.count run.joints.items) in
+    let answers : Answers here a upper r = subst (λ (ws : List ℕ). Answers (least ws) a upper r) worths c.least_at-least.ensures.answers in
+    let some : 0 < length (turns_in run) = some_taken run.joints.items run.count c.gather-more.ensures.some (omega (arith, c.gather-more.ensures.run.size)) in
+    let part : all ≤ here =
+    omega (arith, c.runs.invariant.part,
+    least_of_run worth left (turns_in run) c.gather-more.new.cursor.joint.items (later lists c.gather-more.new.cursor.places.items) c.gather-more.result c.gather-more.ensures.more c.gather-more.ensures.all some) in
+    let low : int_min (pos all) b ≤ℤ int_min upper r = lowered_least all here a b upper r part c.runs.invariant.at_least c.runs.invariant.below answers in
     let ea : a ≡ c.args.a = to_z-of_z w16 c.args.a c.ranges.a in
     let eb : b ≡ c.args.b = to_z-of_z w16 c.args.b c.ranges.b in
-    let part : all ≤ worth joint = omega (arith, least_head (worth joint) (map worth (later lists c.loop-upper.level.cursor.places.items)), c.loop-upper.invariant.part) in
-    let low : int_min (pos all) b ≤ℤ int_min upper r = lowered_least all (worth joint) a b upper r part c.loop-upper.invariant.at_least c.loop-upper.invariant.below answers in
     rw (← ea, ← eb, lowered) (elim c.then-upper-a.branch [
       | worst_at-then-upper-a-via-then-upper-a w ↦ cut_below all a b (int_min upper r) (rw lowered at (le_z_true _ a w.if-upper-a.true)) low
-      | worst_at-then-upper-a-via-else-upper-a+then-not-next_turn w ↦
-          let end : int_min upper (pos (worth joint)) ≤ℤ int_max (pos all) a = rw w.if-not-next_turn.ensures.none at c.loop-upper.invariant.at_most in
-          record { at_least = low; at_most = lowered_end all (worth joint) a upper r end answers }
+      | worst_at-then-upper-a-via-else-upper-a+then-not-more w ↦
+          let end : int_min upper (pos here) ≤ℤ int_max (pos all) a =
+          subst (λ (turns : List Turn). int_min upper (pos (least (map worth turns))) ≤ℤ int_max (pos all) a) w.if-not-more.ensures.all c.runs.invariant.at_most in
+          record { at_least = low; at_most = lowered_end all here a upper r end answers }
     ])
 
 pub worst_at-returns-then-upper-a-clause-levels : goal.worst_at-returns-then-upper-a-clause-levels
 worst_at-returns-then-upper-a-clause-levels g t c =
     let roles = (g.G.Game.rules c.args.game.now).roles in
-    let fits = g.G.Game.fits c.args.game.now in
+    let P = λ (level : Level g.row.G-Pos.Denot g.row.G-Many.Denot). IsLevelOf (g.G.Game.fits c.args.game.now) (g.G.Game.fits_many c.args.game.now) roles level in
+    let front = c.split_at_mut-first.result.0.now in
+    let one = c.split_at_mut-first.ensures.front_len in
     elim c.then-upper-a.branch [
-      | worst_at-then-upper-a-via-then-upper-a w ↦ rw w.levels-is (All-first_and_rest (λ level. IsLevelOf fits roles level) c.split_at_mut-first.result.0.now c.value_at.new.levels _ c.split_at_mut-first.ensures.front_len (record { position = c.step.ensures.fits; cursor = c.loop-upper.invariant.level.cursor }) c.value_at.ensures.levels)
-      | worst_at-then-upper-a-via-else-upper-a+then-not-next_turn w ↦ rw w.levels-is (All-first_and_rest (λ level. IsLevelOf fits roles level) c.split_at_mut-first.result.0.now c.value_at.new.levels _ c.split_at_mut-first.ensures.front_len (record { position = c.step.ensures.fits; cursor = w.next_turn.ensures.cursor }) c.value_at.ensures.levels)
+      | worst_at-then-upper-a-via-then-upper-a w ↦
+          rw w.levels-is (All-first_and_rest P front c.least_at-least.new.levels _ one
+          (record { position = c.least_at-least.ensures.position; cursor = c.gather-more.ensures.cursor; run = c.gather-more.ensures.run; many = c.steps.ensures.many }) c.least_at-least.ensures.levels)
+      | worst_at-then-upper-a-via-else-upper-a+then-not-more w ↦
+          rw w.levels-is (All-first_and_rest P front c.least_at-least.new.levels _ one
+          (record { position = c.least_at-least.ensures.position; cursor = c.gather-more.ensures.cursor; run = c.gather-more.ensures.run; many = c.steps.ensures.many }) c.least_at-least.ensures.levels)
     ]
 
-pub worst_at-loop-upper-preserved : goal.worst_at-loop-upper-preserved
-worst_at-loop-upper-preserved g t c =
+pub worst_at-returns-then-upper-a-clause-capacities : goal.worst_at-returns-then-upper-a-clause-capacities
+worst_at-returns-then-upper-a-clause-capacities g t c =
+    let of_position = g.G.Game.capacities c.args.game.now in
+    let of_many = g.G.Game.many_capacities c.args.game.now in
+    let split = c.split_at_mut-first.ensures in
+    let old = get_or c.split_at_mut-first.result.0.now 0 c.index-first-0.result in
+    let now = c.runs.level in
+    let begun : level_capacities of_position of_many now ≡ level_capacities of_position of_many old =
+    c.runs.invariant.capacities
+    ∙ four_joined (cursor_capacities c.start_turns.new.cursor) (run_capacities old.run) (of_position old.position) (of_many old.many)
+    (cursor_capacities old.cursor) (run_capacities old.run) (of_position old.position) (of_many old.many) c.start_turns.ensures.capacities refl refl refl in
+    let level : Level g.row.G-Pos.Denot g.row.G-Many.Denot =
+    record { position = c.least_at-least.new.position; cursor = c.gather-more.new.cursor; run = c.gather-more.new.run; many = c.steps.new.out } in
+    let turned : level_capacities of_position of_many level ≡ level_capacities of_position of_many now =
+    four_joined (cursor_capacities c.gather-more.new.cursor) (run_capacities c.gather-more.new.run) (of_position c.least_at-least.new.position) (of_many c.steps.new.out)
+    (cursor_capacities now.cursor) (run_capacities now.run) (of_position now.position) (of_many now.many)
+    c.gather-more.ensures.cursor_capacities c.gather-more.ensures.run_capacities c.least_at-least.ensures.position_capacities c.steps.ensures.many_capacities in
+    let kept = all_kept (level_capacities of_position of_many) c.args.levels.now c.split_at_mut-first.result.0.now c.split_at_mut-first.result.1.now c.least_at-least.new.levels
+    level c.index-first-0.result split.value split.front_len (turned ∙ begun) (c.least_at-least.ensures.capacities ∙ c.runs.invariant.rest_capacities) in
+    elim c.then-upper-a.branch [
+      | worst_at-then-upper-a-via-then-upper-a w ↦ rw w.levels-is kept
+      | worst_at-then-upper-a-via-else-upper-a+then-not-more w ↦ rw w.levels-is kept
+    ]
+
+pub worst_at-runs-smaller : goal.worst_at-runs-smaller
+worst_at-runs-smaller g t c =
     let rules = g.G.Game.rules c.args.game.now in
     let state = g.G.Game.state c.args.game.now c.args.from.now in
     let lists = choices rules state c.args.role c.args.own in
-    let worth : List ℕ → ℕ = λ j. value rules c.args.role c.args.depth c.args.at (rules.after state j) in
+    let run = c.gather-more.new.run in
+    let some : 0 < length (turns_in run) = some_taken run.joints.items run.count c.gather-more.ensures.some (omega (arith, c.gather-more.ensures.run.size)) in
+    fewer_behind c.runs.level.cursor.joint.items c.gather-more.new.cursor.joint.items (later lists c.runs.level.cursor.places.items) (turns_in run)
+    (later lists c.gather-more.new.cursor.places.items) c.if-not-more.ensures.more some
+
+pub worst_at-runs-preserved : goal.worst_at-runs-preserved
+worst_at-runs-preserved g t c =
+    let rules = g.G.Game.rules c.args.game.now in
+    let state = g.G.Game.state c.args.game.now c.args.from.now in
+    let lists = choices rules state c.args.role c.args.own in
+    let value_of : List ℕ → ℕ = λ s. value rules c.args.role c.args.depth c.args.at s in
+    let worth : List ℕ → ℕ = λ j. value_of (rules.after state j) in
     let all = worst rules c.args.role c.args.depth c.args.at state c.args.own in
+    let run = c.gather-more.new.run in
+    let here = least (map worth (turns_in run)) in
+    let before = c.runs.level.cursor.joint.items ∷ later lists c.runs.level.cursor.places.items in
+    let left = least (map worth (c.gather-more.new.cursor.joint.items ∷ later lists c.gather-more.new.cursor.places.items)) in
     let a = to_z w16 (of_z w16 c.args.a) in
     let b = to_z w16 (of_z w16 c.args.b) in
-    let joint = c.loop-upper.level.cursor.joint.items in
-    let r = c.value_at.result in
-    let upper = to_z w16 c.loop-upper.upper-bits in
+    let r = c.least_at-least.result in
+    let upper = to_z w16 c.runs.upper-bits in
     let fits_r : SFits w16 r = search facts in
     let fits_m : SFits w16 c.min-upper.result = search facts in
     let lowered : to_z w16 (of_z w16 c.min-upper.result) ≡ int_min upper r =
     to_z-of_z w16 c.min-upper.result fits_m ∙ c.min-upper.ensures.value ∙ ap (λ z. int_min upper z) (to_z-of_z w16 r fits_r) in
-    let answers : Answers (worth joint) a upper r = rw c.step.ensures.after at c.value_at.ensures.answers in
-    let part : all ≤ worth joint = omega (arith, least_head (worth joint) (map worth (later lists c.loop-upper.level.cursor.places.items)), c.loop-upper.invariant.part) in
-    let low : int_min (pos all) b ≤ℤ int_min upper r = lowered_least all (worth joint) a b upper r part c.loop-upper.invariant.at_least c.loop-upper.invariant.below answers in
-    let left = least (map worth (c.next_turn.new.cursor.joint.items ∷ later lists c.next_turn.new.cursor.places.items)) in
-    let next : least (map worth (joint ∷ later lists c.loop-upper.level.cursor.places.items)) ≡ min (worth joint) left = rw c.if-not-next_turn.ensures.next refl in
+    let worths : map value_of (g.G.Game.states c.args.game.now c.steps.new.out) ≡ map worth (turns_in run) =
+    ap (map value_of) (c.steps.ensures.after ∙ ap (λ (js : List (SmallVec ℕ)). map (λ (j : SmallVec ℕ). rules.after state j.items) (take run.count js)) c.deref.ensures.value)
+    ∙ worths_after value_of (rules.after state) (take run.count run.joints.items) in
+    let answers : Answers here a upper r = subst (λ (ws : List ℕ). Answers (least ws) a upper r) worths c.least_at-least.ensures.answers in
+    let some : 0 < length (turns_in run) = some_taken run.joints.items run.count c.gather-more.ensures.some (omega (arith, c.gather-more.ensures.run.size)) in
+    let next : least (map worth before) ≡ min here left =
+    least_behind worth before (turns_in run) c.gather-more.new.cursor.joint.items (later lists c.gather-more.new.cursor.places.items) c.if-not-more.ensures.more some in
+    let part : all ≤ here = omega (arith, next, c.runs.invariant.part) in
+    let low : int_min (pos all) b ≤ℤ int_min upper r = lowered_least all here a b upper r part c.runs.invariant.at_least c.runs.invariant.below answers in
+    let now = c.runs.level in
+    let of_position = g.G.Game.capacities c.args.game.now in
+    let of_many = g.G.Game.many_capacities c.args.game.now in
     record {
-      level = record { position = c.step.ensures.fits; cursor = c.next_turn.ensures.cursor };
-      rest = c.value_at.ensures.levels;
-      capacities = joined _ _ _ _ c.next_turn.ensures.capacities c.step.ensures.capacities ∙ c.loop-upper.invariant.capacities;
-      rest_capacities = c.value_at.ensures.capacities ∙ c.loop-upper.invariant.rest_capacities;
+      level = record { position = c.least_at-least.ensures.position; cursor = c.gather-more.ensures.cursor; run = c.gather-more.ensures.run; many = c.steps.ensures.many };
+      rest = c.least_at-least.ensures.levels;
+      wide = c.least_at-least.ensures.wide;
+      capacities =
+          four_joined (cursor_capacities c.gather-more.new.cursor) (run_capacities c.gather-more.new.run) (of_position c.least_at-least.new.position) (of_many c.steps.new.out)
+          (cursor_capacities now.cursor) (run_capacities now.run) (of_position now.position) (of_many now.many)
+          c.gather-more.ensures.cursor_capacities c.gather-more.ensures.run_capacities c.least_at-least.ensures.position_capacities c.steps.ensures.many_capacities
+          ∙ c.runs.invariant.capacities;
+      rest_capacities = c.least_at-least.ensures.capacities ∙ c.runs.invariant.rest_capacities;
+      wide_capacities = c.least_at-least.ensures.wide_capacities ∙ c.steps.ensures.wide_capacities ∙ c.runs.invariant.wide_capacities;
       deep = omega arith;
-      stands = c.if-not-next_turn.ensures.stands;
+      some = omega (arith, c.min-most.ensures, c.runs.invariant.some);
+      few = omega (arith, c.min-most.ensures);
+      stands = c.if-not-more.ensures.stands;
       above = le_z_false _ a c.if-upper-a.false;
-      below = rw lowered (lowered_below b upper r c.loop-upper.invariant.below);
+      below = rw lowered (lowered_below b upper r c.runs.invariant.below);
       at_least = rw lowered low;
-      part = omega (arith, next, c.loop-upper.invariant.part);
-      at_most = rw lowered (lowered_most all (worth joint) left a upper r (rw next at c.loop-upper.invariant.at_most) answers);
+      part = omega (arith, next, c.runs.invariant.part);
+      at_most = rw lowered (lowered_most all here left a upper r (rw next at c.runs.invariant.at_most) answers);
     }
-
-pub worst_at-returns-then-upper-a-clause-capacities : goal.worst_at-returns-then-upper-a-clause-capacities
-worst_at-returns-then-upper-a-clause-capacities g t c =
-    let capacities = g.G.Game.capacities c.args.game.now in
-    let split = c.split_at_mut-first.ensures in
-    let old = get_or c.split_at_mut-first.result.0.now 0 c.index-first-0.result in
-    let now = c.loop-upper.level in
-    let begun : level_capacities capacities now ≡ level_capacities capacities old =
-    c.loop-upper.invariant.capacities
-    ∙ joined (cursor_capacities c.start_turns.new.cursor) (cursor_capacities old.cursor) (capacities old.position) (capacities old.position) c.start_turns.ensures.capacities refl in
-    let rest = c.value_at.ensures.capacities ∙ c.loop-upper.invariant.rest_capacities in
-    elim c.then-upper-a.branch [
-      | worst_at-then-upper-a-via-then-upper-a w ↦ rw w.levels-is
-          (all_kept (level_capacities capacities) c.args.levels.now c.split_at_mut-first.result.0.now c.split_at_mut-first.result.1.now c.value_at.new.levels
-          (record { position = c.step.new.q; cursor = now.cursor }) c.index-first-0.result split.value split.front_len
-          (joined (cursor_capacities now.cursor) (cursor_capacities now.cursor) (capacities c.step.new.q) (capacities now.position) refl c.step.ensures.capacities ∙ begun) rest)
-      | worst_at-then-upper-a-via-else-upper-a+then-not-next_turn w ↦ rw w.levels-is
-          (all_kept (level_capacities capacities) c.args.levels.now c.split_at_mut-first.result.0.now c.split_at_mut-first.result.1.now c.value_at.new.levels
-          (record { position = c.step.new.q; cursor = w.next_turn.new.cursor }) c.index-first-0.result split.value split.front_len
-          (joined (cursor_capacities w.next_turn.new.cursor) (cursor_capacities now.cursor) (capacities c.step.new.q) (capacities now.position)
-          w.next_turn.ensures.capacities c.step.ensures.capacities ∙ begun) rest)
-    ]

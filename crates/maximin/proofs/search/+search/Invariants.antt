@@ -1,4 +1,4 @@
-use Rattle.std.proofs.Common.{◌≡◌, ℕ, ◌+◌, ◌*◌, ◌-◌, ◌<◌, ◌≤◌, length, ◌∷◌, get_or}
+use Rattle.std.proofs.Common.{◌≡◌, ℕ, ◌+◌, ◌*◌, ◌-◌, ◌<◌, ◌≤◌, length, [], ◌∷◌, get_or}
 use Rattle.std.specs.Prelude.{pos, ◌<ℤ◌, ◌≤ℤ◌, All, map}
 use Rattle.std.specs.Int.{int_min, int_max}
 use Rattle.position.specs.Rules.{choices}
@@ -8,10 +8,13 @@ use Rattle.maximin.specs.Level.{IsLevelOf, level_capacities, all_capacities}
 use Rattle.maximin.proofs.search.+search.Given as goal
 
 abbrev pub decreases-value_at : goal.decreases-value_at
-decreases-value_at g l = 2 * l.depth
+decreases-value_at g l = 3 * l.depth
 
 abbrev pub decreases-worst_at : goal.decreases-worst_at
-decreases-worst_at g l = 2 * l.depth + 1
+decreases-worst_at g l = 3 * l.depth + 2
+
+abbrev pub decreases-least_at : goal.decreases-least_at
+decreases-least_at g l = 3 * l.depth + 1
 
 -- best is a lower bound of the answer that every move so far keeps to, and it is no more than the value or a
 abbrev pub invariant-value_at-loop-own : goal.invariant-value_at-loop-own
@@ -19,8 +22,11 @@ invariant-value_at-loop-own g l =
     let rules = g.G.Game.rules l.game in
     let state = g.G.Game.state l.game l.from in
     record {
-      levels : All (IsLevelOf (g.G.Game.fits l.game) rules.roles) l.levels;
-      capacities : all_capacities (g.G.Game.capacities l.game) l.levels ≡ all_capacities (g.G.Game.capacities l.game) l.initial.levels;
+      levels : All (IsLevelOf (g.G.Game.fits l.game) (g.G.Game.fits_many l.game) rules.roles) l.levels;
+      wide : g.G.Game.fits_wide l.game l.wide;
+      capacities : all_capacities (g.G.Game.capacities l.game) (g.G.Game.many_capacities l.game) l.levels
+          ≡ all_capacities (g.G.Game.capacities l.game) (g.G.Game.many_capacities l.game) l.initial.levels;
+      wide_capacities : g.G.Game.wide_capacities l.game l.wide ≡ g.G.Game.wide_capacities l.game l.fn.wide;
       deep : length l.levels ≡ length l.initial.levels;
       in_list : l.place ≤ length (rules.legal state l.role);
       above : l.a ≤ℤ l.best;
@@ -35,19 +41,25 @@ decreases-value_at-loop-own g l =
     length (rules.legal (g.G.Game.state l.game l.from) l.role) - l.place
 
 -- upper is an upper bound of the answer, and the replies that are left have the rest of it
-abbrev pub invariant-worst_at-loop-upper : goal.invariant-worst_at-loop-upper
-invariant-worst_at-loop-upper g l =
+abbrev pub invariant-worst_at-runs : goal.invariant-worst_at-runs
+invariant-worst_at-runs g l =
     let rules = g.G.Game.rules l.game in
     let state = g.G.Game.state l.game l.from in
     let lists = choices rules state l.role l.own in
     let all = worst rules l.role l.depth l.at state l.own in
     let left = least (map (λ j. value rules l.role l.depth l.at (rules.after state j)) (l.level.cursor.joint.items ∷ later lists l.level.cursor.places.items)) in
+    let of_position = g.G.Game.capacities l.game in
+    let of_many = g.G.Game.many_capacities l.game in
     record {
-      level : IsLevelOf (g.G.Game.fits l.game) rules.roles l.level;
-      rest : All (IsLevelOf (g.G.Game.fits l.game) rules.roles) l.rest;
-      capacities : level_capacities (g.G.Game.capacities l.game) l.level ≡ level_capacities (g.G.Game.capacities l.game) l.initial.level;
-      rest_capacities : all_capacities (g.G.Game.capacities l.game) l.rest ≡ all_capacities (g.G.Game.capacities l.game) l.initial.rest;
+      level : IsLevelOf (g.G.Game.fits l.game) (g.G.Game.fits_many l.game) rules.roles l.level;
+      rest : All (IsLevelOf (g.G.Game.fits l.game) (g.G.Game.fits_many l.game) rules.roles) l.rest;
+      wide : g.G.Game.fits_wide l.game l.wide;
+      capacities : level_capacities of_position of_many l.level ≡ level_capacities of_position of_many l.initial.level;
+      rest_capacities : all_capacities of_position of_many l.rest ≡ all_capacities of_position of_many l.initial.rest;
+      wide_capacities : g.G.Game.wide_capacities l.game l.wide ≡ g.G.Game.wide_capacities l.game l.fn.wide;
       deep : l.depth ≤ length l.rest;
+      some : 0 < l.most;
+      few : l.most ≤ 64;
       stands : StandsAt lists l.level.cursor.places.items l.level.cursor.joint.items;
       above : l.a <ℤ l.upper;
       below : l.upper ≤ℤ l.b;
@@ -56,8 +68,30 @@ invariant-worst_at-loop-upper g l =
       at_most : int_min l.upper (pos left) ≤ℤ int_max (pos all) l.a;
     }
 
-abbrev pub decreases-worst_at-loop-upper : goal.decreases-worst_at-loop-upper
-decreases-worst_at-loop-upper g l =
+abbrev pub decreases-worst_at-runs : goal.decreases-worst_at-runs
+decreases-worst_at-runs g l =
     let rules = g.G.Game.rules l.game in
     let lists = choices rules (g.G.Game.state l.game l.from) l.role l.own in
     length (later lists l.level.cursor.places.items)
+
+-- upper is an upper bound of the answer, and no state so far is worth less, unless it is a or less
+abbrev pub invariant-least_at-loop-place : goal.invariant-least_at-loop-place
+invariant-least_at-loop-place g l =
+    let rules = g.G.Game.rules l.game in
+    let states = g.G.Game.states l.game l.many in
+    let all = least (map (value rules l.role l.depth l.at) states) in
+    let of_position = g.G.Game.capacities l.game in
+    let of_many = g.G.Game.many_capacities l.game in
+    record {
+      position : g.G.Game.fits l.game l.position;
+      levels : All (IsLevelOf (g.G.Game.fits l.game) (g.G.Game.fits_many l.game) rules.roles) l.levels;
+      wide : g.G.Game.fits_wide l.game l.wide;
+      position_capacities : g.G.Game.capacities l.game l.position ≡ g.G.Game.capacities l.game l.fn.position;
+      capacities : all_capacities of_position of_many l.levels ≡ all_capacities of_position of_many l.initial.levels;
+      wide_capacities : g.G.Game.wide_capacities l.game l.wide ≡ g.G.Game.wide_capacities l.game l.fn.wide;
+      deep : length l.levels ≡ length l.initial.levels;
+      above : l.a <ℤ l.upper;
+      below : l.upper ≤ℤ l.b;
+      at_least : int_min (pos all) l.b ≤ℤ l.upper;
+      seen : (k : ℕ) → k < l.place → l.upper ≤ℤ int_max (pos (value rules l.role l.depth l.at (get_or states k []))) l.a;
+    }

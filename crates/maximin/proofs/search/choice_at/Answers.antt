@@ -51,7 +51,9 @@ loop-own-preserved g c =
     let same = to_z-of_z w16 c.worst_at-worst.result fits in
     record {
       levels = c.worst_at-worst.ensures.levels;
+      wide = c.worst_at-worst.ensures.wide;
       capacities = c.worst_at-worst.ensures.capacities ∙ c.loop-own.invariant.capacities;
+      wide_capacities = c.worst_at-worst.ensures.wide_capacities ∙ c.loop-own.invariant.wide_capacities;
       deep = omega arith;
       in_list = omega (arith, here.0);
       is_best = elim c.if-worst-best.branch [

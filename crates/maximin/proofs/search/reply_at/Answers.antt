@@ -4,13 +4,15 @@ use mir.Val.{SFits, to_z}
 use Rattle.std.specs.Prelude.{negsuc}
 use Rattle.position.specs.Rules.{choices, turns_with}
 use Rattle.position.specs.Value.{Answers, value, worst}
+use Rattle.maximin.specs.declared.level.Level.{Level}
 use Rattle.maximin.specs.Turns.{later}
 use Rattle.maximin.specs.Cursor.{cursor_capacities}
+use Rattle.maximin.specs.Run.{run_capacities}
 use Rattle.maximin.specs.Level.{IsLevelOf, level_capacities}
 use Rattle.maximin.proofs.Values.{turn_known}
 use Rattle.maximin.proofs.Bounds.{worst_at_most}
 use Rattle.maximin.proofs.Windows.{lt_z_true, lt_z_false}
-use Rattle.maximin.proofs.Parts.{All-first_and_rest, joined, all_kept}
+use Rattle.maximin.proofs.Parts.{All-first_and_rest, four_joined, all_kept}
 use Rattle.maximin.proofs.Reply.{IsFirstAt, first_start, first_lowered, first_kept, first_next, first_end}
 use Rattle.maximin.proofs.search.reply_at.Goals as goal
 use Rattle.maximin.proofs.search.reply_at.Goals.{then-worth-upper, else-worth-upper}
@@ -25,11 +27,14 @@ loop-upper-init g c =
     let turns = turns_with rules state c.args.role c.args.own in
     let law = g.met.G.Game g.world.𝓛 g.world.𝓜 g.world.𝓡 ((λ _ x. x), (λ x. x), (λ x. x), λ x. x) in
     let first = c.requires.levels 0 c.index-first-0.result (omega arith) in
+    let there = c.split_at_mut-first.ensures.by_index.0 0 c.index-first-0.result (omega arith) in
     record {
-      level = record { position = rw (c.split_at_mut-first.ensures.by_index.0 0 c.index-first-0.result (omega arith)) first.position; cursor = c.start_turns.ensures.cursor };
+      level = record { position = rw there first.position; cursor = c.start_turns.ensures.cursor; run = rw there first.run; many = rw there first.many };
       rest = λ k d below. rw (c.split_at_mut-first.ensures.by_index.1 k d) (c.requires.levels (1 + k) d (omega arith));
+      wide = c.requires.wide;
       capacities = refl;
       rest_capacities = refl;
+      wide_capacities = refl;
       deep = omega arith;
       capacity = refl;
       stands = c.start_turns.ensures.stands;
@@ -73,8 +78,10 @@ returns-then-not-next_turn-clause-reply g c =
 
 pub returns-then-not-next_turn-clause-levels : goal.returns-then-not-next_turn-clause-levels
 returns-then-not-next_turn-clause-levels g c =
-    All-first_and_rest (λ level. IsLevelOf (g.G.Game.fits c.args.game.now) (g.G.Game.rules c.args.game.now).roles level) c.split_at_mut-first.result.0.now c.value_at-worth.new.levels _
-    c.split_at_mut-first.ensures.front_len (record { position = c.step.ensures.fits; cursor = c.next_turn.ensures.cursor }) c.value_at-worth.ensures.levels
+    let P = λ (level : Level g.row.G-Pos.Denot g.row.G-Many.Denot). IsLevelOf (g.G.Game.fits c.args.game.now) (g.G.Game.fits_many c.args.game.now) (g.G.Game.rules c.args.game.now).roles level in
+    let kept = c.loop-upper.invariant.level in
+    All-first_and_rest P c.split_at_mut-first.result.0.now c.value_at-worth.new.levels _ c.split_at_mut-first.ensures.front_len
+    (record { position = c.step.ensures.fits; cursor = c.next_turn.ensures.cursor; run = kept.run; many = kept.many }) c.value_at-worth.ensures.levels
 
 pub loop-upper-preserved : goal.loop-upper-preserved
 loop-upper-preserved g c =
@@ -100,11 +107,20 @@ loop-upper-preserved g c =
           rw (w.upper-is, w.out-is)
           (first_kept worth turns all joint behind upper r c.loop-upper.out.items answers (rw same at (lt_z_false _ upper w.if-worth-upper.false)) c.loop-upper.invariant.is_first)
     ] in
+    let now = c.loop-upper.level in
+    let of_position = g.G.Game.capacities c.args.game.now in
+    let of_many = g.G.Game.many_capacities c.args.game.now in
     record {
-      level = record { position = c.step.ensures.fits; cursor = c.next_turn.ensures.cursor };
+      level = record { position = c.step.ensures.fits; cursor = c.next_turn.ensures.cursor; run = c.loop-upper.invariant.level.run; many = c.loop-upper.invariant.level.many };
       rest = c.value_at-worth.ensures.levels;
-      capacities = joined _ _ _ _ c.next_turn.ensures.capacities c.step.ensures.capacities ∙ c.loop-upper.invariant.capacities;
+      wide = c.value_at-worth.ensures.wide;
+      capacities =
+          four_joined (cursor_capacities c.next_turn.new.cursor) (run_capacities now.run) (of_position c.step.new.q) (of_many now.many)
+          (cursor_capacities now.cursor) (run_capacities now.run) (of_position now.position) (of_many now.many)
+          c.next_turn.ensures.capacities refl c.step.ensures.capacities refl
+          ∙ c.loop-upper.invariant.capacities;
       rest_capacities = c.value_at-worth.ensures.capacities ∙ c.loop-upper.invariant.rest_capacities;
+      wide_capacities = c.value_at-worth.ensures.wide_capacities ∙ c.loop-upper.invariant.wide_capacities;
       deep = omega arith;
       capacity = elim c.if-worth-upper.branch [
         | then-worth-upper w ↦ rw w.out-is (w.write_joint.ensures.capacity ∙ c.loop-upper.invariant.capacity)
@@ -117,15 +133,19 @@ loop-upper-preserved g c =
 
 pub returns-then-not-next_turn-clause-capacities : goal.returns-then-not-next_turn-clause-capacities
 returns-then-not-next_turn-clause-capacities g c =
-    let capacities = g.G.Game.capacities c.args.game.now in
+    let of_position = g.G.Game.capacities c.args.game.now in
+    let of_many = g.G.Game.many_capacities c.args.game.now in
     let split = c.split_at_mut-first.ensures in
     let old = get_or c.split_at_mut-first.result.0.now 0 c.index-first-0.result in
     let now = c.loop-upper.level in
-    let begun : level_capacities capacities now ≡ level_capacities capacities old =
+    let begun : level_capacities of_position of_many now ≡ level_capacities of_position of_many old =
     c.loop-upper.invariant.capacities
-    ∙ joined (cursor_capacities c.start_turns.new.cursor) (cursor_capacities old.cursor) (capacities old.position) (capacities old.position) c.start_turns.ensures.capacities refl in
-    all_kept (level_capacities capacities) c.args.levels.now c.split_at_mut-first.result.0.now c.split_at_mut-first.result.1.now
-    c.value_at-worth.new.levels (record { position = c.step.new.q; cursor = c.next_turn.new.cursor }) c.index-first-0.result split.value split.front_len
-    (joined (cursor_capacities c.next_turn.new.cursor) (cursor_capacities now.cursor) (capacities c.step.new.q) (capacities now.position)
-    c.next_turn.ensures.capacities c.step.ensures.capacities ∙ begun)
-    (c.value_at-worth.ensures.capacities ∙ c.loop-upper.invariant.rest_capacities)
+    ∙ four_joined (cursor_capacities c.start_turns.new.cursor) (run_capacities old.run) (of_position old.position) (of_many old.many)
+    (cursor_capacities old.cursor) (run_capacities old.run) (of_position old.position) (of_many old.many) c.start_turns.ensures.capacities refl refl refl in
+    let level : Level g.row.G-Pos.Denot g.row.G-Many.Denot = record { position = c.step.new.q; cursor = c.next_turn.new.cursor; run = now.run; many = now.many } in
+    let turned : level_capacities of_position of_many level ≡ level_capacities of_position of_many now =
+    four_joined (cursor_capacities c.next_turn.new.cursor) (run_capacities now.run) (of_position c.step.new.q) (of_many now.many)
+    (cursor_capacities now.cursor) (run_capacities now.run) (of_position now.position) (of_many now.many)
+    c.next_turn.ensures.capacities refl c.step.ensures.capacities refl in
+    all_kept (level_capacities of_position of_many) c.args.levels.now c.split_at_mut-first.result.0.now c.split_at_mut-first.result.1.now c.value_at-worth.new.levels
+    level c.index-first-0.result split.value split.front_len (turned ∙ begun) (c.value_at-worth.ensures.capacities ∙ c.loop-upper.invariant.rest_capacities)

@@ -15,7 +15,7 @@ loop-role-preserved c =
     let size : length fs ≡ length inputs = c.loop-role.invariant.room.size in
     record {
       room = room_set inputs fs c.loop-role.role c.read_net_role.new.out c.loop-role.invariant.room (omega arith) c.read_net_role.ensures.room;
-      read = read_more (λ r f. IsRoleRead (kinds_of game.played) (λ a. is_on c.args.bits.now (view_of game.net.views.items a)) r (length (texts_at inputs r)) f) fs c.loop-role.role c.read_net_role.new.out (omega arith)
+      read = read_more (λ r f. IsRoleRead (kinds_of game.played) (λ a. is_on c.args.bits.now.items (view_of game.net.views.items a)) r (length (texts_at inputs r)) f) fs c.loop-role.role c.read_net_role.new.out (omega arith)
           c.read_net_role.ensures.read c.loop-role.invariant.read;
       capacities = flat_map-set role_capacities fs c.loop-role.role c.read_net_role.new.out _ (c.read_net_role.ensures.capacities ∙ ap role_capacities c.index_mut.ensures.value) ∙ c.loop-role.invariant.capacities;
       capacity = c.loop-role.invariant.capacity;

@@ -7,11 +7,11 @@ use Rattle.position.proofs.NetFacts.{views_below, room_enough}
 use Rattle.position.proofs.Shown.{told_ends, ends_within, ends_alike, reads_alike}
 use Rattle.position.proofs.net_playing.read_net_state.Goals as goal
 
-pub told_end-p-requires : goal.told_end-p-requires
-told_end-p-requires c =
+pub has_ended-p-requires : goal.has_ended-p-requires
+has_ended-p-requires c =
     let game = c.args.game.now in
-    let bits = c.deref-3.result.now in
-    let size : length bits ≡ count_for (length (gates_of game.net)) = ap length c.deref-3.ensures.value ∙ c.eval_now.ensures.size ∙ c.requires.bits in
+    let bits = c.eval_now.new.bits.items in
+    let size : length bits ≡ count_for (length (gates_of game.net)) = c.eval_now.ensures.size ∙ c.requires.bits in
     let room : length (gates_of game.net) ≤ 64 * length bits = room_enough (length (gates_of game.net)) (length bits) size in
     ends_within (kinds_of game.played) game.net.views.items game.plan.ends.items c.deref-2.result.now (64 * length bits) game.planned.ends c.deref-2.ensures.value (views_below game.played game.net game.compiled (64 * length bits) room)
 
@@ -25,11 +25,9 @@ returns-clause-state c =
     let bits = c.eval_now.new.bits.items in
     let now = holds_in g (state_bits words (length g.starts.items)) in
     let told : TellNow g game.net words bits = subst (λ (ws : List ℕ). TellNow g game.net ws bits) c.deref.ensures.value c.eval_now.ensures.told in
-    let same = c.deref-3.ensures.value in
     record {
       room = record { words = c.requires.words; bits = c.eval_now.ensures.size ∙ c.requires.bits; roles = c.read_net_roles.ensures.room };
-      ended = c.told_end-p.ensures ∙ told_ends kinds views (is_on c.deref-3.result.now) game.plan.ends.items c.deref-2.result.now game.planned.ends c.deref-2.ensures.value
-          ∙ ends_alike kinds (λ a. is_on c.deref-3.result.now (view_of views a)) now (λ a lt shown. ap (λ (bs : List ℕ). is_on bs (view_of views a)) same ∙ told a lt shown);
-      roles = reads_alike kinds (λ a. is_on bits (view_of views a)) now (inputs_of g) c.read_net_roles.new.roles.items told
-          (subst (λ (bs : List ℕ). AreRead kinds (λ a. is_on bs (view_of views a)) (inputs_of g) c.read_net_roles.new.roles.items) c.deref-4.ensures.value c.read_net_roles.ensures.read);
+      ended = c.has_ended-p.ensures ∙ told_ends kinds views (is_on bits) game.plan.ends.items c.deref-2.result.now game.planned.ends c.deref-2.ensures.value
+          ∙ ends_alike kinds (λ a. is_on bits (view_of views a)) now told;
+      roles = reads_alike kinds (λ a. is_on bits (view_of views a)) now (inputs_of g) c.read_net_roles.new.roles.items told c.read_net_roles.ensures.read;
     }

@@ -4,8 +4,8 @@ use Rattle.position.proofs.reading.mark_named.Given as goal
 
 -- what the atoms before this one name is marked
 abbrev pub invariant-loop-place : goal.invariant-loop-place
-invariant-loop-place l = record {
+invariant-loop-place g l = record {
   size : length l.marks.items ≡ length l.initial.marks.items;
-  each : (k : ℕ) → k < length l.initial.marks.items → get_or l.marks.items k false ≡ names_among (take l.place l.list) (λ a. get_or l.right a false) l.by k;
+  each : (k : ℕ) → k < length l.initial.marks.items → get_or l.marks.items k false ≡ names_among (take l.place l.list) (g.M.Marks.marks l.right) l.by k;
   capacity : vec_capacity l.marks ≡ vec_capacity l.initial.marks;
 }

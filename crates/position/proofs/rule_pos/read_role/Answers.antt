@@ -14,7 +14,7 @@ pub mark_named-requires : goal.mark_named-requires
 mark_named-requires c =
     let game = c.args.game.now in
     let here = subst (λ (plan : RolePlan). IsRolePlanOf (kinds_of game.played) c.args.role plan) (sym c.index-plan.ensures) (game.planned.roles c.args.role c.index-plan.result.now c.requires.role) in
-    sought_within (Named (ByLegal c.args.role)) (kinds_of game.played) c.index-plan.result.now.legals.items c.deref.result.now (length c.args.right.now) here.legals c.deref.ensures.value c.requires.right
+    sought_within (Named (ByLegal c.args.role)) (kinds_of game.played) c.index-plan.result.now.legals.items c.deref.result.now (length c.args.right.now.items) here.legals c.deref.ensures.value c.requires.right
 
 pub list_marked-out-requires-clause-few : goal.list_marked-out-requires-clause-few
 list_marked-out-requires-clause-few c =
@@ -28,13 +28,13 @@ pub best_goal-out-requires : goal.best_goal-out-requires
 best_goal-out-requires c =
     let game = c.args.game.now in
     let here = subst (λ (plan : RolePlan). IsRolePlanOf (kinds_of game.played) c.args.role plan) (sym c.index-plan.ensures) (game.planned.roles c.args.role c.index-plan.result.now c.requires.role) in
-    sought_within (Goals c.args.role) (kinds_of game.played) c.index-plan.result.now.goals.items c.deref-3.result.now (length c.args.right.now) here.goals c.deref-3.ensures.value c.requires.right
+    sought_within (Goals c.args.role) (kinds_of game.played) c.index-plan.result.now.goals.items c.deref-3.result.now (length c.args.right.now.items) here.goals c.deref-3.ensures.value c.requires.right
 
 pub returns-clause-read : goal.returns-clause-read
 returns-clause-read c =
     let game = c.args.game.now in
     let kinds = kinds_of game.played in
-    let right = λ (a : ℕ). get_or c.args.right.now a false in
+    let right = λ (a : ℕ). get_or c.args.right.now.items a false in
     let plan = c.index-plan.result.now in
     let here = subst (λ (p : RolePlan). IsRolePlanOf kinds c.args.role p) (sym c.index-plan.ensures) (game.planned.roles c.args.role plan c.requires.role) in
     record {

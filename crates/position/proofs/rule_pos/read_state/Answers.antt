@@ -12,21 +12,20 @@ use Rattle.position.proofs.rule_pos.read_state.Goals as goal
 pub has_ended-p-requires : goal.has_ended-p-requires
 has_ended-p-requires c =
     let game = c.args.game.now in
-    sought_within Ends (kinds_of game.played) game.plan.ends.items c.deref-2.result.now (length c.deref-3.result.now) game.planned.ends c.deref-2.ensures.value (ap length c.deref-3.ensures.value ∙ c.evaluate.ensures.marks.size)
+    sought_within Ends (kinds_of game.played) game.plan.ends.items c.deref-2.result.now (length c.evaluate.new.right.items) game.planned.ends c.deref-2.ensures.value c.evaluate.ensures.marks.size
 
 pub returns-clause-state : goal.returns-clause-state
 returns-clause-state c =
     let g = c.args.game.now.played in
     let kinds = kinds_of g in
     let right = c.evaluate.new.right.items in
-    let read = λ (a : ℕ). get_or c.deref-3.result.now a false in
+    let read = λ (a : ℕ). get_or right a false in
     let now = holds kinds (instances_of g) (marked c.args.p.now.base.items) [] in
     let m : AreMarks right (length kinds) now =
     subst (λ (bs : List Bool). AreMarks right (length kinds) (holds kinds (instances_of g) (marked bs) [])) c.deref.ensures.value c.evaluate.ensures.marks in
     record {
       room = record { base = c.requires.base; right = m.size; roles = c.read_roles.ensures.room };
       ended = c.has_ended-p.ensures ∙ ap (λ (ps : List Standing). ends_among ps read) (c.deref-2.ensures.value ∙ c.args.game.now.planned.ends) ∙ ends_all kinds read
-          ∙ ends_same kinds read now (λ k lt. ap (λ (bs : List Bool). get_or bs k false) c.deref-3.ensures.value ∙ m.each k lt);
-      roles = reads_same kinds (λ a. get_or right a false) now (inputs_of g) c.read_roles.new.roles.items m.each
-          (subst (λ (bs : List Bool). AreRead kinds (λ a. get_or bs a false) (inputs_of g) c.read_roles.new.roles.items) c.deref-4.ensures.value c.read_roles.ensures.read);
+          ∙ ends_same kinds read now m.each;
+      roles = reads_same kinds read now (inputs_of g) c.read_roles.new.roles.items m.each c.read_roles.ensures.read;
     }

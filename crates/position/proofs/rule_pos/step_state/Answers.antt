@@ -10,7 +10,7 @@ use Rattle.position.proofs.rule_pos.step_state.Goals as goal
 pub mark_named-requires : goal.mark_named-requires
 mark_named-requires c =
     let game = c.args.game.now in
-    sought_within (Named ByNext) (kinds_of game.played) game.plan.nexts.items c.deref-2.result.now (length c.deref-3.result.now) game.planned.nexts c.deref-2.ensures.value (ap length c.deref-3.ensures.value ∙ c.evaluate.ensures.marks.size)
+    sought_within (Named ByNext) (kinds_of game.played) game.plan.nexts.items c.deref-2.result.now (length c.evaluate.new.right.items) game.planned.nexts c.deref-2.ensures.value c.evaluate.ensures.marks.size
 
 pub returns-clause-after : goal.returns-clause-after
 returns-clause-after c =
@@ -18,10 +18,10 @@ returns-clause-after c =
     let g = game.played in
     let kinds = kinds_of g in
     let right = c.evaluate.new.right.items in
-    let read = λ (a : ℕ). get_or c.deref-3.result.now a false in
+    let read = λ (a : ℕ). get_or right a false in
     let then = holds kinds (instances_of g) (marked c.args.p.now.base.items) c.args.joint.now in
     let m : AreMarks right (length kinds) then =
     subst (λ (bs : List Bool). AreMarks right (length kinds) (holds kinds (instances_of g) (marked bs) c.args.joint.now)) c.deref.ensures.value c.evaluate.ensures.marks in
     ap marked c.read_state.ensures.same
     ∙ named_marks kinds read ByNext game.plan.nexts.items c.deref-2.result.now c.mark_named.new.marks.items (length c.args.q.now.base.items) (length g.starts.items) game.planned.nexts c.deref-2.ensures.value c.mark_named.ensures.marks c.requires.base
-    ∙ named_same kinds read then ByNext (length g.starts.items) (λ k lt. ap (λ (bs : List Bool). get_or bs k false) c.deref-3.ensures.value ∙ m.each k lt)
+    ∙ named_same kinds read then ByNext (length g.starts.items) m.each

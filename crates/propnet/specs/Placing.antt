@@ -1,0 +1,14 @@
+-- Where the inputs stand.
+use Rattle.std.specs.Prelude.{ℕ, List, length, take, sum, ◌≡◌, ◌+◌, ◌<◌, ◌≤◌, slice_index}
+use Rattle.propnet.specs.declared.node.Name.TheVariants.{Input}
+use Rattle.propnet.specs.Network.{Gate}
+use Rattle.propnet.specs.Building.{Stands}
+
+-- the number of an input, where the inputs stand behind so many base propositions, by role
+abbrev pub input_number : ℕ → List ℕ → ℕ → ℕ → ℕ
+input_number base inputs r m = (base + sum (take r inputs)) + m
+
+-- each input stands at its number, and there are as many as the roles have
+pub record ArePlaced (base : ℕ) (inputs : List ℕ) (gates : List Gate) : Type 0 where
+  pub places : (n r m : ℕ) → Stands gates n (Input r m) → (n ≡ input_number base inputs r m) × (m < slice_index inputs r)
+  pub fit : base + sum inputs ≤ length gates
