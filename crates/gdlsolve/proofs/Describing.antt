@@ -13,6 +13,7 @@ use Rattle.ground.specs.GroundView.{IsGround}
 use Rattle.ground.specs.Limits.{excess_in}
 use Rattle.ground.specs.Progress.{IsFaultOf}
 use Rattle.ground.specs.Refusal.{fault_text}
+use Rattle.position.specs.declared.net_game.NetGame.{NetGame}
 use Rattle.position.specs.declared.rule_game.RuleGame.{RuleGame}
 use Rattle.position.specs.NamedRules.{NamedRules}
 use Rattle.position.specs.RuleState.{named_rules_of}
@@ -20,18 +21,35 @@ use Rattle.position.proofs.GameRules.{game_of_ground}
 use Rattle.gdlsolve.specs.declared.command.Status.{Status}
 use Rattle.gdlsolve.specs.declared.command.Status.TheVariants.{Refused}
 use Rattle.gdlsolve.specs.declared.games.Described.{Described}
-use Rattle.gdlsolve.specs.declared.games.Described.TheVariants.{Game}
+use Rattle.gdlsolve.specs.declared.games.Described.TheVariants.{Network, Rules, Refusal}
+use Rattle.gdlsolve.specs.declared.grounding.Instantiated.{Instantiated}
+use Rattle.gdlsolve.specs.declared.grounding.Instantiated.TheVariants.{Fits}
 use Rattle.gdlsolve.specs.declared.reply.Reply as shown
 use Rattle.gdlsolve.specs.Answers.{Reply, refusal}
-use Rattle.gdlsolve.specs.Games.{HasNoGame, IsItsGame, IsDescribed, IsPlayReply}
+use Rattle.gdlsolve.specs.Games.{HasNoGame, IsItsGame, IsItsGround, IsInstantiated, Plays, IsDescribed, IsPlayReply}
+
+-- the ground that was made is that of the items
+pub its_ground : (items : List Tree) (rules : List Alternative) (g : Ground) → HasNoFault items → rules ≡ alternatives items
+    → IsGround rules g → IsItsGround items g
+its_ground items rules g lawful are ground =
+    record { lawful = lawful; ground = subst (λ (rs : List Alternative). IsGround rs g) are ground }
 
 -- the game of the ground of the items is the game of the items
-pub its_game : (items : List Tree) (rules : List Alternative) (g h : Ground) → HasNoFault items → rules ≡ alternatives items
-    → IsGround rules g → h ≡ g → IsItsGame items (named_rules_of h)
-its_game items rules g h lawful are ground same =
-    let grounded : IsGround (alternatives items) h =
-    subst (λ (k : Ground). IsGround (alternatives items) k) (sym same) (subst (λ (rs : List Alternative). IsGround rs g) are ground) in
-    record { lawful = lawful; within = grounded.within; same = game_of_ground (alternatives items) h grounded }
+its_game : (items : List Tree) (g h : Ground) → IsItsGround items g → h ≡ g → IsItsGame items (named_rules_of h)
+its_game items g h its same =
+    let grounded : IsGround (alternatives items) h = subst (λ (k : Ground). IsGround (alternatives items) k) (sym same) its.ground in
+    record { lawful = its.lawful; within = grounded.within; same = game_of_ground (alternatives items) h grounded }
+
+-- what plays the ground of the items is their game
+described : (items : List Tree) (g : Ground) (d : Described) → IsItsGround items g → Plays g d → IsDescribed items d
+described items g (Network game) its same = its_game items g game.played its same
+described items g (Rules game) its same = its_game items g game.played its same
+described items g (Refusal reply) its same = absurd same
+
+pub plays_its_game : {E : Type 0} (items : List Tree) (g : Ground) (i : Instantiated) (r : Result Described E)
+    → IsInstantiated items i → i ≡ Fits g → IfOk r (Plays g) → IfOk r (IsDescribed items)
+plays_its_game items g i (Ok d) is same h = described items g d (subst (λ (j : Instantiated). IsInstantiated items j) same is) h
+plays_its_game items g i (Err e) is same h = tt
 
 -- a fault of the instantiation names the limit that the items pass
 pub passes_limit : (items : List Tree) (rules : List Alternative) (fault : GroundFault) (output : List ℕ) (status : Status)
@@ -43,10 +61,17 @@ passes_limit items rules (TooMany excess) output status lawful are passed other 
 passes_limit items rules NoMemory output status lawful are passed other line is_status = absurd (other refl)
 
 -- what is told of the game of the items is the reply to the items
-pub tells_game : {E : Type 0} (items : List Tree) (told : NamedRules → Reply → Type 0) (d : Described) (game : RuleGame) (r : Result shown.Reply E)
-    → IsDescribed items d → d ≡ Game game
-    → IfOk r (λ reply. told (named_rules_of game.played) (record { output = reply.output.items; status = reply.status }))
+pub tells_game : {E : Type 0} (items : List Tree) (told : NamedRules → Reply → Type 0) (g : NamedRules) (r : Result shown.Reply E)
+    → IsItsGame items g → IfOk r (λ reply. told g (record { output = reply.output.items; status = reply.status }))
     → IfOk r (λ reply. IsPlayReply items told (record { output = reply.output.items; status = reply.status }))
-tells_game items told d game (Ok reply) is same h =
-    inr (named_rules_of game.played, subst (λ (e : Described). IsDescribed items e) same is, h)
-tells_game items told d game (Err e) is same h = h
+tells_game items told g (Ok reply) its h = inr (g, its, h)
+tells_game items told g (Err e) its h = h
+
+pub over_network : (items : List Tree) (d : Described) (game : NetGame) → IsDescribed items d → d ≡ Network game → IsItsGame items (named_rules_of game.played)
+over_network items d game is same = subst (λ (e : Described). IsDescribed items e) same is
+
+pub over_rules : (items : List Tree) (d : Described) (game : RuleGame) → IsDescribed items d → d ≡ Rules game → IsItsGame items (named_rules_of game.played)
+over_rules items d game is same = subst (λ (e : Described). IsDescribed items e) same is
+
+pub over_ground : (items : List Tree) (i : Instantiated) (g : Ground) → IsInstantiated items i → i ≡ Fits g → IsItsGround items g
+over_ground items i g is same = subst (λ (j : Instantiated). IsInstantiated items j) same is

@@ -35,7 +35,7 @@ some_play items told each =
       | inr lawful ↦ some_play_of items told each lawful (excess_in (alternatives items)) refl
     ]
 
-one_limit : (items : List Tree) (reply other : Reply) → PassesLimit items reply → PassesLimit items other → reply ≡ other
+pub one_limit : (items : List Tree) (reply other : Reply) → PassesLimit items reply → PassesLimit items other → reply ≡ other
 one_limit items reply other p q =
     let same : Some p.1 ≡ Some q.1 = sym p.2 ∙ q.2 in
     let one : p.1 ≡ q.1 = cc in

@@ -4,12 +4,13 @@ use Rattle.kif.proofs.Faults.{reads_once}
 use Rattle.kif.specs.Tree.{Trees, list_of}
 use Rattle.kif.specs.Refusal.{fault_text}
 use Rattle.gdlsolve.proofs.OneCheck.{some_check, one_check}
+use Rattle.gdlsolve.proofs.OneNet.{some_net, one_net}
 use Rattle.gdlsolve.proofs.OneMoves.{some_moves, one_moves}
 use Rattle.gdlsolve.proofs.OnePlay.{some_play, one_play}
 use Rattle.gdlsolve.proofs.OneSolve.{some_solve, one_solve}
 use Rattle.gdlsolve.proofs.OneText.{fault_or_trees, one_text_fault, not_fault_and_trees}
 use Rattle.gdlsolve.specs.declared.command.Command.{Command}
-use Rattle.gdlsolve.specs.declared.command.Command.TheVariants.{Show, Check, Moves, Solve}
+use Rattle.gdlsolve.specs.declared.command.Command.TheVariants.{Show, Check, Net, Moves, Solve}
 use Rattle.gdlsolve.specs.Answers.{Reply, answer, refusal}
 use Rattle.gdlsolve.specs.Moving.{IsMovesReply}
 use Rattle.gdlsolve.specs.Solving.{IsSolveReply}
@@ -18,16 +19,18 @@ use Rattle.gdlsolve.specs.Replies.{lines_of, IsReplyTo, IsReply}
 some_reply_to : (command : Command) (ts : Trees) → (reply : Reply) × IsReplyTo command ts reply
 some_reply_to Show ts = (answer (lines_of ts), refl)
 some_reply_to Check ts = some_check (list_of ts)
+some_reply_to Net ts = some_net (list_of ts)
 some_reply_to (Moves after) ts = some_play (list_of ts) (λ g. IsMovesReply g after.now) (λ g. some_moves g after.now)
-some_reply_to (Solve role depth after) ts = some_play (list_of ts) (λ g. IsSolveReply g role.now depth after.now) (λ g. some_solve g role.now depth after.now)
+some_reply_to (Solve role depth at cut after) ts = some_play (list_of ts) (λ g. IsSolveReply g role.now depth at after.now) (λ g. some_solve g role.now depth at after.now)
 
 one_reply_to : (command : Command) (ts : Trees) (reply other : Reply) → IsReplyTo command ts reply → IsReplyTo command ts other → reply ≡ other
 one_reply_to Show ts reply other p q = p ∙ sym q
 one_reply_to Check ts reply other p q = one_check (list_of ts) reply other p q
+one_reply_to Net ts reply other p q = one_net (list_of ts) reply other p q
 one_reply_to (Moves after) ts reply other p q =
     one_play (list_of ts) (λ g. IsMovesReply g after.now) (λ g h same. one_moves g h same after.now) reply other p q
-one_reply_to (Solve role depth after) ts reply other p q =
-    one_play (list_of ts) (λ g. IsSolveReply g role.now depth after.now) (λ g h same. one_solve g h same role.now depth after.now) reply other p q
+one_reply_to (Solve role depth at cut after) ts reply other p q =
+    one_play (list_of ts) (λ g. IsSolveReply g role.now depth at after.now) (λ g h same. one_solve g h same role.now depth at after.now) reply other p q
 
 pub some_reply : (command : Command) (bytes : List ℕ) → (reply : Reply) × IsReply command bytes reply
 some_reply command bytes =

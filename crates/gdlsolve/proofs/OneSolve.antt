@@ -9,6 +9,7 @@ use Rattle.kif.specs.Tree.{Trees, no_trees, tree, text, name_eq}
 use Rattle.position.proofs.Alike.{all_below, maps_alike, finds_alike, found_within}
 use Rattle.position.proofs.PlayRange.{choice_within, line_within}
 use Rattle.position.proofs.SamePlays.{value_alike, choice_alike, line_alike}
+use Rattle.position.specs.declared.at_bound.AtBound.{AtBound}
 use Rattle.position.specs.NamedRules.{NamedRules}
 use Rattle.position.specs.Rules.{State, Turn, IsTurn, all_roles}
 use Rattle.position.specs.SamePlay.{SamePlay}
@@ -73,37 +74,37 @@ chosen_alike : (g h : NamedRules) → SamePlay g h → (role : ℕ) → role < g
 chosen_alike g h same role lt None within = refl
 chosen_alike g h same role lt (Some own) within = same.move_names role own lt within
 
-lines_alike : (g h : NamedRules) → SamePlay g h → (role : ℕ) → role < g.rules.roles → (depth : ℕ) (s : State) → solve_lines g role depth s ≡ solve_lines h role depth s
-lines_alike g h same role lt depth s =
-    ap (λ (v : ℕ). count_line (codes "value") v ++ move_line (choice_text g role (choice_of g.rules role depth s)) ++ turn_lines g 1 (line_of g.rules role depth s))
-    (value_alike g h same role lt depth s)
-    ∙ ap (λ (words : List ℕ). count_line (codes "value") (value h.rules role depth s) ++ move_line words ++ turn_lines g 1 (line_of g.rules role depth s))
-    (chosen_alike g h same role lt (choice_of g.rules role depth s) (choice_within g.rules same.known role depth s lt) ∙ ap (choice_text h role) (choice_alike g h same role lt depth s))
-    ∙ ap (λ (lines : List ℕ). count_line (codes "value") (value h.rules role depth s) ++ move_line (choice_text h role (choice_of h.rules role depth s)) ++ lines)
-    (turns_alike g h same 1 (line_of g.rules role depth s) (line_within g.rules same.known role depth s lt) ∙ ap (turn_lines h 1) (line_alike g h same role lt depth s))
+lines_alike : (g h : NamedRules) → SamePlay g h → (role : ℕ) → role < g.rules.roles → (depth : ℕ) (at : AtBound) (s : State) → solve_lines g role depth at s ≡ solve_lines h role depth at s
+lines_alike g h same role lt depth at s =
+    ap (λ (v : ℕ). count_line (codes "value") v ++ move_line (choice_text g role (choice_of g.rules role depth at s)) ++ turn_lines g 1 (line_of g.rules role depth at s))
+    (value_alike g h same role lt depth at s)
+    ∙ ap (λ (words : List ℕ). count_line (codes "value") (value h.rules role depth at s) ++ move_line words ++ turn_lines g 1 (line_of g.rules role depth at s))
+    (chosen_alike g h same role lt (choice_of g.rules role depth at s) (choice_within g.rules same.known role depth at s lt) ∙ ap (choice_text h role) (choice_alike g h same role lt depth at s))
+    ∙ ap (λ (lines : List ℕ). count_line (codes "value") (value h.rules role depth at s) ++ move_line (choice_text h role (choice_of h.rules role depth at s)) ++ lines)
+    (turns_alike g h same 1 (line_of g.rules role depth at s) (line_within g.rules same.known role depth at s lt) ∙ ap (turn_lines h 1) (line_alike g h same role lt depth at s))
 
 -- Replies.
 
-pub some_solve : (g : NamedRules) (role : List ℕ) (depth : ℕ) (after : List ℕ) → (reply : Reply) × IsSolveReply g role depth after reply
-some_solve g role depth after = found (some_role g role).0 (some_role g role).1
+pub some_solve : (g : NamedRules) (role : List ℕ) (depth : ℕ) (at : AtBound) (after : List ℕ) → (reply : Reply) × IsSolveReply g role depth at after reply
+some_solve g role depth at after = found (some_role g role).0 (some_role g role).1
   where
-    found : (o : Option ℕ) → IsRoleNamed g role o → (reply : Reply) × IsSolveReply g role depth after reply
+    found : (o : Option ℕ) → IsRoleNamed g role o → (reply : Reply) × IsSolveReply g role depth at after reply
     found None named = (refusal (codes "S1 NoSuchRole"), inl (named, refl))
     found (Some r) named =
         let ended = some_history g after in
-        (history_reply g (solve_lines g r depth) ended.0, inr (r, (named, ended.0, ended.1, refl)))
+        (history_reply g (solve_lines g r depth at) ended.0, inr (r, (named, ended.0, ended.1, refl)))
 
 -- games that tell the same have the same reply
-pub one_solve : (g h : NamedRules) → SamePlay g h → (role : List ℕ) (depth : ℕ) (after : List ℕ) (reply other : Reply)
-    → IsSolveReply g role depth after reply → IsSolveReply h role depth after other → reply ≡ other
-one_solve g h same role depth after reply other (inl p) (inl q) = p.1 ∙ sym q.1
-one_solve g h same role depth after reply other (inl p) (inr q) = let e : None ≡ Some q.0 = one_role g h same role None (Some q.0) p.0 q.1.0 in absurd cc
-one_solve g h same role depth after reply other (inr p) (inl q) = let e : Some p.0 ≡ None = one_role g h same role (Some p.0) None p.1.0 q.0 in absurd cc
-one_solve g h same role depth after reply other (inr p) (inr q) =
+pub one_solve : (g h : NamedRules) → SamePlay g h → (role : List ℕ) (depth : ℕ) (at : AtBound) (after : List ℕ) (reply other : Reply)
+    → IsSolveReply g role depth at after reply → IsSolveReply h role depth at after other → reply ≡ other
+one_solve g h same role depth at after reply other (inl p) (inl q) = p.1 ∙ sym q.1
+one_solve g h same role depth at after reply other (inl p) (inr q) = let e : None ≡ Some q.0 = one_role g h same role None (Some q.0) p.0 q.1.0 in absurd cc
+one_solve g h same role depth at after reply other (inr p) (inl q) = let e : Some p.0 ≡ None = one_role g h same role (Some p.0) None p.1.0 q.0 in absurd cc
+one_solve g h same role depth at after reply other (inr p) (inr q) =
     let e : Some p.0 ≡ Some q.0 = one_role g h same role (Some p.0) (Some q.0) p.1.0 q.1.0 in
     let r : p.0 ≡ q.0 = cc in
     let lt : p.0 < g.rules.roles = role_known g role (Some p.0) p.1.0 in
     p.1.3
-    ∙ one_history_reply g h same (solve_lines g p.0 depth) (solve_lines h q.0 depth)
-    (λ s. lines_alike g h same p.0 lt depth s ∙ ap (λ (n : ℕ). solve_lines h n depth s) r) after p.1.1 q.1.1 p.1.2 q.1.2
+    ∙ one_history_reply g h same (solve_lines g p.0 depth at) (solve_lines h q.0 depth at)
+    (λ s. lines_alike g h same p.0 lt depth at s ∙ ap (λ (n : ℕ). solve_lines h n depth at s) r) after p.1.1 q.1.1 p.1.2 q.1.2
     ∙ sym q.1.3

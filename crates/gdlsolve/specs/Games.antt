@@ -5,13 +5,17 @@ use Rattle.rules.specs.Items.{alternatives}
 use Rattle.rules.specs.Profile.{HasNoFault}
 use Rattle.ground.specs.declared.excess.Excess.{Excess}
 use Rattle.ground.specs.declared.fault.GroundFault.TheVariants.{TooMany}
+use Rattle.ground.specs.declared.ground.Ground.{Ground}
+use Rattle.ground.specs.GroundView.{IsGround}
 use Rattle.ground.specs.Limits.{excess_in}
 use Rattle.ground.specs.Refusal.{fault_text}
 use Rattle.position.specs.NamedRules.{NamedRules}
 use Rattle.position.specs.RulesGame.{IsGameOf}
 use Rattle.position.specs.RuleState.{named_rules_of}
 use Rattle.gdlsolve.specs.declared.games.Described.{Described}
-use Rattle.gdlsolve.specs.declared.games.Described.TheVariants.{Game, Refusal}
+use Rattle.gdlsolve.specs.declared.games.Described.TheVariants.{Network, Rules, Refusal}
+use Rattle.gdlsolve.specs.declared.grounding.Instantiated.{Instantiated}
+use Rattle.gdlsolve.specs.declared.grounding.Instantiated.TheVariants.{Fits, Fails}
 use Rattle.gdlsolve.specs.Answers.{Reply, refusal}
 use Rattle.gdlsolve.specs.Checking.{RefusesItems}
 
@@ -37,7 +41,24 @@ TellsGame items told reply = (g : NamedRules) × IsItsGame items g × told g rep
 abbrev pub IsPlayReply : List Tree → (NamedRules → Reply → Type 0) → Reply → Type 0
 IsPlayReply items told reply = HasNoGame items reply ⊎ TellsGame items told reply
 
+-- the ground is the instantiation of the items, which are a description within all limits
+pub record IsItsGround (items : List Tree) (g : Ground) : Type 0 where
+  pub lawful : HasNoFault items
+  pub ground : IsGround (alternatives items) g
+
+-- the instantiation of the items, or the refusal where there is none
+abbrev pub IsInstantiated : List Tree → Instantiated → Type 0
+IsInstantiated items (Fits g) = IsItsGround items g
+IsInstantiated items (Fails reply) = HasNoGame items (record { output = reply.output.items; status = reply.status })
+
+-- what plays, plays this instantiation
+abbrev pub Plays : Ground → Described → Type 0
+Plays g (Network game) = game.played ≡ g
+Plays g (Rules game) = game.played ≡ g
+Plays g (Refusal reply) = ⊥
+
 -- the game of the items, or the refusal where there is none
 abbrev pub IsDescribed : List Tree → Described → Type 0
-IsDescribed items (Game game) = IsItsGame items (named_rules_of game.played)
+IsDescribed items (Network game) = IsItsGame items (named_rules_of game.played)
+IsDescribed items (Rules game) = IsItsGame items (named_rules_of game.played)
 IsDescribed items (Refusal reply) = HasNoGame items (record { output = reply.output.items; status = reply.status })

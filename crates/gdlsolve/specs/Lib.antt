@@ -8,3 +8,4 @@ pub mod Moving
 pub mod Solving
 pub mod Play
 pub mod Games
+pub mod Networks

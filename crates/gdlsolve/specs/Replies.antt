@@ -7,11 +7,12 @@ use Rattle.kif.specs.Refusal.{fault_text}
 use Rattle.kif.specs.declared.fault.KifFault.{KifFault}
 use Rattle.kif.specs.declared.fault.KifFault.TheVariants as faults
 use Rattle.gdlsolve.specs.declared.command.Command.{Command}
-use Rattle.gdlsolve.specs.declared.command.Command.TheVariants.{Show, Check, Moves, Solve}
+use Rattle.gdlsolve.specs.declared.command.Command.TheVariants.{Show, Check, Net, Moves, Solve}
 use Rattle.gdlsolve.specs.Answers.{Reply, answer, refusal}
 use Rattle.gdlsolve.specs.Checking.{IsCheckReply}
 use Rattle.gdlsolve.specs.Moving.{IsMovesReply}
 use Rattle.gdlsolve.specs.Games.{IsPlayReply}
+use Rattle.gdlsolve.specs.Networks.{IsNetReply}
 use Rattle.gdlsolve.specs.Solving.{IsSolveReply}
 
 -- the canonical text of each tree, with a line end behind it
@@ -19,12 +20,13 @@ abbrev pub lines_of : Trees → List ℕ
 lines_of no_trees = []
 lines_of (tree t ts) = text t ++ 10 ∷ lines_of ts
 
--- the reply to a command over trees that were read
+-- the reply to a command over trees that were read; the cut makes no difference
 abbrev pub IsReplyTo : Command → Trees → Reply → Type 0
 IsReplyTo Show ts reply = reply ≡ answer (lines_of ts)
 IsReplyTo Check ts reply = IsCheckReply (list_of ts) reply
+IsReplyTo Net ts reply = IsNetReply (list_of ts) reply
 IsReplyTo (Moves after) ts reply = IsPlayReply (list_of ts) (λ g. IsMovesReply g after.now) reply
-IsReplyTo (Solve role depth after) ts reply = IsPlayReply (list_of ts) (λ g. IsSolveReply g role.now depth after.now) reply
+IsReplyTo (Solve role depth at cut after) ts reply = IsPlayReply (list_of ts) (λ g. IsSolveReply g role.now depth at after.now) reply
 
 -- the bytes have a fault in their text, and the reply names it
 abbrev pub RefusesText : List ℕ → Reply → Type 0

@@ -6,6 +6,7 @@ use Rattle.kif.specs.Reading.{Reads}
 use Rattle.kif.specs.Answer as kif
 use Rattle.kif.specs.declared.fault.KifFault.{KifFault}
 use Rattle.kif.specs.declared.fault.KifFault.TheVariants.{NoMemory}
+use Rattle.position.specs.declared.at_bound.AtBound.{AtBound}
 use Rattle.position.specs.NamedRules.{NamedRules}
 use Rattle.position.specs.Rules.{State, Turn, all_roles}
 use Rattle.position.specs.Value.{value, choice_of, line_of}
@@ -49,22 +50,23 @@ turn_lines g number [] = []
 turn_lines g number (j ∷ js) = turn_line g number j ++ turn_lines g (number + 1) js
 
 -- the value of a state for a role, the move and the line
-abbrev pub solve_lines : NamedRules → ℕ → ℕ → State → List ℕ
-solve_lines g role depth s =
-    count_line (codes "value") (value g.rules role depth s)
-    ++ move_line (choice_text g role (choice_of g.rules role depth s))
-    ++ turn_lines g 1 (line_of g.rules role depth s)
+abbrev pub solve_lines : NamedRules → ℕ → ℕ → AtBound → State → List ℕ
+solve_lines g role depth at s =
+    count_line (codes "value") (value g.rules role depth at s)
+    ++ move_line (choice_text g role (choice_of g.rules role depth at s))
+    ++ turn_lines g 1 (line_of g.rules role depth at s)
 
 -- the text of the role names none
 abbrev pub NamesNoRole : NamedRules → List ℕ → Reply → Type 0
 NamesNoRole g role reply = IsRoleNamed g role None × (reply ≡ refusal (codes "S1 NoSuchRole"))
 
 -- the text of the role names this one, and the reply is that over the state after the history
-abbrev pub SolvesFor : NamedRules → List ℕ → ℕ → List ℕ → ℕ → Reply → Type 0
-SolvesFor g role depth after r reply =
+abbrev pub SolvesFor : NamedRules → List ℕ → ℕ → AtBound → List ℕ → ℕ → Reply → Type 0
+SolvesFor g role depth at after r reply =
     IsRoleNamed g role (Some r)
-    × (result : Result State HistoryFault) × IsHistoryOf g after result × (reply ≡ history_reply g (solve_lines g r depth) result)
+    × (result : Result State HistoryFault) × IsHistoryOf g after result × (reply ≡ history_reply g (solve_lines g r depth at) result)
 
--- the reply for the role of this text, within so many turns, after the history of this text
-abbrev pub IsSolveReply : NamedRules → List ℕ → ℕ → List ℕ → Reply → Type 0
-IsSolveReply g role depth after reply = NamesNoRole g role reply ⊎ ((r : ℕ) × SolvesFor g role depth after r reply)
+-- the reply for the role of this text, within so many turns and with what a state is worth behind them, after the history of this
+-- text
+abbrev pub IsSolveReply : NamedRules → List ℕ → ℕ → AtBound → List ℕ → Reply → Type 0
+IsSolveReply g role depth at after reply = NamesNoRole g role reply ⊎ ((r : ℕ) × SolvesFor g role depth at after r reply)

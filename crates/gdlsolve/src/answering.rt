@@ -4,17 +4,18 @@ ghost use Rattle.kif.specs.Tree.{trees_of};
 ghost use Rattle.kif.specs.View.{trees_in};
 ghost use Rattle.rules.specs.Order.{relations_in_order};
 ghost use Rattle.rules.specs.RuleSetView.{rules_in, roles_in};
-ghost use Rattle.gdlsolve.specs.Checking.{count_line, spaced, check_lines, IsCheckReply};
+ghost use Rattle.gdlsolve.specs.Checking.{spaced, check_lines, IsCheckReply};
 ghost use Rattle.gdlsolve.specs.Replies.{IsReply, IsReplyTo, lines_of};
 
 use crate::command::Command;
-use crate::games::{reply_to_moves, reply_to_solve};
-use crate::reply::{Reply, answered, refused};
+use crate::games::{Player, reply_to_moves, reply_to_solve};
+use crate::grounding::reply_to_net;
+use crate::reply::{Reply, add_count, answered, refused};
 use bumpalo::Bump;
 use kif::{Expr, KifFault, read, write};
 use rules::{RuleFault, RuleSet};
 use std::alloc::{AllocError, Allocator, Global};
-use std::io::Write;
+use std::thread::Threads;
 
 /// The canonical text of each tree, one a line.
 fn shown<A: Allocator>(alloc: Global, trees: &[Expr<A>]) -> Result<Vec<u8>, AllocError>
@@ -28,13 +29,6 @@ fn shown<A: Allocator>(alloc: Global, trees: &[Expr<A>]) -> Result<Vec<u8>, Allo
         output.push(b'\n')?;
     }
     Ok(output)
-}
-
-/// Adds a line of a word and a count. After an error the output may have a beginning of it.
-fn add_count(word: &str, count: usize, output: &mut Vec<u8>) -> Result<(), AllocError>
-    ensures { OnOk result (output.new.items ≡ output.old.items ++ count_line word.now count) }
-{
-    writeln!(output, "{word} {count}").map_err(|_| AllocError)
 }
 
 /// Adds each role with a space before it. After an error the output may have a beginning of them.
@@ -75,8 +69,9 @@ fn checked<A: Allocator>(alloc: Global, items: &[Expr<A>]) -> Result<Reply, Allo
 }
 
 /// The reply to a command over trees that were read.
-fn answer_to<T: AllocGlobal, A: Allocator>(
+fn answer_to<T: Threads + Sync + AllocGlobal, A: Allocator>(
     rt: &T,
+    player: Player,
     command: &Command,
     trees: &[Expr<A>],
 ) -> Result<Reply, AllocError>
@@ -86,15 +81,23 @@ fn answer_to<T: AllocGlobal, A: Allocator>(
     match command {
         Command::Show => Ok(answered(shown(rt.alloc(), trees)?)),
         Command::Check => checked(rt.alloc(), trees),
-        Command::Moves { after } => reply_to_moves(rt, trees, after),
-        Command::Solve { role, depth, after } => reply_to_solve(rt, trees, role, *depth, after),
+        Command::Net => reply_to_net(rt, trees),
+        Command::Moves { after } => reply_to_moves(rt, player, trees, after),
+        Command::Solve {
+            role,
+            depth,
+            at_bound,
+            cut,
+            after,
+        } => reply_to_solve(rt, player, trees, role, *depth, *at_bound, cut, after),
     }
 }
 
 /// The reply to a command over the bytes of the input. The trees stand in an arena that is dropped with
 /// this call.
-pub(crate) fn answer<T: AllocGlobal>(
+pub(crate) fn answer<T: Threads + Sync + AllocGlobal>(
     rt: &T,
+    player: Player,
     command: &Command,
     bytes: &[u8],
 ) -> Result<Reply, AllocError>
@@ -103,7 +106,7 @@ pub(crate) fn answer<T: AllocGlobal>(
 {
     let arena = Bump::new(rt.alloc());
     match read(&arena, bytes) {
-        Ok(trees) => answer_to(rt, command, &trees),
+        Ok(trees) => answer_to(rt, player, command, &trees),
         Err(KifFault::NoMemory) => Err(AllocError),
         Err(fault) => refused(rt.alloc(), &fault),
     }

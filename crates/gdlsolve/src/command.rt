@@ -1,4 +1,6 @@
 // What the program is asked to do, and how that ends.
+use position::AtBound;
+use share::Cut;
 use thiserror::Error;
 
 /// What the program does with the rules that it reads.
@@ -8,6 +10,8 @@ pub enum Command<'a> {
     Show,
     /// Names the first fault of the description, or counts what it has.
     Check,
+    /// Counts the base propositions, the inputs, the kept instances, the heads without effect on play, and the nodes of the network.
+    Net,
     /// Tells how play stands after a history: the goal of each role where the game has ended, else the
     /// legal moves of each role.
     Moves {
@@ -20,6 +24,10 @@ pub enum Command<'a> {
         role: &'a str,
         /// How many turns are looked ahead.
         depth: u32,
+        /// What a state in which play goes on is worth where these turns are over.
+        at_bound: AtBound,
+        /// How many threads search, and the parts of what.
+        cut: Cut,
         /// The text of the history, as of `Moves`.
         after: &'a str,
     },

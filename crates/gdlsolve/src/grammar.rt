@@ -1,6 +1,8 @@
 // The words of the command line: the commands and their options, and the texts of their help.
 use crate::command::Command;
 use clap::error::ErrorKind;
+use position::AtBound;
+use share::Cut;
 use std::alloc::{AllocError, Global};
 
 /// The version that `--version` tells.
@@ -36,6 +38,8 @@ pub(crate) enum Request<'a> {
     Help(clap::Error),
     /// A text for the errors, since the words are no command.
     Misuse(clap::Error),
+    /// A line for the errors, since the text of an option is none of those that it takes.
+    Misread(&'static str),
 }
 
 /// The option for the text of a history.
@@ -67,6 +71,28 @@ fn depth<'a>(alloc: Global) -> clap::Arg<'a> {
         .help("How many turns to look ahead, from 0 to 64")
 }
 
+/// The option for what a state is worth where no turn is left to look ahead.
+fn at_bound<'a>(alloc: Global) -> clap::Arg<'a> {
+    clap::Arg::new(alloc, "at-bound")
+        .long("at-bound")
+        .value_name("WORTH")
+        .default_value("zero")
+        .allow_hyphen_values(true)
+        .help(
+            "What a state is worth where these turns are over and play goes on: zero, or its goal",
+        )
+}
+
+/// The option for how many threads search.
+fn cut<'a>(alloc: Global) -> clap::Arg<'a> {
+    clap::Arg::new(alloc, "cut")
+        .long("cut")
+        .value_name("LEVELS")
+        .default_value("1")
+        .allow_hyphen_values(true)
+        .help("How many threads search, and those behind each of their moves, as 4 or 4x2")
+}
+
 /// The command `show`.
 fn show<'a>(alloc: Global) -> clap::Command<'a> {
     clap::Command::new(alloc, "show").about("Write the canonical text of each tree, one a line")
@@ -76,6 +102,13 @@ fn show<'a>(alloc: Global) -> clap::Command<'a> {
 fn check<'a>(alloc: Global) -> clap::Command<'a> {
     clap::Command::new(alloc, "check").about(
         "Name the first fault of the rules, or count what they have",
+    )
+}
+
+/// The command `net`.
+fn net<'a>(alloc: Global) -> clap::Command<'a> {
+    clap::Command::new(alloc, "net").about(
+        "Count what the rules come to: propositions, inputs, instances, and nodes of their network",
     )
 }
 
@@ -98,6 +131,8 @@ fn solve<'a>(alloc: Global) -> Result<clap::Command<'a>, AllocError> {
         .after_help(SOLVE_EXAMPLE)
         .arg(role(alloc))?
         .arg(depth(alloc))?
+        .arg(at_bound(alloc))?
+        .arg(cut(alloc))?
         .arg(history(alloc))
 }
 
@@ -112,23 +147,38 @@ fn grammar<'a>(alloc: Global) -> Result<clap::Command<'a>, AllocError> {
         .subcommand_required(true)
         .subcommand(show(alloc))?
         .subcommand(check(alloc))?
+        .subcommand(net(alloc))?
         .subcommand(moves(alloc)?)?
         .subcommand(solve(alloc)?)
 }
 
-/// The command that was matched.
-fn command_of<'a>(matches: &clap::ArgMatches<'a>) -> Option<Command<'a>> {
-    match matches.subcommand() {
-        Some(("show", _)) => Some(Command::Show),
-        Some(("check", _)) => Some(Command::Check),
-        Some(("moves", options)) => Some(Command::Moves {
+/// The request that the options of `solve` make.
+fn solve_request<'a>(options: &clap::ArgMatches<'a>) -> Option<Request<'a>> {
+    let Some(cut) = Cut::parse(options.get_str("cut")?.as_bytes()) else {
+        return Some(Request::Misread("bad cut"));
+    };
+    let Some(at_bound) = AtBound::parse(options.get_str("at-bound")?.as_bytes()) else {
+        return Some(Request::Misread("bad bound"));
+    };
+    Some(Request::Run(Command::Solve {
+        role: options.get_str("role")?,
+        depth: options.get_one("depth")?,
+        at_bound,
+        cut,
+        after: options.get_str("after").unwrap_or(""),
+    }))
+}
+
+/// The request that was matched.
+fn matched<'a>(matches: &clap::ArgMatches<'a>) -> Option<Request<'a>> {
+    match matches.subcommand()? {
+        ("show", _) => Some(Request::Run(Command::Show)),
+        ("check", _) => Some(Request::Run(Command::Check)),
+        ("net", _) => Some(Request::Run(Command::Net)),
+        ("moves", options) => Some(Request::Run(Command::Moves {
             after: options.get_str("after").unwrap_or(""),
-        }),
-        Some(("solve", options)) => Some(Command::Solve {
-            role: options.get_str("role")?,
-            depth: options.get_one("depth")?,
-            after: options.get_str("after").unwrap_or(""),
-        }),
+        })),
+        ("solve", options) => solve_request(options),
         _ => None,
     }
 }
@@ -140,8 +190,8 @@ pub(crate) fn request_of<'a>(
 ) -> Result<Request<'a>, clap::Error> {
     let mut grammar = grammar(alloc)?;
     match grammar.try_get_matches_from_mut(words) {
-        Ok(matches) => match command_of(&matches) {
-            Some(command) => Ok(Request::Run(command)),
+        Ok(matches) => match matched(&matches) {
+            Some(request) => Ok(request),
             None => Ok(Request::Misuse(grammar.error(ErrorKind::MissingSubcommand, "no command")?)),
         },
         Err(error) => match error.kind() {

@@ -7,7 +7,7 @@ ghost use Rattle.maximin.specs.Room.{room_depth};
 ghost use Rattle.gdlsolve.specs.Play.{IsPlayOf};
 
 use maximin::{Room, first_reply};
-use position::Game;
+use position::{AtBound, Game};
 use propnet::Joint;
 use smallvec::SmallVec;
 use std::alloc::{AllocError, Global};
@@ -38,7 +38,7 @@ impl<G: Game> Play<G> {
     pub(crate) fn new(alloc: Global, g: &G, depth: u32, here: G::Pos) -> Result<Play<G>, AllocError>
         requires { G.fits g.now here }
         ensures here { IfOk result (λ play. play.here ≡ here) }
-        ensures play { IfOk result (λ play. IsPlayOf (G.fits g.now) (G.rules g.now).roles play) }
+        ensures play { IfOk result (λ play. IsPlayOf (G.fits g.now) (G.fits_wide g.now) (G.fits_many g.now) (G.rules g.now).roles play) }
         ensures deep { IfOk result (λ play. room_depth play.room ≡ depth) }
     {
         let room = Room::new(alloc, g, depth)?;
@@ -53,15 +53,15 @@ impl<G: Game> Play<G> {
     }
 
     /// Plays one turn, in which the role plays its choice and all others the first reply that leaves the least value.
-    pub(crate) fn turn(&mut self, g: &G, role: usize, own: u32, depth: u32)
+    pub(crate) fn turn(&mut self, g: &G, role: usize, own: u32, depth: u32, at: AtBound)
         requires role { role < (G.rules g.now).roles }
-        requires play { IsPlayOf (G.fits g.now) (G.rules g.now).roles self.old }
+        requires play { IsPlayOf (G.fits g.now) (G.fits_wide g.now) (G.fits_many g.now) (G.rules g.now).roles self.old }
         requires deep { depth ≤ room_depth self.old.room }
-        requires own { choice_of (G.rules g.now) role depth (G.state g.now self.old.here) ≡ Some own }
-        ensures reply { reply_of (G.rules g.now) role (depth - 1) (G.state g.now self.old.here) own ≡ Some self.new.joint.items }
+        requires own { choice_of (G.rules g.now) role depth at (G.state g.now self.old.here) ≡ Some own }
+        ensures reply { reply_of (G.rules g.now) role (depth - 1) at (G.state g.now self.old.here) own ≡ Some self.new.joint.items }
         ensures turn { IsTurn (G.rules g.now) self.new.joint.items }
         ensures after { G.state g.now self.new.here ≡ (G.rules g.now).after (G.state g.now self.old.here) self.new.joint.items }
-        ensures play { IsPlayOf (G.fits g.now) (G.rules g.now).roles self.new }
+        ensures play { IsPlayOf (G.fits g.now) (G.fits_wide g.now) (G.fits_many g.now) (G.rules g.now).roles self.new }
         ensures deep { room_depth self.new.room ≡ room_depth self.old.room }
     {
         first_reply(
@@ -70,6 +70,7 @@ impl<G: Game> Play<G> {
             role,
             own,
             depth,
+            at,
             &mut self.room,
             &mut self.joint,
         );

@@ -1,11 +1,13 @@
 // All that a command writes, and its status.
-ghost use Rattle.std.specs.Prelude.{◌≡◌, IfOk, IfSome};
+ghost use Rattle.std.specs.Prelude.{◌≡◌, ◌++◌, IfOk, OnOk, IfSome};
 ghost use Rattle.kif.specs.Refusal.{refusal_line};
+ghost use Rattle.gdlsolve.specs.Checking.{count_line};
 
 use crate::command::Status;
 use kif::add_refusal;
 use std::alloc::{AllocError, Global};
 use std::fmt::Display;
+use std::io::Write;
 
 /// All that is written, and the status.
 #[derive(Drop)]
@@ -36,4 +38,11 @@ pub(crate) fn refused<F: Display>(alloc: Global, fault: &F) -> Result<Reply, All
         output,
         status: Status::Refused,
     })
+}
+
+/// Adds a line of a word and a count. After an error the output may have a beginning of it.
+pub(crate) fn add_count(word: &str, count: usize, output: &mut Vec<u8>) -> Result<(), AllocError>
+    ensures { OnOk result (output.new.items ≡ output.old.items ++ count_line word.now count) }
+{
+    writeln!(output, "{word} {count}").map_err(|_| AllocError)
 }

@@ -7,9 +7,11 @@ ghost use Rattle.gdlsolve.specs.Answers.{Reply};
 
 use crate::answering::answer;
 use crate::command::{Command, RunFault, Status};
+use crate::games::Player;
 use crate::input::read_input;
 use kif::write_bytes;
 use std::io::{Read, Write};
+use std::thread::Threads;
 
 /// Writes all the bytes and flushes the writer.
 pub(crate) fn write_out<W: Write>(output: &mut W, bytes: &[u8]) -> Result<(), RunFault>
@@ -23,9 +25,10 @@ pub(crate) fn write_out<W: Write>(output: &mut W, bytes: &[u8]) -> Result<(), Ru
     Ok(())
 }
 
-/// Reads the rules, and writes the reply to the command and nothing else.
-pub fn run<T: AllocGlobal, R: Read, W: Write>(
+/// Reads the rules, and writes the reply to the command and nothing else. The player plays the game.
+fn run_with<T: Threads + Sync + AllocGlobal, R: Read, W: Write>(
     rt: &T,
+    player: Player,
     command: &Command,
     input: &mut R,
     output: &mut W,
@@ -39,9 +42,45 @@ pub fn run<T: AllocGlobal, R: Read, W: Write>(
         × AppendsFront (W.contents output.old) (W.contents output.new) reply.output) }
 {
     let bytes = read_input(rt.alloc(), input)?;
-    let Ok(reply) = answer(rt, command, &bytes) else {
+    let Ok(reply) = answer(rt, player, command, &bytes) else {
         return Err(RunFault::Memory);
     };
     write_out(output, &reply.output)?;
     Ok(reply.status)
+}
+
+/// Reads the rules, and writes the reply to the command and nothing else. The network of the rules plays their game.
+pub fn run<T: Threads + Sync + AllocGlobal, R: Read, W: Write>(
+    rt: &T,
+    command: &Command,
+    input: &mut R,
+    output: &mut W,
+) -> Result<Status, RunFault>
+    ensures answers { IfOk result (λ status. (written : List ℕ)
+        × RepliesTo command.now (R.remaining input.old) (R.remaining input.new) (record { output = written; status = status })
+        × Appends (W.contents output.old) (W.contents output.new) written) }
+    ensures silent { IfErr result (λ fault. fault ≢ RunFault.Write → Keeps (W.contents output.old) (W.contents output.new)) }
+    ensures broken { IfErr result (λ fault. fault ≡ RunFault.Write → (reply : Reply)
+        × RepliesTo command.now (R.remaining input.old) (R.remaining input.new) reply
+        × AppendsFront (W.contents output.old) (W.contents output.new) reply.output) }
+{
+    run_with(rt, Player::Network, command, input, output)
+}
+
+/// Reads the rules, and writes the reply to the command and nothing else. The kept instances of the rules play their game.
+pub fn run_rules<T: Threads + Sync + AllocGlobal, R: Read, W: Write>(
+    rt: &T,
+    command: &Command,
+    input: &mut R,
+    output: &mut W,
+) -> Result<Status, RunFault>
+    ensures answers { IfOk result (λ status. (written : List ℕ)
+        × RepliesTo command.now (R.remaining input.old) (R.remaining input.new) (record { output = written; status = status })
+        × Appends (W.contents output.old) (W.contents output.new) written) }
+    ensures silent { IfErr result (λ fault. fault ≢ RunFault.Write → Keeps (W.contents output.old) (W.contents output.new)) }
+    ensures broken { IfErr result (λ fault. fault ≡ RunFault.Write → (reply : Reply)
+        × RepliesTo command.now (R.remaining input.old) (R.remaining input.new) reply
+        × AppendsFront (W.contents output.old) (W.contents output.new) reply.output) }
+{
+    run_with(rt, Player::Rules, command, input, output)
 }

@@ -1,20 +1,28 @@
 // Worked texts, through a run and through the command line, over readers and writers in memory.
+mod bounds;
 mod checks;
 mod counting;
+mod cuts;
 mod devices;
 mod games;
 mod helps;
 mod lines;
 mod moves;
+mod nets;
 mod solving;
 
-use crate::{Command, RunFault, Status, main_with, run};
+use crate::{Command, RunFault, Status, main_with, run, run_rules};
 use devices::{Full, Silent, Slow, Torn};
 use std::alloc::{AllocError, Global};
 use std::test::Fail;
+use std::thread::Threads;
 
 /// What the command line answers: the exit status, the output and the errors.
-fn told(rt: &HostRuntime, words: &[&str], text: &[u8]) -> (u8, Vec<u8>, Vec<u8>) {
+fn told<T: Threads + Sync + AllocGlobal>(
+    rt: &T,
+    words: &[&str],
+    text: &[u8],
+) -> (u8, Vec<u8>, Vec<u8>) {
     let mut input = text;
     let mut output = Vec::new(rt.alloc());
     let mut errors = Vec::new(rt.alloc());
@@ -22,30 +30,34 @@ fn told(rt: &HostRuntime, words: &[&str], text: &[u8]) -> (u8, Vec<u8>, Vec<u8>)
     (status, output, errors)
 }
 
-/// Whether a command, by a run and by these words, answers a text with these bytes and this exit status.
-fn replies(
-    rt: &HostRuntime,
+/// Whether a command, by a run of either player and by these words, answers a text with these bytes and this exit status.
+fn replies<T: Threads + Sync + AllocGlobal>(
+    rt: &T,
     command: &Command,
     words: &[&str],
     text: &[u8],
     want: &[u8],
     exit: u8,
 ) -> bool {
-    let mut input = text;
-    let mut output = Vec::new(rt.alloc());
-    let ended = run(rt, command, &mut input, &mut output);
     let wanted = if exit == 0 {
         Status::Answer
     } else {
         Status::Refused
     };
-    let by_run = ended == Ok(wanted) && output.as_slice() == want;
+    let mut input = text;
+    let mut output = Vec::new(rt.alloc());
+    let ended = run(rt, command, &mut input, &mut output);
+    let by_network = ended == Ok(wanted) && output.as_slice() == want;
+    let mut input = text;
+    let mut output = Vec::new(rt.alloc());
+    let ended = run_rules(rt, command, &mut input, &mut output);
+    let by_rules = ended == Ok(wanted) && output.as_slice() == want;
     let (status, output, errors) = told(rt, words, text);
-    by_run && status == exit && output.as_slice() == want && errors.is_empty()
+    by_network && by_rules && status == exit && output.as_slice() == want && errors.is_empty()
 }
 
 /// Whether `show` answers a text with these bytes and this exit status.
-fn shows(rt: &HostRuntime, text: &[u8], want: &[u8], exit: u8) -> bool {
+fn shows<T: Threads + Sync + AllocGlobal>(rt: &T, text: &[u8], want: &[u8], exit: u8) -> bool {
     replies(rt, &Command::Show, &["show"], text, want, exit)
 }
 

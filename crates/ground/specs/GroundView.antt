@@ -1,8 +1,9 @@
 -- What a ground tells.
-use Rattle.std.specs.Prelude.{ℕ, ◌≡◌, List, map}
+use Rattle.std.specs.Prelude.{ℕ, ◌≡◌, Bool, List, map}
 use Rattle.rules.specs.Clause.{Alternative}
 use Rattle.ground.specs.declared.kind.Kind.{Kind}
 use Rattle.ground.specs.declared.ground.Ground.{Ground}
+use Rattle.ground.specs.declared.ground.Instance.{Instance}
 use Rattle.ground.specs.AtomTexts.{listed_texts}
 use Rattle.ground.specs.Grounds.{Kept, kept_of, texts_of, IsGroundOf}
 
@@ -18,6 +19,17 @@ inputs_of g = map (λ v. texts_of v.items) g.inputs.items
 abbrev pub kinds_of : Ground → List Kind
 kinds_of g = g.kinds.items
 
+-- for each base proposition whether it holds at the start
+abbrev pub starts_of : Ground → List Bool
+starts_of g = g.starts.items
+
+-- the kept instances in memory, and how many heads have no effect
+abbrev pub kept_in : Ground → List Instance
+kept_in g = g.kept.items
+
+abbrev pub dropped_of : Ground → ℕ
+dropped_of g = g.dropped
+
 abbrev pub atoms_of : Ground → List (List ℕ)
 atoms_of g = g.atom_table
 
@@ -26,7 +38,7 @@ instances_of g = map kept_of g.kept.items
 
 -- the ground is that of the rules
 abbrev pub IsGround : List Alternative → Ground → Type 0
-IsGround rules g = IsGroundOf rules (roles_of g) (base_of g) (inputs_of g) g.starts.items (kinds_of g) (instances_of g) g.dropped
+IsGround rules g = IsGroundOf rules (roles_of g) (base_of g) (inputs_of g) (starts_of g) (kinds_of g) (instances_of g) (dropped_of g)
 
 -- the texts of its atoms are those of the rules
 abbrev pub HasAtoms : List Alternative → Ground → Type 0

@@ -2,7 +2,7 @@
 ghost use Rattle.std.specs.Prelude.{◌≡◌, ◌<◌, length, slice_index_or, false};
 ghost use Rattle.kif.specs.Tree.{name_eq};
 ghost use Rattle.ground.specs.Grounds.{text_at, texts_at};
-ghost use Rattle.ground.specs.GroundView.{roles_of, base_of, inputs_of, kinds_of, atoms_of};
+ghost use Rattle.ground.specs.GroundView.{atoms_of, base_of, dropped_of, inputs_of, kept_in, kinds_of, roles_of, starts_of};
 ghost use Rattle.ground.specs.declared.kind.Kind.TheVariants.{Other};
 
 use crate::ground::{Ground, Instance};
@@ -41,8 +41,8 @@ impl Ground {
 
     /// Whether a base proposition holds at the start.
     pub fn starts(&self, proposition: usize) -> bool
-        requires { proposition < length self.now.starts.items }
-        ensures { result ≡ slice_index_or self.now.starts.items proposition false }
+        requires { proposition < length (starts_of self.now) }
+        ensures { result ≡ slice_index_or (starts_of self.now) proposition false }
     {
         self.starts[proposition]
     }
@@ -89,7 +89,7 @@ impl Ground {
 
     /// The kept instances, in order.
     pub fn kept(&self) -> &[Instance]
-        ensures { result.now ≡ self.now.kept.items }
+        ensures { result.now ≡ kept_in self.now }
     {
         &self.kept
     }
@@ -97,7 +97,7 @@ impl Ground {
     /// How many different possible atoms have no effect on play: `init` and `next` of what is no base proposition, and `legal`
     /// of what is no input of a role.
     pub fn dropped(&self) -> usize
-        ensures { result ≡ self.now.dropped }
+        ensures { result ≡ dropped_of self.now }
     {
         self.dropped
     }

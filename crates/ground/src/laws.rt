@@ -1,13 +1,13 @@
 // The laws of the meaning of rules, and of kept instances.
-ghost use Rattle.std.specs.Prelude.{◌≡◌, ◌↔◌, List, Bool, true, IsTrue};
+ghost use Rattle.std.specs.Prelude.{◌≡◌, ◌↔◌, List, Bool, false, true, IsTrue};
 ghost use Rattle.kif.specs.Lexical.{HasNames};
 ghost use Rattle.kif.specs.Tree.{Tree};
-ghost use Rattle.rules.specs.Clause.{Atom, Alternative, tree_of};
-ghost use Rattle.rules.specs.Dependence.{IsAcyclic};
+ghost use Rattle.rules.specs.Clause.{Atom, Alternative, relation_of, tree_of};
+ghost use Rattle.rules.specs.Dependence.{IsAcyclic, IsFixed, is_distinct};
 ghost use Rattle.rules.specs.Items.{alternatives, is_term};
 ghost use Rattle.rules.specs.Profile.{HasNoFault};
-ghost use Rattle.ground.specs.Meaning.{State, Joint, Holds, IsDerived, IsRight, IsWithinBase, IsWithinInput, IsRole, IsBase, IsInput};
-ghost use Rattle.ground.specs.Kept.{HasRightInstance, HeadsKept};
+ghost use Rattle.ground.specs.Meaning.{State, Joint, Holds, HoldsAlways, IsDerived, IsRight, IsWithinBase, IsWithinInput, IsRole, IsBase, IsInput};
+ghost use Rattle.ground.specs.Kept.{HasRightInstance, HeadsKept, IsPossible};
 ghost use Rattle.ground.specs.Substitution.{IsLawful, IsLawfulTerm};
 ghost use Rattle.ground.specs.Listed.{IsWellFormed};
 
@@ -32,6 +32,14 @@ pub fn kept_instances_suffice()
     ensures { (rules : List Alternative) → IsAcyclic rules → (S : State) (J : Joint)
         → IsWithinBase rules S → IsWithinInput rules J
         → (x : Atom) → Holds rules S J x ↔ HasRightInstance rules S J x }
+{}
+
+/// For an atom of a fixed relation, to head a kept instance is to hold, and so is to be possible where the
+/// relation is not `distinct`.
+pub fn what_is_possible_and_fixed_holds()
+    ensures heads { (rules : List Alternative) → IsAcyclic rules → (x : Atom) → IsFixed rules (relation_of x) → HeadsKept rules x ↔ HoldsAlways rules x }
+    ensures possible { (rules : List Alternative) → IsAcyclic rules → (x : Atom) → IsFixed rules (relation_of x) → is_distinct (relation_of x) ≡ false
+        → IsPossible rules x ↔ HoldsAlways rules x }
 {}
 
 /// An accepted list of items is a well formed set of rules.

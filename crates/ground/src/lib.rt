@@ -77,7 +77,7 @@ pub use join_laws::the_join_is_the_definition;
 pub use kind::Kind;
 pub use laws::{
     accepted_items_are_well_formed, holds_by_a_rule, kept_instances_suffice, one_meaning,
-    what_holds_is_lawful,
+    what_holds_is_lawful, what_is_possible_and_fixed_holds,
 };
 pub use levels::{Join, is_binding, is_distinct, join_of};
 pub use levels_laws::{levels_stand_for_a_body, the_join_of_a_body_is_the_definition};

@@ -5,7 +5,7 @@ ghost use Rattle.position.specs.Value.{Answers, value, choice_of, reply_of};
 ghost use Rattle.maximin.specs.Room.{IsRoomOf, room_depth, room_capacities};
 
 use crate::level::{Level, new_level};
-use crate::search::{choice_at, reply_at, value_at};
+use crate::search::{Asked, choice_at, reply_at, value_at};
 use position::{AtBound, Game};
 use propnet::Joint;
 use std::alloc::{AllocError, Global};
@@ -60,8 +60,13 @@ pub fn value_in<G: Game>(
     ensures capacities { room_capacities (G.capacities g.now) (G.wide_capacities g.now) (G.many_capacities g.now) room.new
         ≡ room_capacities (G.capacities g.now) (G.wide_capacities g.now) (G.many_capacities g.now) room.old }
 {
+    let asked = Asked {
+        role,
+        depth: depth as usize,
+        at,
+    };
     let levels = room.levels.as_mut_slice();
-    value_at(g, p, role, depth as usize, at, a, b, &mut room.wide, levels)
+    value_at(g, p, asked, a, b, &mut room.wide, levels)
 }
 
 /// The first legal move of the role, in printed order, that attains the value of the state. There is none where the game has ended,
@@ -84,12 +89,17 @@ pub fn choice<G: Game>(
     ensures capacities { room_capacities (G.capacities g.now) (G.wide_capacities g.now) (G.many_capacities g.now) room.new
         ≡ room_capacities (G.capacities g.now) (G.wide_capacities g.now) (G.many_capacities g.now) room.old }
 {
+    let asked = Asked {
+        role,
+        depth: depth as usize,
+        at,
+    };
     let levels = room.levels.as_mut_slice();
-    choice_at(g, p, role, depth as usize, at, &mut room.wide, levels)
+    choice_at(g, p, asked, &mut room.wide, levels)
 }
 
 /// Writes the first joint legal move that leaves the least value where the role plays `own`, which stands in its place. Joint moves are
-/// compared role by role, the first role first, each by its printed order.
+/// compared role by role, the first role first, each by its printed order. `out` has to have room for a move of each role.
 pub fn first_reply<G: Game>(
     g: &G,
     p: &G::Pos,
@@ -116,16 +126,11 @@ pub fn first_reply<G: Game>(
     ensures capacities { room_capacities (G.capacities g.now) (G.wide_capacities g.now) (G.many_capacities g.now) room.new
         ≡ room_capacities (G.capacities g.now) (G.wide_capacities g.now) (G.many_capacities g.now) room.old }
 {
-    let levels = room.levels.as_mut_slice();
-    reply_at(
-        g,
-        p,
+    let asked = Asked {
         role,
-        own,
-        depth as usize - 1,
+        depth: depth as usize - 1,
         at,
-        &mut room.wide,
-        levels,
-        out,
-    )
+    };
+    let levels = room.levels.as_mut_slice();
+    reply_at(g, p, asked, own, &mut room.wide, levels, out)
 }

@@ -76,10 +76,14 @@ pub fn gather<G: Game>(
     ensures some { 0 < run.new.count }
     ensures few { run.new.count ≤ most }
     ensures known { All (IsTurn (G.rules game.now)) (turns_in run.new) }
-    ensures stands { OnTrue result (StandsAt (choices (G.rules game.now) (G.state game.now from.now) role own) cursor.new.places.items cursor.new.joint.items) }
-    ensures more { OnTrue result (cursor.old.joint.items ∷ later (choices (G.rules game.now) (G.state game.now from.now) role own) cursor.old.places.items
-        ≡ turns_in run.new ++ cursor.new.joint.items ∷ later (choices (G.rules game.now) (G.state game.now from.now) role own) cursor.new.places.items) }
-    ensures all { OnFalse result (cursor.old.joint.items ∷ later (choices (G.rules game.now) (G.state game.now from.now) role own) cursor.old.places.items
+    ensures stands { OnTrue result
+        (StandsAt (choices (G.rules game.now) (G.state game.now from.now) role own) cursor.new.places.items cursor.new.joint.items) }
+    ensures more { OnTrue result
+        (cursor.old.joint.items ∷ later (choices (G.rules game.now) (G.state game.now from.now) role own) cursor.old.places.items
+        ≡ turns_in run.new ++ cursor.new.joint.items
+        ∷ later (choices (G.rules game.now) (G.state game.now from.now) role own) cursor.new.places.items) }
+    ensures all { OnFalse result
+        (cursor.old.joint.items ∷ later (choices (G.rules game.now) (G.state game.now from.now) role own) cursor.old.places.items
         ≡ turns_in run.new) }
 {
     run.count = 0;

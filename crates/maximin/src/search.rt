@@ -11,6 +11,14 @@ use crate::run::{LONGEST_RUN, gather};
 use position::{AtBound, Game, is_stuck};
 use propnet::Joint;
 
+/// What is asked of a state: what a role can be sure of within some turns.
+#[derive(Clone, Copy)]
+pub struct Asked {
+    pub role: usize,
+    pub depth: usize,
+    pub at: AtBound,
+}
+
 /// What a state that is not ended is worth where no turn is left.
 fn bound_at<G: Game>(game: &G, from: &G::Pos, role: usize, at: AtBound) -> i16
     requires fits { G.fits game.now from.now }
@@ -29,23 +37,21 @@ fn bound_at<G: Game>(game: &G, from: &G::Pos, role: usize, at: AtBound) -> i16
 pub fn value_at<G: Game>(
     game: &G,
     from: &G::Pos,
-    role: usize,
-    depth: usize,
-    at: AtBound,
+    asked: Asked,
     a: i16,
     b: i16,
     wide: &mut G::Wide,
     levels: &mut [Level<G::Pos, G::Many>],
 ) -> i16
     requires fits { G.fits game.now from.now }
-    requires role { role < (G.rules game.now).roles }
-    requires deep { depth ≤ length levels.old }
+    requires role { asked.role < (G.rules game.now).roles }
+    requires deep { asked.depth ≤ length levels.old }
     requires wide { G.fits_wide game.now wide.old }
     requires levels { All (IsLevelOf (G.fits game.now) (G.fits_many game.now) (G.rules game.now).roles) levels.old }
     requires low { negsuc 1 ≤ℤ a }
     requires order { a <ℤ b }
     requires high { b ≤ℤ pos 101 }
-    ensures answers { Answers (value (G.rules game.now) role depth at (G.state game.now from.now)) a b result }
+    ensures answers { Answers (value (G.rules game.now) asked.role asked.depth asked.at (G.state game.now from.now)) a b result }
     ensures wide { G.fits_wide game.now wide.new }
     ensures wide_capacities { G.wide_capacities game.now wide.new ≡ G.wide_capacities game.now wide.old }
     ensures levels { All (IsLevelOf (G.fits game.now) (G.fits_many game.now) (G.rules game.now).roles) levels.new }
@@ -53,18 +59,22 @@ pub fn value_at<G: Game>(
         ≡ all_capacities (G.capacities game.now) (G.many_capacities game.now) levels.old }
 {
     if game.ended(from) {
-        return i16::from(game.goal(from, role));
+        return i16::from(game.goal(from, asked.role));
     }
-    if depth == 0 {
-        return bound_at(game, from, role, at);
+    if asked.depth == 0 {
+        return bound_at(game, from, asked.role, asked.at);
     }
     if is_stuck(game, from) {
         return 0;
     }
+    let next = Asked {
+        depth: asked.depth - 1,
+        ..asked
+    };
     let mut best = a;
     let mut place = 0;
-    while let Some(own) = game.legal(from, role, place) {
-        best = best.max(worst_at(game, from, role, own, depth - 1, at, best, b, wide, levels));
+    while let Some(own) = game.legal(from, asked.role, place) {
+        best = best.max(worst_at(game, from, next, own, best, b, wide, levels));
         if best >= b {
             return best;
         }
@@ -78,26 +88,24 @@ pub fn value_at<G: Game>(
 pub fn worst_at<G: Game>(
     game: &G,
     from: &G::Pos,
-    role: usize,
+    asked: Asked,
     own: u32,
-    depth: usize,
-    at: AtBound,
     a: i16,
     b: i16,
     wide: &mut G::Wide,
     levels: &mut [Level<G::Pos, G::Many>],
 ) -> i16
     requires fits { G.fits game.now from.now }
-    requires role { role < (G.rules game.now).roles }
-    requires own { own < (G.rules game.now).moves role }
+    requires role { asked.role < (G.rules game.now).roles }
+    requires own { own < (G.rules game.now).moves asked.role }
     requires open { stuck (G.rules game.now) (G.state game.now from.now) ≡ false }
-    requires deep { depth < length levels.old }
+    requires deep { asked.depth < length levels.old }
     requires wide { G.fits_wide game.now wide.old }
     requires levels { All (IsLevelOf (G.fits game.now) (G.fits_many game.now) (G.rules game.now).roles) levels.old }
     requires low { negsuc 1 ≤ℤ a }
     requires order { a <ℤ b }
     requires high { b ≤ℤ pos 101 }
-    ensures answers { Answers (worst (G.rules game.now) role depth at (G.state game.now from.now) own) a b result }
+    ensures answers { Answers (worst (G.rules game.now) asked.role asked.depth asked.at (G.state game.now from.now) own) a b result }
     ensures wide { G.fits_wide game.now wide.new }
     ensures wide_capacities { G.wide_capacities game.now wide.new ≡ G.wide_capacities game.now wide.old }
     ensures levels { All (IsLevelOf (G.fits game.now) (G.fits_many game.now) (G.rules game.now).roles) levels.new }
@@ -106,14 +114,14 @@ pub fn worst_at<G: Game>(
 {
     let (first, rest) = levels.split_at_mut(1);
     let level = &mut first[0];
-    start_turns(game, from, role, own, &mut level.cursor);
+    start_turns(game, from, asked.role, own, &mut level.cursor);
     let mut upper = b;
     let mut most = 1;
     'runs: loop {
         let more = gather(
             game,
             from,
-            role,
+            asked.role,
             own,
             &mut level.cursor,
             most,
@@ -125,9 +133,7 @@ pub fn worst_at<G: Game>(
             game,
             &level.many,
             count,
-            role,
-            depth,
-            at,
+            asked,
             a,
             upper,
             wide,
@@ -148,9 +154,7 @@ fn least_at<G: Game>(
     game: &G,
     many: &G::Many,
     count: usize,
-    role: usize,
-    depth: usize,
-    at: AtBound,
+    asked: Asked,
     a: i16,
     b: i16,
     wide: &mut G::Wide,
@@ -160,15 +164,15 @@ fn least_at<G: Game>(
     requires many { G.fits_many game.now many.now }
     requires count { count ≡ length (G.states game.now many.now) }
     requires some { 0 < count }
-    requires role { role < (G.rules game.now).roles }
-    requires deep { depth ≤ length levels.old }
+    requires role { asked.role < (G.rules game.now).roles }
+    requires deep { asked.depth ≤ length levels.old }
     requires wide { G.fits_wide game.now wide.old }
     requires position { G.fits game.now position.old }
     requires levels { All (IsLevelOf (G.fits game.now) (G.fits_many game.now) (G.rules game.now).roles) levels.old }
     requires low { negsuc 1 ≤ℤ a }
     requires order { a <ℤ b }
     requires high { b ≤ℤ pos 101 }
-    ensures answers { Answers (least (map (value (G.rules game.now) role depth at) (G.states game.now many.now))) a b result }
+    ensures answers { Answers (least (map (value (G.rules game.now) asked.role asked.depth asked.at) (G.states game.now many.now))) a b result }
     ensures wide { G.fits_wide game.now wide.new }
     ensures wide_capacities { G.wide_capacities game.now wide.new ≡ G.wide_capacities game.now wide.old }
     ensures position { G.fits game.now position.new }
@@ -180,7 +184,7 @@ fn least_at<G: Game>(
     let mut upper = b;
     for place in 0..count {
         game.take(many, place, position);
-        upper = upper.min(value_at(game, position, role, depth, at, a, upper, wide, levels));
+        upper = upper.min(value_at(game, position, asked, a, upper, wide, levels));
         if upper <= a {
             return upper;
         }
@@ -192,73 +196,62 @@ fn least_at<G: Game>(
 pub fn choice_at<G: Game>(
     game: &G,
     from: &G::Pos,
-    role: usize,
-    depth: usize,
-    at: AtBound,
+    asked: Asked,
     wide: &mut G::Wide,
     levels: &mut [Level<G::Pos, G::Many>],
 ) -> Option<u32>
     requires fits { G.fits game.now from.now }
-    requires role { role < (G.rules game.now).roles }
-    requires deep { depth ≤ length levels.old }
+    requires role { asked.role < (G.rules game.now).roles }
+    requires deep { asked.depth ≤ length levels.old }
     requires wide { G.fits_wide game.now wide.old }
     requires levels { All (IsLevelOf (G.fits game.now) (G.fits_many game.now) (G.rules game.now).roles) levels.old }
-    ensures choice { result ≡ choice_of (G.rules game.now) role depth at (G.state game.now from.now) }
+    ensures choice { result ≡ choice_of (G.rules game.now) asked.role asked.depth asked.at (G.state game.now from.now) }
     ensures wide { G.fits_wide game.now wide.new }
     ensures wide_capacities { G.wide_capacities game.now wide.new ≡ G.wide_capacities game.now wide.old }
     ensures levels { All (IsLevelOf (G.fits game.now) (G.fits_many game.now) (G.rules game.now).roles) levels.new }
     ensures capacities { all_capacities (G.capacities game.now) (G.many_capacities game.now) levels.new
         ≡ all_capacities (G.capacities game.now) (G.many_capacities game.now) levels.old }
 {
-    if depth == 0 || game.ended(from) || is_stuck(game, from) {
+    if asked.depth == 0 || game.ended(from) || is_stuck(game, from) {
         return None;
     }
+    let next = Asked {
+        depth: asked.depth - 1,
+        ..asked
+    };
     let mut best = -1;
     let mut chosen = 0;
     let mut place = 0;
-    while let Some(own) = game.legal(from, role, place) {
-        let worst = worst_at(
-            game,
-            from,
-            role,
-            own,
-            depth - 1,
-            at,
-            best,
-            101,
-            wide,
-            levels,
-        );
+    while let Some(own) = game.legal(from, asked.role, place) {
+        let worst = worst_at(game, from, next, own, best, 101, wide, levels);
         if worst > best {
             best = worst;
             chosen = place;
         }
         place += 1;
     }
-    game.legal(from, role, chosen)
+    game.legal(from, asked.role, chosen)
 }
 
 /// Writes the first joint move that leaves the least value where the role plays `own`.
 pub fn reply_at<G: Game>(
     game: &G,
     from: &G::Pos,
-    role: usize,
+    asked: Asked,
     own: u32,
-    depth: usize,
-    at: AtBound,
     wide: &mut G::Wide,
     levels: &mut [Level<G::Pos, G::Many>],
     out: &mut Joint,
 )
     requires fits { G.fits game.now from.now }
-    requires role { role < (G.rules game.now).roles }
-    requires own { own < (G.rules game.now).moves role }
+    requires role { asked.role < (G.rules game.now).roles }
+    requires own { own < (G.rules game.now).moves asked.role }
     requires open { stuck (G.rules game.now) (G.state game.now from.now) ≡ false }
-    requires deep { depth < length levels.old }
+    requires deep { asked.depth < length levels.old }
     requires wide { G.fits_wide game.now wide.old }
     requires levels { All (IsLevelOf (G.fits game.now) (G.fits_many game.now) (G.rules game.now).roles) levels.old }
     requires out { (G.rules game.now).roles ≤ out.old.capacity }
-    ensures reply { reply_of (G.rules game.now) role depth at (G.state game.now from.now) own ≡ Some out.new.items }
+    ensures reply { reply_of (G.rules game.now) asked.role asked.depth asked.at (G.state game.now from.now) own ≡ Some out.new.items }
     ensures out { out.new.capacity ≡ out.old.capacity }
     ensures wide { G.fits_wide game.now wide.new }
     ensures wide_capacities { G.wide_capacities game.now wide.new ≡ G.wide_capacities game.now wide.old }
@@ -268,26 +261,16 @@ pub fn reply_at<G: Game>(
 {
     let (first, rest) = levels.split_at_mut(1);
     let level = &mut first[0];
-    start_turns(game, from, role, own, &mut level.cursor);
+    start_turns(game, from, asked.role, own, &mut level.cursor);
     let mut upper = 101;
     loop {
         game.step(from, &level.cursor.joint, &mut level.position);
-        let worth = value_at(
-            game,
-            &level.position,
-            role,
-            depth,
-            at,
-            -1,
-            upper,
-            wide,
-            rest,
-        );
+        let worth = value_at(game, &level.position, asked, -1, upper, wide, rest);
         if worth < upper {
             upper = worth;
             write_joint(&level.cursor.joint, out);
         }
-        if !next_turn(game, from, role, own, &mut level.cursor) {
+        if !next_turn(game, from, asked.role, own, &mut level.cursor) {
             return;
         }
     }

@@ -10,7 +10,7 @@ use smallvec::SmallVec;
 use std::alloc::{AllocError, Global};
 use std::sync::atomic::{AtomicUsize, Ordering};
 
-/// A game that counts its steps.
+/// A game that counts the states that are asked of it: those of a step, and those taken out of many.
 #[derive(Drop)]
 struct Counted<G> {
     inner: G,
@@ -237,10 +237,12 @@ fn goal_counts_at_the_bound_where_it_is_asked(rt: HostRuntime) -> Result<(), All
     assert_eq!(rt; value_in(&table, &stuck, 0, 0, Goal, -1, 101, &mut room), 0);
     let over = Chosen { cell: 1 };
     assert_eq!(rt; value_in(&table, &over, 0, 0, Zero, -1, 101, &mut room), 70);
-    for at in [Zero, Goal] {
-        assert_eq!(rt; value_in(&table, &start, 0, 1, at, -1, 101, &mut room), 20);
-        assert_eq!(rt; choice(&table, &start, 0, 1, at, &mut room), Some(0));
-    }
+    // A turn later the game has ended, or is stuck.
+    assert_eq!(rt;
+        value_in(&table, &start, 0, 1, Goal, -1, 101, &mut room),
+        20
+    );
+    assert_eq!(rt; choice(&table, &start, 0, 1, Goal, &mut room), Some(0));
     Ok(())
 }
 

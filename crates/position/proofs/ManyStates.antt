@@ -5,18 +5,18 @@ use Rattle.std.proofs.Math.ListN.{set}
 use Rattle.std.proofs.lemmas.Bool.{cases_eq}
 use Rattle.smallvec.specs.SmallVec.{SmallVec}
 use Rattle.propnet.specs.Nets.{joint_at}
-use Rattle.position.specs.declared.rule_pos.RulePos.{RulePos}
+use Rattle.position.specs.declared.rule_many.RuleBase.{RuleBase}
 
-pub set_more : (P : ℕ → RulePos → Type 0) (ps : List RulePos) (r : ℕ) (y : RulePos) → r < length ps → P r y → ((k : ℕ) (d : RulePos) → k < r → P k (get_or ps k d))
-    → (k : ℕ) (d : RulePos) → k < r + 1 → P k (get_or (set ps r y) k d)
-set_more P ps r y lt one before k d below = elim (cases_eq k r) [
+pub set_more : {A : Type 0} (P : ℕ → A → Type 0) (ps : List A) (r : ℕ) (y : A) → r < length ps → P r y → ((k : ℕ) (d : A) → k < r → P k (get_or ps k d))
+    → (k : ℕ) (d : A) → k < r + 1 → P k (get_or (set ps r y) k d)
+set_more {A} P ps r y lt one before k d below = elim (cases_eq k r) [
   | inl same ↦
-      subst (λ (p : RulePos). P k p) (sym (ap (λ (i : ℕ). get_or (set ps r y) i d) same ∙ get_or-set_same ps r y d lt)) (subst (λ (i : ℕ). P i y) (sym same) one)
-  | inr other ↦ subst (λ (p : RulePos). P k p) (sym (get_or-set_other ps r k y d other)) (before k d (omega arith))
+      subst (λ (p : A). P k p) (sym (ap (λ (i : ℕ). get_or (set ps r y) i d) same ∙ get_or-set_same ps r y d lt)) (subst (λ (i : ℕ). P i y) (sym same) one)
+  | inr other ↦ subst (λ (p : A). P k p) (sym (get_or-set_other ps r k y d other)) (before k d (omega arith))
 ]
 
-pub set_all : (P : RulePos → Type 0) (ps : List RulePos) (n r : ℕ) (y : RulePos) → r < length ps → P y → ((k : ℕ) (d : RulePos) → k < n → P (get_or ps k d))
-    → (k : ℕ) (d : RulePos) → k < n → P (get_or (set ps r y) k d)
+pub set_all : {A : Type 0} (P : A → Type 0) (ps : List A) (n r : ℕ) (y : A) → r < length ps → P y → ((k : ℕ) (d : A) → k < n → P (get_or ps k d))
+    → (k : ℕ) (d : A) → k < n → P (get_or (set ps r y) k d)
 set_all P ps n r y lt one before k d below = elim (cases_eq k r) [
   | inl same ↦ subst P (sym (ap (λ (i : ℕ). get_or (set ps r y) i d) same ∙ get_or-set_same ps r y d lt)) one
   | inr other ↦ subst P (sym (get_or-set_other ps r k y d other)) (before k d below)
@@ -36,18 +36,7 @@ taken_map f h (x ∷ xs) (j ∷ js) few same =
     ap (λ (s : List ℕ). s ∷ map f (take (length js) xs)) (same 0 x (omega arith))
     ∙ ap (λ (ss : List (List ℕ)). h j.items ∷ ss) (taken_map f h xs js (omega arith) (λ k d lt. same (suc k) d (omega arith)))
 
-pub taken_at : {A : Type 0} (f : A → List ℕ) (xs : List A) (n k : ℕ) (d : A) → k < n → n ≤ length xs → get_or (map f (take n xs)) k [] ≡ f (get_or xs k d)
-taken_at f xs zero k d lt few = absurd (omega arith)
-taken_at f [] (suc n) k d lt few = absurd (omega arith)
-taken_at f (x ∷ xs) (suc n) zero d lt few = refl
-taken_at f (x ∷ xs) (suc n) (suc k) d lt few = taken_at f xs n k d (omega arith) (omega arith)
-
-pub taken_count : {A : Type 0} (f : A → List ℕ) (xs : List A) (n : ℕ) → n ≤ length xs → length (map f (take n xs)) ≡ n
-taken_count f xs zero few = refl
-taken_count f [] (suc n) few = absurd (omega arith)
-taken_count f (x ∷ xs) (suc n) few = ap suc (taken_count f xs n (omega arith))
-
-pub push_all : (P : RulePos → Type 0) (ps : List RulePos) (y : RulePos) → P y → ((k : ℕ) (d : RulePos) → k < length ps → P (get_or ps k d)) → (k : ℕ) (d : RulePos) → k < length ps + 1 → P (get_or (ps ++ y ∷ []) k d)
+pub push_all : {A : Type 0} (P : A → Type 0) (ps : List A) (y : A) → P y → ((k : ℕ) (d : A) → k < length ps → P (get_or ps k d)) → (k : ℕ) (d : A) → k < length ps + 1 → P (get_or (ps ++ y ∷ []) k d)
 push_all P [] y one all zero d lt = one
 push_all P [] y one all (suc k) d lt = absurd (omega arith)
 push_all P (p ∷ ps) y one all zero d lt = all 0 d (omega arith)
@@ -57,3 +46,7 @@ pub zeros : (n k : ℕ) → get_or (replicate n 0) k 0 ≤ 8
 zeros zero k = omega arith
 zeros (suc n) zero = omega arith
 zeros (suc n) (suc k) = zeros n k
+
+-- the room of a state that is read out of a list
+pub base_room : (ps : List RuleBase) (k : ℕ) (p : RuleBase) (n : ℕ) → length (get_or ps k p).marks.items ≡ n → p ≡ get_or ps k p → length p.marks.items ≡ n
+base_room ps k p n e is = ap (λ (q : RuleBase). length q.marks.items) is ∙ e

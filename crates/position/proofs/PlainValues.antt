@@ -1,6 +1,6 @@
 -- Where a state at the bound is worth nothing, what a role can be sure of is the plain value.
-use Rattle.std.proofs.Common.{ℕ, zero, suc, ◌≡◌, Bool, true, false, cond, List, [], ◌∷◌, map, get_or, refl, ap, ◌∙◌, Option, Some, None}
-use Rattle.std.specs.Prelude.{find, ◌==◌, ◌||◌}
+use Rattle.std.proofs.Common.{ℕ, zero, suc, ◌≡◌, Bool, true, false, cond, List, [], ◌∷◌, get_or, refl, ap, ◌∙◌, Option, Some, None}
+use Rattle.std.specs.Prelude.{◌==◌, ◌||◌}
 use Rattle.std.specs.Option.{option_map_or}
 use Rattle.position.specs.declared.at_bound.AtBound.TheVariants.{Zero}
 use Rattle.position.specs.PlainValue.{plain_value, plain_worst, plain_choice, plain_reply, plain_line}

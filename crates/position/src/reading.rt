@@ -86,12 +86,7 @@ fn clear(marks: &mut Vec<bool>)
 }
 
 /// Marks exactly the numbers that atoms of a list that hold name.
-pub(crate) fn mark_named<M: Marks>(
-    list: &[Standing],
-    right: &M,
-    by: Naming,
-    marks: &mut Vec<bool>,
-)
+pub(crate) fn mark_named<M: Marks>(list: &[Standing], right: &M, by: Naming, marks: &mut Vec<bool>)
     requires { All (λ p. p.atom < M.bound right.now) list.now }
     ensures marks { AreMarks marks.new.items (length marks.old.items) (names_among list.now (M.marks right.now) by) }
     ensures capacity { vec_capacity marks.new ≡ vec_capacity marks.old }

@@ -1,12 +1,12 @@
 // The game of an instantiation.
-ghost use Rattle.std.specs.Prelude.{◌≡◌, ⊤, [], IfOk};
+ghost use Rattle.std.specs.Prelude.{◌≡◌, IfOk};
 ghost use Rattle.position.specs.Plans.{IsPlanOf};
 
 use crate::game::Game;
 use crate::plan::Plan;
 use crate::planning::make_plan;
-use crate::rule_many::{RuleMany, RuleWide, new_rule_states, step_each};
-use crate::rule_pos::{RulePos, copy_roles, legal_at, start_state, step_state};
+use crate::rule_many::{RuleMany, RuleWide, new_bases, step_each};
+use crate::rule_pos::{RulePos, copy_roles, legal_at, read_state, start_state, step_state};
 use ground::Ground;
 use propnet::Joint;
 use std::alloc::{AllocError, Global};
@@ -39,7 +39,7 @@ impl Game for RuleGame {
     ghost use Rattle.ground.specs.GroundView.{roles_of, inputs_of};
     ghost use Rattle.position.specs.RulePlay.{marked};
     ghost use Rattle.position.specs.RuleState.{IsStateOf, rules_of, capacities};
-    ghost use Rattle.position.specs.RuleMany.{IsManyOf, kept_states, capacities_many};
+    ghost use Rattle.position.specs.RuleMany.{IsManyOf, IsWideOf, kept_states, capacities_wide, capacities_many};
     ghost use Rattle.position.specs.RuleLaws.{goal_at_most, few_moves_of, legal_below, legal_in_order, moves_in_order, roles_once};
 
     type Pos = RulePos;
@@ -60,13 +60,13 @@ impl Game for RuleGame {
 
     ghost capacities = { λ _ p. capacities p };
 
-    ghost fits_wide = { λ _ _. ⊤ };
+    ghost fits_wide = { λ g w. IsWideOf g.played w };
 
     ghost fits_many = { λ g m. IsManyOf g.played m };
 
     ghost states = { λ _ m. kept_states m };
 
-    ghost wide_capacities = { λ _ _. [] };
+    ghost wide_capacities = { λ _ w. capacities_wide w };
 
     ghost many_capacities = { λ _ m. capacities_many m };
 
@@ -113,23 +113,26 @@ impl Game for RuleGame {
     }
 
     fn new_wide(&self) -> Result<RuleWide, AllocError> {
-        Ok(RuleWide {})
+        Ok(RuleWide {
+            right: vec![in self.alloc; false; self.played.atoms()]?,
+        })
     }
 
     fn new_many(&self) -> Result<RuleMany, AllocError> {
         Ok(RuleMany {
-            states: new_rule_states(self)?,
+            states: new_bases(self)?,
             count: 0,
         })
     }
 
-    fn steps(&self, p: &RulePos, joints: &[Joint], _w: &mut RuleWide, out: &mut RuleMany) {
-        step_each(self, p, joints, &mut out.states);
+    fn steps(&self, p: &RulePos, joints: &[Joint], w: &mut RuleWide, out: &mut RuleMany) {
+        step_each(self, p, joints, &mut w.right, &mut out.states);
         out.count = joints.len();
     }
 
     fn take(&self, many: &RuleMany, place: usize, q: &mut RulePos) {
-        self.copy(&many.states[place], q);
+        q.base.copy_from_slice(&many.states[place].marks);
+        read_state(self, q);
     }
 
     ghost goal_within = { λ g s r. goal_at_most g.played s r };

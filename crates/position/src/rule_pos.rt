@@ -77,6 +77,26 @@ pub(crate) fn read_state(game: &RuleGame, p: &mut RulePos)
     read_roles(game, &p.right, &mut p.roles);
 }
 
+/// Marks the base propositions that hold after a joint move, in the state after the one whose base propositions are marked.
+pub(crate) fn mark_next(
+    game: &RuleGame,
+    base: &[bool],
+    joint: &[u32],
+    right: &mut Vec<bool>,
+    next: &mut Vec<bool>,
+)
+    requires right { length right.old.items ≡ length (kinds_of game.now.played) }
+    requires next { length next.old.items ≡ length game.now.played.starts.items }
+    ensures after { marked next.new.items ≡ (rules_of game.now.played).after (marked base.now) joint.now }
+    ensures right { length right.new.items ≡ length right.old.items }
+    ensures next { length next.new.items ≡ length next.old.items }
+    ensures right_capacity { vec_capacity right.new ≡ vec_capacity right.old }
+    ensures next_capacity { vec_capacity next.new ≡ vec_capacity next.old }
+{
+    evaluate(game, base, joint, right);
+    mark_named(&game.plan.nexts, right, Naming::ByNext, next);
+}
+
 /// Writes the state after another and a joint move. The other's marks are read, and this one's are written.
 pub(crate) fn step_state(game: &RuleGame, p: &RulePos, joint: &[u32], q: &mut RulePos)
     requires { HasRoom game.now.played q.old }
@@ -84,8 +104,7 @@ pub(crate) fn step_state(game: &RuleGame, p: &RulePos, joint: &[u32], q: &mut Ru
     ensures after { marked q.new.base.items ≡ (rules_of game.now.played).after (marked p.now.base.items) joint.now }
     ensures capacities { capacities q.new ≡ capacities q.old }
 {
-    evaluate(game, &p.base, joint, &mut q.right);
-    mark_named(&game.plan.nexts, &q.right, Naming::ByNext, &mut q.base);
+    mark_next(game, &p.base, joint, &mut q.right, &mut q.base);
     read_state(game, q);
 }
 

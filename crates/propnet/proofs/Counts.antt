@@ -1,12 +1,11 @@
 -- How many nodes there are at most.
-use Rattle.std.proofs.Common.{◌≡◌, ◌≢◌, ℕ, suc, zero, ◌+◌, ◌*◌, ◌^◌, ◌<◌, ◌≤◌, Bool, true, false, cond, not, ◌&&◌, List, [], ◌∷◌, ◌++◌, length, map, refl, sym, ◌∙◌, ap, arith, ◌⊎◌, inl, inr, length-append, ne_eqb}
+use Rattle.std.proofs.Common.{◌≡◌, ℕ, suc, zero, ◌+◌, ◌*◌, ◌^◌, ◌<◌, ◌≤◌, Bool, true, false, cond, not, ◌&&◌, List, [], ◌∷◌, ◌++◌, length, map, refl, ◌∙◌, ap, arith, ◌⊎◌, inl, inr, length-append, ne_eqb}
 use Rattle.std.specs.Prelude.{◌==◌, sum, sum_by}
 use Rattle.std.specs.List.{range_with_len, flat_map}
 use Rattle.std.proofs.lemmas.Bool.{cases_eq}
 use Rattle.std.proofs.lemmas.List.{length-map}
 use Rattle.std.proofs.lemmas.List.Sums.{sum_by-cons}
 use Rattle.std.proofs.lemmas.List.FromFn.{length-range_with_len}
-use Rattle.std.proofs.Math.Dec.{eqb-suc-zero}
 use Rattle.ground.specs.declared.kind.Kind.{Kind}
 use Rattle.ground.specs.declared.ground.Ground.{Ground}
 use Rattle.ground.specs.Grounds.{Kept}

@@ -104,7 +104,7 @@ pub whole_stand : (d : Data) (ns : List Numbered) (rules : List said.Alternative
 whole_stand d [] [] s = tt
 whole_stand d [] (a ∷ rules) s = absurd s
 whole_stand d (n ∷ ns) [] s = absurd s
-whole_stand d (n ∷ ns) (a ∷ rules) s = ((is_inside _ d n.head a.head s.0.head, are_inside _ d n.body a.body s.0.body), whole_stand d ns rules s.1)
+whole_stand d (n ∷ ns) (a ∷ rules) s = ((is_inside _ d n.head a.head s.0.head, are_inside _ d n.body a.body s.0.body, s.0.variables), whole_stand d ns rules s.1)
 
 -- What is accepted.
 

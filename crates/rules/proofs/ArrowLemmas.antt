@@ -1,21 +1,21 @@
 -- The graph of what items join is the graph of dependence.
-use Rattle.std.proofs.Common.{ℕ, suc, zero, ◌≡◌, ◌+◌, ◌<◌, ◌≤◌, ◌⊎◌, inl, inr, Bool, true, false, List, [], ◌∷◌, ◌++◌, length, map, drop, refl, sym, ◌∙◌, ap, subst, arith, get_or}
+use Rattle.std.proofs.Common.{ℕ, suc, zero, ◌≡◌, ◌<◌, ◌⊎◌, inl, inr, List, [], ◌∷◌, ◌++◌, length, refl, sym, ◌∙◌, ap, subst, arith, get_or}
 use Rattle.std.specs.Prelude.{slice_index_or, vec_len}
 use Rattle.kif.specs.Tree.{Tree}
 use Rattle.rules.specs.Clause as said
 use Rattle.rules.specs.Clause.{relation_of}
-use Rattle.rules.specs.Dependence.{IsAmong, is_distinct, DependsDirectly}
+use Rattle.rules.specs.Dependence.{IsAmong}
 use Rattle.rules.specs.Items.{item_head, item_alternatives, alternatives}
 use Rattle.rules.specs.declared.graph.Arrow.{Arrow}
 use Rattle.rules.specs.declared.graph.Graph.{Graph}
 use Rattle.rules.specs.declared.item_links.Links.{Links}
 use Rattle.rules.specs.declared.signatures.Signature.{Signature}
 use Rattle.rules.specs.Graph.{arrow_at, Leads, ReachesIn, Reaches, IsCyclic, IsReachedFrom}
-use Rattle.rules.specs.Numbers.{AreDifferent, word_at}
+use Rattle.rules.specs.Numbers.{AreDifferent}
 use Rattle.rules.specs.Signatures.{signature_at}
 use Rattle.rules.specs.Store.{Data, relation_at}
 use Rattle.rules.specs.Adding.{AreDifferentSignatures, HaveNames}
-use Rattle.rules.specs.Numbering.{IsGraphOf, LeadsBetween, IsInBodies, AreBodyNumbers}
+use Rattle.rules.specs.Numbering.{IsGraphOf, IsInBodies}
 use Rattle.rules.specs.Drafts.{LinkStandsFor, StandForItems}
 use Rattle.rules.specs.ItemLinks.{IsWithin}
 use Rattle.rules.specs.Arrows.{arrows_from, arrows_in}
@@ -63,7 +63,7 @@ from_head head [] a h = absurd h
 from_head head (b ∷ body) a (inl e) = record { from = ap (λ (x : Arrow). x.from) e; to = inl (ap (λ (x : Arrow). x.to) e) }
 from_head head (b ∷ body) a (inr h) = let m = from_head head body a h in record { from = m.from; to = inr m.to }
 
-to_each : (head : ℕ) (body : List ℕ) (b : ℕ) → IsAmong b body → IsAmong {A = Arrow} (record { from = head; to = b }) (arrows_from head body)
+pub to_each : (head : ℕ) (body : List ℕ) (b : ℕ) → IsAmong b body → IsAmong {A = Arrow} (record { from = head; to = b }) (arrows_from head body)
 to_each head [] b h = absurd h
 to_each head (c ∷ body) b (inl e) = inl (ap (λ (x : ℕ). let a : Arrow = record { from = head; to = x } in a) e)
 to_each head (c ∷ body) b (inr h) = inr (to_each head body b h)
@@ -169,7 +169,7 @@ contained [] x k h e = absurd (let bad : ⊥ = omega (arith, h) in bad)
 contained (y ∷ xs) x zero h e = inl (sym e)
 contained (y ∷ xs) x (suc k) h e = inr (contained xs x k (omega (arith, h)) e)
 
-link_arrows : (links : List Links) (l : Links) (k : ℕ) → k < length links → (a : Arrow) → IsAmong a (arrows_from (get_or links k l).head (get_or links k l).body.items) → IsAmong a (arrows_in links)
+pub link_arrows : (links : List Links) (l : Links) (k : ℕ) → k < length links → (a : Arrow) → IsAmong a (arrows_from (get_or links k l).head (get_or links k l).body.items) → IsAmong a (arrows_in links)
 link_arrows [] l k h a i = absurd (let bad : ⊥ = omega (arith, h) in bad)
 link_arrows (m ∷ links) l zero h a i = IsAmong-append_left a (arrows_from m.head m.body.items) (arrows_in links) i
 link_arrows (m ∷ links) l (suc k) h a i = IsAmong-append_right a (arrows_from m.head m.body.items) (arrows_in links) (link_arrows links l k (omega (arith, h)) a i)
@@ -178,7 +178,7 @@ round : (arrows : List Arrow) (head start : ℕ) → Leads arrows head start →
 round arrows head start a (inl e) = (0, subst (λ (x : ℕ). Leads arrows head x) e a)
 round arrows head start a (inr chain) = (suc chain.0, (start, a, chain.1))
 
-first_step : (arrows : List Arrow) (head start : ℕ) → IsAmong {A = Arrow} (record { from = head; to = start }) arrows → Leads arrows head start
+pub first_step : (arrows : List Arrow) (head start : ℕ) → IsAmong {A = Arrow} (record { from = head; to = start }) arrows → Leads arrows head start
 first_step arrows head start h =
     let p = among_arrow arrows (record { from = head; to = start }) h in
     record { place = p.0; inside = p.1; from = ap (λ (x : Arrow). x.from) p.2; to = ap (λ (x : Arrow). x.to) p.2 }

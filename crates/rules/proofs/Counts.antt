@@ -1,17 +1,16 @@
 -- Counting up to a number that stands for all greater ones.
-use Rattle.std.proofs.Common.{ℕ, ◌==◌, nat_lt, zero, suc, min, ◌+◌, ◌*◌, ◌<◌, ◌≤◌, ◌≡◌, Bool, true, false, cond, List, [], ◌∷◌, ◌++◌, length, drop, get_or, map, refl, sym, ap, ◌∙◌, ◌⊎◌, inl, inr, arith, length-append}
+use Rattle.std.proofs.Common.{ℕ, ◌==◌, nat_lt, zero, suc, min, ◌+◌, ◌*◌, ◌<◌, ◌≤◌, ◌≡◌, List, [], ◌∷◌, length, drop, get_or, refl, sym, ap, ◌∙◌, ◌⊎◌, inl, inr, arith, length-append}
 use Rattle.std.proofs.Math.Nat.{mul-suc, mul_comm, mul_assoc}
 use Rattle.std.proofs.lemmas.List.{length-map}
 use Rattle.std.proofs.lemmas.Bool.Decides.{nat_tests}
-use Rattle.kif.specs.Tree.{Tree, name, list, Trees, no_trees, tree, trees_of}
+use Rattle.kif.specs.Tree.{Tree, name, list, Trees, tree, trees_of}
 use Rattle.kif.specs.View.{tree_of, trees_in}
 use Rattle.kif.specs.declared.expr.Expr.{Expr}
-use Rattle.kif.proofs.Writing.{parts_from, no_parts}
+use Rattle.kif.proofs.Writing.{parts_from}
 use Rattle.rules.specs.Clause.{Literal}
-use Rattle.rules.specs.Items.{readings, list_readings, readings_in_turn, readings_of_all, behind_each, picks, item_alternatives, item_head, body_trees}
-use Rattle.rules.specs.Words.{w_or, w_and, w_not}
+use Rattle.rules.specs.Items.{readings, readings_in_turn, readings_of_all, behind_each, picks, item_alternatives, item_head, body_trees}
+use Rattle.rules.specs.Words.{w_or, w_and}
 use Rattle.rules.specs.Parts.{HasNoWord}
-use Rattle.rules.specs.Connectives.{IsNoConnective, IsConnectiveOf}
 use Rattle.rules.specs.Limits.{most_alternatives}
 
 length-behind_each : (a : List Literal) (bs : List (List Literal)) → length (behind_each a bs) ≡ length bs

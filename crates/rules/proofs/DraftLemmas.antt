@@ -1,5 +1,5 @@
 -- Drafts.
-use Rattle.std.proofs.Common.{ℕ, suc, zero, ◌≡◌, ◌+◌, ◌-◌, ◌<◌, ◌≤◌, Bool, true, false, not, cond, ◌&&◌, List, [], ◌∷◌, ◌++◌, length, map, take, drop, refl, sym, ◌∙◌, ap, subst, arith, append_assoc, get_or, Some}
+use Rattle.std.proofs.Common.{ℕ, ◌≡◌, ◌+◌, ◌-◌, ◌<◌, ◌≤◌, Bool, true, false, not, cond, List, [], ◌∷◌, ◌++◌, length, map, take, refl, sym, ◌∙◌, ap, subst, arith, append_assoc, get_or, Some}
 use Rattle.std.specs.Prelude.{Vec}
 use Rattle.std.proofs.lemmas.List.{map-append, append-nil}
 use Rattle.kif.specs.Tree.{Tree}
@@ -10,20 +10,19 @@ use Rattle.rules.specs.declared.clauses.Span.{Span}
 use Rattle.rules.specs.declared.items.Item.{Item}
 use Rattle.rules.specs.declared.clauses.Literal.{Literal}
 use Rattle.rules.specs.Dependence.{is_distinct}
-use Rattle.rules.specs.Numbering.{AreBodyNumbers}
 use Rattle.rules.specs.Items.{item_head, item_alternatives, alternatives, body_trees, readings_of_all}
 use Rattle.rules.specs.Profile.{first_failing, not_safe, is_unsafe}
-use Rattle.rules.specs.Safety.{is_safe, are_safe}
+use Rattle.rules.specs.Safety.{are_safe}
 use Rattle.rules.specs.Numbers.{AreDifferent}
 use Rattle.rules.specs.Spread.{lists_of}
 use Rattle.rules.specs.Store.{Data, relation_at, no_literal}
-use Rattle.rules.specs.Adding.{Extends, StandsFor, LiteralStandsFor, StandForEach, StandForLists}
+use Rattle.rules.specs.Adding.{Extends, HasVariables, StandsFor, LiteralStandsFor, StandForEach, StandForLists}
 use Rattle.rules.specs.ItemView.{ItemStandsFor, ReadsItem}
 use Rattle.rules.specs.declared.draft.Draft.{Draft}
 use Rattle.rules.specs.declared.item_links.Links.{Links}
 use Rattle.rules.specs.StoreView.{data_of}
 use Rattle.rules.specs.Bodies.{named_relation, named_relations, all_named_relations, HaveSame, has_literal}
-use Rattle.rules.specs.Marks.{literal_in, IsInside, AreInside, AreAllInside, is_safe_by, are_safe_by}
+use Rattle.rules.specs.Marks.{literal_in, IsInside, AreAllInside, are_safe_by}
 use Rattle.rules.specs.Drafts.{Numbered, numbered, numbered_with, numbered_of, AddsSafe, LinksItem, StandForAlternatives, LinkStandsFor, StandForItems, some_literal_in, rests_on_any, IsDraftOf, AddsItem}
 use Rattle.kif.specs.View.{tree_of, trees_in}
 use Rattle.kif.specs.declared.expr.Expr.{Expr}
@@ -105,12 +104,12 @@ adds_safe old new i l t r alternatives links head body rests =
 
 -- Drafts of the items so far.
 
-numbered_stand : (d : Data) (i : Item) (atom : said.Atom) (lists : List (List ℕ)) (rs : List (List said.Literal)) → StandsFor i.variables.from d i.head atom → StandForLists i.variables.from d lists rs
+numbered_stand : (d : Data) (i : Item) (atom : said.Atom) (lists : List (List ℕ)) (rs : List (List said.Literal)) → HasVariables d i.variables → StandsFor i.variables.from d i.head atom → StandForLists i.variables.from d lists rs
     → StandForAlternatives d (numbered_with i.variables i.head lists) (map (λ (b : List said.Literal). record { head = atom; body = b }) rs)
-numbered_stand d i atom [] [] h s = tt
-numbered_stand d i atom [] (r ∷ rs) h s = absurd s
-numbered_stand d i atom (b ∷ lists) [] h s = absurd s
-numbered_stand d i atom (b ∷ lists) (r ∷ rs) h s = (record { head = h; body = s.0 }, numbered_stand d i atom lists rs h s.1)
+numbered_stand d i atom [] [] v h s = tt
+numbered_stand d i atom [] (r ∷ rs) v h s = absurd s
+numbered_stand d i atom (b ∷ lists) [] v h s = absurd s
+numbered_stand d i atom (b ∷ lists) (r ∷ rs) v h s = (record { head = h; body = s.0; variables = v }, numbered_stand d i atom lists rs v h s.1)
 
 alternatives_append : (d : Data) (ns ms : List Numbered) (as' bs : List said.Alternative) → StandForAlternatives d ns as' → StandForAlternatives d ms bs → StandForAlternatives d (ns ++ ms) (as' ++ bs)
 alternatives_append d [] ms [] bs h k = k
@@ -185,7 +184,7 @@ draft_more old new ts t o a =
           (subst (λ (as' : List said.Alternative). StandForAlternatives later (map numbered old.alternatives.items ++ numbered_of item) as')
           (ap (λ (as' : List said.Alternative). alternatives ts ++ as') (sym (append-nil (item_alternatives t))) ∙ sym (alternatives-append ts (t ∷ [])))
           (alternatives_append later (map numbered old.alternatives.items) (numbered_of item) (alternatives ts) (item_alternatives t) (o.alternatives later (up later x))
-          (numbered_stand later item (item_head t) (lists_of item.bodies.items) (readings_of_all (body_trees t)) s.head s.bodies)));
+          (numbered_stand later item (item_head t) (lists_of item.bodies.items) (readings_of_all (body_trees t)) s.variables s.head s.bodies)));
       links = λ later x.
           subst (λ (ls : List Links). StandForItems later ls (ts ++ t ∷ [])) (sym a.links)
           (items_append later old.links.items (a.link ∷ []) ts (t ∷ []) (o.links later (up later x))

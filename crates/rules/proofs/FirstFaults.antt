@@ -1,19 +1,19 @@
 -- The fault of a list of items is the one that the relations name.
-use Rattle.std.proofs.Common.{ℕ, zero, suc, ◌+◌, ◌<◌, ◌≤◌, Bool, true, false, not, cond, ◌&&◌, ◌||◌, ◌==◌, nat_lt, ◌≡◌, ◌⊎◌, ◌↔◌, inl, inr, List, [], ◌∷◌, ◌++◌, length, map, take, refl, sym, ap, subst, ◌∙◌, arith, Option, Some, None, eqb-true, eq-eqb}
+use Rattle.std.proofs.Common.{ℕ, zero, suc, ◌+◌, ◌<◌, ◌≤◌, Bool, true, false, not, cond, ◌&&◌, ◌||◌, ◌==◌, nat_lt, ◌≡◌, ◌⊎◌, inl, inr, List, [], ◌∷◌, length, take, refl, sym, ap, subst, ◌∙◌, arith, Option, Some, None, eqb-true, eq-eqb}
 use Rattle.std.proofs.lemmas.Bool.Decides.{nat_tests}
 use Rattle.kif.specs.Tree.{Tree}
 use Rattle.kif.proofs.Equality.{both, true_and}
 use Rattle.rules.specs.Words.{w_base, w_input, w_init, w_legal, w_goal, w_terminal}
-use Rattle.rules.specs.Clause.{Literal, Alternative, Relation, relation_of, relation_eq, atom_of, is_word}
-use Rattle.rules.specs.Dependence.{IsAmong, is_distinct, Depends, IsAcyclic, IsFixed, has_edge, dependences, is_fixed}
+use Rattle.rules.specs.Clause.{Alternative, Relation, relation_of, relation_eq, atom_of, is_word}
+use Rattle.rules.specs.Dependence.{is_distinct, IsAcyclic, IsFixed, has_edge, dependences, is_fixed}
 use Rattle.rules.specs.Items.{is_item, item_head, item_alternatives, alternatives}
-use Rattle.rules.specs.Safety.{is_safe, are_safe, variables, count_different}
+use Rattle.rules.specs.Safety.{variables, count_different}
 use Rattle.rules.specs.Profile.{Fault, Limit, rules_limit, variables_limit, alternatives_limit, roles_limit, limit_passed, too_many_at, with_new, role_in, roles_from, first_failing, first_too_many, or_else, bad_form, bad_keyword, too_many, not_safe, recursive, bad_dependence, no_role, misuses_word, is_unsafe, is_recursive, depends_badly, rests_on_move, some_body, does_relation, none_of, roles, fault_in}
-use Rattle.rules.specs.Lawful.{UsesWordsWell, IsSafe, KeepsLimits, relation, RestsWell}
+use Rattle.rules.specs.Lawful.{UsesWordsWell}
 use Rattle.rules.specs.Faults.{PassesWith, limit_place, StandsAt, IsFirst, RestsOn, HasForm, IsSafeItem, LeadsTo, RestsOnItself, IsOfTurn, IsOfAllTime, RestsBadly, Each, AllKeepLimits, IsFirstOver, HasFault}
 use Rattle.rules.specs.Limits.{most_items, most_variables, most_alternatives, most_roles}
 use Rattle.rules.proofs.Equality.{relation_eq_yes, relation_eq_self}
-use Rattle.rules.proofs.Tests.{or_cases, or_left, or_right, not_true, not_false}
+use Rattle.rules.proofs.Tests.{or_cases, or_left, or_right, not_true}
 use Rattle.rules.proofs.Accepted.{none_fails, not_not, fixed_tested, body_found, straight_acyclic}
 use Rattle.rules.proofs.Closure.{table_sound, table_complete}
 use Rattle.rules.proofs.Lawfulness.{words_said, words_found, safety_said, safety_found, safe_each, each_safe, some_body_said, word_is, is_the_word, all_pass, rests_said, rests_found, limits_said, limits_found, many_said, many_found, acyclic_found}

@@ -1,18 +1,18 @@
 -- The tests of a list of items say what the relations say.
-use Rattle.std.proofs.Common.{ℕ, zero, suc, ◌+◌, ◌<◌, ◌≤◌, Bool, true, false, not, cond, ◌&&◌, ◌||◌, ◌==◌, nat_lt, ◌≡◌, ◌⊎◌, ◌↔◌, inl, inr, List, [], ◌∷◌, ◌++◌, length, map, refl, sym, ap, subst, ◌∙◌, arith, Option, Some, None, eqb-true, eq-eqb, length-append}
+use Rattle.std.proofs.Common.{ℕ, zero, suc, ◌+◌, ◌≤◌, Bool, true, false, not, cond, ◌&&◌, ◌||◌, ◌==◌, nat_lt, ◌≡◌, ◌⊎◌, inl, inr, List, [], ◌∷◌, ◌++◌, length, refl, sym, ap, subst, ◌∙◌, arith, Option, Some, None, eqb-true, eq-eqb, length-append}
 use Rattle.std.proofs.lemmas.Bool.Decides.{nat_tests}
 use Rattle.kif.specs.Tree.{Tree, Trees, no_trees, tree, name_eq}
 use Rattle.kif.proofs.Equality.{both, true_and, name_eq_yes, name_eq_self}
 use Rattle.rules.specs.Words.{w_role, w_base, w_input, w_init, w_legal, w_goal, w_terminal}
-use Rattle.rules.specs.Clause.{Atom, Literal, Alternative, Relation, relation_of, relation_eq, atom_of, is_word}
-use Rattle.rules.specs.Dependence.{IsAmong, is_distinct, DependsDirectly, DependsIn, Depends, IsAcyclic, IsFixed, Edge, has_edge, dependences, is_fixed}
+use Rattle.rules.specs.Clause.{Literal, Alternative, Relation, relation_of, relation_eq, atom_of, is_word}
+use Rattle.rules.specs.Dependence.{IsAmong, is_distinct, DependsDirectly, DependsIn, Depends, IsAcyclic, IsFixed, has_edge, dependences, is_fixed}
 use Rattle.rules.specs.Items.{is_item, item_head, item_alternatives, body_trees, alternatives, is_some}
 use Rattle.rules.specs.Safety.{variables, variables_in, is_binding, bound, needed, is_name_in, are_names_in, is_safe, are_safe, count_different}
 use Rattle.rules.specs.Profile.{Fault, Limit, rules_limit, variables_limit, alternatives_limit, roles_limit, limit_passed, too_many_at, first_too_many, with_new, role_in, roles_from, is_tree_in, or_else, first_failing, bad_form, bad_keyword, not_safe, recursive, bad_dependence, none_of, Use, uses, heads_well, stands_well, body_stands_well, bodies_stand_well, is_empty, is_role_well, misuses_word, is_unsafe, is_recursive, some_body, some_literal, does_relation, rests_on_move, depends_badly, roles, HasNoFault}
-use Rattle.rules.specs.Lawful.{MayHead, MayStand, UsesWordsWell, IsBound, IsSafe, KeepsLimits, relation, RestsWell, IsLawful}
+use Rattle.rules.specs.Lawful.{MayStand, UsesWordsWell, IsBound, IsSafe, KeepsLimits, relation, RestsWell, IsLawful}
 use Rattle.rules.specs.Limits.{most_items, most_variables, most_alternatives, most_roles}
 use Rattle.rules.proofs.Equality.{relation_eq_yes, relation_eq_self}
-use Rattle.rules.proofs.Tests.{or_cases, or_left, or_right, not_true, not_false, decide, IsAmong-append, IsAmong-append_left, IsAmong-append_right}
+use Rattle.rules.proofs.Tests.{or_cases, or_left, or_right, not_true, IsAmong-append, IsAmong-append_left, IsAmong-append_right}
 use Rattle.rules.proofs.Accepted.{or_none, none_fails, accepted_acyclic, rule_item, same_head, not_not, right_if, fixed_tested, body_found}
 use Rattle.rules.proofs.Closure.{table_sound, table_complete}
 

@@ -1,5 +1,5 @@
 -- The relations that the bodies of an item name are those of its alternatives.
-use Rattle.std.proofs.Common.{ℕ, suc, zero, ◌≡◌, ◌+◌, ◌<◌, ◌≤◌, ◌⊎◌, inl, inr, Bool, true, false, cond, List, [], ◌∷◌, ◌++◌, length, map, drop, refl, sym, ◌∙◌, ap, subst, arith, get_or}
+use Rattle.std.proofs.Common.{ℕ, suc, zero, ◌≡◌, ◌<◌, ◌⊎◌, inl, inr, Bool, true, false, cond, List, [], ◌∷◌, length, map, refl, sym, ◌∙◌, ap, subst, arith}
 use Rattle.std.specs.Prelude.{slice_index_or}
 use Rattle.kif.specs.Tree.{Tree}
 use Rattle.rules.specs.Clause as said
@@ -11,11 +11,10 @@ use Rattle.rules.specs.Spread.{lists_of}
 use Rattle.rules.specs.Store.{Data, relation_at}
 use Rattle.rules.specs.Adding.{LiteralStandsFor, StandForEach, StandForLists}
 use Rattle.rules.specs.ItemView.{ItemStandsFor}
-use Rattle.rules.specs.Marks.{literal_in, AreInside, AreAllInside}
-use Rattle.rules.specs.Bodies.{named_relation, named_relations, all_named_relations, HaveSame, has_literal}
+use Rattle.rules.specs.Marks.{literal_in}
+use Rattle.rules.specs.Bodies.{named_relation, named_relations, all_named_relations, HaveSame}
 use Rattle.rules.specs.Numbering.{IsInBodies, AreBodyNumbers}
 use Rattle.rules.proofs.Tests.{IsAmong-append, IsAmong-append_left, IsAmong-append_right}
-use Rattle.rules.proofs.SafetyLemmas.{are_inside}
 
 -- what a number of a body's relations says
 record Names (d : Data) (r : ℕ) (l : said.Literal) : Type 0 where

@@ -1,5 +1,5 @@
 -- The laws of the list of relations, of ranks, of names and of roles.
-use Rattle.std.proofs.Common.{ℕ, zero, suc, ◌≤◌, Bool, true, false, not, cond, ◌&&◌, ◌||◌, ◌≡◌, ◌⊎◌, inl, inr, List, [], ◌∷◌, ◌++◌, length, map, refl, sym, ap, subst, ◌∙◌, arith}
+use Rattle.std.proofs.Common.{ℕ, suc, Bool, true, false, not, cond, ◌&&◌, ◌≡◌, ◌⊎◌, inl, inr, List, [], ◌∷◌, ◌++◌, length, map, refl, sym, ap, subst, ◌∙◌, arith}
 use Rattle.std.specs.declared.cmp.Ordering.TheVariants.{Less, Greater}
 use Rattle.std.specs.Ordering.{ordering_reverse}
 use Rattle.kif.specs.Tree.{Tree, name, list, Trees, no_trees, tree, name_eq}
@@ -7,15 +7,15 @@ use Rattle.kif.proofs.Equality.{both, true_and, name_eq_yes}
 use Rattle.rules.specs.Words.{w_or, w_and, w_not, w_role}
 use Rattle.rules.specs.Clause.{Atom, Literal, positive, Alternative, Relation, relation_of, atom_of, is_word}
 use Rattle.rules.specs.Dependence.{IsAmong, IsAcyclic, heads_of}
-use Rattle.rules.specs.Items.{is_constant, is_connective, is_term, are_terms, is_atom, is_one_atom, is_some, is_literal, are_literals, is_item, head_tree, body_trees, item_head, item_alternatives, alternatives, readings_of_all, atom_in, negated}
-use Rattle.rules.specs.Order.{rank, rank_by, rank_in, relation_cmp, relations_in_order}
-use Rattle.rules.specs.Profile.{roles, roles_from, with_new, role_in, first_of, is_tree_in, HasNoFault}
+use Rattle.rules.specs.Items.{is_constant, is_connective, is_term, are_terms, is_atom, is_one_atom, is_some, is_literal, are_literals, is_item, head_tree, body_trees, item_head, readings_of_all, atom_in, negated}
+use Rattle.rules.specs.Order.{rank, rank_by, relation_cmp, relations_in_order}
+use Rattle.rules.specs.Profile.{roles_from, with_new, role_in, first_of, is_tree_in, HasNoFault}
 use Rattle.rules.specs.Safety.{variables, variables_in}
-use Rattle.rules.specs.Standing.{literals_in, literals_of_list, literals_of_all}
+use Rattle.rules.specs.Standing.{literals_in, literals_of_all}
 use Rattle.rules.specs.Listed.{RisesStrictly, StandOnce, HeadsSome, IsOrderOfHeads, IsLawfulAtom, IsLawfulRole, HasLawfulNames}
-use Rattle.rules.specs.Lawful.{UsesWordsWell, IsLawful}
-use Rattle.rules.proofs.Tests.{not_true, not_false, IsAmong-append}
-use Rattle.rules.proofs.Accepted.{rule_item, same_head, rank_steady, rank_by_none}
+use Rattle.rules.specs.Lawful.{UsesWordsWell}
+use Rattle.rules.proofs.Tests.{not_true, IsAmong-append}
+use Rattle.rules.proofs.Accepted.{rule_item, same_head, rank_steady}
 use Rattle.rules.proofs.OrderLinks.{Rising, relation_total, relations_rising, relations_are_heads, heads_are_relations}
 use Rattle.rules.proofs.Standings.{all_literals, all_readings, agrees_all}
 use Rattle.rules.proofs.Lawfulness.{law_said, word_is}

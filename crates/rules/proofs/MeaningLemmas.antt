@@ -1,5 +1,5 @@
 -- What relations mean, by number.
-use Rattle.std.proofs.Common.{ℕ, suc, zero, ◌≡◌, ◌+◌, ◌<◌, ◌≤◌, ◌⊎◌, inl, inr, Bool, true, false, List, [], ◌∷◌, ◌++◌, length, refl, sym, ◌∙◌, ap, subst, arith, get_or, length-append}
+use Rattle.std.proofs.Common.{ℕ, ◌≡◌, ◌+◌, ◌<◌, ◌⊎◌, inl, inr, Bool, false, List, [], ◌∷◌, ◌++◌, length, sym, ◌∙◌, ap, arith, get_or, length-append}
 use Rattle.std.specs.Prelude.{slice_index_or}
 use Rattle.rules.specs.Clause as said
 use Rattle.rules.specs.declared.item_links.Bound.{Bound}

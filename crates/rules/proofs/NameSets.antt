@@ -1,5 +1,5 @@
 -- Names that a list has, and how many different ones.
-use Rattle.std.proofs.Common.{ℕ, nat_lt, not, suc, ◌+◌, ◌<◌, ◌≤◌, Bool, true, false, cond, ◌||◌, ◌≡◌, ◌⊎◌, inl, inr, List, [], ◌∷◌, ◌++◌, length, map, drop, get_or, refl, sym, ap, subst, ◌∙◌, arith, length-append}
+use Rattle.std.proofs.Common.{ℕ, nat_lt, not, suc, ◌+◌, ◌<◌, ◌≤◌, Bool, true, false, cond, ◌||◌, ◌≡◌, List, [], ◌∷◌, ◌++◌, length, drop, get_or, refl, sym, ap, subst, ◌∙◌, arith, length-append}
 use Rattle.std.proofs.lemmas.Bool.Decides.{nat_tests}
 use Rattle.std.proofs.lemmas.List.{append-nil}
 use Rattle.std.specs.Bool.{OnTrue, OnFalse}
@@ -13,7 +13,7 @@ use Rattle.kif.proofs.Writing.{parts_from, no_parts}
 use Rattle.rules.specs.Names.{names_behind, HasSameNames, AreDifferent, Gathers}
 use Rattle.rules.specs.Safety.{is_name_in, variables, variables_in, count_different}
 use Rattle.rules.specs.Limits.{most_variables}
-use Rattle.rules.proofs.Tests.{or_cases, or_left, or_right}
+use Rattle.rules.proofs.Tests.{or_left, or_right}
 
 pub is_name_in-append : (n : List ℕ) (xs ys : List (List ℕ)) → is_name_in n (xs ++ ys) ≡ (is_name_in n xs || is_name_in n ys)
 is_name_in-append n [] ys = refl

@@ -15,7 +15,7 @@ use Rattle.rules.specs.Words.{w_role}
 use Rattle.rules.specs.Clause.{relation_of, is_word}
 use Rattle.rules.specs.Items.{atom_in, head_tree, body_trees, item_head, is_some}
 use Rattle.rules.specs.Parts.{HasNoWord}
-use Rattle.rules.specs.Profile.{Fault, Limit, roles_limit, too_many, or_else, too_many_at, first_too_many, is_tree_in, limit_passed, first_of, role_in, with_new, roles_from, roles}
+use Rattle.rules.specs.Profile.{Limit, roles_limit, too_many, or_else, too_many_at, first_too_many, is_tree_in, limit_passed, first_of, role_in, with_new, roles_from, roles}
 use Rattle.rules.specs.Stated.{AddsRole, AreRolePlaces, role_at, roles_at, HasExcess, HasRoleLimitAlone}
 use Rattle.rules.specs.Limits.{most_roles}
 

@@ -1,8 +1,8 @@
 -- Safety over numbers is safety over names.
-use Rattle.std.proofs.Common.{ℕ, suc, zero, ◌≡◌, ◌+◌, ◌-◌, ◌<◌, ◌≤◌, ◌⊎◌, inl, inr, Bool, true, false, not, cond, ◌&&◌, ◌||◌, ◌==◌, List, [], ◌∷◌, ◌++◌, length, map, take, drop, refl, sym, ◌∙◌, ap, subst, arith, get_or, set, replicate, append_assoc, eqb-true, eq-eqb}
+use Rattle.std.proofs.Common.{ℕ, suc, zero, ◌≡◌, ◌+◌, ◌<◌, ◌⊎◌, inl, inr, Bool, true, false, not, cond, ◌&&◌, ◌||◌, ◌==◌, List, [], ◌∷◌, ◌++◌, length, map, take, drop, refl, sym, ◌∙◌, ap, subst, arith, replicate, append_assoc, eqb-true, eq-eqb}
 use Rattle.std.specs.Prelude.{slice_index, slice_index_or, slice_range, slice_set}
-use Rattle.std.proofs.lemmas.List.{append-nil, map-append, length-set, get_or-set_same, get_or-set_other, get_or-replicate, length-replicate, length-drop, get_or-drop}
-use Rattle.kif.specs.Tree.{Tree, name, list, Trees, no_trees, tree, trees_of, name_eq}
+use Rattle.std.proofs.lemmas.List.{append-nil, map-append, length-set, length-replicate, length-drop, get_or-drop}
+use Rattle.kif.specs.Tree.{Tree, name, trees_of, name_eq}
 use Rattle.kif.proofs.Equality.{name_eq_yes, name_eq_self}
 use Rattle.rules.specs.Clause as said
 use Rattle.rules.specs.Clause.{is_variable, positive, negative, relation_of}
@@ -11,9 +11,8 @@ use Rattle.rules.specs.Safety.{variables, variables_in, is_binding, bound, neede
 use Rattle.rules.specs.declared.clauses.Part.{Part}
 use Rattle.rules.specs.declared.clauses.Part.TheVariants as parts
 use Rattle.rules.specs.declared.clauses.Atom.{Atom}
-use Rattle.rules.specs.declared.clauses.Literal.{Literal}
 use Rattle.rules.specs.Numbers.{word_at, AreDifferent, is_number_in}
-use Rattle.rules.specs.Store.{Data, variable_name, with_part, terms_before, relation_at, atom_of, literal_of, literal_at}
+use Rattle.rules.specs.Store.{Data, variable_name, terms_before, atom_of}
 use Rattle.rules.specs.Adding.{StandOnce, AreSorted, StandsFor, LiteralStandsFor, StandForEach}
 use Rattle.rules.specs.Marks.{variable_numbers, with_marks, all_marked, AreBelow, literal_in, atom_numbers, binds, bound_numbers, needed_numbers, IsInside, AreInside, is_safe_by}
 use Rattle.rules.proofs.CountedTerms.{arity_of_standing}

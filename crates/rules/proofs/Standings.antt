@@ -1,14 +1,13 @@
 -- The literals in a tree, and those of its alternatives.
-use Rattle.std.proofs.Common.{ℕ, suc, subst, ◌+◌, ◌<◌, ◌≤◌, Bool, true, false, not, cond, ◌&&◌, ◌||◌, ◌==◌, ◌≡◌, ◌⊎◌, inl, inr, List, [], ◌∷◌, ◌++◌, length, map, drop, get_or, refl, sym, ap, ◌∙◌, arith}
+use Rattle.std.proofs.Common.{ℕ, suc, subst, Bool, true, false, not, ◌&&◌, ◌||◌, ◌==◌, ◌≡◌, ◌⊎◌, inl, inr, List, [], ◌∷◌, ◌++◌, length, map, refl, sym, ap, ◌∙◌, arith}
 use Rattle.std.proofs.lemmas.Bool.Decides.{nat_tests}
 use Rattle.kif.specs.Tree.{Tree, name, list, Trees, no_trees, tree, trees_of, name_eq}
 use Rattle.kif.specs.View.{tree_of, trees_in}
 use Rattle.kif.specs.declared.expr.Expr.{Expr}
-use Rattle.kif.proofs.Writing.{parts_from, no_parts}
 use Rattle.kif.proofs.Equality.{both, name_eq_yes}
 use Rattle.rules.specs.Words.{w_or, w_and, w_not, w_role}
-use Rattle.rules.specs.Clause.{is_variable, Atom, Literal, positive, Alternative, Relation, relation_of, atom_of, count_trees}
-use Rattle.rules.specs.Items.{atom_in, negated, is_literal, is_literal_list, are_literals, is_some, readings, list_readings, readings_in_turn, readings_of_all, behind_each, picks, item_alternatives, item_head, body_trees, head_tree, is_item, is_atom, is_one_atom, is_connective, is_constant, is_name, are_terms}
+use Rattle.rules.specs.Clause.{is_variable, Atom, Literal, positive, Relation, relation_of, atom_of, count_trees}
+use Rattle.rules.specs.Items.{atom_in, negated, is_literal, is_literal_list, are_literals, is_some, readings, list_readings, readings_in_turn, readings_of_all, behind_each, picks, item_alternatives, item_head, body_trees, head_tree, is_item, is_atom, is_connective, is_constant, is_name, are_terms}
 use Rattle.rules.specs.Parts.{HasNoWord}
 use Rattle.rules.specs.Connectives.{IsNoConnective}
 use Rattle.rules.specs.Profile.{heads_well, stands_well, body_stands_well, bodies_stand_well, uses, is_empty, misuses_word, is_role_well}

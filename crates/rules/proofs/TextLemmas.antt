@@ -9,7 +9,7 @@ use Rattle.kif.specs.View.{tree_of, trees_in}
 use Rattle.kif.specs.declared.expr.Expr.{Expr}
 use Rattle.rules.specs.Profile.{role_in}
 use Rattle.rules.specs.RuleSets.{texts_of}
-use Rattle.rules.specs.Stated.{roles_at, role_at}
+use Rattle.rules.specs.Stated.{roles_at}
 use Rattle.rules.proofs.RoleLists.{role_at-here}
 
 -- what was written, and the texts of the roles at the places that are left, are the texts of all roles

@@ -4,6 +4,7 @@ use Rattle.kif.specs.Tree.{Tree, name}
 use Rattle.rules.specs.declared.clauses.Part.{Part}
 use Rattle.rules.specs.declared.clauses.Part.TheVariants as parts
 use Rattle.rules.specs.declared.clauses.Atom.{Atom}
+use Rattle.rules.specs.declared.clauses.Span.{Span}
 use Rattle.rules.specs.declared.signatures.Signature.{Signature}
 use Rattle.rules.specs.Clause as said
 use Rattle.rules.specs.Clause.{is_variable, relation_of}
@@ -77,6 +78,12 @@ pub record BeginsList (from : ℕ) (old new : Data) (word : List ℕ) (n : ℕ) 
   pub symbol : ℕ
   pub behind : new.parts ≡ old.parts ++ parts.List symbol n ∷ []
   pub named : (later : Data) → Extends new later → (symbol < length later.words) × (word_at later.words symbol ≡ word)
+
+-- the variables of an item stand in the place, each once
+pub record HasVariables (d : Data) (place : Span) : Type 0 where
+  pub order : place.from ≤ place.to
+  pub within : place.to ≤ length d.variables
+  pub once : (i j : ℕ) → place.from ≤ i → i < place.to → place.from ≤ j → j < place.to → slice_index d.variables i ≡ slice_index d.variables j → i ≡ j
 
 -- the numbers stand for the atom
 pub record StandsFor (from : ℕ) (d : Data) (a : Atom) (atom : said.Atom) : Type 0 where

@@ -1,5 +1,5 @@
 -- What a check answers for a list of items.
-use Rattle.std.specs.Prelude.{ℕ, ◌≡◌, not, List, [], Some, None}
+use Rattle.std.specs.Prelude.{◌≡◌, not, List, [], Some, None}
 use Rattle.rules.specs.Items.{is_item}
 use Rattle.kif.specs.Tree.{Tree}
 use Rattle.rules.specs.declared.fault.Excess.{Excess}

@@ -1,5 +1,5 @@
 -- What a draft of a rule set holds.
-use Rattle.std.specs.Prelude.{ℕ, ◌≡◌, ◌<◌, Bool, true, false, cond, List, [], ◌∷◌, ◌++◌, map, length, Some}
+use Rattle.std.specs.Prelude.{ℕ, ◌≡◌, ◌<◌, Bool, true, false, List, [], ◌∷◌, ◌++◌, map, length, Some}
 use Rattle.kif.specs.Tree.{Tree}
 use Rattle.rules.specs.declared.clauses.Alternative.{Alternative}
 use Rattle.rules.specs.declared.clauses.Atom.{Atom}
@@ -17,7 +17,7 @@ use Rattle.rules.specs.Numbers.{AreDifferent}
 use Rattle.rules.specs.Spread.{lists_of}
 use Rattle.rules.specs.Store.{Data, relation_at, atom_of, literal_at}
 use Rattle.rules.specs.StoreView.{data_of}
-use Rattle.rules.specs.Adding.{Extends, AreDifferentSignatures, HaveNames, StandsFor, StandForEach}
+use Rattle.rules.specs.Adding.{Extends, AreDifferentSignatures, HasVariables, HaveNames, StandsFor, StandForEach}
 use Rattle.rules.specs.ItemView.{ItemStandsFor}
 use Rattle.rules.specs.Bodies.{all_named_relations, HaveSame, has_literal}
 
@@ -38,6 +38,7 @@ alternative_of d a = record { head = atom_of d a.variables.from a.head; body = m
 pub record AlternativeStandsFor (d : Data) (n : Numbered) (a : said.Alternative) : Type 0 where
   pub head : StandsFor n.variables.from d n.head a.head
   pub body : StandForEach n.variables.from d n.body a.body
+  pub variables : HasVariables d n.variables
 
 abbrev pub StandForAlternatives : Data → List Numbered → List said.Alternative → Type 0
 StandForAlternatives d [] [] = Unit {0}

@@ -1,5 +1,5 @@
 -- What the alternatives of items join, by the numbers of relations.
-use Rattle.std.specs.Prelude.{ℕ, ◌-◌, ◌<◌, ◌≤◌, ◌≡◌, Bool, false, cond, List, length, slice_index_or, All, Option, MatchOption}
+use Rattle.std.specs.Prelude.{ℕ, ◌-◌, ◌<◌, ◌≤◌, ◌≡◌, Bool, false, cond, ◌==◌, List, length, slice_index, slice_index_or, All, Option, MatchOption}
 use Rattle.std.specs.List.{list_any, AllWithin, HoldsAt}
 use Rattle.kif.specs.Tree.{Tree}
 use Rattle.rules.specs.declared.item_links.Links.{Links}
@@ -41,6 +41,10 @@ leads_badly_under Free on_moves moving body = false
 -- the body rests on what the head may not rest on
 abbrev pub leads_badly : List Bound → List Bool → List Bool → Links → Bool
 leads_badly bounds on_moves moving link = leads_badly_under (slice_index_or bounds link.head Free) on_moves moving link.body.items
+
+-- the body has a relation with the component of the head
+abbrev pub meets_component : List ℕ → Links → Bool
+meets_component components link = list_any (λ node. slice_index components node == slice_index components link.head) link.body.items
 
 -- what a relation may rest on
 abbrev pub bound_of : Relation → Bound

@@ -1,17 +1,18 @@
 -- An item in memory, and what it stands for.
-use Rattle.std.specs.Prelude.{ℕ, ◌≡◌, ◌≤◌, List, length, drop}
+use Rattle.std.specs.Prelude.{◌≡◌, ◌≤◌, length, drop}
 use Rattle.kif.specs.Tree.{Tree}
 use Rattle.rules.specs.declared.items.Item.{Item}
 use Rattle.rules.specs.Items.{item_head, body_trees, readings_of_all}
 use Rattle.rules.specs.Numbers.{AreDifferent}
 use Rattle.rules.specs.Spread.{lists_of}
 use Rattle.rules.specs.Store.{Data}
-use Rattle.rules.specs.Adding.{Extends, AreDifferentSignatures, HaveNames, StandOnce, StandsFor, StandForLists}
+use Rattle.rules.specs.Adding.{Extends, AreDifferentSignatures, HasVariables, HaveNames, StandOnce, StandsFor, StandForLists}
 
 -- the item stands for the tree
 pub record ItemStandsFor (d : Data) (i : Item) (t : Tree) : Type 0 where
   pub head : StandsFor i.variables.from d i.head (item_head t)
   pub bodies : StandForLists i.variables.from d (lists_of i.bodies.items) (readings_of_all (body_trees t))
+  pub variables : HasVariables d i.variables
 
 -- the tree was written as an item, whose variables are the last; it stays whatever comes behind it
 pub record ReadsItem (old new : Data) (i : Item) (t : Tree) : Type 0 where

@@ -1,5 +1,5 @@
 -- What makes a list of items a lawful description, in relations.
-use Rattle.std.specs.Prelude.{ℕ, suc, Bool, true, false, ◌≡◌, ◌≤◌, ◌<◌, ◌⊎◌, List, [], length, Option, Some, None, slice_get}
+use Rattle.std.specs.Prelude.{ℕ, true, false, ◌≡◌, ◌≤◌, List, [], length}
 use Rattle.kif.specs.Tree.{Tree, no_trees}
 use Rattle.rules.specs.Words.{w_role, w_base, w_input, w_init, w_legal, w_goal, w_terminal}
 use Rattle.rules.specs.Limits.{most_items, most_variables, most_alternatives, most_roles}

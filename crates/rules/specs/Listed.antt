@@ -1,5 +1,5 @@
 -- What the list of relations, the ranks, the names and the roles have.
-use Rattle.std.specs.Prelude.{ℕ, true, false, ◌≡◌, ◌≤◌, List, [], ◌∷◌, length}
+use Rattle.std.specs.Prelude.{true, false, ◌≡◌, ◌≤◌, List, [], ◌∷◌, length}
 use Rattle.std.specs.declared.cmp.Ordering.TheVariants.{Less}
 use Rattle.kif.specs.Tree.{Tree}
 use Rattle.rules.specs.Clause.{Atom, Literal, Alternative, Relation, relation_of, atom_of}

@@ -1,5 +1,5 @@
 -- Safety over the numbers of variables.
-use Rattle.std.specs.Prelude.{ℕ, ◌+◌, ◌<◌, ◌≤◌, ◌≡◌, Bool, true, false, not, cond, ◌&&◌, List, [], ◌∷◌, ◌++◌, length, replicate, slice_index_or, slice_range, slice_set}
+use Rattle.std.specs.Prelude.{ℕ, ◌<◌, ◌≤◌, ◌≡◌, Bool, true, false, not, cond, ◌&&◌, List, [], ◌∷◌, ◌++◌, length, replicate, slice_index_or, slice_range, slice_set}
 use Rattle.rules.specs.declared.clauses.Part.{Part}
 use Rattle.rules.specs.declared.clauses.Part.TheVariants as parts
 use Rattle.rules.specs.declared.clauses.Atom.{Atom}

@@ -4,10 +4,11 @@ use denote.Struct.Props as logic
 use Rattle.rules.specs.declared.clauses.Part.{Part}
 use Rattle.rules.specs.declared.clauses.Part.TheVariants as parts
 use Rattle.rules.specs.declared.clauses.Atom.{Atom}
+use Rattle.rules.specs.declared.clauses.Span.{Span}
 use Rattle.rules.specs.declared.rule_set.Keywords.{Keywords}
 use Rattle.rules.specs.Clause as said
 use Rattle.rules.specs.Store.{Data, AreFull}
-use Rattle.rules.specs.Adding.{IsSorted, AreSorted}
+use Rattle.rules.specs.Adding.{HasVariables, IsSorted, AreSorted}
 use Rattle.rules.specs.Marks.{IsInside, AreInside}
 use Rattle.rules.specs.Drafts.{Numbered}
 use Rattle.rules.specs.RuleSets.{AreWhole, IsSound}
@@ -37,9 +38,12 @@ pub AreInside-prop : (from : ℕ) (d : Data) (ns : List ℕ) → IsProp (AreInsi
 AreInside-prop from d [] = Prim.hlevel logic.props
 AreInside-prop from d (n ∷ ns) = Prim.hlevel (IsInside-prop, AreInside-prop from d ns, logic.props)
 
+pub HasVariables-prop : (d : Data) (place : Span) → IsProp (HasVariables d place)
+HasVariables-prop d place = Prim.hlevel logic.props
+
 pub AreWhole-prop : (d : Data) (ns : List Numbered) → IsProp (AreWhole d ns)
 AreWhole-prop d [] = Prim.hlevel logic.props
-AreWhole-prop d (n ∷ ns) = Prim.hlevel (IsInside-prop, AreInside-prop, AreWhole-prop d ns, logic.props)
+AreWhole-prop d (n ∷ ns) = Prim.hlevel (IsInside-prop, AreInside-prop, HasVariables-prop, AreWhole-prop d ns, logic.props)
 
 pub IsSound-prop : (d : Data) (ns : List Numbered) (fixed : List Bool) (order : List ℕ) (k : Keywords) → IsProp (IsSound d ns fixed order k)
 IsSound-prop d ns fixed order k = Prim.hlevel (Relation-set, AreWhole-prop, logic.props)

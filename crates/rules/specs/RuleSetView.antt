@@ -1,5 +1,7 @@
 -- What a rule set holds.
-use Rattle.std.specs.Prelude.{ℕ, List, map}
+use Rattle.std.specs.Prelude.{ℕ, Bool, List, map}
+use Rattle.rules.specs.declared.clauses.Alternative as memory
+use Rattle.rules.specs.declared.rule_set.Keywords.{Keywords}
 use Rattle.rules.specs.declared.rule_set.RuleSet.{RuleSet}
 use Rattle.rules.specs.Clause as said
 use Rattle.rules.specs.Drafts.{numbered}
@@ -16,3 +18,17 @@ rules_in set = rules_of (data_of set.store) (map numbered set.alternatives.items
 
 abbrev pub roles_in : RuleSet → List (List ℕ)
 roles_in set = texts_of set.roles.items
+
+-- its alternatives in memory, and the numbers of the names that have a meaning in play
+abbrev pub alternatives_in : RuleSet → List memory.Alternative
+alternatives_in set = set.alternatives.items
+
+abbrev pub keywords_in : RuleSet → Keywords
+keywords_in set = set.keywords
+
+-- for each relation whether it is fixed, and the relations that head an alternative, in order
+abbrev pub fixed_in : RuleSet → List Bool
+fixed_in set = set.fixed.items
+
+abbrev pub order_in : RuleSet → List ℕ
+order_in set = set.order.items

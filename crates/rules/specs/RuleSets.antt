@@ -10,7 +10,7 @@ use Rattle.rules.specs.Order.{relations_in_order}
 use Rattle.rules.specs.Profile as profile
 use Rattle.rules.specs.Profile.{HasNoFault}
 use Rattle.rules.specs.Store.{Data, relation_at}
-use Rattle.rules.specs.Adding.{AreDifferentSignatures, HaveNames}
+use Rattle.rules.specs.Adding.{AreDifferentSignatures, HasVariables, HaveNames}
 use Rattle.rules.specs.Clause as said
 use Rattle.rules.specs.Marks.{IsInside, AreInside}
 use Rattle.rules.specs.Drafts.{Numbered, alternative_of}
@@ -44,9 +44,9 @@ pub record HasItems (rules : List said.Alternative) (roles : List (List ℕ)) : 
   pub same : alternatives items ≡ rules
   pub roles_are : roles ≡ map text (profile.roles items)
 
--- each atom of the alternative names what is there
+-- each atom of the alternative names what is there, and different variables of its item are different names
 abbrev pub IsWhole : Data → Numbered → Type 0
-IsWhole d n = IsInside n.variables.from d n.head × AreInside n.variables.from d n.body
+IsWhole d n = IsInside n.variables.from d n.head × AreInside n.variables.from d n.body × HasVariables d n.variables
 
 abbrev pub AreWhole : Data → List Numbered → Type 0
 AreWhole d [] = Unit {0}

@@ -1,10 +1,9 @@
 -- The literals that stand in a tree, each as often as it does, however they are joined by `or` and `and`.
-use Rattle.std.specs.Prelude.{ℕ, Bool, true, cond, ◌&&◌, ◌||◌, List, [], ◌∷◌, ◌++◌}
+use Rattle.std.specs.Prelude.{cond, ◌||◌, List, [], ◌∷◌, ◌++◌}
 use Rattle.kif.specs.Tree.{Tree, name, list, Trees, no_trees, tree, name_eq}
 use Rattle.rules.specs.Words.{w_or, w_and, w_not}
-use Rattle.rules.specs.Clause.{Literal, positive, relation_of, atom_of}
+use Rattle.rules.specs.Clause.{Literal, positive}
 use Rattle.rules.specs.Items.{atom_in, negated}
-use Rattle.rules.specs.Profile.{stands_well, uses}
 
 abbrev mutual
   pub literals_in : Tree → List Literal

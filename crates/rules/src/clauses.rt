@@ -35,8 +35,6 @@ pub struct Literal {
 /// One way to read an item: its head, and the numbers of the literals that must all be right.
 #[derive(Drop)]
 pub struct Alternative {
-    /// The place of the item, from 0.
-    pub item: usize,
     /// Where the variables of the item stand.
     pub variables: Span,
     pub head: Atom,

@@ -29,14 +29,13 @@ pub(crate) struct Draft {
 }
 
 /// Adds the alternatives of an item.
-fn add_alternatives(item: Item, place: usize, out: &mut Vec<Alternative>) -> Result<(), AllocError>
+fn add_alternatives(item: Item, out: &mut Vec<Alternative>) -> Result<(), AllocError>
     ensures { OnOk result (map numbered out.new.items ≡ map numbered out.old.items ++ numbered_of item) }
 {
     let head = item.head;
     let variables = item.variables;
     for body in item.bodies {
         out.push(Alternative {
-            item: place,
             variables,
             head,
             body,
@@ -55,7 +54,6 @@ pub(crate) fn add_item<A: Allocator>(
     requires words { AreDifferent (data_of draft.old.store).words }
     ensures { IfOk result (λ is_safe. AddsItem draft.old draft.new (tree_of e.now) is_safe) }
 {
-    let place = draft.links.len();
     let item = read_item(alloc, &mut draft.store, e)?;
     if !is_safe_item(alloc, &draft.store, &item)? {
         return Ok(false);
@@ -64,7 +62,7 @@ pub(crate) fn add_item<A: Allocator>(
     let head = item.head.relation;
     draft.links.push(Links { head, body })?;
     draft.rests.push(is_resting(&item))?;
-    add_alternatives(item, place, &mut draft.alternatives)?;
+    add_alternatives(item, &mut draft.alternatives)?;
     Ok(true)
 }
 

@@ -1,7 +1,7 @@
 //! Directed graphs over numbers.
 
-ghost use Rattle.std.specs.Prelude.{ℕ, ◌≡◌, ◌<◌, ◌↔◌, IsTrue, map, [], ◌∷◌, ◌++◌, length, replicate, vec_len, IfOk, OnOk, OnErr, All, slice_set, slice_index_or, false, true, if◌then◌else◌};
-ghost use Rattle.rules.specs.Graph.{AreLinked, AreMarks, turned_arrow, IsReachedFrom, AreLeading, ArePlaces};
+ghost use Rattle.std.specs.Prelude.{ℕ, ◌≡◌, ◌<◌, map, [], ◌∷◌, ◌++◌, length, replicate, vec_len, IfOk, OnOk, OnErr, All, slice_set, slice_index_or, false, true, if◌then◌else◌};
+ghost use Rattle.rules.specs.Graph.{AreLinked, AreMarks, turned_arrow, AreLeading, ArePlaces};
 
 use std::alloc::{AllocError, Global};
 
@@ -107,16 +107,6 @@ impl Graph {
         let turned = self.turned(alloc)?;
         let places = places_of(alloc, goals)?;
         turned.reached(alloc, &places)
-    }
-
-    /// Whether the head is among some nodes, or one of them reaches it.
-    pub fn leads_back(&self, alloc: Global, head: usize, body: &[usize]) -> Result<bool, AllocError>
-        requires head { head < vec_len self.now.ends }
-        requires body { All (λ node. node < vec_len self.now.ends) body.now }
-        ensures { IfOk result (λ leads. IsTrue leads ↔ IsReachedFrom self.now.arrows.items body.now head) }
-    {
-        let marks = self.reached(alloc, body)?;
-        Ok(marks[head])
     }
 }
 

@@ -1,5 +1,5 @@
 // The laws of the definitions.
-ghost use Rattle.std.specs.Prelude.{◌≡◌, ◌<◌, ◌↔◌, List, Some, true};
+ghost use Rattle.std.specs.Prelude.{◌≡◌, ◌<◌, ◌↔◌, Bool, List, Some, true};
 ghost use Rattle.kif.specs.Tree.{Tree};
 ghost use Rattle.rules.specs.Clause.{Alternative, Relation, relation_of};
 ghost use Rattle.rules.specs.Dependence.{Depends, DependsDirectly, IsAcyclic, IsAmong, IsFixed, has_edge, dependences, is_fixed};
@@ -13,7 +13,12 @@ ghost use Rattle.rules.specs.Profile.{Fault, HasNoFault, fault_in};
 
 /// What rests on something that rests on a third rests on that third.
 pub fn dependence_is_transitive()
-    ensures { (rules : List Alternative) (p q r : Relation) → Depends rules p q → Depends rules q r → Depends rules p r }
+    ensures direct { (rules : List Alternative) (p q : Relation) → DependsDirectly rules p q → Depends rules p q }
+    ensures transitive { (rules : List Alternative) (p q r : Relation) → Depends rules p q → Depends rules q r → Depends rules p r }
+    ensures least { (rules : List Alternative) (test : Relation → Relation → Bool)
+        → ((p q : Relation) → DependsDirectly rules p q → test p q ≡ true)
+        → ((p q r : Relation) → test p q ≡ true → test q r ≡ true → test p r ≡ true)
+        → (p q : Relation) → Depends rules p q → test p q ≡ true }
 {}
 
 /// The table of dependences has exactly the pairs of which the first depends on the second.

@@ -3,7 +3,7 @@ ghost use Rattle.std.specs.Prelude.{◌≡◌, ◌<◌, ◌≤◌, ◌+◌, fals
 ghost use Rattle.rules.specs.Marks.{literal_in};
 ghost use Rattle.rules.specs.Numbers.{word_at};
 ghost use Rattle.rules.specs.RuleSets.{text_at};
-ghost use Rattle.rules.specs.RuleSetView.{lists_of_set, roles_in};
+ghost use Rattle.rules.specs.RuleSetView.{alternatives_in, fixed_in, keywords_in, lists_of_set, order_in, roles_in};
 ghost use Rattle.rules.specs.Signatures.{signature_at};
 
 use crate::clauses::{Alternative, Literal, Part, Span};
@@ -28,7 +28,7 @@ impl RuleSet {
 
     /// The numbers of the names that have a meaning in play.
     pub fn keywords(&self) -> Keywords
-        ensures { result ≡ self.now.keywords }
+        ensures { result ≡ keywords_in self.now }
     {
         self.keywords
     }
@@ -50,8 +50,8 @@ impl RuleSet {
 
     /// Whether a relation is fixed: its atoms hold in every state or in none.
     pub fn is_fixed(&self, number: usize) -> bool
-        requires { number < length self.now.fixed.items }
-        ensures { result ≡ slice_index_or self.now.fixed.items number false }
+        requires { number < length (fixed_in self.now) }
+        ensures { result ≡ slice_index_or (fixed_in self.now) number false }
     {
         self.fixed[number]
     }
@@ -59,14 +59,14 @@ impl RuleSet {
     /// The relations that head an alternative: fixed ones first, then by rank, by the bytes of the name and
     /// by the number of arguments.
     pub fn relations_in_order(&self) -> &[usize]
-        ensures { result.now ≡ self.now.order.items }
+        ensures { result.now ≡ order_in self.now }
     {
         &self.order
     }
 
     /// The alternatives of the items, in the order of the text.
     pub fn alternatives(&self) -> &[Alternative]
-        ensures { result.now ≡ self.now.alternatives.items }
+        ensures { result.now ≡ alternatives_in self.now }
     {
         &self.alternatives
     }

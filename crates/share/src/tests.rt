@@ -1,6 +1,7 @@
+// Texts of cuts, and answers over the table.
 use crate::{Cut, Gate, solve};
-use position::{AtBound, Game};
 use position::table::Table;
+use position::{AtBound, Game};
 use std::alloc::AllocGlobal;
 use std::process::Abort;
 use std::sync::atomic::{AtomicUsize, Ordering};
@@ -22,18 +23,10 @@ impl Gate for Tally {
     }
 }
 
-// The row chooses the first or the second four of the cells, the others choose among the four.
-fn table(ends: [bool; 8]) -> Table {
-    Table {
-        worth: [10, 70, 60, 80, 90, 25, 30, 40],
-        ends,
-    }
-}
-
 fn answers<R: Threads + Abort + Sync + AllocGlobal>(
     rt: &R,
     table: &Table,
-    depth: u32,
+    at: AtBound,
     value: i16,
     choice: u32,
 ) -> Result<(), Fail> {
@@ -54,7 +47,7 @@ fn answers<R: Threads + Abort + Sync + AllocGlobal>(
         let Some(cut) = Cut::new(levels) else {
             panic!(rt; "no cut")
         };
-        let answer = solve(rt, table, &start, 0, depth, AtBound::Zero, &cut, &tally)?;
+        let answer = solve(rt, table, &start, 0, 1, at, &cut, &tally)?;
         assert_eq!(rt; answer.value, value);
         assert_eq!(rt; answer.choice, Some(choice));
         // Tasks 0 to 7, each once.
@@ -63,25 +56,71 @@ fn answers<R: Threads + Abort + Sync + AllocGlobal>(
     Ok(())
 }
 
+// The row chooses the first or the second four of the cells, the others choose among the four.
+const WORTH: [u8; 8] = [10, 70, 60, 80, 90, 25, 30, 40];
+
 #[test]
 fn each_cut_has_the_same_answer(rt: HostRuntime) -> Result<(), Fail> {
-    let all = table([true, true, true, true, true, true, true, true]);
-    answers(&rt, &all, 1, 25, 1)
+    let table = Table {
+        worth: WORTH,
+        ends: [true; 8],
+    };
+    answers(&rt, &table, AtBound::Zero, 25, 1)?;
+    answers(&rt, &table, AtBound::Goal, 25, 1)
 }
 
 #[test]
 fn no_turn_to_come(rt: HostRuntime) -> Result<(), Fail> {
-    let table = table([true, true, true, true, true, true, true, true]);
+    let table = Table {
+        worth: WORTH,
+        ends: [true; 8],
+    };
     let start = table.fresh()?;
     let tally = Tally {
         passed: AtomicUsize::new(0),
     };
-    let Some(cut) = Cut::new(&[4, 2]) else {
+    let Some(cut) = Cut::parse(b"4x2") else {
         panic!(rt; "no cut")
     };
     let answer = solve(&rt, &table, &start, 1, 0, AtBound::Zero, &cut, &tally)?;
     assert_eq!(rt; answer.value, 0);
     assert_eq!(rt; answer.choice, None);
     assert_eq!(rt; tally.passed.load(Ordering::SeqCst), 0);
+    Ok(())
+}
+
+const CUTS: [(&[u8], u32, Option<u32>, Option<u32>); 7] = [
+    (b"1", 1, None, None),
+    (b"9", 9, None, None),
+    (b"10", 10, None, None),
+    (b"16", 16, None, None),
+    (b"16x4", 16, Some(4), None),
+    (b"1x1x1", 1, Some(1), Some(1)),
+    (b"2x2x16", 2, Some(2), Some(16)),
+];
+
+#[test]
+fn lawful_cuts_are_read(rt: HostRuntime) -> Result<(), Fail> {
+    for (text, first, second, third) in CUTS {
+        let Some(cut) = Cut::parse(text) else {
+            panic!(rt; "refused")
+        };
+        assert_eq!(rt; cut.first(), first);
+        assert_eq!(rt; cut.second(), second);
+        assert_eq!(rt; cut.third(), third);
+    }
+    Ok(())
+}
+
+const REFUSED: [&[u8]; 14] = [
+    b"", b"x", b"4x", b"x4", b"4X2", b"04", b"0", b"17", b"20", b"100", b"16x4x2", b"5x4x4",
+    b"1x1x1x1", b"4 x2",
+];
+
+#[test]
+fn other_texts_are_refused(rt: HostRuntime) -> Result<(), Fail> {
+    for text in REFUSED {
+        assert!(rt; Cut::parse(text).is_none());
+    }
     Ok(())
 }

@@ -1,11 +1,12 @@
 // Descriptions and what `check` answers, through a run and through the command line.
+use super::games::{MARKS, MATCH};
 use super::{nested, replies};
 use crate::Command;
 use std::alloc::{AllocError, Global};
 use std::test::Fail;
 
 /// A description, what `check` writes for it, and the exit status.
-const CHECKED: [(&[u8], &[u8], u8); 30] = [
+const CHECKED: [(&[u8], &[u8], u8); 34] = [
     (b"", b"refused G6 NoRole\n", 2),
     (
         b"(ROLE A)(role a)",
@@ -48,7 +49,17 @@ const CHECKED: [(&[u8], &[u8], u8); 30] = [
     (b"()", b"refused G1 BadForm 1\n", 2),
     (
         b"(role r1)(role r2)(role r3)(role r4)(role r5)(role r6)(role r7)(role r8)(role r9)",
-        b"refused G7 TooMany 9 roles\n",
+        b"items 9\nalternatives 9\nrelations 1\nroles r1 r2 r3 r4 r5 r6 r7 r8 r9\n",
+        0,
+    ),
+    (
+        b"(role r1)(role r2)(role r3)(role r4)(role r5)(role r6)(role r7)(role r8)(role r9)(role r10)(role r11)(role r12)(role r13)(role r14)(role r15)(role r16)",
+        b"items 16\nalternatives 16\nrelations 1\nroles r1 r2 r3 r4 r5 r6 r7 r8 r9 r10 r11 r12 r13 r14 r15 r16\n",
+        0,
+    ),
+    (
+        b"(role r1)(role r2)(role r3)(role r4)(role r5)(role r6)(role r7)(role r8)(role r9)(role r10)(role r11)(role r12)(role r13)(role r14)(role r15)(role r16)(role r17)",
+        b"refused G7 TooMany 17 roles\n",
         2,
     ),
     (
@@ -124,6 +135,16 @@ const CHECKED: [(&[u8], &[u8], u8); 30] = [
         2,
     ),
     (b"(<= p p)(", b"refused K4 Unclosed 8\n", 2),
+    (
+        MATCH,
+        b"items 16\nalternatives 16\nrelations 7\nroles a b\n",
+        0,
+    ),
+    (
+        MARKS,
+        b"items 47\nalternatives 48\nrelations 14\nroles xplayer oplayer\n",
+        0,
+    ),
 ];
 
 #[test]

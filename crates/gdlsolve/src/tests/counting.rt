@@ -5,7 +5,7 @@ use super::games::{FOUR, LIVE};
 use ground::instantiate;
 use kif::read;
 use maximin::{Room, value_in};
-use position::{Game, RuleGame, replay};
+use position::{AtBound, Game, RuleGame, replay};
 use propnet::Joint;
 use rules::RuleSet;
 use std::alloc::{AllocError, Global};
@@ -151,7 +151,7 @@ fn value_of<G: Game>(alloc: Global, g: &G, p: &G::Pos, window: (i16, i16)) -> Re
         return Err(Fail::new("a game without roles"));
     }
     let mut room = Room::new(alloc, g, 1)?;
-    Ok(value_in(g, p, 0, 1, window.0, window.1, &mut room))
+    Ok(value_in(g, p, 0, 1, AtBound::Zero, window.0, window.1, &mut room))
 }
 
 #[test]

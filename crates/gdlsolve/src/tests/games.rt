@@ -90,3 +90,7 @@ pub(crate) const LIVE: &[u8] = b"(role a) (role b) (first x) (first y) (first z)
 (<= (next wz) (does a z)) (<= (next low) (does a go))
 (<= terminal (true wx)) (<= terminal (true wz)) (<= terminal (true low))
 (<= (goal a 90) (true wx)) (<= (goal a 10) (true low))";
+
+/// Sixteen roles with one move each, of which that of the first ends the game.
+pub(crate) const SIXTEEN: &[u8] =
+    b"(role r1)(role r2)(role r3)(role r4)(role r5)(role r6)(role r7)(role r8)(role r9)(role r10)(role r11)(role r12)(role r13)(role r14)(role r15)(role r16)(base on)(<= (input ?r go) (role ?r))(<= (legal ?r go) (role ?r))(<= (next on) (does r1 go))(<= terminal (true on))(<= (goal ?r 55) (role ?r) (true on))";

@@ -11,6 +11,7 @@ Usage: gdlsolve <COMMAND>
 Commands:
   show   Write the canonical text of each tree, one a line
   check  Name the first fault of the rules, or count what they have
+  net    Count what the rules come to: propositions, inputs, instances, and nodes of their network
   moves  Tell how play stands after a history, with the goals of an ended game or the legal moves
   solve  Tell what a role can be sure of after a history, the move that makes sure of it, and the line of play
   help   Print this message or the help of the given subcommand(s)
@@ -48,7 +49,17 @@ Options:
   -h, --help  Print help
 ";
 
-const MOVES: &str = "Tell how play stands after a history, with the goals of an ended game or the legal moves
+const NET: &str =
+    "Count what the rules come to: propositions, inputs, instances, and nodes of their network
+
+Usage: gdlsolve net
+
+Options:
+  -h, --help  Print help
+";
+
+const MOVES: &str =
+    "Tell how play stands after a history, with the goals of an ended game or the legal moves
 
 Usage: gdlsolve moves [OPTIONS]
 
@@ -60,15 +71,18 @@ Example:
   gdlsolve moves --after \"((mark 1 1) noop)\" < game.kif
 ";
 
-const SOLVE: &str = "Tell what a role can be sure of after a history, the move that makes sure of it, and the line of play
+const SOLVE: &str =
+    "Tell what a role can be sure of after a history, the move that makes sure of it, and the line of play
 
 Usage: gdlsolve solve [OPTIONS] --role <ROLE> --depth <TURNS>
 
 Options:
-      --role <ROLE>    The role to find a move for
-      --depth <TURNS>  How many turns to look ahead, from 0 to 64
-      --after <TEXT>   The turns that were played, each a list of a move for each role
-  -h, --help           Print help
+      --role <ROLE>       The role to find a move for
+      --depth <TURNS>     How many turns to look ahead, from 0 to 64
+      --at-bound <WORTH>  What a state is worth where these turns are over and play goes on: zero, or its goal [default: zero]
+      --cut <LEVELS>      How many threads search, and those behind each of their moves, as 4 or 4x2 [default: 1]
+      --after <TEXT>      The turns that were played, each a list of a move for each role
+  -h, --help              Print help
 
 Example:
   gdlsolve solve --role oplayer --depth 8 --after \"((mark 1 1) noop)\" < game.kif
@@ -76,12 +90,13 @@ Example:
 
 #[test]
 fn help_is_an_answer(rt: HostRuntime) {
-    let rows: [Row; 9] = [
+    let rows: [Row; 10] = [
         (&["--help"], PROGRAM),
         (&["-h"], PROGRAM),
         (&["help"], PROGRAM),
         (&["show", "--help"], SHOW),
         (&["check", "--help"], CHECK),
+        (&["net", "--help"], NET),
         (&["moves", "--help"], MOVES),
         (&["solve", "--help"], SOLVE),
         (&["help", "solve"], SOLVE),

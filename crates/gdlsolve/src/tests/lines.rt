@@ -1,17 +1,29 @@
 // Games and what `solve` answers, through a run and through the command line.
-use super::games::{FOUR, MARKS, MATCH};
+use super::games::{FOUR, LIVE, MARKS, MATCH, SIXTEEN};
 use super::{replies, told};
 use crate::Command;
+use position::AtBound;
+use share::Cut;
 use std::alloc::AllocError;
+use std::thread::Threads;
 
 /// A description, a role, a depth, a history, what is written, and the exit status.
-type Row<'a> = (&'a [u8], &'a str, u32, &'a str, &'a [u8], u8);
+pub(crate) type Row<'a> = (&'a [u8], &'a str, u32, &'a str, &'a [u8], u8);
 
 /// Whether `solve` answers what the row says.
-fn solves(rt: &HostRuntime, row: Row) -> Result<bool, AllocError> {
+fn solves<T: Threads + Sync + AllocGlobal>(rt: &T, row: Row) -> Result<bool, AllocError> {
     let (rules, role, depth, after, want, exit) = row;
     let turns = format!(in rt.alloc(); "{depth}")?;
-    let command = Command::Solve { role, depth, after };
+    let Some(cut) = Cut::parse(b"1") else {
+        return Ok(false);
+    };
+    let command = Command::Solve {
+        role,
+        depth,
+        at_bound: AtBound::Zero,
+        cut,
+        after,
+    };
     let words = [
         "solve",
         "--role",
@@ -40,10 +52,10 @@ const LONG: &[u8] =
     b"(role a)(base on)(input a (m 2))(input a (m 10))(legal a (m 2))(legal a (m 10))(<= (next on) (does a ?m))(<= terminal (true on))(<= (goal a 80) (true on))";
 
 /// The goal holds without an end.
-const OPEN: &[u8] =
+pub(crate) const OPEN: &[u8] =
     b"(role a)(base hi)(input a stay)(input a up)(legal a stay)(legal a up)(<= (next hi) (does a up))(<= (goal a 60) (true hi))";
 
-const SOLVED: [Row; 26] = [
+const SOLVED: [Row; 29] = [
     (MATCH, "a", 1, "", b"value 0\nmove h\nline 1 h t\n", 0),
     (MATCH, "b", 1, "", b"value 0\nmove h\nline 1 h h\n", 0),
     (
@@ -84,6 +96,23 @@ const SOLVED: [Row; 26] = [
         0,
     ),
     (OPEN, "a", 1, "", b"value 0\nmove stay\nline 1 stay\n", 0),
+    (LIVE, "a", 2, "", b"value 90\nmove x\nline 1 x noop\n", 0),
+    (
+        SIXTEEN,
+        "r16",
+        1,
+        "",
+        b"value 55\nmove go\nline 1 go go go go go go go go go go go go go go go go\n",
+        0,
+    ),
+    (
+        SIXTEEN,
+        "r9",
+        1,
+        "(go go go go go go go go go go go go go go go go)",
+        b"value 55\nmove none\n",
+        0,
+    ),
 ];
 
 #[test]
@@ -95,7 +124,7 @@ fn worked_games_are_solved(rt: HostRuntime) -> Result<(), AllocError> {
 }
 
 /// The whole line of the game of marks, and the same behind its first turn.
-const MARKED: [Row; 3] = [
+pub(crate) const MARKED: [Row; 3] = [
     (
         MARKS,
         "xplayer",

@@ -1,12 +1,13 @@
 // Histories and what `moves` answers, through a run and through the command line.
-use super::games::{MARKS, MATCH};
+use super::games::{MARKS, MATCH, SIXTEEN};
 use super::{replies, told};
 use crate::Command;
 use std::alloc::{AllocError, Global};
 use std::test::Fail;
+use std::thread::Threads;
 
 /// A negated proposition outside `Base` never holds, and `init` and `next` of others have no effect.
-const UNBASED: &[u8] =
+pub(crate) const UNBASED: &[u8] =
     b"(role a)(base p)(input a go)(legal a go)(init r)(<= (next p) (not (true q)))(<= (next s) (true p))(<= terminal (true p))(<= (goal a 90) (true p))";
 
 /// The second role never has a move.
@@ -37,7 +38,7 @@ const PAST: &[u8] =
 
 /// More base propositions than a limit allows.
 const MANY: &[u8] =
-    b"(role a)(d 0)(d 1)(d 2)(d 3)(d 4)(d 5)(d 6)(d 7)(d 8)(<= (base (n ?a ?b ?c ?d)) (d ?a) (d ?b) (d ?c) (d ?d))";
+    b"(role a)(d 0)(d 1)(d 2)(d 3)(d 4)(d 5)(d 6)(d 7)(d 8)(d 9)(d 10)(d 11)(d 12)(d 13)(d 14)(d 15)(d 16)(<= (base (n ?a ?b ?c ?d)) (d ?a) (d ?b) (d ?c) (d ?d))";
 
 /// The history of a matching game, what `moves` tells after it, and the exit status.
 const MATCHED: [(&str, &[u8], u8); 19] = [
@@ -95,7 +96,7 @@ const MARKED: [(&str, &[u8], u8); 4] = [
 ];
 
 /// A description, a history, what `moves` tells after it, and the exit status.
-const MOVED: [(&[u8], &str, &[u8], u8); 29] = [
+const MOVED: [(&[u8], &str, &[u8], u8); 31] = [
     (UNBASED, "", b"state open\nlegal a go\n", 0),
     (UNBASED, "(go)", b"state ended\ngoal a 90\n", 0),
     (IDLE, "", b"state stuck\nlegal a go\n", 0),
@@ -155,9 +156,28 @@ const MOVED: [(&[u8], &str, &[u8], u8); 29] = [
     (MANY, "(", b"refused N1 TooMany base\n", 2),
     (b"(role a) (legal a)", "(", b"refused G2 BadKeyword 2\n", 2),
     (b"", "", b"refused G6 NoRole\n", 2),
+    (
+        SIXTEEN,
+        "",
+        b"state open\nlegal r1 go\nlegal r2 go\nlegal r3 go\nlegal r4 go\nlegal r5 go\nlegal r6 go\nlegal r7 go\nlegal r8 go\nlegal r9 go\nlegal r10 go\nlegal r11 go\nlegal r12 go\nlegal r13 go\nlegal r14 go\nlegal r15 go\nlegal r16 go\n",
+        0,
+    ),
+    (
+        SIXTEEN,
+        "(go go go go go go go go go go go go go go go no)",
+        b"refused H2 NotLegal 1 r16\n",
+        2,
+    ),
 ];
+
 /// Whether `moves` answers a description and a history with these bytes and this exit status.
-fn moves(rt: &HostRuntime, text: &[u8], after: &str, want: &[u8], exit: u8) -> bool {
+fn moves<T: Threads + Sync + AllocGlobal>(
+    rt: &T,
+    text: &[u8],
+    after: &str,
+    want: &[u8],
+    exit: u8,
+) -> bool {
     let command = Command::Moves { after };
     replies(rt, &command, &["moves", "--after", after], text, want, exit)
 }

@@ -190,6 +190,17 @@ fn one_base_proposition_more_is_too_many(rt: HostRuntime) -> Result<(), Fail> {
     Ok(())
 }
 
+/// Eight terms, six of which make an atom.
+const MANY: &[u8] = b"(role a)(d 0)(d 1)(d 2)(d 3)(d 4)(d 5)(d 6)(d 7)
+    (<= (q ?a ?b ?c ?d ?e ?f) (d ?a) (d ?b) (d ?c) (d ?d) (d ?e) (d ?f))";
+
+#[test]
+fn more_instances_than_the_limit_are_too_many(rt: HostRuntime) -> Result<(), Fail> {
+    let many = told(&rt, MANY)?;
+    assert_eq!(rt; many.as_slice(), b"N1 TooMany instances".as_slice());
+    Ok(())
+}
+
 #[test]
 fn inputs_are_counted_in_all(rt: HostRuntime) -> Result<(), Fail> {
     assert_eq!(rt; told(&rt, BROAD)?.as_slice(), b"0 4096 4105 0".as_slice());

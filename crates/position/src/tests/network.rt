@@ -219,8 +219,7 @@ fn turns_of<G: Game>(alloc: Global, g: &G, p: &G::Pos, count: usize) -> Result<V
 }
 
 /// Whether the game has ended after each of the first joint moves, and the goal of the first role then.
-fn told_after<G: Game>(alloc: Global, g: &G, count: usize) -> Result<Vec<u8>, Fail>
-{
+fn told_after<G: Game>(alloc: Global, g: &G, count: usize) -> Result<Vec<u8>, Fail> {
     if g.roles() == 0 || count == 0 || count > 64 {
         return Err(Fail::new("not of this game"));
     }

@@ -1,6 +1,8 @@
 ghost use Rattle.std.specs.Prelude.{◌≡◌, ◌<◌, IfOk, vec_len};
 
 use super::{order_of, ranks_of};
+use crate::components::components_of;
+use crate::dependences::graph_of;
 use crate::graph::{Arrow, Graph};
 use crate::item_links::{Bound, Links, first_bad_dependence, first_recursive};
 use crate::order_of_relations::{Entry, numbers_in_order};
@@ -36,7 +38,9 @@ fn finds_a_long_cycle(rt: HostRuntime) -> Result<(), Fail> {
     let mut graph = chain(rt.alloc(), 4_095)?;
     graph.add(4_094, 0)?;
     assert!(rt; order_of(&graph, rt.alloc())?.is_none());
-    assert!(rt; graph.leads_back(rt.alloc(), 0, &[1])?);
+    let components = components_of(&graph, rt.alloc())?;
+    let first = components.first().copied();
+    assert!(rt; components.iter().all(|number| Some(*number) == first));
     Ok(())
 }
 
@@ -80,14 +84,32 @@ fn marks_what_leads_to_a_goal(rt: HostRuntime) -> Result<(), Fail> {
 }
 
 #[test]
-fn names_the_first_item_that_leads_back(rt: HostRuntime) -> Result<(), Fail> {
-    // 0 rests on 1, and 1 and 2 rest on each other
+fn numbers_what_leads_to_each_other(rt: HostRuntime) -> Result<(), Fail> {
+    // 1 and 3 lead to each other, and so do 2, 4 and 5; 0 leads to the first, and those to the others
     let arrows = [
         Arrow { from: 0, to: 1 },
-        Arrow { from: 1, to: 2 },
-        Arrow { from: 2, to: 1 },
+        Arrow { from: 1, to: 3 },
+        Arrow { from: 3, to: 1 },
+        Arrow { from: 3, to: 4 },
+        Arrow { from: 4, to: 2 },
+        Arrow { from: 2, to: 5 },
+        Arrow { from: 5, to: 4 },
+        Arrow { from: 6, to: 6 },
     ];
-    let graph = Graph::of(rt.alloc(), 3, &arrows)?;
+    let graph = Graph::of(rt.alloc(), 7, &arrows)?;
+    let components = components_of(&graph, rt.alloc())?;
+    let groups: [usize; 7] = [0, 1, 2, 1, 2, 2, 3];
+    for (one, group) in components.iter().zip(&groups) {
+        for (other, other_group) in components.iter().zip(&groups) {
+            assert!(rt; (one == other) == (group == other_group));
+        }
+    }
+    Ok(())
+}
+
+#[test]
+fn names_the_first_item_that_leads_back(rt: HostRuntime) -> Result<(), Fail> {
+    // 0 rests on 1, and 1 and 2 rest on each other
     let links = [
         Links {
             head: 0,
@@ -95,14 +117,15 @@ fn names_the_first_item_that_leads_back(rt: HostRuntime) -> Result<(), Fail> {
         },
         Links {
             head: 1,
-            body: vec![in rt.alloc()]?,
+            body: vec![in rt.alloc(); 2]?,
         },
         Links {
             head: 2,
             body: vec![in rt.alloc(); 1]?,
         },
     ];
-    assert_eq!(rt; first_recursive(&graph, rt.alloc(), &links)?, Some(3));
+    let graph = graph_of(rt.alloc(), 3, &links)?;
+    assert_eq!(rt; first_recursive(&graph, rt.alloc(), &links)?, Some(2));
     let bounds = [Bound::Free, Bound::FixedOnly, Bound::NoMove];
     let on_moves = [false, true, false];
     let moving = [false, false, false];

@@ -1,18 +1,8 @@
-use Rattle.std.proofs.Common.{rules}
 use Rattle.kif.specs.View.{trees_in}
-use Rattle.rules.specs.RuleSetView.{rules_in}
-use Rattle.gdlsolve.proofs.Describing.{its_game, passes_limit}
+use Rattle.gdlsolve.proofs.Describing.{plays_its_game}
 use Rattle.gdlsolve.proofs.games.game_of.Goals as goal
 
-pub returns-in-Ok-instantiate : goal.returns-in-Ok-instantiate
-returns-in-Ok-instantiate g c =
-    let accepted = c.in-Ok.ensures.accepted in
-    its_game (trees_in c.args.items.now) (rules_in c.in-Ok.rules) c.in-Ok-instantiate.ground c.in_ok-new-in-Ok-instantiate.field-0.played
-    accepted.0 accepted.1 c.in-Ok-instantiate.ensures.ground c.in_ok-new-in-Ok-instantiate.ensures
-
-pub returns : goal.returns
-returns g c =
-    let accepted = c.in-Ok.ensures.accepted in
-    let reply = c.in_ok-refused-in-Err-instantiate in
-    passes_limit (trees_in c.args.items.now) (rules_in c.in-Ok.rules) c.in-Err-instantiate.fault reply.field-0.output.items reply.field-0.status
-    accepted.0 accepted.1 c.in-Err-instantiate.ensures.fault (search rules) reply.ensures.line reply.ensures.status
+pub returns-in-Fits : goal.returns-in-Fits
+returns-in-Fits g c =
+    plays_its_game (trees_in c.args.items.now) c.in-Fits.ground c.in_ok-ground.field-0 c.game_over.result
+    c.in_ok-ground.ensures c.in-Fits.is c.game_over.ensures

@@ -1,10 +1,18 @@
 use Rattle.std.proofs.Common.{rules}
 use Rattle.kif.specs.View.{trees_in}
+use Rattle.position.specs.RuleState.{named_rules_of}
 use Rattle.gdlsolve.specs.Solving.{IsSolveReply}
-use Rattle.gdlsolve.proofs.Describing.{tells_game}
+use Rattle.gdlsolve.proofs.Describing.{tells_game, over_network, over_rules}
 use Rattle.gdlsolve.proofs.games.reply_to_solve.Goals as goal
 
-pub returns-in-Game : goal.returns-in-Game
-returns-in-Game g c =
-    tells_game (trees_in c.args.items.now) (λ told. IsSolveReply told c.args.role.now c.args.depth c.args.after.now) c.in_ok-game.field-0 c.in-Game.game
-    c.solve_reply.result c.in_ok-game.ensures c.in-Game.is c.solve_reply.ensures
+pub returns-in-Network : goal.returns-in-Network
+returns-in-Network g c =
+    tells_game (trees_in c.args.items.now) (λ told. IsSolveReply told c.args.role.now c.args.depth c.args.at c.args.after.now) (named_rules_of c.in-Network.game.played)
+    c.solve_reply.result (over_network (trees_in c.args.items.now) c.in_ok-game.field-0 c.in-Network.game c.in_ok-game.ensures c.in-Network.is)
+    c.solve_reply.ensures
+
+pub returns-in-Rules : goal.returns-in-Rules
+returns-in-Rules g c =
+    tells_game (trees_in c.args.items.now) (λ told. IsSolveReply told c.args.role.now c.args.depth c.args.at c.args.after.now) (named_rules_of c.in-Rules.game.played)
+    c.solve_reply-in-Rules.result (over_rules (trees_in c.args.items.now) c.in_ok-game.field-0 c.in-Rules.game c.in_ok-game.ensures c.in-Rules.is)
+    c.solve_reply-in-Rules.ensures

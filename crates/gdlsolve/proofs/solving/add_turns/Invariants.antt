@@ -13,12 +13,12 @@ invariant-loop-chosen g l =
     let state = g.G.Game.state l.g in
     let game = named rules (g.G.Game.role_name l.g) (g.G.Game.move_name l.g) in
     record {
-      play : IsPlayOf (g.G.Game.fits l.g) rules.roles l.play;
+      play : IsPlayOf (g.G.Game.fits l.g) (g.G.Game.fits_wide l.g) (g.G.Game.fits_many l.g) rules.roles l.play;
       deep : l.left ≤ room_depth l.play.room;
       within : l.left ≤ l.depth;
-      chosen : l.chosen ≡ choice_of rules l.role l.left (state l.play.here);
-      lines : l.output.items ++ turn_lines game (l.depth - l.left + 1) (line_of rules l.role l.left (state l.play.here))
-          ≡ l.fn.output.items ++ turn_lines game 1 (line_of rules l.role l.depth (state l.fn.play.here));
+      chosen : l.chosen ≡ choice_of rules l.role l.left l.at (state l.play.here);
+      lines : l.output.items ++ turn_lines game (l.depth - l.left + 1) (line_of rules l.role l.left l.at (state l.play.here))
+          ≡ l.fn.output.items ++ turn_lines game 1 (line_of rules l.role l.depth l.at (state l.fn.play.here));
     }
 
 abbrev pub decreases-loop-chosen : goal.decreases-loop-chosen

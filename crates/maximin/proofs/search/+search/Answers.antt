@@ -23,17 +23,17 @@ pub value_at-worst_at-requires-clause-own : goal.value_at-worst_at-requires-clau
 value_at-worst_at-requires-clause-own g t c κs within =
     let rules = g.G.Game.rules c.args.game.now in
     let state = g.G.Game.state c.args.game.now c.args.from.now in
-    let legal = rules.legal state c.args.role in
+    let legal = rules.legal state c.args.asked.role in
     let law = g.met.G.Game g.world.𝓛 g.world.𝓜 g.world.𝓡 ((λ _ x. x), (λ x. x), (λ x. x), λ x. x) in
-    legal_known rules state c.args.role c.loop-own.place c.in-Some.own c.legal.result (law.legal_within c.args.game.now state c.args.role c.requires.role) c.legal.ensures c.in-Some.is
+    legal_known rules state c.args.asked.role c.loop-own.place c.in-Some.own c.legal.result (law.legal_within c.args.game.now state c.args.asked.role c.requires.role) c.legal.ensures c.in-Some.is
 
 pub value_at-returns-then-best-b-clause-answers : goal.value_at-returns-then-best-b-clause-answers
 value_at-returns-then-best-b-clause-answers g t c =
     let rules = g.G.Game.rules c.args.game.now in
     let state = g.G.Game.state c.args.game.now c.args.from.now in
-    let legal = rules.legal state c.args.role in
-    let free : IsOpen rules c.args.depth state = record { turn = c.if-depth-eq0.false; going = sym c.ended.ensures ∙ c.if-ended.false; free = sym c.is_stuck.ensures ∙ c.if-is_stuck.false } in
-    let here = legal_place rules state c.args.role c.loop-own.place c.in-Some.own c.legal.result c.legal.ensures c.in-Some.is in
+    let legal = rules.legal state c.args.asked.role in
+    let free : IsOpen rules c.args.asked.depth state = record { turn = c.if-asked-eq0.false; going = sym c.ended.ensures ∙ c.if-ended.false; free = sym c.is_stuck.ensures ∙ c.if-is_stuck.false } in
+    let here = legal_place rules state c.args.asked.role c.loop-own.place c.in-Some.own c.legal.result c.legal.ensures c.in-Some.is in
     let a = to_z w16 (of_z w16 c.args.a) in
     let b = to_z w16 (of_z w16 c.args.b) in
     let r = c.worst_at.result in
@@ -42,31 +42,31 @@ value_at-returns-then-best-b-clause-answers g t c =
     let fits_m : SFits w16 c.max-best.result = search facts in
     let raised : to_z w16 (of_z w16 c.max-best.result) ≡ int_max best r =
     to_z-of_z w16 c.max-best.result fits_m ∙ c.max-best.ensures.value ∙ ap (λ z. int_max best z) (to_z-of_z w16 r fits_r) in
-    let most : int_max best r ≤ℤ int_max (pos (value rules c.args.role c.args.depth c.args.at state)) a =
-    raised_most (value rules c.args.role c.args.depth c.args.at state) (worst rules c.args.role (c.args.depth - 1) c.args.at state c.in-Some.own) a b best r
-    (rw here.1 at (worst_le_value rules c.args.role c.args.depth c.args.at state c.loop-own.place free here.0)) c.loop-own.invariant.at_most c.worst_at.ensures.answers in
+    let most : int_max best r ≤ℤ int_max (pos (value rules c.args.asked.role c.args.asked.depth c.args.asked.at state)) a =
+    raised_most (value rules c.args.asked.role c.args.asked.depth c.args.asked.at state) (worst rules c.args.asked.role (c.args.asked.depth - 1) c.args.asked.at state c.in-Some.own) a b best r
+    (rw here.1 at (worst_le_value rules c.args.asked.role c.args.asked.depth c.args.asked.at state c.loop-own.place free here.0)) c.loop-own.invariant.at_most c.worst_at.ensures.answers in
     let ea : a ≡ c.args.a = to_z-of_z w16 c.args.a c.ranges.a in
     let eb : b ≡ c.args.b = to_z-of_z w16 c.args.b c.ranges.b in
     let cut : b ≤ℤ int_max best r = rw raised at (le_z_true b _ c.if-best-b.true) in
-    rw (← ea, ← eb, raised) (cut_above (value rules c.args.role c.args.depth c.args.at state) a b (int_max best r) cut most)
+    rw (← ea, ← eb, raised) (cut_above (value rules c.args.asked.role c.args.asked.depth c.args.asked.at state) a b (int_max best r) cut most)
 
 pub value_at-overflow_add-place : goal.value_at-overflow_add-place
 value_at-overflow_add-place g t c =
     let rules = g.G.Game.rules c.args.game.now in
     let state = g.G.Game.state c.args.game.now c.args.from.now in
-    let legal = rules.legal state c.args.role in
-    let here = legal_place rules state c.args.role c.loop-own.place c.in-Some.own c.legal.result c.legal.ensures c.in-Some.is in
+    let legal = rules.legal state c.args.asked.role in
+    let here = legal_place rules state c.args.asked.role c.loop-own.place c.in-Some.own c.legal.result c.legal.ensures c.in-Some.is in
     let law = g.met.G.Game g.world.𝓛 g.world.𝓜 g.world.𝓡 ((λ _ x. x), (λ x. x), (λ x. x), λ x. x) in
-    let few = legal_count rules state c.args.role (law.legal_ascending c.args.game.now state c.args.role c.requires.role) (law.legal_within c.args.game.now state c.args.role c.requires.role)
-    (law.moves_within c.args.game.now c.args.role c.requires.role) in
+    let few = legal_count rules state c.args.asked.role (law.legal_ascending c.args.game.now state c.args.asked.role c.requires.role) (law.legal_within c.args.game.now state c.args.asked.role c.requires.role)
+    (law.moves_within c.args.game.now c.args.asked.role c.requires.role) in
     omega (arith, here.0)
 
 pub value_at-loop-own-smaller : goal.value_at-loop-own-smaller
 value_at-loop-own-smaller g t c =
     let rules = g.G.Game.rules c.args.game.now in
     let state = g.G.Game.state c.args.game.now c.args.from.now in
-    let legal = rules.legal state c.args.role in
-    let here = legal_place rules state c.args.role c.loop-own.place c.in-Some.own c.legal.result c.legal.ensures c.in-Some.is in
+    let legal = rules.legal state c.args.asked.role in
+    let here = legal_place rules state c.args.asked.role c.loop-own.place c.in-Some.own c.legal.result c.legal.ensures c.in-Some.is in
     let inside : c.loop-own.place < length legal = here.0 in
     omega arith
 
@@ -74,9 +74,9 @@ pub value_at-loop-own-preserved : goal.value_at-loop-own-preserved
 value_at-loop-own-preserved g t c =
     let rules = g.G.Game.rules c.args.game.now in
     let state = g.G.Game.state c.args.game.now c.args.from.now in
-    let legal = rules.legal state c.args.role in
-    let free : IsOpen rules c.args.depth state = record { turn = c.if-depth-eq0.false; going = sym c.ended.ensures ∙ c.if-ended.false; free = sym c.is_stuck.ensures ∙ c.if-is_stuck.false } in
-    let here = legal_place rules state c.args.role c.loop-own.place c.in-Some.own c.legal.result c.legal.ensures c.in-Some.is in
+    let legal = rules.legal state c.args.asked.role in
+    let free : IsOpen rules c.args.asked.depth state = record { turn = c.if-asked-eq0.false; going = sym c.ended.ensures ∙ c.if-ended.false; free = sym c.is_stuck.ensures ∙ c.if-is_stuck.false } in
+    let here = legal_place rules state c.args.asked.role c.loop-own.place c.in-Some.own c.legal.result c.legal.ensures c.in-Some.is in
     let a = to_z w16 (of_z w16 c.args.a) in
     let b = to_z w16 (of_z w16 c.args.b) in
     let r = c.worst_at.result in
@@ -85,9 +85,9 @@ value_at-loop-own-preserved g t c =
     let fits_m : SFits w16 c.max-best.result = search facts in
     let raised : to_z w16 (of_z w16 c.max-best.result) ≡ int_max best r =
     to_z-of_z w16 c.max-best.result fits_m ∙ c.max-best.ensures.value ∙ ap (λ z. int_max best z) (to_z-of_z w16 r fits_r) in
-    let most : int_max best r ≤ℤ int_max (pos (value rules c.args.role c.args.depth c.args.at state)) a =
-    raised_most (value rules c.args.role c.args.depth c.args.at state) (worst rules c.args.role (c.args.depth - 1) c.args.at state c.in-Some.own) a b best r
-    (rw here.1 at (worst_le_value rules c.args.role c.args.depth c.args.at state c.loop-own.place free here.0)) c.loop-own.invariant.at_most c.worst_at.ensures.answers in
+    let most : int_max best r ≤ℤ int_max (pos (value rules c.args.asked.role c.args.asked.depth c.args.asked.at state)) a =
+    raised_most (value rules c.args.asked.role c.args.asked.depth c.args.asked.at state) (worst rules c.args.asked.role (c.args.asked.depth - 1) c.args.asked.at state c.in-Some.own) a b best r
+    (rw here.1 at (worst_le_value rules c.args.asked.role c.args.asked.depth c.args.asked.at state c.loop-own.place free here.0)) c.loop-own.invariant.at_most c.worst_at.ensures.answers in
     record {
       levels = c.worst_at.ensures.levels;
       wide = c.worst_at.ensures.wide;
@@ -99,18 +99,18 @@ value_at-loop-own-preserved g t c =
       below = le_z_false b _ c.if-best-b.false;
       at_most = rw raised most;
       seen = below_more _ _
-          (λ k lt. rw raised (raised_seen (worst rules c.args.role (c.args.depth - 1) c.args.at state (get_or legal k 0)) b best r (c.loop-own.invariant.seen k lt)))
-          (rw (raised, here.1) (raised_now (worst rules c.args.role (c.args.depth - 1) c.args.at state c.in-Some.own) b best r c.worst_at.ensures.answers));
+          (λ k lt. rw raised (raised_seen (worst rules c.args.asked.role (c.args.asked.depth - 1) c.args.asked.at state (get_or legal k 0)) b best r (c.loop-own.invariant.seen k lt)))
+          (rw (raised, here.1) (raised_now (worst rules c.args.asked.role (c.args.asked.depth - 1) c.args.asked.at state c.in-Some.own) b best r c.worst_at.ensures.answers));
     }
 
 pub value_at-returns-clause-answers : goal.value_at-returns-clause-answers
 value_at-returns-clause-answers g t c =
     let rules = g.G.Game.rules c.args.game.now in
     let state = g.G.Game.state c.args.game.now c.args.from.now in
-    let legal = rules.legal state c.args.role in
-    let free : IsOpen rules c.args.depth state = record { turn = c.if-depth-eq0.false; going = sym c.ended.ensures ∙ c.if-ended.false; free = sym c.is_stuck.ensures ∙ c.if-is_stuck.false } in
+    let legal = rules.legal state c.args.asked.role in
+    let free : IsOpen rules c.args.asked.depth state = record { turn = c.if-asked-eq0.false; going = sym c.ended.ensures ∙ c.if-ended.false; free = sym c.is_stuck.ensures ∙ c.if-is_stuck.false } in
     let past : length legal ≤ c.loop-own.place = none_past legal c.loop-own.place c.legal.result c.legal.ensures c.in_default.is in
-    let top = value_reached rules c.args.role c.args.depth c.args.at state free c.requires.role in
+    let top = value_reached rules c.args.asked.role c.args.asked.depth c.args.asked.at state free c.requires.role in
     let a = to_z w16 (of_z w16 c.args.a) in
     let b = to_z w16 (of_z w16 c.args.b) in
     let ea : a ≡ c.args.a = to_z-of_z w16 c.args.a c.ranges.a in
@@ -126,21 +126,21 @@ value_at-returns-then-ended-clause-answers g t c =
     let state = g.G.Game.state c.args.game.now c.args.from.now in
     let fits : SFits w16 c.from.result = search facts in
     let same = to_z-of_z w16 c.from.result fits in
-    exact (value rules c.args.role c.args.depth c.args.at state) c.args.a c.args.b (to_z w16 (of_z w16 c.from.result))
-    (same ∙ c.from.ensures ∙ ap pos (c.goal.ensures ∙ sym (value_ended rules c.args.role c.args.depth c.args.at state (sym c.ended.ensures ∙ c.if-ended.true))))
+    exact (value rules c.args.asked.role c.args.asked.depth c.args.asked.at state) c.args.a c.args.b (to_z w16 (of_z w16 c.from.result))
+    (same ∙ c.from.ensures ∙ ap pos (c.goal.ensures ∙ sym (value_ended rules c.args.asked.role c.args.asked.depth c.args.asked.at state (sym c.ended.ensures ∙ c.if-ended.true))))
 
 pub value_at-returns-then-is_stuck-clause-answers : goal.value_at-returns-then-is_stuck-clause-answers
 value_at-returns-then-is_stuck-clause-answers g t c =
     let rules = g.G.Game.rules c.args.game.now in
     let state = g.G.Game.state c.args.game.now c.args.from.now in
-    exact (value rules c.args.role c.args.depth c.args.at state) c.args.a c.args.b (pos 0)
-    (ap pos (sym (value_stuck rules c.args.role c.args.depth c.args.at state (sym c.ended.ensures ∙ c.if-ended.false) (sym c.is_stuck.ensures ∙ c.if-is_stuck.true))))
+    exact (value rules c.args.asked.role c.args.asked.depth c.args.asked.at state) c.args.a c.args.b (pos 0)
+    (ap pos (sym (value_stuck rules c.args.asked.role c.args.asked.depth c.args.asked.at state (sym c.ended.ensures ∙ c.if-ended.false) (sym c.is_stuck.ensures ∙ c.if-is_stuck.true))))
 
 pub least_at-loop-place-preserved : goal.least_at-loop-place-preserved
 least_at-loop-place-preserved g t c =
     let rules = g.G.Game.rules c.args.game.now in
     let states = g.G.Game.states c.args.game.now c.args.many.now in
-    let worth : List ℕ → ℕ = λ s. value rules c.args.role c.args.depth c.args.at s in
+    let worth : List ℕ → ℕ = λ s. value rules c.args.asked.role c.args.asked.depth c.args.asked.at s in
     let all = least (map worth states) in
     let here = worth (get_or states c.loop-place.place []) in
     let a = to_z w16 (of_z w16 c.args.a) in
@@ -173,7 +173,7 @@ pub least_at-returns-then-upper-a-clause-answers : goal.least_at-returns-then-up
 least_at-returns-then-upper-a-clause-answers g t c =
     let rules = g.G.Game.rules c.args.game.now in
     let states = g.G.Game.states c.args.game.now c.args.many.now in
-    let worth : List ℕ → ℕ = λ s. value rules c.args.role c.args.depth c.args.at s in
+    let worth : List ℕ → ℕ = λ s. value rules c.args.asked.role c.args.asked.depth c.args.asked.at s in
     let all = least (map worth states) in
     let here = worth (get_or states c.loop-place.place []) in
     let a = to_z w16 (of_z w16 c.args.a) in
@@ -195,7 +195,7 @@ pub least_at-returns-clause-answers : goal.least_at-returns-clause-answers
 least_at-returns-clause-answers g t c =
     let rules = g.G.Game.rules c.args.game.now in
     let states = g.G.Game.states c.args.game.now c.args.many.now in
-    let worth : List ℕ → ℕ = λ s. value rules c.args.role c.args.depth c.args.at s in
+    let worth : List ℕ → ℕ = λ s. value rules c.args.asked.role c.args.asked.depth c.args.asked.at s in
     let a = to_z w16 (of_z w16 c.args.a) in
     let b = to_z w16 (of_z w16 c.args.b) in
     let ea : a ≡ c.args.a = to_z-of_z w16 c.args.a c.ranges.a in
@@ -210,9 +210,9 @@ pub worst_at-runs-init : goal.worst_at-runs-init
 worst_at-runs-init g t c =
     let rules = g.G.Game.rules c.args.game.now in
     let state = g.G.Game.state c.args.game.now c.args.from.now in
-    let lists = choices rules state c.args.role c.args.own in
-    let worth : List ℕ → ℕ = λ j. value rules c.args.role c.args.depth c.args.at (rules.after state j) in
-    let all = worst rules c.args.role c.args.depth c.args.at state c.args.own in
+    let lists = choices rules state c.args.asked.role c.args.own in
+    let worth : List ℕ → ℕ = λ j. value rules c.args.asked.role c.args.asked.depth c.args.asked.at (rules.after state j) in
+    let all = worst rules c.args.asked.role c.args.asked.depth c.args.asked.at state c.args.own in
     let a = to_z w16 (of_z w16 c.args.a) in
     let b = to_z w16 (of_z w16 c.args.b) in
     let left = least (map worth (c.start_turns.new.cursor.joint.items ∷ later lists c.start_turns.new.cursor.places.items)) in
@@ -246,10 +246,10 @@ pub worst_at-returns-then-upper-a-clause-answers : goal.worst_at-returns-then-up
 worst_at-returns-then-upper-a-clause-answers g t c =
     let rules = g.G.Game.rules c.args.game.now in
     let state = g.G.Game.state c.args.game.now c.args.from.now in
-    let lists = choices rules state c.args.role c.args.own in
-    let value_of : List ℕ → ℕ = λ s. value rules c.args.role c.args.depth c.args.at s in
+    let lists = choices rules state c.args.asked.role c.args.own in
+    let value_of : List ℕ → ℕ = λ s. value rules c.args.asked.role c.args.asked.depth c.args.asked.at s in
     let worth : List ℕ → ℕ = λ j. value_of (rules.after state j) in
-    let all = worst rules c.args.role c.args.depth c.args.at state c.args.own in
+    let all = worst rules c.args.asked.role c.args.asked.depth c.args.asked.at state c.args.own in
     let run = c.gather-more.new.run in
     let here = least (map worth (turns_in run)) in
     let left = c.runs.level.cursor.joint.items ∷ later lists c.runs.level.cursor.places.items in
@@ -267,8 +267,11 @@ worst_at-returns-then-upper-a-clause-answers g t c =
     let answers : Answers here a upper r = subst (λ (ws : List ℕ). Answers (least ws) a upper r) worths c.least_at-least.ensures.answers in
     let some : 0 < length (turns_in run) = some_taken run.joints.items run.count c.gather-more.ensures.some (omega (arith, c.gather-more.ensures.run.size)) in
     let part : all ≤ here =
-    omega (arith, c.runs.invariant.part,
-    least_of_run worth left (turns_in run) c.gather-more.new.cursor.joint.items (later lists c.gather-more.new.cursor.places.items) c.gather-more.result c.gather-more.ensures.more c.gather-more.ensures.all some) in
+    omega (
+      arith,
+      c.runs.invariant.part,
+      least_of_run worth left (turns_in run) c.gather-more.new.cursor.joint.items (later lists c.gather-more.new.cursor.places.items) c.gather-more.result c.gather-more.ensures.more c.gather-more.ensures.all some,
+    ) in
     let low : int_min (pos all) b ≤ℤ int_min upper r = lowered_least all here a b upper r part c.runs.invariant.at_least c.runs.invariant.below answers in
     let ea : a ≡ c.args.a = to_z-of_z w16 c.args.a c.ranges.a in
     let eb : b ≡ c.args.b = to_z-of_z w16 c.args.b c.ranges.b in
@@ -323,7 +326,7 @@ pub worst_at-runs-smaller : goal.worst_at-runs-smaller
 worst_at-runs-smaller g t c =
     let rules = g.G.Game.rules c.args.game.now in
     let state = g.G.Game.state c.args.game.now c.args.from.now in
-    let lists = choices rules state c.args.role c.args.own in
+    let lists = choices rules state c.args.asked.role c.args.own in
     let run = c.gather-more.new.run in
     let some : 0 < length (turns_in run) = some_taken run.joints.items run.count c.gather-more.ensures.some (omega (arith, c.gather-more.ensures.run.size)) in
     fewer_behind c.runs.level.cursor.joint.items c.gather-more.new.cursor.joint.items (later lists c.runs.level.cursor.places.items) (turns_in run)
@@ -333,10 +336,10 @@ pub worst_at-runs-preserved : goal.worst_at-runs-preserved
 worst_at-runs-preserved g t c =
     let rules = g.G.Game.rules c.args.game.now in
     let state = g.G.Game.state c.args.game.now c.args.from.now in
-    let lists = choices rules state c.args.role c.args.own in
-    let value_of : List ℕ → ℕ = λ s. value rules c.args.role c.args.depth c.args.at s in
+    let lists = choices rules state c.args.asked.role c.args.own in
+    let value_of : List ℕ → ℕ = λ s. value rules c.args.asked.role c.args.asked.depth c.args.asked.at s in
     let worth : List ℕ → ℕ = λ j. value_of (rules.after state j) in
-    let all = worst rules c.args.role c.args.depth c.args.at state c.args.own in
+    let all = worst rules c.args.asked.role c.args.asked.depth c.args.asked.at state c.args.own in
     let run = c.gather-more.new.run in
     let here = least (map worth (turns_in run)) in
     let before = c.runs.level.cursor.joint.items ∷ later lists c.runs.level.cursor.places.items in

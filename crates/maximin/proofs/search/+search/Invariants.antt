@@ -8,13 +8,13 @@ use Rattle.maximin.specs.Level.{IsLevelOf, level_capacities, all_capacities}
 use Rattle.maximin.proofs.search.+search.Given as goal
 
 abbrev pub decreases-value_at : goal.decreases-value_at
-decreases-value_at g l = 3 * l.depth
+decreases-value_at g l = 3 * l.asked.depth
 
 abbrev pub decreases-worst_at : goal.decreases-worst_at
-decreases-worst_at g l = 3 * l.depth + 2
+decreases-worst_at g l = 3 * l.asked.depth + 2
 
 abbrev pub decreases-least_at : goal.decreases-least_at
-decreases-least_at g l = 3 * l.depth + 1
+decreases-least_at g l = 3 * l.asked.depth + 1
 
 -- best is a lower bound of the answer that every move so far keeps to, and it is no more than the value or a
 abbrev pub invariant-value_at-loop-own : goal.invariant-value_at-loop-own
@@ -28,26 +28,26 @@ invariant-value_at-loop-own g l =
           ≡ all_capacities (g.G.Game.capacities l.game) (g.G.Game.many_capacities l.game) l.initial.levels;
       wide_capacities : g.G.Game.wide_capacities l.game l.wide ≡ g.G.Game.wide_capacities l.game l.fn.wide;
       deep : length l.levels ≡ length l.initial.levels;
-      in_list : l.place ≤ length (rules.legal state l.role);
+      in_list : l.place ≤ length (rules.legal state l.asked.role);
       above : l.a ≤ℤ l.best;
       below : l.best <ℤ l.b;
-      at_most : l.best ≤ℤ int_max (pos (value rules l.role l.depth l.at state)) l.a;
-      seen : (k : ℕ) → k < l.place → int_min (pos (worst rules l.role (l.depth - 1) l.at state (get_or (rules.legal state l.role) k 0))) l.b ≤ℤ l.best;
+      at_most : l.best ≤ℤ int_max (pos (value rules l.asked.role l.asked.depth l.asked.at state)) l.a;
+      seen : (k : ℕ) → k < l.place → int_min (pos (worst rules l.asked.role (l.asked.depth - 1) l.asked.at state (get_or (rules.legal state l.asked.role) k 0))) l.b ≤ℤ l.best;
     }
 
 abbrev pub decreases-value_at-loop-own : goal.decreases-value_at-loop-own
 decreases-value_at-loop-own g l =
     let rules = g.G.Game.rules l.game in
-    length (rules.legal (g.G.Game.state l.game l.from) l.role) - l.place
+    length (rules.legal (g.G.Game.state l.game l.from) l.asked.role) - l.place
 
 -- upper is an upper bound of the answer, and the replies that are left have the rest of it
 abbrev pub invariant-worst_at-runs : goal.invariant-worst_at-runs
 invariant-worst_at-runs g l =
     let rules = g.G.Game.rules l.game in
     let state = g.G.Game.state l.game l.from in
-    let lists = choices rules state l.role l.own in
-    let all = worst rules l.role l.depth l.at state l.own in
-    let left = least (map (λ j. value rules l.role l.depth l.at (rules.after state j)) (l.level.cursor.joint.items ∷ later lists l.level.cursor.places.items)) in
+    let lists = choices rules state l.asked.role l.own in
+    let all = worst rules l.asked.role l.asked.depth l.asked.at state l.own in
+    let left = least (map (λ j. value rules l.asked.role l.asked.depth l.asked.at (rules.after state j)) (l.level.cursor.joint.items ∷ later lists l.level.cursor.places.items)) in
     let of_position = g.G.Game.capacities l.game in
     let of_many = g.G.Game.many_capacities l.game in
     record {
@@ -57,7 +57,7 @@ invariant-worst_at-runs g l =
       capacities : level_capacities of_position of_many l.level ≡ level_capacities of_position of_many l.initial.level;
       rest_capacities : all_capacities of_position of_many l.rest ≡ all_capacities of_position of_many l.initial.rest;
       wide_capacities : g.G.Game.wide_capacities l.game l.wide ≡ g.G.Game.wide_capacities l.game l.fn.wide;
-      deep : l.depth ≤ length l.rest;
+      deep : l.asked.depth ≤ length l.rest;
       some : 0 < l.most;
       few : l.most ≤ 64;
       stands : StandsAt lists l.level.cursor.places.items l.level.cursor.joint.items;
@@ -71,7 +71,7 @@ invariant-worst_at-runs g l =
 abbrev pub decreases-worst_at-runs : goal.decreases-worst_at-runs
 decreases-worst_at-runs g l =
     let rules = g.G.Game.rules l.game in
-    let lists = choices rules (g.G.Game.state l.game l.from) l.role l.own in
+    let lists = choices rules (g.G.Game.state l.game l.from) l.asked.role l.own in
     length (later lists l.level.cursor.places.items)
 
 -- upper is an upper bound of the answer, and no state so far is worth less, unless it is a or less
@@ -79,7 +79,7 @@ abbrev pub invariant-least_at-loop-place : goal.invariant-least_at-loop-place
 invariant-least_at-loop-place g l =
     let rules = g.G.Game.rules l.game in
     let states = g.G.Game.states l.game l.many in
-    let all = least (map (value rules l.role l.depth l.at) states) in
+    let all = least (map (value rules l.asked.role l.asked.depth l.asked.at) states) in
     let of_position = g.G.Game.capacities l.game in
     let of_many = g.G.Game.many_capacities l.game in
     record {
@@ -93,5 +93,5 @@ invariant-least_at-loop-place g l =
       above : l.a <ℤ l.upper;
       below : l.upper ≤ℤ l.b;
       at_least : int_min (pos all) l.b ≤ℤ l.upper;
-      seen : (k : ℕ) → k < l.place → l.upper ≤ℤ int_max (pos (value rules l.role l.depth l.at (get_or states k []))) l.a;
+      seen : (k : ℕ) → k < l.place → l.upper ≤ℤ int_max (pos (value rules l.asked.role l.asked.depth l.asked.at (get_or states k []))) l.a;
     }

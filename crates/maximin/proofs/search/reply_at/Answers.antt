@@ -21,10 +21,10 @@ pub loop-upper-init : goal.loop-upper-init
 loop-upper-init g c =
     let rules = g.G.Game.rules c.args.game.now in
     let state = g.G.Game.state c.args.game.now c.args.from.now in
-    let lists = choices rules state c.args.role c.args.own in
-    let worth : List ℕ → ℕ = λ j. value rules c.args.role c.args.depth c.args.at (rules.after state j) in
-    let all = worst rules c.args.role c.args.depth c.args.at state c.args.own in
-    let turns = turns_with rules state c.args.role c.args.own in
+    let lists = choices rules state c.args.asked.role c.args.own in
+    let worth : List ℕ → ℕ = λ j. value rules c.args.asked.role c.args.asked.depth c.args.asked.at (rules.after state j) in
+    let all = worst rules c.args.asked.role c.args.asked.depth c.args.asked.at state c.args.own in
+    let turns = turns_with rules state c.args.asked.role c.args.own in
     let law = g.met.G.Game g.world.𝓛 g.world.𝓜 g.world.𝓡 ((λ _ x. x), (λ x. x), (λ x. x), λ x. x) in
     let first = c.requires.levels 0 c.index-first-0.result (omega arith) in
     let there = c.split_at_mut-first.ensures.by_index.0 0 c.index-first-0.result (omega arith) in
@@ -39,7 +39,7 @@ loop-upper-init g c =
       capacity = refl;
       stands = c.start_turns.ensures.stands;
       is_first = first_start worth turns all (c.start_turns.new.cursor.joint.items ∷ later lists c.start_turns.new.cursor.places.items) c.args.out.now.items c.start_turns.ensures.first refl
-          (worst_at_most rules c.args.role (λ s r. law.goal_within c.args.game.now s r) c.args.depth c.args.at state c.args.own);
+          (worst_at_most rules c.args.asked.role (λ s r. law.goal_within c.args.game.now s r) c.args.asked.depth c.args.asked.at state c.args.own);
     }
 
 pub step-requires-clause-joint : goal.step-requires-clause-joint
@@ -47,17 +47,17 @@ step-requires-clause-joint g c =
     let rules = g.G.Game.rules c.args.game.now in
     let state = g.G.Game.state c.args.game.now c.args.from.now in
     let law = g.met.G.Game g.world.𝓛 g.world.𝓜 g.world.𝓡 ((λ _ x. x), (λ x. x), (λ x. x), λ x. x) in
-    turn_known rules state c.args.role c.args.own c.loop-upper.level.cursor.places.items c.loop-upper.level.cursor.joint.items c.loop-upper.invariant.stands c.requires.own
+    turn_known rules state c.args.asked.role c.args.own c.loop-upper.level.cursor.places.items c.loop-upper.level.cursor.joint.items c.loop-upper.invariant.stands c.requires.own
     (λ q below. law.legal_within c.args.game.now state q below)
 
 pub returns-then-not-next_turn-clause-reply : goal.returns-then-not-next_turn-clause-reply
 returns-then-not-next_turn-clause-reply g c =
     let rules = g.G.Game.rules c.args.game.now in
     let state = g.G.Game.state c.args.game.now c.args.from.now in
-    let lists = choices rules state c.args.role c.args.own in
-    let worth : List ℕ → ℕ = λ j. value rules c.args.role c.args.depth c.args.at (rules.after state j) in
-    let all = worst rules c.args.role c.args.depth c.args.at state c.args.own in
-    let turns = turns_with rules state c.args.role c.args.own in
+    let lists = choices rules state c.args.asked.role c.args.own in
+    let worth : List ℕ → ℕ = λ j. value rules c.args.asked.role c.args.asked.depth c.args.asked.at (rules.after state j) in
+    let all = worst rules c.args.asked.role c.args.asked.depth c.args.asked.at state c.args.own in
+    let turns = turns_with rules state c.args.asked.role c.args.own in
     let joint = c.loop-upper.level.cursor.joint.items in
     let behind = later lists c.loop-upper.level.cursor.places.items in
     let upper = to_z w16 c.loop-upper.upper-bits in
@@ -87,10 +87,10 @@ pub loop-upper-preserved : goal.loop-upper-preserved
 loop-upper-preserved g c =
     let rules = g.G.Game.rules c.args.game.now in
     let state = g.G.Game.state c.args.game.now c.args.from.now in
-    let lists = choices rules state c.args.role c.args.own in
-    let worth : List ℕ → ℕ = λ j. value rules c.args.role c.args.depth c.args.at (rules.after state j) in
-    let all = worst rules c.args.role c.args.depth c.args.at state c.args.own in
-    let turns = turns_with rules state c.args.role c.args.own in
+    let lists = choices rules state c.args.asked.role c.args.own in
+    let worth : List ℕ → ℕ = λ j. value rules c.args.asked.role c.args.asked.depth c.args.asked.at (rules.after state j) in
+    let all = worst rules c.args.asked.role c.args.asked.depth c.args.asked.at state c.args.own in
+    let turns = turns_with rules state c.args.asked.role c.args.own in
     let joint = c.loop-upper.level.cursor.joint.items in
     let behind = later lists c.loop-upper.level.cursor.places.items in
     let upper = to_z w16 c.loop-upper.upper-bits in

@@ -11,8 +11,8 @@ abbrev pub invariant-loop-upper : goal.invariant-loop-upper
 invariant-loop-upper g l =
     let rules = g.G.Game.rules l.game in
     let state = g.G.Game.state l.game l.from in
-    let lists = choices rules state l.role l.own in
-    let worth : Turn → ℕ = λ j. value rules l.role l.depth l.at (rules.after state j) in
+    let lists = choices rules state l.asked.role l.own in
+    let worth : Turn → ℕ = λ j. value rules l.asked.role l.asked.depth l.asked.at (rules.after state j) in
     record {
       level : IsLevelOf (g.G.Game.fits l.game) (g.G.Game.fits_many l.game) rules.roles l.level;
       rest : All (IsLevelOf (g.G.Game.fits l.game) (g.G.Game.fits_many l.game) rules.roles) l.rest;
@@ -22,14 +22,14 @@ invariant-loop-upper g l =
       rest_capacities : all_capacities (g.G.Game.capacities l.game) (g.G.Game.many_capacities l.game) l.rest
           ≡ all_capacities (g.G.Game.capacities l.game) (g.G.Game.many_capacities l.game) l.initial.rest;
       wide_capacities : g.G.Game.wide_capacities l.game l.wide ≡ g.G.Game.wide_capacities l.game l.fn.wide;
-      deep : l.depth ≤ length l.rest;
+      deep : l.asked.depth ≤ length l.rest;
       capacity : l.out.capacity ≡ l.fn.out.capacity;
       stands : StandsAt lists l.level.cursor.places.items l.level.cursor.joint.items;
-      is_first : IsFirst worth (turns_with rules state l.role l.own) (worst rules l.role l.depth l.at state l.own)
+      is_first : IsFirst worth (turns_with rules state l.asked.role l.own) (worst rules l.asked.role l.asked.depth l.asked.at state l.own)
           (l.level.cursor.joint.items ∷ later lists l.level.cursor.places.items) l.upper l.out.items;
     }
 
 abbrev pub decreases-loop-upper : goal.decreases-loop-upper
 decreases-loop-upper g l =
     let rules = g.G.Game.rules l.game in
-    length (later (choices rules (g.G.Game.state l.game l.from) l.role l.own) l.level.cursor.places.items)
+    length (later (choices rules (g.G.Game.state l.game l.from) l.asked.role l.own) l.level.cursor.places.items)

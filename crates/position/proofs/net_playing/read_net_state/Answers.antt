@@ -1,7 +1,7 @@
-use Rattle.std.proofs.Common.{◌≡◌, ◌≤◌, ◌*◌, ℕ, List, length, ap, subst, ◌∙◌}
+use Rattle.std.proofs.Common.{◌≡◌, ◌≤◌, ◌*◌, ℕ, List, length, subst, ◌∙◌}
 use Rattle.ground.specs.GroundView.{inputs_of, kinds_of}
 use Rattle.propnet.specs.Nets.{gates_of}
-use Rattle.position.specs.RuleState.{AreRead, holds_in}
+use Rattle.position.specs.RuleState.{holds_in}
 use Rattle.position.specs.NetState.{is_on, view_of, words_for as count_for, state_bits, TellNow}
 use Rattle.position.proofs.NetFacts.{views_below, room_enough}
 use Rattle.position.proofs.Shown.{told_ends, ends_within, ends_alike, reads_alike}

@@ -1,4 +1,4 @@
-use Rattle.std.proofs.Common.{◌≡◌, take, false, get_or}
+use Rattle.std.proofs.Common.{◌≡◌, take}
 use Rattle.position.specs.Plans.{goal_among}
 use Rattle.position.proofs.reading.best_goal.Given as goal
 

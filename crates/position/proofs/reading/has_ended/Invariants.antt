@@ -1,4 +1,4 @@
-use Rattle.std.proofs.Common.{◌≡◌, take, false, get_or}
+use Rattle.std.proofs.Common.{◌≡◌, take}
 use Rattle.position.specs.Plans.{ends_among}
 use Rattle.position.proofs.reading.has_ended.Given as goal
 

@@ -1,11 +1,19 @@
-use Rattle.std.proofs.Common.{◌≡◌, ◌<◌, ℕ, List, length, ap, ◌∙◌, arith}
+use Rattle.std.proofs.Common.{◌≡◌, ◌<◌, ℕ, List, [], ◌∷◌, length, ap, ◌∙◌, arith}
 use Rattle.std.proofs.Math.ListN.{length-set}
 use Rattle.propnet.specs.Nets.{joint_at}
+use Rattle.position.specs.declared.rule_many.RuleBase.{RuleBase}
 use Rattle.position.specs.RulePlay.{marked}
-use Rattle.position.specs.RuleState.{IsStateOf, rules_of, capacities}
+use Rattle.position.specs.RuleState.{rules_of}
+use Rattle.position.specs.RuleMany.{base_capacities}
 use Rattle.position.proofs.Marks.{flat_map-set}
-use Rattle.position.proofs.ManyStates.{set_all, set_more, joint_read}
+use Rattle.position.proofs.ManyStates.{set_all, set_more, joint_read, base_room}
 use Rattle.position.proofs.rule_many.step_each.Goals as goal
+
+pub step_base-requires-clause-room : goal.step_base-requires-clause-room
+step_base-requires-clause-room c =
+    let room = c.loop-k.invariant.room in
+    let few = c.requires.few in
+    base_room c.loop-k.states.items c.loop-k.k _ (length c.args.game.now.played.starts.items) (room.each c.loop-k.k c.index_mut.result.now (omega arith)) c.index_mut.ensures.value
 
 pub loop-k-preserved : goal.loop-k-preserved
 loop-k-preserved c =
@@ -13,16 +21,20 @@ loop-k-preserved c =
     let s = marked c.args.p.now.base.items in
     let ps = c.loop-k.states.items in
     let k = c.loop-k.k in
-    let new = c.step_state.new.q in
+    let new = c.step_base.new.out in
     let room = c.loop-k.invariant.room in
     let size : length ps ≡ 64 = room.size in
     let few = c.requires.few in
     let inside : k < length ps = omega arith in
+    let before : length c.index_mut.result.now.marks.items ≡ length g.starts.items =
+    base_room ps k _ (length g.starts.items) (room.each k c.index_mut.result.now (omega arith)) c.index_mut.ensures.value in
     record {
-      room = record { size = length-set ps k new ∙ size; each = set_all (IsStateOf g) ps 64 k new inside c.step_state.ensures.state room.each };
-      after = set_more (λ i p. marked p.base.items ≡ (rules_of g).after s (joint_at c.args.joints.now i)) ps k new inside
-          (c.step_state.ensures.after ∙ ap (λ (j : List ℕ). (rules_of g).after s j) (c.deref.ensures ∙ joint_read c.args.joints.now k c.index-joints-k.result (omega arith) c.index-joints-k.is))
+      right = c.step_base.ensures.right ∙ c.loop-k.invariant.right;
+      room = record { size = length-set ps k new ∙ size; each = set_all (λ (p : RuleBase). length p.marks.items ≡ length g.starts.items) ps 64 k new inside (c.step_base.ensures.room ∙ before) room.each };
+      after = set_more (λ i (p : RuleBase). marked p.marks.items ≡ (rules_of g).after s (joint_at c.args.joints.now i)) ps k new inside
+          (c.step_base.ensures.after ∙ ap (λ (j : List ℕ). (rules_of g).after s j) (c.deref.ensures ∙ joint_read c.args.joints.now k c.index-joints-k.result (omega arith) c.index-joints-k.is))
           c.loop-k.invariant.after;
-      capacities = flat_map-set capacities ps k new _ (c.step_state.ensures.capacities ∙ ap capacities c.index_mut.ensures.value) ∙ c.loop-k.invariant.capacities;
+      right_capacity = c.step_base.ensures.right_capacity ∙ c.loop-k.invariant.right_capacity;
+      capacities = flat_map-set base_capacities ps k new _ (ap (λ (n : ℕ). n ∷ []) c.step_base.ensures.capacity ∙ ap base_capacities c.index_mut.ensures.value) ∙ c.loop-k.invariant.capacities;
       capacity = c.loop-k.invariant.capacity;
     }

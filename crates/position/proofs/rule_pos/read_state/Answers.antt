@@ -3,7 +3,6 @@ use Rattle.ground.specs.GroundView.{inputs_of, kinds_of, instances_of}
 use Rattle.position.specs.declared.plan.Sought.TheVariants.{Ends}
 use Rattle.position.specs.declared.plan.Standing.{Standing}
 use Rattle.position.specs.RulePlay.{marked, AreMarks, holds}
-use Rattle.position.specs.RuleState.{AreRead}
 use Rattle.position.specs.Plans.{ends_among}
 use Rattle.position.proofs.States.{ends_same, reads_same}
 use Rattle.position.proofs.PlanLemmas.{ends_all, sought_within}

@@ -1,7 +1,5 @@
-use Rattle.std.proofs.Common.{◌≡◌, ◌++◌, drop}
+use Rattle.std.proofs.Common.{drop}
 use Rattle.rules.specs.StoreView.{data_of}
-use Rattle.rules.specs.Bodies.{named_relations}
-use Rattle.rules.specs.Marks.{AreInside}
 use Rattle.rules.proofs.BodyLemmas.{Naming}
 use Rattle.rules.proofs.bodies.add_relations.Given as goal
 

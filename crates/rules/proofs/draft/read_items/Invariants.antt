@@ -1,4 +1,3 @@
-use Rattle.std.proofs.Common.{◌≡◌}
 use Rattle.rules.proofs.DraftLemmas.{Reading}
 use Rattle.rules.proofs.draft.read_items.Given as goal
 

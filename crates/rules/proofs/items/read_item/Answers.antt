@@ -1,5 +1,4 @@
-use Rattle.std.proofs.Common.{sym}
-use Rattle.rules.proofs.ItemLemmas.{item_atom, item_literals, reads_item}
+use Rattle.rules.proofs.ItemLemmas.{reads_item}
 use Rattle.rules.proofs.items.read_item.Goals as goal
 
 pub returns : goal.returns

@@ -1,11 +1,9 @@
-use Rattle.std.proofs.Common.{suc, ℕ, min, length, List, refl, sym, ap, ◌∙◌, arith}
-use Rattle.kif.specs.Tree.{trees_of}
-use Rattle.kif.specs.View.{trees_in}
+use Rattle.std.proofs.Common.{suc, min, length, List, sym, ap, ◌∙◌, arith}
 use Rattle.rules.specs.Clause.{Literal}
 use Rattle.rules.specs.Items.{readings}
 use Rattle.rules.specs.Limits.{most_alternatives}
-use Rattle.rules.proofs.FormTests.{tree_is_slice, tree_is_word}
-use Rattle.rules.proofs.Sizes.{rest_smaller, part_smaller}
+use Rattle.rules.proofs.FormTests.{tree_is_slice}
+use Rattle.rules.proofs.Sizes.{part_smaller}
 use Rattle.rules.proofs.Counts.{no_word_no_reading, readings_in_turn-more, readings_of_all-more, sum_more, product_more}
 use Rattle.rules.proofs.limits.+alternatives.Goals as goal
 

@@ -1,4 +1,4 @@
-use Rattle.std.proofs.Common.{suc, ◌≡◌, ◌≤◌, ◌+◌, ◌*◌, ℕ, min, length, drop}
+use Rattle.std.proofs.Common.{suc, ◌≡◌, ◌≤◌, ◌+◌, ◌*◌, min, length, drop}
 use Rattle.kif.specs.Tree.{trees_of}
 use Rattle.kif.specs.View.{tree_of, trees_in}
 use Rattle.rules.specs.Items.{readings_in_turn, readings_of_all}

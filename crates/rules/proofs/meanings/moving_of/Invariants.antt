@@ -1,6 +1,4 @@
-use Rattle.rules.specs.Clause.{relation_eq}
 use Rattle.rules.specs.Dependence.{is_moving}
-use Rattle.rules.specs.Profile.{does_relation}
 use Rattle.rules.specs.StoreView.{data_of}
 use Rattle.rules.proofs.MeaningLemmas.{Tested}
 use Rattle.rules.proofs.meanings.moving_of.Given as goal

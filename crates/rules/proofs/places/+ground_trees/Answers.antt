@@ -1,5 +1,5 @@
-use Rattle.std.proofs.Common.{refl, sym, ap, ◌∙◌, arith}
-use Rattle.kif.specs.Tree.{Trees, trees_of}
+use Rattle.std.proofs.Common.{sym, ap, ◌∙◌, arith}
+use Rattle.kif.specs.Tree.{Trees}
 use Rattle.rules.specs.Profile.{is_empty}
 use Rattle.rules.specs.Safety.{variables, variables_in}
 use Rattle.rules.proofs.FormTests.{tree_is_slice, each_passed, one_failed}

@@ -1,4 +1,4 @@
-use Rattle.std.proofs.Common.{subst, refl, sym, ap, ◌∙◌, arith}
+use Rattle.std.proofs.Common.{subst, sym, ap, ◌∙◌, arith}
 use Rattle.kif.specs.Tree.{Trees, trees_of}
 use Rattle.kif.specs.View.{trees_in}
 use Rattle.rules.specs.Profile.{body_stands_well}

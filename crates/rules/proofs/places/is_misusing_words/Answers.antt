@@ -3,8 +3,6 @@ use Rattle.kif.specs.Tree.{trees_of, name_eq}
 use Rattle.kif.specs.View.{tree_of, trees_in}
 use Rattle.rules.specs.Words.{w_role}
 use Rattle.rules.specs.Items.{is_some}
-use Rattle.rules.specs.Profile.{is_empty}
-use Rattle.rules.specs.Safety.{variables}
 use Rattle.rules.proofs.Standings.{IsSplit, head_misused, body_misused, role_misused, facts_alone}
 use Rattle.rules.proofs.places.is_misusing_words.Goals as goal
 

@@ -1,4 +1,3 @@
-use Rattle.std.proofs.Common.{ap, ◌∙◌}
 use Rattle.kif.specs.View.{tree_of}
 use Rattle.rules.proofs.FormTests.{tree_is_slice, tree_is_word}
 use Rattle.rules.proofs.Standings.{signature, no_signature}

@@ -1,6 +1,5 @@
 use Rattle.std.proofs.Common.{sym, arith}
-use Rattle.rules.proofs.FormTests.{tree_is_slice}
-use Rattle.rules.proofs.Sizes.{part_smaller, list_smaller}
+use Rattle.rules.proofs.Sizes.{part_smaller}
 use Rattle.rules.proofs.RoleLists.{lengths_differ}
 use Rattle.rules.proofs.roles.+sameness.Goals as goal
 

@@ -1,4 +1,4 @@
-use Rattle.std.proofs.Common.{◌≡◌, length, drop}
+use Rattle.std.proofs.Common.{◌≡◌, drop}
 use Rattle.kif.specs.Tree.{trees_eq, trees_of}
 use Rattle.kif.specs.View.{tree_of, trees_in}
 use Rattle.rules.proofs.Sizes.{tree_size, trees_size}

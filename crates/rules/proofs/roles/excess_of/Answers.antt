@@ -1,1 +1,0 @@
-use Rattle.rules.proofs.roles.excess_of.Goals as goal

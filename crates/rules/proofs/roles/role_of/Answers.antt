@@ -1,4 +1,4 @@
-use Rattle.std.proofs.Common.{sym, ap, ◌∙◌, cond, List, []}
+use Rattle.std.proofs.Common.{ap, ◌∙◌, cond, List, []}
 use Rattle.kif.specs.Tree.{Tree}
 use Rattle.kif.specs.View.{tree_of}
 use Rattle.rules.specs.Words.{w_role}

@@ -1,10 +1,8 @@
-use Rattle.std.proofs.Common.{ℕ, List, [], ◌∷◌, ◌++◌, ◌<◌, ◌≡◌, refl, sym, ap, subst, ◌∙◌, arith}
-use Rattle.kif.specs.Tree.{trees_of}
-use Rattle.kif.specs.View.{tree_of, trees_in}
-use Rattle.rules.specs.Names.{names_behind, Gathers}
-use Rattle.rules.specs.Safety.{variables, variables_in, count_different}
-use Rattle.rules.proofs.FormTests.{tree_is_name, tree_is_slice}
-use Rattle.rules.proofs.Sizes.{list_smaller, part_smaller}
+use Rattle.std.proofs.Common.{arith}
+use Rattle.kif.specs.View.{tree_of}
+use Rattle.rules.specs.Names.{names_behind}
+use Rattle.rules.specs.Safety.{variables}
+use Rattle.rules.proofs.Sizes.{part_smaller}
 use Rattle.rules.proofs.NameSets.{gathers_more, many_already, variables_from}
 use Rattle.rules.proofs.variables.+gathering.Goals as goal
 

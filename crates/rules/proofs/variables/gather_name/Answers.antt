@@ -1,4 +1,4 @@
-use Rattle.std.proofs.Common.{ℕ, List, ◌∷◌, [], ◌++◌, ◌<◌, refl, sym, ap, subst, ◌∙◌}
+use Rattle.std.proofs.Common.{ℕ, List, ◌++◌, ◌<◌, sym, ap, subst, ◌∙◌}
 use Rattle.rules.specs.Names.{names_behind, Gathers}
 use Rattle.rules.specs.Safety.{is_name_in, count_different}
 use Rattle.rules.specs.Limits.{most_variables}

@@ -1,4 +1,4 @@
-use Rattle.std.proofs.Common.{ap, ◌≤◌, length, arith, ◌∙◌}
+use Rattle.std.proofs.Common.{ap, ◌≤◌, length, arith}
 use Rattle.kif.specs.View.{tree_of}
 use Rattle.rules.specs.Names.{names_behind}
 use Rattle.rules.specs.Safety.{variables}

@@ -1,7 +1,7 @@
 use Rattle.std.proofs.Common.{◌≡◌, length, arith}
 use Rattle.position.specs.RulePlay.{marked}
 use Rattle.position.specs.RuleState.{rules_of}
-use Rattle.position.specs.declared.rule_pos.RulePos.{RulePos}
+use Rattle.position.specs.declared.rule_many.RuleBase.{RuleBase}
 use Rattle.position.proofs.ManyStates.{taken_map}
 use Rattle.position.proofs.rule_game.RuleGameGame.steps.Goals as goal
 
@@ -10,4 +10,4 @@ returns-clause-after c =
     let g = c.args.self.now.played in
     let size : length c.step_each.new.states.items ≡ 64 = c.step_each.ensures.room.size in
     let few = c.requires.few in
-    taken_map (λ (p : RulePos). marked p.base.items) ((rules_of g).after (marked c.args.p.now.base.items)) c.step_each.new.states.items c.args.joints.now (omega arith) c.step_each.ensures.after
+    taken_map (λ (p : RuleBase). marked p.marks.items) ((rules_of g).after (marked c.args.p.now.base.items)) c.step_each.new.states.items c.args.joints.now (omega arith) c.step_each.ensures.after

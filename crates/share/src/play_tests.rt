@@ -1,0 +1,350 @@
+// Answers over games of rules, whose workers meet.
+ghost use Rattle.std.specs.Prelude.{◌<◌};
+
+use crate::watched::{Watch, Watched};
+use crate::{Answer, Cut, Gate, solve};
+use ground::instantiate;
+use kif::read;
+use position::{AtBound, Game, RuleGame};
+use propnet::Joint;
+use rules::RuleSet;
+use std::alloc::AllocGlobal;
+use std::hint::spin_loop;
+use std::process::Abort;
+use std::sync::atomic::{AtomicBool, AtomicUsize, Ordering};
+use std::test::Fail;
+use std::thread::Threads;
+
+/// One role and four moves, of which the second and the third are worth the same.
+const FOUR: &[u8] = b"(role a) (val x 40) (val y 70) (val z 70) (val zz 10)
+(<= (input a ?m) (val ?m ?v))
+(<= (base (did ?m)) (val ?m ?v))
+(<= (legal a ?m) (val ?m ?v))
+(<= (next (did ?m)) (does a ?m))
+(<= (goal a ?v) (true (did ?m)) (val ?m ?v))
+(<= terminal (true (did ?m)))";
+
+/// The first move is worth 90 at once, and the second at most 10, by ten replies.
+const LIVE: &[u8] = b"(role a) (role b) (first x) (first y) (first z)
+(reply r0) (reply r1) (reply r2) (reply r3) (reply r4)
+(reply r5) (reply r6) (reply r7) (reply r8) (reply r9)
+(base start) (base wx) (base wz) (base mid) (base low) (init start)
+(input a go) (input b noop)
+(<= (input a ?m) (first ?m))
+(<= (input b ?m) (reply ?m))
+(<= (legal a ?m) (true start) (first ?m))
+(<= (legal b noop) (true start))
+(<= (legal a go) (true mid))
+(<= (legal b ?m) (true mid) (reply ?m))
+(<= (next wx) (does a x)) (<= (next mid) (does a y))
+(<= (next wz) (does a z)) (<= (next low) (does a go))
+(<= terminal (true wx)) (<= terminal (true wz)) (<= terminal (true low))
+(<= (goal a 90) (true wx)) (<= (goal a 10) (true low))";
+
+/// Four roles with sixteen moves each, and one turn.
+const WIDE: &[u8] = b"(role r1) (role r2) (role r3) (role r4)
+(d 0) (d 1) (d 2) (d 3) (d 4) (d 5) (d 6) (d 7) (d 8) (d 9) (d 10) (d 11) (d 12) (d 13) (d 14) (d 15)
+(base on)
+(<= (input ?r ?m) (role ?r) (d ?m))
+(<= (legal ?r ?m) (role ?r) (d ?m))
+(<= (next on) (does r1 ?m))
+(<= terminal (true on))
+(<= (goal r1 30) (true on))";
+
+/// Five roles with ten moves each: a hundred thousand joint moves.
+const WIDER: &[u8] = b"(role r1) (role r2) (role r3) (role r4) (role r5)
+(d 0) (d 1) (d 2) (d 3) (d 4) (d 5) (d 6) (d 7) (d 8) (d 9)
+(base on)
+(<= (input ?r ?m) (role ?r) (d ?m))
+(<= (legal ?r ?m) (role ?r) (d ?m))
+(<= (next on) (does r1 ?m))
+(<= terminal (true on))
+(<= (goal r1 30) (true on))";
+
+/// The game of a description.
+fn game_of<R: Abort + AllocGlobal>(rt: &R, text: &[u8]) -> Result<RuleGame, Fail> {
+    let items = read(rt.alloc(), text)?;
+    let rules = RuleSet::check(rt.alloc(), items.as_slice())?;
+    let ground = instantiate(rt, &rules)?;
+    Ok(RuleGame::new(rt.alloc(), ground)?)
+}
+
+/// What the first role can be sure of from the start.
+fn solved<R: Threads + Abort + Sync + AllocGlobal, G: Game, K: Gate>(
+    rt: &R,
+    game: &G,
+    depth: u32,
+    cut: &[u8],
+    gate: &K,
+) -> Result<Answer, Fail> {
+    if game.roles() == 0 {
+        panic!(rt; "no role");
+    }
+    let start = game.fresh()?;
+    let Some(cut) = Cut::parse(cut) else {
+        panic!(rt; "no cut")
+    };
+    Ok(solve(rt, game, &start, 0, depth, AtBound::Zero, &cut, gate)?)
+}
+
+// Waits until a number is reached, at most 2^30 turns. It tells whether it gave up.
+fn gives_up(number: &AtomicUsize, least: usize) -> bool {
+    for _ in 0..1u32 << 30 {
+        if number.load(Ordering::SeqCst) >= least {
+            return false;
+        }
+        spin_loop();
+    }
+    true
+}
+
+/// A gate that counts.
+#[derive(Drop)]
+struct Tally {
+    passed: AtomicUsize,
+}
+
+impl Gate for Tally {
+    fn at(&self, _task: usize) {
+        self.passed.fetch_add(1, Ordering::SeqCst);
+    }
+}
+
+fn new_tally() -> Tally {
+    Tally {
+        passed: AtomicUsize::new(0),
+    }
+}
+
+/// A gate that holds a task until another was called.
+#[derive(Drop)]
+struct Held {
+    task: usize,
+    until: usize,
+    called: AtomicUsize,
+    gave_up: AtomicBool,
+}
+
+impl Gate for Held {
+    fn at(&self, task: usize) {
+        if task == self.until {
+            self.called.fetch_add(1, Ordering::SeqCst);
+        }
+        if task == self.task && gives_up(&self.called, 1) {
+            self.gave_up.store(true, Ordering::SeqCst);
+        }
+    }
+}
+
+// The other worker goes on while one is held.
+#[test]
+fn work_goes_on_past_a_worker_that_is_held(rt: HostRuntime) -> Result<(), Fail> {
+    let game = game_of(&rt, FOUR)?;
+    let gate = Held {
+        task: 1,
+        until: 3,
+        called: AtomicUsize::new(0),
+        gave_up: AtomicBool::new(false),
+    };
+    let answer = solved(&rt, &game, 1, b"2", &gate)?;
+    assert_eq!(rt; answer.value, 70);
+    assert_eq!(rt; answer.choice, Some(1));
+    assert!(rt; !gate.gave_up.load(Ordering::SeqCst));
+    Ok(())
+}
+
+/// A gate whose first call waits until a second was made.
+#[derive(Drop)]
+struct Second {
+    calls: AtomicUsize,
+    gave_up: AtomicBool,
+}
+
+impl Gate for Second {
+    fn at(&self, _task: usize) {
+        if self.calls.fetch_add(1, Ordering::SeqCst) == 0 && gives_up(&self.calls, 2) {
+            self.gave_up.store(true, Ordering::SeqCst);
+        }
+    }
+}
+
+#[test]
+fn two_workers_pass_the_gate_at_once(rt: HostRuntime) -> Result<(), Fail> {
+    let game = game_of(&rt, FOUR)?;
+    let gate = Second {
+        calls: AtomicUsize::new(0),
+        gave_up: AtomicBool::new(false),
+    };
+    let answer = solved(&rt, &game, 1, b"2", &gate)?;
+    assert_eq!(rt; answer.value, 70);
+    assert_eq!(rt; answer.choice, Some(1));
+    assert!(rt; !gate.gave_up.load(Ordering::SeqCst));
+    Ok(())
+}
+
+/// Two joint moves, each of whose steps waits until that of the other has begun.
+#[derive(Drop)]
+struct Meeting {
+    one: [u32; 2],
+    other: [u32; 2],
+    begun: [AtomicUsize; 2],
+    gave_up: AtomicBool,
+}
+
+fn is_move(joint: &Joint, moves: [u32; 2]) -> bool {
+    let joint = joint.as_slice();
+    joint.first() == Some(&moves[0]) && (joint.len() < 2 || joint.get(1) == Some(&moves[1]))
+}
+
+impl Watch for Meeting {
+    fn stepped(&self, joint: &Joint) {
+        if is_move(joint, self.one) {
+            self.begun[0].fetch_add(1, Ordering::SeqCst);
+            if gives_up(&self.begun[1], 1) {
+                self.gave_up.store(true, Ordering::SeqCst);
+            }
+        } else if is_move(joint, self.other) {
+            self.begun[1].fetch_add(1, Ordering::SeqCst);
+            if gives_up(&self.begun[0], 1) {
+                self.gave_up.store(true, Ordering::SeqCst);
+            }
+        }
+    }
+}
+
+fn meeting_of(one: [u32; 2], other: [u32; 2]) -> Meeting {
+    Meeting {
+        one,
+        other,
+        begun: [AtomicUsize::new(0), AtomicUsize::new(0)],
+        gave_up: AtomicBool::new(false),
+    }
+}
+
+// The moves are x, y, z and zz.
+#[test]
+fn two_workers_search_at_once(rt: HostRuntime) -> Result<(), Fail> {
+    let game = Watched {
+        inner: game_of(&rt, FOUR)?,
+        watch: meeting_of([0, 0], [1, 0]),
+    };
+    let gate = new_tally();
+    let answer = solved(&rt, &game, 1, b"2", &gate)?;
+    assert_eq!(rt; answer.value, 70);
+    assert_eq!(rt; answer.choice, Some(1));
+    assert!(rt; !game.watch.gave_up.load(Ordering::SeqCst));
+    assert_eq!(rt; gate.passed.load(Ordering::SeqCst), 4);
+    Ok(())
+}
+
+// The moves of a are go, x, y and z, those of b are noop and r0 to r9.
+#[test]
+fn two_inner_workers_search_at_once(rt: HostRuntime) -> Result<(), Fail> {
+    let game = Watched {
+        inner: game_of(&rt, LIVE)?,
+        watch: meeting_of([0, 1], [0, 2]),
+    };
+    let gate = new_tally();
+    let answer = solved(&rt, &game, 2, b"1x2", &gate)?;
+    assert_eq!(rt; answer.value, 90);
+    assert_eq!(rt; answer.choice, Some(1));
+    assert!(rt; !game.watch.gave_up.load(Ordering::SeqCst));
+    assert_eq!(rt; gate.passed.load(Ordering::SeqCst), 3);
+    Ok(())
+}
+
+/// The step of x waits until those of go with r0 and with r1 have begun, and these wait until the gate was called for task 2.
+#[derive(Drop)]
+struct Bounds {
+    begun: AtomicUsize,
+    later: AtomicUsize,
+    called: AtomicUsize,
+    gave_up: AtomicBool,
+}
+
+impl Watch for &Bounds {
+    fn stepped(&self, joint: &Joint) {
+        if is_move(joint, [1, 0]) {
+            if gives_up(&self.begun, 2) {
+                self.gave_up.store(true, Ordering::SeqCst);
+            }
+        } else if is_move(joint, [0, 1]) || is_move(joint, [0, 2]) {
+            self.begun.fetch_add(1, Ordering::SeqCst);
+            if gives_up(&self.called, 1) {
+                self.gave_up.store(true, Ordering::SeqCst);
+            }
+        } else if joint.as_slice().first() == Some(&0) {
+            self.later.fetch_add(1, Ordering::SeqCst);
+        }
+    }
+}
+
+impl Gate for Bounds {
+    fn at(&self, task: usize) {
+        if task == 2 {
+            self.called.fetch_add(1, Ordering::SeqCst);
+        }
+    }
+}
+
+// By then x is known to be worth 90, so no reply past the first two is stepped into.
+#[test]
+fn inner_workers_see_what_the_root_knows(rt: HostRuntime) -> Result<(), Fail> {
+    let bounds = Bounds {
+        begun: AtomicUsize::new(0),
+        later: AtomicUsize::new(0),
+        called: AtomicUsize::new(0),
+        gave_up: AtomicBool::new(false),
+    };
+    let game = Watched {
+        inner: game_of(&rt, LIVE)?,
+        watch: &bounds,
+    };
+    let answer = solved(&rt, &game, 2, b"2x2", &bounds)?;
+    assert_eq!(rt; answer.value, 90);
+    assert_eq!(rt; answer.choice, Some(1));
+    assert!(rt; !bounds.gave_up.load(Ordering::SeqCst));
+    assert_eq!(rt; bounds.later.load(Ordering::SeqCst), 0);
+    Ok(())
+}
+
+const CUTS: [&[u8]; 7] = [b"1", b"2", b"2x2", b"2x4", b"16x4", b"1x1x1", b"2x2x2"];
+
+#[test]
+fn each_cut_has_the_same_answer(rt: HostRuntime) -> Result<(), Fail> {
+    let game = game_of(&rt, LIVE)?;
+    for cut in CUTS {
+        let gate = new_tally();
+        let answer = solved(&rt, &game, 2, cut, &gate)?;
+        assert_eq!(rt; answer.value, 90);
+        assert_eq!(rt; answer.choice, Some(1));
+        assert_eq!(rt; gate.passed.load(Ordering::SeqCst), 3);
+    }
+    Ok(())
+}
+
+#[test]
+fn every_task_of_the_limit_passes_the_gate(rt: HostRuntime) -> Result<(), Fail> {
+    let game = game_of(&rt, WIDE)?;
+    for cut in [b"1".as_slice(), b"4"] {
+        let gate = new_tally();
+        let answer = solved(&rt, &game, 1, cut, &gate)?;
+        assert_eq!(rt; answer.value, 30);
+        assert_eq!(rt; answer.choice, Some(0));
+        assert_eq!(rt; gate.passed.load(Ordering::SeqCst), 65_536);
+    }
+    Ok(())
+}
+
+#[test]
+fn no_task_past_the_limit_passes_the_gate(rt: HostRuntime) -> Result<(), Fail> {
+    let game = game_of(&rt, WIDER)?;
+    for cut in [b"1".as_slice(), b"4"] {
+        let gate = new_tally();
+        let answer = solved(&rt, &game, 1, cut, &gate)?;
+        assert_eq!(rt; answer.value, 30);
+        assert_eq!(rt; answer.choice, Some(0));
+        assert_eq!(rt; gate.passed.load(Ordering::SeqCst), 0);
+    }
+    Ok(())
+}

@@ -1,0 +1,118 @@
+// A game for tests, whose steps are watched.
+use position::Game;
+use propnet::Joint;
+use std::alloc::AllocError;
+
+/// What is told of each step before it is made.
+pub trait Watch: Sync {
+    fn stepped(&self, joint: &Joint);
+}
+
+/// A game that tells of its steps.
+#[derive(Drop)]
+pub struct Watched<G, W> {
+    pub inner: G,
+    pub watch: W,
+}
+
+impl<G: Game, W: Watch> Game for Watched<G, W> {
+    type Pos = G::Pos;
+
+    type Wide = G::Wide;
+
+    type Many = G::Many;
+
+    ghost rules = { λ g. G.rules g.inner };
+
+    ghost role_name = { λ g. G.role_name g.inner };
+
+    ghost move_name = { λ g. G.move_name g.inner };
+
+    ghost fits = { λ g. G.fits g.inner };
+
+    ghost state = { λ g. G.state g.inner };
+
+    ghost capacities = { λ g. G.capacities g.inner };
+
+    ghost fits_wide = { λ g. G.fits_wide g.inner };
+
+    ghost fits_many = { λ g. G.fits_many g.inner };
+
+    ghost states = { λ g. G.states g.inner };
+
+    ghost wide_capacities = { λ g. G.wide_capacities g.inner };
+
+    ghost many_capacities = { λ g. G.many_capacities g.inner };
+
+    fn roles(&self) -> usize {
+        self.inner.roles()
+    }
+
+    fn role_text(&self, role: usize) -> &[u8] {
+        self.inner.role_text(role)
+    }
+
+    fn moves(&self, role: usize) -> usize {
+        self.inner.moves(role)
+    }
+
+    fn move_text(&self, role: usize, number: u32) -> &[u8] {
+        self.inner.move_text(role, number)
+    }
+
+    fn fresh(&self) -> Result<G::Pos, AllocError> {
+        self.inner.fresh()
+    }
+
+    fn ended(&self, p: &G::Pos) -> bool {
+        self.inner.ended(p)
+    }
+
+    fn goal(&self, p: &G::Pos, role: usize) -> u8 {
+        self.inner.goal(p, role)
+    }
+
+    fn legal(&self, p: &G::Pos, role: usize, place: usize) -> Option<u32> {
+        self.inner.legal(p, role, place)
+    }
+
+    fn step(&self, p: &G::Pos, joint: &Joint, q: &mut G::Pos) {
+        self.watch.stepped(joint);
+        self.inner.step(p, joint, q);
+    }
+
+    fn copy(&self, p: &G::Pos, q: &mut G::Pos) {
+        self.inner.copy(p, q);
+    }
+
+    fn new_wide(&self) -> Result<G::Wide, AllocError> {
+        self.inner.new_wide()
+    }
+
+    fn new_many(&self) -> Result<G::Many, AllocError> {
+        self.inner.new_many()
+    }
+
+    fn steps(&self, p: &G::Pos, joints: &[Joint], w: &mut G::Wide, out: &mut G::Many) {
+        for joint in joints {
+            self.watch.stepped(joint);
+        }
+        self.inner.steps(p, joints, w, out);
+    }
+
+    fn take(&self, many: &G::Many, place: usize, q: &mut G::Pos) {
+        self.inner.take(many, place, q);
+    }
+
+    ghost goal_within = { λ g. G.goal_within g.inner };
+
+    ghost moves_within = { λ g. G.moves_within g.inner };
+
+    ghost legal_within = { λ g. G.legal_within g.inner };
+
+    ghost legal_ascending = { λ g. G.legal_ascending g.inner };
+
+    ghost moves_in_printed_order = { λ g. G.moves_in_printed_order g.inner };
+
+    ghost role_names_differ = { λ g. G.role_names_differ g.inner };
+}
