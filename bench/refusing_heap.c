@@ -81,3 +81,11 @@ int __wrap_pthread_create(pthread_t *thread, const pthread_attr_t *attributes, v
   if (refuses(&threads)) return EAGAIN;
   return __real_pthread_create(thread, attributes, begins, argument);
 }
+
+_Noreturn void __real__exit(int status);
+
+// A program with threads ends in this way, and no destructor runs.
+_Noreturn void __wrap__exit(int status) {
+  tell();
+  __real__exit(status);
+}
