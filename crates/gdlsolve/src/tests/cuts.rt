@@ -166,7 +166,8 @@ fn a_game_of_many_turns_is_solved_by_three_levels(rt: HostRuntime) -> Result<(),
 /// So many roles with so many moves each, of which the first role's end the game.
 fn wide(alloc: Global, roles: usize, moves: usize) -> Result<Vec<u8>, AllocError> {
     let mut text = Vec::new(alloc);
-    for number in 1..roles + 1 {
+    for before in 0..roles {
+        let number = before + 1;
         write!(text, "(role r{number})").map_err(|_| AllocError)?;
     }
     for number in 0..moves {
