@@ -69,7 +69,7 @@ fn game_of<R: Abort + AllocGlobal>(rt: &R, text: &[u8]) -> Result<RuleGame, Fail
     Ok(RuleGame::new(rt.alloc(), ground)?)
 }
 
-/// What the first role can be sure of from the start.
+// What the first role can be sure of from the start.
 fn solved<R: Threads + Abort + Sync + AllocGlobal, G: Game, K: Gate>(
     rt: &R,
     game: &G,
@@ -85,6 +85,22 @@ fn solved<R: Threads + Abort + Sync + AllocGlobal, G: Game, K: Gate>(
         panic!(rt; "no cut")
     };
     Ok(solve(rt, game, &start, 0, depth, AtBound::Zero, &cut, gate)?)
+}
+
+/// Searches a game from its start for the first role, and asserts its value and choice.
+fn finds<R: Threads + Abort + Sync + AllocGlobal, G: Game, K: Gate>(
+    rt: &R,
+    game: &G,
+    depth: u32,
+    cut: &[u8],
+    gate: &K,
+    value: i16,
+    choice: u32,
+) -> Result<(), Fail> {
+    let answer = solved(rt, game, depth, cut, gate)?;
+    assert_eq!(rt; answer.value, value);
+    assert_eq!(rt; answer.choice, Some(choice));
+    Ok(())
 }
 
 // Waits until a number is reached, at most 2^30 turns. It tells whether it gave up.
@@ -146,9 +162,7 @@ fn work_goes_on_past_a_worker_that_is_held(rt: HostRuntime) -> Result<(), Fail> 
         called: AtomicUsize::new(0),
         gave_up: AtomicBool::new(false),
     };
-    let answer = solved(&rt, &game, 1, b"2", &gate)?;
-    assert_eq!(rt; answer.value, 70);
-    assert_eq!(rt; answer.choice, Some(1));
+    finds(&rt, &game, 1, b"2", &gate, 70, 1)?;
     assert!(rt; !gate.gave_up.load(Ordering::SeqCst));
     Ok(())
 }
@@ -175,9 +189,7 @@ fn two_workers_pass_the_gate_at_once(rt: HostRuntime) -> Result<(), Fail> {
         calls: AtomicUsize::new(0),
         gave_up: AtomicBool::new(false),
     };
-    let answer = solved(&rt, &game, 1, b"2", &gate)?;
-    assert_eq!(rt; answer.value, 70);
-    assert_eq!(rt; answer.choice, Some(1));
+    finds(&rt, &game, 1, b"2", &gate, 70, 1)?;
     assert!(rt; !gate.gave_up.load(Ordering::SeqCst));
     Ok(())
 }
@@ -229,9 +241,7 @@ fn two_workers_search_at_once(rt: HostRuntime) -> Result<(), Fail> {
         watch: meeting_of([0, 0], [1, 0]),
     };
     let gate = new_tally();
-    let answer = solved(&rt, &game, 1, b"2", &gate)?;
-    assert_eq!(rt; answer.value, 70);
-    assert_eq!(rt; answer.choice, Some(1));
+    finds(&rt, &game, 1, b"2", &gate, 70, 1)?;
     assert!(rt; !game.watch.gave_up.load(Ordering::SeqCst));
     assert_eq!(rt; gate.passed.load(Ordering::SeqCst), 4);
     Ok(())
@@ -245,9 +255,7 @@ fn two_inner_workers_search_at_once(rt: HostRuntime) -> Result<(), Fail> {
         watch: meeting_of([0, 1], [0, 2]),
     };
     let gate = new_tally();
-    let answer = solved(&rt, &game, 2, b"1x2", &gate)?;
-    assert_eq!(rt; answer.value, 90);
-    assert_eq!(rt; answer.choice, Some(1));
+    finds(&rt, &game, 2, b"1x2", &gate, 90, 1)?;
     assert!(rt; !game.watch.gave_up.load(Ordering::SeqCst));
     assert_eq!(rt; gate.passed.load(Ordering::SeqCst), 3);
     Ok(())
@@ -300,51 +308,65 @@ fn inner_workers_see_what_the_root_knows(rt: HostRuntime) -> Result<(), Fail> {
         inner: game_of(&rt, LIVE)?,
         watch: &bounds,
     };
-    let answer = solved(&rt, &game, 2, b"2x2", &bounds)?;
-    assert_eq!(rt; answer.value, 90);
-    assert_eq!(rt; answer.choice, Some(1));
+    finds(&rt, &game, 2, b"2x2", &bounds, 90, 1)?;
     assert!(rt; !bounds.gave_up.load(Ordering::SeqCst));
     assert_eq!(rt; bounds.later.load(Ordering::SeqCst), 0);
     Ok(())
 }
 
+/// Searches a game by a cut, and asserts what is found and how often the gate was passed.
+fn finds_and_passes<R: Threads + Abort + Sync + AllocGlobal, G: Game>(
+    rt: &R,
+    game: &G,
+    depth: u32,
+    cut: &[u8],
+    value: i16,
+    choice: u32,
+    passed: usize,
+) -> Result<(), Fail> {
+    let gate = new_tally();
+    finds(rt, game, depth, cut, &gate, value, choice)?;
+    assert_eq!(rt; gate.passed.load(Ordering::SeqCst), passed);
+    Ok(())
+}
+
 const CUTS: [&[u8]; 7] = [b"1", b"2", b"2x2", b"2x4", b"16x4", b"1x1x1", b"2x2x2"];
+
+/// Searches a game by each cut.
+fn finds_by_each_cut<R: Threads + Abort + Sync + AllocGlobal, G: Game>(
+    rt: &R,
+    game: &G,
+) -> Result<(), Fail> {
+    for cut in CUTS {
+        finds_and_passes(rt, game, 2, cut, 90, 1, 3)?;
+    }
+    Ok(())
+}
 
 #[test]
 fn each_cut_has_the_same_answer(rt: HostRuntime) -> Result<(), Fail> {
     let game = game_of(&rt, LIVE)?;
-    for cut in CUTS {
-        let gate = new_tally();
-        let answer = solved(&rt, &game, 2, cut, &gate)?;
-        assert_eq!(rt; answer.value, 90);
-        assert_eq!(rt; answer.choice, Some(1));
-        assert_eq!(rt; gate.passed.load(Ordering::SeqCst), 3);
-    }
-    Ok(())
+    finds_by_each_cut(&rt, &game)
+}
+
+/// Searches a game of one turn, all of whose moves are worth 30, by one worker and by four.
+fn finds_alike<R: Threads + Abort + Sync + AllocGlobal, G: Game>(
+    rt: &R,
+    game: &G,
+    passed: usize,
+) -> Result<(), Fail> {
+    finds_and_passes(rt, game, 1, b"1", 30, 0, passed)?;
+    finds_and_passes(rt, game, 1, b"4", 30, 0, passed)
 }
 
 #[test]
 fn every_task_of_the_limit_passes_the_gate(rt: HostRuntime) -> Result<(), Fail> {
     let game = game_of(&rt, WIDE)?;
-    for cut in [b"1".as_slice(), b"4"] {
-        let gate = new_tally();
-        let answer = solved(&rt, &game, 1, cut, &gate)?;
-        assert_eq!(rt; answer.value, 30);
-        assert_eq!(rt; answer.choice, Some(0));
-        assert_eq!(rt; gate.passed.load(Ordering::SeqCst), 65_536);
-    }
-    Ok(())
+    finds_alike(&rt, &game, 65_536)
 }
 
 #[test]
 fn no_task_past_the_limit_passes_the_gate(rt: HostRuntime) -> Result<(), Fail> {
     let game = game_of(&rt, WIDER)?;
-    for cut in [b"1".as_slice(), b"4"] {
-        let gate = new_tally();
-        let answer = solved(&rt, &game, 1, cut, &gate)?;
-        assert_eq!(rt; answer.value, 30);
-        assert_eq!(rt; answer.choice, Some(0));
-        assert_eq!(rt; gate.passed.load(Ordering::SeqCst), 0);
-    }
-    Ok(())
+    finds_alike(&rt, &game, 0)
 }
