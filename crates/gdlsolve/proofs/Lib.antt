@@ -14,7 +14,7 @@ pub mod Describing
 pub mod Leading
 pub mod OneTree
 pub mod LineLemmas
-pub mod WholeValue
+pub mod Solved
 pub mod Lines
 pub mod OneSolve
 pub mod NoRole

@@ -21,7 +21,7 @@ some_reply_to Show ts = (answer (lines_of ts), refl)
 some_reply_to Check ts = some_check (list_of ts)
 some_reply_to Net ts = some_net (list_of ts)
 some_reply_to (Moves after) ts = some_play (list_of ts) (λ g. IsMovesReply g after.now) (λ g. some_moves g after.now)
-some_reply_to (Solve role depth at after) ts = some_play (list_of ts) (λ g. IsSolveReply g role.now depth at after.now) (λ g. some_solve g role.now depth at after.now)
+some_reply_to (Solve role depth at cut after) ts = some_play (list_of ts) (λ g. IsSolveReply g role.now depth at after.now) (λ g. some_solve g role.now depth at after.now)
 
 one_reply_to : (command : Command) (ts : Trees) (reply other : Reply) → IsReplyTo command ts reply → IsReplyTo command ts other → reply ≡ other
 one_reply_to Show ts reply other p q = p ∙ sym q
@@ -29,7 +29,7 @@ one_reply_to Check ts reply other p q = one_check (list_of ts) reply other p q
 one_reply_to Net ts reply other p q = one_net (list_of ts) reply other p q
 one_reply_to (Moves after) ts reply other p q =
     one_play (list_of ts) (λ g. IsMovesReply g after.now) (λ g h same. one_moves g h same after.now) reply other p q
-one_reply_to (Solve role depth at after) ts reply other p q =
+one_reply_to (Solve role depth at cut after) ts reply other p q =
     one_play (list_of ts) (λ g. IsSolveReply g role.now depth at after.now) (λ g h same. one_solve g h same role.now depth at after.now) reply other p q
 
 pub some_reply : (command : Command) (bytes : List ℕ) → (reply : Reply) × IsReply command bytes reply

@@ -20,13 +20,13 @@ abbrev pub lines_of : Trees → List ℕ
 lines_of no_trees = []
 lines_of (tree t ts) = text t ++ 10 ∷ lines_of ts
 
--- the reply to a command over trees that were read
+-- the reply to a command over trees that were read; the cut makes no difference
 abbrev pub IsReplyTo : Command → Trees → Reply → Type 0
 IsReplyTo Show ts reply = reply ≡ answer (lines_of ts)
 IsReplyTo Check ts reply = IsCheckReply (list_of ts) reply
 IsReplyTo Net ts reply = IsNetReply (list_of ts) reply
 IsReplyTo (Moves after) ts reply = IsPlayReply (list_of ts) (λ g. IsMovesReply g after.now) reply
-IsReplyTo (Solve role depth at after) ts reply = IsPlayReply (list_of ts) (λ g. IsSolveReply g role.now depth at after.now) reply
+IsReplyTo (Solve role depth at cut after) ts reply = IsPlayReply (list_of ts) (λ g. IsSolveReply g role.now depth at after.now) reply
 
 -- the bytes have a fault in their text, and the reply names it
 abbrev pub RefusesText : List ℕ → Reply → Type 0

@@ -15,6 +15,7 @@ use bumpalo::Bump;
 use kif::{Expr, KifFault, read, write};
 use rules::{RuleFault, RuleSet};
 use std::alloc::{AllocError, Allocator, Global};
+use std::thread::Threads;
 
 /// The canonical text of each tree, one a line.
 fn shown<A: Allocator>(alloc: Global, trees: &[Expr<A>]) -> Result<Vec<u8>, AllocError>
@@ -68,7 +69,7 @@ fn checked<A: Allocator>(alloc: Global, items: &[Expr<A>]) -> Result<Reply, Allo
 }
 
 /// The reply to a command over trees that were read.
-fn answer_to<T: AllocGlobal, A: Allocator>(
+fn answer_to<T: Threads + Sync + AllocGlobal, A: Allocator>(
     rt: &T,
     player: Player,
     command: &Command,
@@ -86,14 +87,15 @@ fn answer_to<T: AllocGlobal, A: Allocator>(
             role,
             depth,
             at_bound,
+            cut,
             after,
-        } => reply_to_solve(rt, player, trees, role, *depth, *at_bound, after),
+        } => reply_to_solve(rt, player, trees, role, *depth, *at_bound, cut, after),
     }
 }
 
 /// The reply to a command over the bytes of the input. The trees stand in an arena that is dropped with
 /// this call.
-pub(crate) fn answer<T: AllocGlobal>(
+pub(crate) fn answer<T: Threads + Sync + AllocGlobal>(
     rt: &T,
     player: Player,
     command: &Command,

@@ -1,5 +1,6 @@
 // What the program is asked to do, and how that ends.
 use position::AtBound;
+use share::Cut;
 use thiserror::Error;
 
 /// What the program does with the rules that it reads.
@@ -25,6 +26,8 @@ pub enum Command<'a> {
         depth: u32,
         /// What a state in which play goes on is worth where these turns are over.
         at_bound: AtBound,
+        /// How many threads search, and the parts of what.
+        cut: Cut,
         /// The text of the history, as of `Moves`.
         after: &'a str,
     },

@@ -8,6 +8,7 @@ use crate::grammar::{Request, request_of};
 use crate::running::{run, write_out};
 use std::alloc::Global;
 use std::io::{Read, Write};
+use std::thread::Threads;
 
 /// The exit status of an answer, and of help.
 const ANSWERED: u8 = 0;
@@ -63,7 +64,7 @@ fn status_of<E: Write>(ended: Result<Status, RunFault>, errors: &mut E) -> u8
 ///
 /// The words are read before the input. What goes to the errors is for people, and a fault in writing it is
 /// passed over.
-pub fn main_with<T: AllocGlobal, R: Read, W: Write, E: Write>(
+pub fn main_with<T: Threads + Sync + AllocGlobal, R: Read, W: Write, E: Write>(
     rt: &T,
     words: &[&str],
     input: &mut R,

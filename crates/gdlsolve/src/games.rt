@@ -13,7 +13,9 @@ use ground::Ground;
 use kif::Expr;
 use position::{AtBound, NetGame, RuleGame};
 use propnet::Net;
+use share::Cut;
 use std::alloc::{AllocError, Allocator, Global};
+use std::thread::Threads;
 
 /// What plays the game of an instantiation.
 #[derive(Clone, Copy, Debug, PartialEq, Eq)]
@@ -83,21 +85,22 @@ pub(crate) fn reply_to_moves<T: AllocGlobal, A: Allocator>(
 
 /// The reply to `solve` over items, for the role of a text, within so many turns and with what a state is worth behind them, after the
 /// history of a text.
-pub(crate) fn reply_to_solve<T: AllocGlobal, A: Allocator>(
+pub(crate) fn reply_to_solve<T: Threads + Sync + AllocGlobal, A: Allocator>(
     rt: &T,
     player: Player,
     items: &[Expr<A>],
     role: &str,
     depth: u32,
     at: AtBound,
+    cut: &Cut,
     after: &str,
 ) -> Result<Reply, AllocError>
     ensures { IfOk result (λ reply. IsPlayReply (trees_in items.now) (λ g. IsSolveReply g role.now depth at after.now)
         (record { output = reply.output.items; status = reply.status })) }
 {
     match game_of(rt, player, items)? {
-        Described::Network(game) => solve_reply(rt.alloc(), &game, role, depth, at, after),
-        Described::Rules(game) => solve_reply(rt.alloc(), &game, role, depth, at, after),
+        Described::Network(game) => solve_reply(rt, &game, role, depth, at, cut, after),
+        Described::Rules(game) => solve_reply(rt, &game, role, depth, at, cut, after),
         Described::Refusal(reply) => Ok(reply),
     }
 }

@@ -2,6 +2,7 @@
 use crate::command::Command;
 use clap::error::ErrorKind;
 use position::AtBound;
+use share::Cut;
 use std::alloc::{AllocError, Global};
 
 /// The version that `--version` tells.
@@ -82,6 +83,16 @@ fn at_bound<'a>(alloc: Global) -> clap::Arg<'a> {
         )
 }
 
+/// The option for how many threads search.
+fn cut<'a>(alloc: Global) -> clap::Arg<'a> {
+    clap::Arg::new(alloc, "cut")
+        .long("cut")
+        .value_name("LEVELS")
+        .default_value("1")
+        .allow_hyphen_values(true)
+        .help("How many threads search, and those behind each of their moves, as 4 or 4x2")
+}
+
 /// The command `show`.
 fn show<'a>(alloc: Global) -> clap::Command<'a> {
     clap::Command::new(alloc, "show").about("Write the canonical text of each tree, one a line")
@@ -121,6 +132,7 @@ fn solve<'a>(alloc: Global) -> Result<clap::Command<'a>, AllocError> {
         .arg(role(alloc))?
         .arg(depth(alloc))?
         .arg(at_bound(alloc))?
+        .arg(cut(alloc))?
         .arg(history(alloc))
 }
 
@@ -142,6 +154,9 @@ fn grammar<'a>(alloc: Global) -> Result<clap::Command<'a>, AllocError> {
 
 /// The request that the options of `solve` make.
 fn solve_request<'a>(options: &clap::ArgMatches<'a>) -> Option<Request<'a>> {
+    let Some(cut) = Cut::parse(options.get_str("cut")?.as_bytes()) else {
+        return Some(Request::Misread("bad cut"));
+    };
     let Some(at_bound) = AtBound::parse(options.get_str("at-bound")?.as_bytes()) else {
         return Some(Request::Misread("bad bound"));
     };
@@ -149,6 +164,7 @@ fn solve_request<'a>(options: &clap::ArgMatches<'a>) -> Option<Request<'a>> {
         role: options.get_str("role")?,
         depth: options.get_one("depth")?,
         at_bound,
+        cut,
         after: options.get_str("after").unwrap_or(""),
     }))
 }

@@ -23,30 +23,44 @@ pub use command::{Command, RunFault, Status};
 pub use commands::main_with;
 pub use laws::each_input_has_one_reply;
 pub use running::{run, run_rules};
-use std::io::ErrorKind;
+use std::io::{ErrorKind, Read, Write};
 use std::process::ExitCode;
+use std::thread::Threads;
 use std::{env, io};
 
-/// The exit status of the program. Its words are read first, and fail for want of memory, or where one of
-/// them is no UTF-8.
-fn ended(rt: &HostRuntime) -> io::Result<u8> {
-    let alloc = rt.alloc();
-    let owned: Vec<String> = env::args(rt)?.collect(alloc)?;
-    let mut words = Vec::new(alloc);
-    for word in owned.iter().skip(1) {
+/// The arguments, of which the first is the program's name. They fail for want of memory, or where one of them is no UTF-8.
+fn arguments(rt: &HostRuntime) -> io::Result<Vec<String>> {
+    let owned: Vec<String> = env::args(rt)?.collect(rt.alloc())?;
+    Ok(owned)
+}
+
+/// The exit status of the program with these arguments.
+fn ended<T: Threads + Sync + AllocGlobal, R: Read, W: Write, E: Write>(
+    rt: &T,
+    arguments: &[String],
+    input: &mut R,
+    output: &mut W,
+    errors: &mut E,
+) -> io::Result<u8> {
+    let mut words = Vec::new(rt.alloc());
+    for word in arguments.iter().skip(1) {
         words.push(word.as_str())?;
     }
-    Ok(main_with(
-        rt,
-        &words,
-        &mut rt.stdin(),
-        &mut rt.stdout(),
-        &mut rt.stderr(),
-    ))
+    Ok(main_with(rt, &words, input, output, errors))
 }
 
 fn main(rt: HostRuntime) -> ExitCode {
-    match ended(&rt) {
+    let status = match arguments(&rt) {
+        Ok(arguments) => ended(
+            &rt,
+            &arguments,
+            &mut rt.stdin(),
+            &mut rt.stdout(),
+            &mut rt.stderr(),
+        ),
+        Err(fault) => Err(fault),
+    };
+    match status {
         Ok(status) => ExitCode::from(status),
         Err(fault) => {
             let starved = fault.kind() == ErrorKind::OutOfMemory;

@@ -11,6 +11,7 @@ use crate::games::Player;
 use crate::input::read_input;
 use kif::write_bytes;
 use std::io::{Read, Write};
+use std::thread::Threads;
 
 /// Writes all the bytes and flushes the writer.
 pub(crate) fn write_out<W: Write>(output: &mut W, bytes: &[u8]) -> Result<(), RunFault>
@@ -25,7 +26,7 @@ pub(crate) fn write_out<W: Write>(output: &mut W, bytes: &[u8]) -> Result<(), Ru
 }
 
 /// Reads the rules, and writes the reply to the command and nothing else. The player plays the game.
-fn run_with<T: AllocGlobal, R: Read, W: Write>(
+fn run_with<T: Threads + Sync + AllocGlobal, R: Read, W: Write>(
     rt: &T,
     player: Player,
     command: &Command,
@@ -49,7 +50,7 @@ fn run_with<T: AllocGlobal, R: Read, W: Write>(
 }
 
 /// Reads the rules, and writes the reply to the command and nothing else. The network of the rules plays their game.
-pub fn run<T: AllocGlobal, R: Read, W: Write>(
+pub fn run<T: Threads + Sync + AllocGlobal, R: Read, W: Write>(
     rt: &T,
     command: &Command,
     input: &mut R,
@@ -67,7 +68,7 @@ pub fn run<T: AllocGlobal, R: Read, W: Write>(
 }
 
 /// Reads the rules, and writes the reply to the command and nothing else. The kept instances of the rules play their game.
-pub fn run_rules<T: AllocGlobal, R: Read, W: Write>(
+pub fn run_rules<T: Threads + Sync + AllocGlobal, R: Read, W: Write>(
     rt: &T,
     command: &Command,
     input: &mut R,

@@ -1,8 +1,7 @@
 // The value of a state, the move that makes sure of it, and the line of play, as lines.
-ghost use Rattle.std.specs.Prelude.{◌≡◌, ◌≢◌, ◌-◌, ◌≤◌, ◌<◌, ◌++◌, IfOk, IfSome, OnOk, Some, Result};
-ghost use Rattle.smallvec.specs.SmallVec.{small_vec_len};
+ghost use Rattle.std.specs.Prelude.{◌≡◌, ◌≤◌, ◌<◌, ◌++◌, nat_abs, IfOk, IfSome, OnOk, Result};
 ghost use Rattle.position.specs.Rules.{IsTurn, State};
-ghost use Rattle.position.specs.Value.{value, choice_of, reply_of, line_of};
+ghost use Rattle.position.specs.Value.{choice_of, line_of};
 ghost use Rattle.position.specs.declared.fault.HistoryFault.{HistoryFault};
 ghost use Rattle.maximin.specs.Room.{room_depth};
 ghost use Rattle.gdlsolve.specs.Checking.{spaced};
@@ -13,13 +12,15 @@ ghost use Rattle.gdlsolve.specs.Solving.{move_line, choice_text, move_texts, tur
 
 use crate::history::{position_after, refused_history};
 use crate::play::Play;
-use crate::reply::{Reply, answered, refused};
+use crate::reply::{Reply, add_count, answered, refused};
 use crate::roles::role_named;
-use maximin::{choice, value_in};
+use maximin::choice;
 use position::{AtBound, Game, HistoryFault};
 use propnet::Joint;
-use std::alloc::{AllocError, Global};
+use share::{Cut, Gate, solve};
+use std::alloc::AllocError;
 use std::io::Write;
+use std::thread::Threads;
 
 /// Adds each move of a joint move with a space before it. After an error the output may have a beginning of them.
 fn add_moves<G: Game>(g: &G, joint: &Joint, output: &mut Vec<u8>) -> Result<(), AllocError>
@@ -73,19 +74,6 @@ fn add_choice<G: Game>(
     Ok(())
 }
 
-/// The value of a state for a role.
-fn value_of<G: Game>(g: &G, role: usize, depth: u32, at: AtBound, play: &mut Play<G>) -> u16
-    requires role { role < (G.rules g.now).roles }
-    requires play { IsPlayOf (G.fits g.now) (G.fits_wide g.now) (G.fits_many g.now) (G.rules g.now).roles play.old }
-    requires deep { depth ≤ room_depth play.old.room }
-    ensures value { result ≡ value (G.rules g.now) role depth at (G.state g.now play.old.here) }
-    ensures same { play.new.here ≡ play.old.here }
-    ensures play { IsPlayOf (G.fits g.now) (G.fits_wide g.now) (G.fits_many g.now) (G.rules g.now).roles play.new }
-    ensures deep { room_depth play.new.room ≡ room_depth play.old.room }
-{
-    value_in(g, &play.here, role, depth, at, -1, 101, &mut play.room).unsigned_abs()
-}
-
 /// Adds the lines of the turns that follow a state whose first move is `chosen`, the first with this number. After an error the output
 /// may have a beginning of them.
 fn add_turns<G: Game>(
@@ -115,13 +103,30 @@ fn add_turns<G: Game>(
     Ok(())
 }
 
-/// The value of a state for a role, the move that makes sure of it, and the line of play, as lines.
-fn value_lines<G: Game>(
-    alloc: Global,
+/// No task of a search waits.
+#[derive(Drop)]
+struct Open;
+
+impl Gate for Open {
+    fn at(&self, _task: usize) {}
+}
+
+/// A value without its sign.
+fn unsigned(value: i16) -> usize
+    ensures { result ≡ nat_abs value }
+{
+    value.unsigned_abs() as usize
+}
+
+/// The value of a state for a role, the move that makes sure of it, and the line of play, as lines. The cut says how many threads
+/// search.
+fn value_lines<T: Threads + Sync + AllocGlobal, G: Game>(
+    rt: &T,
     g: &G,
     role: usize,
     depth: u32,
     at: AtBound,
+    cut: &Cut,
     here: G::Pos,
 ) -> Result<Vec<u8>, AllocError>
     requires fits { G.fits g.now here }
@@ -129,23 +134,24 @@ fn value_lines<G: Game>(
     ensures { IfOk result (λ output. output.items
         ≡ solve_lines (named (G.rules g.now) (G.role_name g.now) (G.move_name g.now)) role depth at (G.state g.now here)) }
 {
+    let alloc = rt.alloc();
+    let found = solve(rt, g, &here, role, depth, at, cut, &Open)?;
     let mut play = Play::new(alloc, g, depth, here)?;
     let mut output = Vec::new(alloc);
-    let value = value_of(g, role, depth, at, &mut play);
-    writeln!(output, "value {value}").map_err(|_| AllocError)?;
-    let chosen = choice(g, &play.here, role, depth, at, &mut play.room);
-    add_choice(g, role, chosen, &mut output)?;
-    add_turns(g, role, depth, at, chosen, &mut play, &mut output)?;
+    add_count("value", unsigned(found.value), &mut output)?;
+    add_choice(g, role, found.choice, &mut output)?;
+    add_turns(g, role, depth, at, found.choice, &mut play, &mut output)?;
     Ok(output)
 }
 
 /// The reply to `solve` for a role after a history, or the line that names the fault of the history.
-fn reply_for<G: Game>(
-    alloc: Global,
+fn reply_for<T: Threads + Sync + AllocGlobal, G: Game>(
+    rt: &T,
     g: &G,
     role: usize,
     depth: u32,
     at: AtBound,
+    cut: &Cut,
     after: &str,
 ) -> Result<Reply, AllocError>
     requires { role < (G.rules g.now).roles }
@@ -153,8 +159,9 @@ fn reply_for<G: Game>(
         × (record { output = reply.output.items; status = reply.status }
         ≡ history_reply (named (G.rules g.now) (G.role_name g.now) (G.move_name g.now)) (solve_lines (named (G.rules g.now) (G.role_name g.now) (G.move_name g.now)) role depth at) ended)) }
 {
+    let alloc = rt.alloc();
     match position_after(alloc, g, after) {
-        Ok(here) => Ok(answered(value_lines(alloc, g, role, depth, at, here)?)),
+        Ok(here) => Ok(answered(value_lines(rt, g, role, depth, at, cut, here)?)),
         Err(HistoryFault::NoMemory) => Err(AllocError),
         Err(fault) => refused_history(alloc, g, fault),
     }
@@ -162,19 +169,20 @@ fn reply_for<G: Game>(
 
 /// The reply to `solve` for the role of a text, within so many turns, after the history of a text: a line that names the fault of the
 /// role or else of the history, or the value, the move and the line of play of the state after the history.
-pub(crate) fn solve_reply<G: Game>(
-    alloc: Global,
+pub(crate) fn solve_reply<T: Threads + Sync + AllocGlobal, G: Game>(
+    rt: &T,
     g: &G,
     role: &str,
     depth: u32,
     at: AtBound,
+    cut: &Cut,
     after: &str,
 ) -> Result<Reply, AllocError>
     ensures { IfOk result (λ reply. IsSolveReply (named (G.rules g.now) (G.role_name g.now) (G.move_name g.now)) role.now depth at after.now
         (record { output = reply.output.items; status = reply.status })) }
 {
-    match role_named(alloc, g, role)? {
-        Some(number) => reply_for(alloc, g, number, depth, at, after),
-        None => refused(alloc, &"S1 NoSuchRole"),
+    match role_named(rt.alloc(), g, role)? {
+        Some(number) => reply_for(rt, g, number, depth, at, cut, after),
+        None => refused(rt.alloc(), &"S1 NoSuchRole"),
     }
 }

@@ -2,6 +2,7 @@
 mod bounds;
 mod checks;
 mod counting;
+mod cuts;
 mod devices;
 mod games;
 mod helps;
@@ -14,9 +15,14 @@ use crate::{Command, RunFault, Status, main_with, run, run_rules};
 use devices::{Full, Silent, Slow, Torn};
 use std::alloc::{AllocError, Global};
 use std::test::Fail;
+use std::thread::Threads;
 
 /// What the command line answers: the exit status, the output and the errors.
-fn told(rt: &HostRuntime, words: &[&str], text: &[u8]) -> (u8, Vec<u8>, Vec<u8>) {
+fn told<T: Threads + Sync + AllocGlobal>(
+    rt: &T,
+    words: &[&str],
+    text: &[u8],
+) -> (u8, Vec<u8>, Vec<u8>) {
     let mut input = text;
     let mut output = Vec::new(rt.alloc());
     let mut errors = Vec::new(rt.alloc());
@@ -25,8 +31,8 @@ fn told(rt: &HostRuntime, words: &[&str], text: &[u8]) -> (u8, Vec<u8>, Vec<u8>)
 }
 
 /// Whether a command, by a run of either player and by these words, answers a text with these bytes and this exit status.
-fn replies(
-    rt: &HostRuntime,
+fn replies<T: Threads + Sync + AllocGlobal>(
+    rt: &T,
     command: &Command,
     words: &[&str],
     text: &[u8],
@@ -51,7 +57,7 @@ fn replies(
 }
 
 /// Whether `show` answers a text with these bytes and this exit status.
-fn shows(rt: &HostRuntime, text: &[u8], want: &[u8], exit: u8) -> bool {
+fn shows<T: Threads + Sync + AllocGlobal>(rt: &T, text: &[u8], want: &[u8], exit: u8) -> bool {
     replies(rt, &Command::Show, &["show"], text, want, exit)
 }
 

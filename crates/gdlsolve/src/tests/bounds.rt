@@ -4,13 +4,15 @@ use super::lines::OPEN;
 use super::{replies, told};
 use crate::Command;
 use position::AtBound;
+use share::Cut;
 use std::alloc::AllocError;
+use std::thread::Threads;
 
 /// A description, a role, a depth, the word for what is at the bound, and what is written.
 type Row<'a> = (&'a [u8], &'a str, u32, &'a str, &'a [u8]);
 
 /// Whether `solve` answers what the row says.
-fn solves(rt: &HostRuntime, row: Row) -> Result<bool, AllocError> {
+fn solves<T: Threads + Sync + AllocGlobal>(rt: &T, row: Row) -> Result<bool, AllocError> {
     let (rules, role, depth, word, want) = row;
     let turns = format!(in rt.alloc(); "{depth}")?;
     let at_bound = if word == "goal" {
@@ -18,10 +20,14 @@ fn solves(rt: &HostRuntime, row: Row) -> Result<bool, AllocError> {
     } else {
         AtBound::Zero
     };
+    let Some(cut) = Cut::parse(b"1") else {
+        return Ok(false);
+    };
     let command = Command::Solve {
         role,
         depth,
         at_bound,
+        cut,
         after: "",
     };
     let words = [

@@ -80,6 +80,7 @@ Options:
       --role <ROLE>       The role to find a move for
       --depth <TURNS>     How many turns to look ahead, from 0 to 64
       --at-bound <WORTH>  What a state is worth where these turns are over and play goes on: zero, or its goal [default: zero]
+      --cut <LEVELS>      How many threads search, and those behind each of their moves, as 4 or 4x2 [default: 1]
       --after <TEXT>      The turns that were played, each a list of a move for each role
   -h, --help              Print help
 

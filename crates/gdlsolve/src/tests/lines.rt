@@ -3,19 +3,25 @@ use super::games::{FOUR, LIVE, MARKS, MATCH, SIXTEEN};
 use super::{replies, told};
 use crate::Command;
 use position::AtBound;
+use share::Cut;
 use std::alloc::AllocError;
+use std::thread::Threads;
 
 /// A description, a role, a depth, a history, what is written, and the exit status.
-type Row<'a> = (&'a [u8], &'a str, u32, &'a str, &'a [u8], u8);
+pub(crate) type Row<'a> = (&'a [u8], &'a str, u32, &'a str, &'a [u8], u8);
 
 /// Whether `solve` answers what the row says.
-fn solves(rt: &HostRuntime, row: Row) -> Result<bool, AllocError> {
+fn solves<T: Threads + Sync + AllocGlobal>(rt: &T, row: Row) -> Result<bool, AllocError> {
     let (rules, role, depth, after, want, exit) = row;
     let turns = format!(in rt.alloc(); "{depth}")?;
+    let Some(cut) = Cut::parse(b"1") else {
+        return Ok(false);
+    };
     let command = Command::Solve {
         role,
         depth,
         at_bound: AtBound::Zero,
+        cut,
         after,
     };
     let words = [
@@ -118,7 +124,7 @@ fn worked_games_are_solved(rt: HostRuntime) -> Result<(), AllocError> {
 }
 
 /// The whole line of the game of marks, and the same behind its first turn.
-const MARKED: [Row; 3] = [
+pub(crate) const MARKED: [Row; 3] = [
     (
         MARKS,
         "xplayer",

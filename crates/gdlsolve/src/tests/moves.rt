@@ -4,6 +4,7 @@ use super::{replies, told};
 use crate::Command;
 use std::alloc::{AllocError, Global};
 use std::test::Fail;
+use std::thread::Threads;
 
 /// A negated proposition outside `Base` never holds, and `init` and `next` of others have no effect.
 pub(crate) const UNBASED: &[u8] =
@@ -170,7 +171,13 @@ const MOVED: [(&[u8], &str, &[u8], u8); 31] = [
 ];
 
 /// Whether `moves` answers a description and a history with these bytes and this exit status.
-fn moves(rt: &HostRuntime, text: &[u8], after: &str, want: &[u8], exit: u8) -> bool {
+fn moves<T: Threads + Sync + AllocGlobal>(
+    rt: &T,
+    text: &[u8],
+    after: &str,
+    want: &[u8],
+    exit: u8,
+) -> bool {
     let command = Command::Moves { after };
     replies(rt, &command, &["moves", "--after", after], text, want, exit)
 }

@@ -6,9 +6,10 @@ use crate::Command;
 use std::alloc::{AllocError, Global};
 use std::io::Write;
 use std::test::Fail;
+use std::thread::Threads;
 
 /// Whether `net` answers a description with these bytes and this exit status.
-fn counts(rt: &HostRuntime, text: &[u8], want: &[u8], exit: u8) -> bool {
+fn counts<T: Threads + Sync + AllocGlobal>(rt: &T, text: &[u8], want: &[u8], exit: u8) -> bool {
     replies(rt, &Command::Net, &["net"], text, want, exit)
 }
 

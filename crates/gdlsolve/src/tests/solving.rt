@@ -5,15 +5,24 @@ use crate::command::Status;
 use crate::solving::solve_reply;
 use position::table::Table;
 use position::{AtBound, Game};
-use std::alloc::{AllocError, Global};
+use share::Cut;
+use std::alloc::AllocError;
+use std::thread::Threads;
 
 /// A role, a depth, a history, what is written, and whether it is an answer.
 type Row<'a> = (&'a str, u32, &'a str, &'a [u8], bool);
 
 /// Whether `solve` writes what the row says.
-fn solves<G: Game>(alloc: Global, g: &G, row: Row) -> Result<bool, AllocError> {
+fn solves<T: Threads + Sync + AllocGlobal, G: Game>(
+    rt: &T,
+    g: &G,
+    row: Row,
+) -> Result<bool, AllocError> {
     let (role, depth, after, want, answers) = row;
-    let reply = solve_reply(alloc, g, role, depth, AtBound::Zero, after)?;
+    let Some(cut) = Cut::parse(b"2x2") else {
+        return Ok(false);
+    };
+    let reply = solve_reply(rt, g, role, depth, AtBound::Zero, &cut, after)?;
     let wanted = if answers {
         Status::Answer
     } else {
@@ -73,7 +82,7 @@ const SOLVED: [Row; 9] = [
 #[test]
 fn value_move_and_line_are_told(rt: HostRuntime) -> Result<(), AllocError> {
     for row in SOLVED {
-        assert!(rt; solves(rt.alloc(), &LEVEL, row)?, "at {row:?}");
+        assert!(rt; solves(&rt, &LEVEL, row)?, "at {row:?}");
     }
     Ok(())
 }
@@ -108,7 +117,7 @@ const REFUSED: [Row; 12] = [
 #[test]
 fn faults_of_the_role_stand_before_those_of_the_history(rt: HostRuntime) -> Result<(), AllocError> {
     for row in REFUSED {
-        assert!(rt; solves(rt.alloc(), &LEVEL, row)?, "at {row:?}");
+        assert!(rt; solves(&rt, &LEVEL, row)?, "at {row:?}");
     }
     Ok(())
 }
@@ -128,7 +137,7 @@ fn first_least_reply_is_told(rt: HostRuntime) -> Result<(), AllocError> {
         b"value 10\nmove one\nline 1 one one two\n".as_slice(),
         true,
     );
-    assert!(rt; solves(rt.alloc(), &table, line)?);
+    assert!(rt; solves(&rt, &table, line)?);
     Ok(())
 }
 
@@ -145,7 +154,7 @@ fn stuck_state_is_worth_nothing(rt: HostRuntime) -> Result<(), AllocError> {
         b"value 20\nmove one\nline 1 one one one\n".as_slice(),
         true,
     );
-    assert!(rt; solves(rt.alloc(), &table, start)?);
+    assert!(rt; solves(&rt, &table, start)?);
     let stuck = (
         "row",
         3,
@@ -153,7 +162,7 @@ fn stuck_state_is_worth_nothing(rt: HostRuntime) -> Result<(), AllocError> {
         b"value 0\nmove none\n".as_slice(),
         true,
     );
-    assert!(rt; solves(rt.alloc(), &table, stuck)?);
+    assert!(rt; solves(&rt, &table, stuck)?);
     let further = (
         "row",
         3,
@@ -161,6 +170,6 @@ fn stuck_state_is_worth_nothing(rt: HostRuntime) -> Result<(), AllocError> {
         b"refused H4 Stuck 2\n".as_slice(),
         false,
     );
-    assert!(rt; solves(rt.alloc(), &table, further)?);
+    assert!(rt; solves(&rt, &table, further)?);
     Ok(())
 }
