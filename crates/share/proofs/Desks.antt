@@ -1,5 +1,5 @@
 -- A desk that is opened and closed.
-use Rattle.std.proofs.Common.{◌≡◌, ℕ, ◌+◌, ◌<◌, List, [], ◌∷◌, ◌++◌, length, length-append, suc, ◌∙◌, ap, subst, sym, arith}
+use Rattle.std.proofs.Common.{◌≡◌, ℕ, [], ◌∷◌, ◌++◌, length, length-append, suc, ◌∙◌, ap, subst, sym, arith}
 use Rattle.std.proofs.lemmas.List.Elements.{All-pop, All-push}
 use Rattle.std.specs.Prelude.{Some, All, vec_capacity}
 use Rattle.maximin.specs.Room.{IsRoomOf, room_depth}

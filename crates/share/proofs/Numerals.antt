@@ -1,5 +1,5 @@
 -- The texts of the levels of a cut.
-use Rattle.std.proofs.Common.{◌≡◌, ℕ, ◌+◌, ◌-◌, ◌*◌, ◌/◌, ◌%◌, ◌<◌, ◌≤◌, true, false, List, [], ◌∷◌, ◌++◌, length, zero, suc, refl, sym, ◌∙◌, ap, subst, arith, inl, inr, get_or, take, drop}
+use Rattle.std.proofs.Common.{◌≡◌, ℕ, ◌+◌, ◌-◌, ◌/◌, ◌%◌, ◌<◌, ◌≤◌, true, false, List, [], ◌∷◌, ◌++◌, length, zero, suc, refl, sym, ◌∙◌, ap, subst, arith, inl, inr, get_or, take, drop}
 use Rattle.std.proofs.lemmas.Bool.{cases_lt}
 use Rattle.std.proofs.lemmas.Bool.Decides.{nat_tests}
 use Rattle.std.proofs.lemmas.Fmt.{decimal_digit, decimal_step, decimal_injective}
@@ -7,7 +7,7 @@ use Rattle.std.proofs.lemmas.List.Splits.{slice_split_none, slice_split_at, slic
 use Rattle.std.proofs.lemmas.List.{length-map, length-drop, take_all}
 use Rattle.std.proofs.lemmas.List.Sums.{fails_before_first, prefix_len-le-length}
 use Rattle.std.specs.Option.{option_map}
-use Rattle.std.specs.Prelude.{◌==◌, not, is_some, All, map, Option, Some, None, IfSome, IfNone}
+use Rattle.std.specs.Prelude.{not, is_some, All, map, Option, Some, None, IfSome, IfNone}
 use Rattle.std.specs.List.{slice_split, join_with_byte, position_or_len}
 use Rattle.std.specs.Fmt.{decimal}
 use Rattle.share.specs.Cuts.{IsCut, levels_from, cut_text, is_x, pieces_of}

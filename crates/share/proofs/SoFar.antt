@@ -1,5 +1,5 @@
 -- The least of the tasks of a move, task by task.
-use Rattle.std.proofs.Common.{◌≡◌, ℕ, ◌+◌, ◌-◌, ◌<◌, ◌≤◌, zero, suc, min, max, refl, ◌∙◌, length, arith, inl, inr, get_or}
+use Rattle.std.proofs.Common.{◌≡◌, ℕ, ◌+◌, ◌-◌, ◌<◌, ◌≤◌, suc, min, max, ◌∙◌, length, arith, inl, inr, get_or}
 use Rattle.std.proofs.lemmas.Bool.{cases_lt}
 use Rattle.std.proofs.lemmas.List.{get_or-replicate}
 use Rattle.std.proofs.lemmas.Int.{ints}
@@ -9,12 +9,12 @@ use Rattle.position.specs.declared.at_bound.AtBound.{AtBound}
 use Rattle.position.specs.Value.{Answers as Result, value, worst, choice_of}
 use Rattle.maximin.proofs.Values.{IsOpen, value_reached, worst_le_value}
 use Rattle.maximin.proofs.Best.{IsBest, worst_at_place, choice_found}
-use Rattle.board.specs.Values.{least, worth}
+use Rattle.board.specs.Values.{least}
 use Rattle.board.specs.Boards.{kept, table_of}
 use Rattle.board.specs.Windows.{Answers}
 use Rattle.board.proofs.Least.{least_le, least_under}
 use Rattle.share.specs.Tasks.{own_at, task_value}
-use Rattle.share.specs.Node.{board_setup, IsNode}
+use Rattle.share.specs.Node.{IsNode}
 use Rattle.share.specs.declared.plan.Plan.{Plan}
 use Rattle.share.proofs.Plans.{plan_free, replies_some}
 use Rattle.share.proofs.Roots.{worth_is}

@@ -1,4 +1,4 @@
-use Rattle.std.proofs.Common.{◌-◌, ◌<◌, ◌≤◌, arith, get_or, w16, rules as facts}
+use Rattle.std.proofs.Common.{◌-◌, ◌≤◌, arith, get_or, w16, rules as facts}
 use Rattle.std.proofs.lemmas.Int.{to_z-of_z}
 use mir.Val.{SFits, to_z}
 use Rattle.std.specs.Prelude.{pos}

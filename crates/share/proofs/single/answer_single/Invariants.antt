@@ -1,4 +1,4 @@
-use Rattle.std.proofs.Common.{◌≡◌, ◌≤◌}
+use Rattle.std.proofs.Common.{◌≤◌}
 use Rattle.maximin.specs.Room.{IsRoomOf, room_depth}
 use Rattle.maximin.proofs.Best.{IsBest, worst_at_place}
 use Rattle.share.specs.Step.{IsStepOf}

@@ -1,4 +1,4 @@
-use Rattle.std.proofs.Common.{◌∙◌, ◌<◌, ◌≤◌, ◌*◌, ◌+◌, arith, w16, rules as facts}
+use Rattle.std.proofs.Common.{◌∙◌, w16, rules as facts}
 use Rattle.std.proofs.lemmas.Int.{to_z-of_z}
 use mir.Val.{SFits, to_z}
 use Rattle.board.specs.Boards.{kept, table_of}
