@@ -5,8 +5,10 @@ import os
 import re
 import resource
 import subprocess
+import sys
 import tempfile
 from dataclasses import dataclass
+from pathlib import Path
 
 from timing import TOP, program
 
@@ -87,6 +89,28 @@ def run(command, words, text, limit=60, memory=None, env=None):
         after = resource.getrusage(resource.RUSAGE_CHILDREN)
     seconds = after.ru_utime + after.ru_stime - before.ru_utime - before.ru_stime
     return Told(done.returncode, done.stdout, done.stderr, seconds)
+
+
+def linked(objects, folder):
+    """The program of these objects over the heap that counts and refuses, in a folder."""
+    kit = Path(subprocess.run(["rt", "doc"], stdout=subprocess.PIPE, text=True, check=True).stdout.strip()).parent
+    made = folder / "program"
+    heap = TOP / "bench" / "refusing_heap.c"
+    wraps = "-Wl,--wrap=pthread_create,--wrap=_exit"
+    words = ["cc", "-O1", wraps, "-o", made, objects, heap, kit / "c" / "libos_c.a", "-lpthread"]
+    subprocess.run(words, check=True)
+    return made
+
+
+def run_counted(made, words, text, limit, refused):
+    """One run over the heap that counts, with what it is to refuse: what it told, and the counts."""
+    told_in = made.parent / "told"
+    told_in.unlink(missing_ok=True)
+    told = run([str(made)], words, text, limit, env={"REFUSE_TELL": str(told_in), **refused})
+    counts = [int(word) for word in told_in.read_text().split()] if told_in.exists() else []
+    if len(counts) != 4 and told.status is not None and told.status >= 0:
+        sys.exit(f"the heap's counts were not written (is the disk full?): {words}: {told}")
+    return told, dict(zip(("growths", "threads", "refused", "left"), counts or [0] * 4))
 
 
 def is_tree(line):

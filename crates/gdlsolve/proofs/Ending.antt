@@ -2,11 +2,11 @@
 use Rattle.std.proofs.Common.{ℕ, ◌≡◌, ◌≢◌, ◌≤◌, List, arith}
 use Rattle.std.specs.Prelude.{Option, Result, Ok, Err, IfOk, IfErr}
 use Rattle.std.specs.Io.KnownBytes.{Appends}
-use Rattle.gdlsolve.specs.declared.command.Command.{Command}
-use Rattle.gdlsolve.specs.declared.command.Status.{Status}
-use Rattle.gdlsolve.specs.declared.command.Status.TheVariants.{Answer, Refused}
-use Rattle.gdlsolve.specs.declared.command.RunFault.{RunFault}
-use Rattle.gdlsolve.specs.declared.command.RunFault.TheVariants.{Memory, Read, Write}
+use Rattle.replies.specs.declared.command.Command.{Command}
+use Rattle.replies.specs.declared.command.Status.{Status}
+use Rattle.replies.specs.declared.command.Status.TheVariants.{Answer, Refused}
+use Rattle.gdlsolve.specs.declared.fault.RunFault.{RunFault}
+use Rattle.gdlsolve.specs.declared.fault.RunFault.TheVariants.{Memory, Read, Write}
 use Rattle.gdlsolve.specs.Exits.{exit_status, Replied}
 use Rattle.gdlsolve.specs.Input.{RepliesTo}
 

@@ -5,11 +5,11 @@ use Rattle.kif.specs.Reading.{too_long, fault_in, fault_where, or_else, text_lim
 use Rattle.kif.specs.Lexical.{spots}
 use Rattle.kif.specs.Refusal.{fault_text}
 use Rattle.kif.specs.declared.fault.KifFault.TheVariants as faults
-use Rattle.gdlsolve.specs.declared.command.Command.{Command}
+use Rattle.replies.specs.declared.command.Command.{Command}
 use Rattle.gdlsolve.specs.Input.{read_limit, IsReadFrom, RepliesTo}
-use Rattle.gdlsolve.specs.Answers.{Reply, refusal}
-use Rattle.gdlsolve.specs.Replies.{IsReply}
-use Rattle.gdlsolve.proofs.OneText.{one_text_fault}
+use Rattle.replies.specs.Answers.{Reply, refusal}
+use Rattle.replies.specs.Replies.{IsReply}
+use Rattle.replies.proofs.OneText.{one_text_fault}
 
 below_is_true : (m n : ℕ) → m < n → nat_lt m n ≡ true
 below_is_true m n h = search (rules, h)

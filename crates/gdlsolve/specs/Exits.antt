@@ -1,11 +1,11 @@
 -- The exit status of the program.
 use Rattle.std.specs.Prelude.{ℕ, List, Option, Result, Ok, Err}
 use Rattle.std.specs.Io.KnownBytes.{Appends}
-use Rattle.gdlsolve.specs.declared.command.Command.{Command}
-use Rattle.gdlsolve.specs.declared.command.Status.{Status}
-use Rattle.gdlsolve.specs.declared.command.Status.TheVariants.{Answer, Refused}
-use Rattle.gdlsolve.specs.declared.command.RunFault.{RunFault}
-use Rattle.gdlsolve.specs.declared.command.RunFault.TheVariants.{Memory, Read, Write}
+use Rattle.replies.specs.declared.command.Command.{Command}
+use Rattle.replies.specs.declared.command.Status.{Status}
+use Rattle.replies.specs.declared.command.Status.TheVariants.{Answer, Refused}
+use Rattle.gdlsolve.specs.declared.fault.RunFault.{RunFault}
+use Rattle.gdlsolve.specs.declared.fault.RunFault.TheVariants.{Memory, Read, Write}
 use Rattle.gdlsolve.specs.Input.{RepliesTo}
 
 -- 0 for an answer, 2 for a refusal, 3 for want of memory, 4 for a reader or a writer that failed

@@ -1,13 +1,14 @@
 -- Which bytes a run reads.
-use Rattle.std.specs.Prelude.{ℕ, ◌≡◌, ◌≤◌, ◌<◌, List, Option, Some, None, drop, length, ⊤}
+use Rattle.std.specs.Prelude.{ℕ, suc, ◌≡◌, ◌≤◌, ◌<◌, List, Option, Some, None, drop, length, ⊤}
 use Rattle.std.specs.Io.KnownBytes.{Consumes, IsAtEnd}
-use Rattle.gdlsolve.specs.declared.command.Command.{Command}
-use Rattle.gdlsolve.specs.Answers.{Reply}
-use Rattle.gdlsolve.specs.Replies.{IsReply}
+use Rattle.kif.specs.Reading.{text_limit}
+use Rattle.replies.specs.declared.command.Command.{Command}
+use Rattle.replies.specs.Answers.{Reply}
+use Rattle.replies.specs.Replies.{IsReply}
 
 -- one byte more than a text may have
 abbrev pub read_limit : ℕ
-read_limit = 1048577
+read_limit = suc text_limit
 
 -- The bytes are the whole input, where it is known what the reader gives, and of a longer input what
 -- stands behind the limit is left unread.

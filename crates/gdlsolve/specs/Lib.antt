@@ -1,11 +1,2 @@
-pub mod Answers
-pub mod Checking
-pub mod Replies
 pub mod Input
 pub mod Exits
-pub mod Histories
-pub mod Moving
-pub mod Solving
-pub mod Play
-pub mod Games
-pub mod Networks

@@ -3,9 +3,9 @@ ghost use Rattle.std.specs.Prelude.{◌≡◌, ◌≢◌, ◌≤◌, ◌⊎◌, 
 ghost use Rattle.std.specs.Io.KnownBytes.{Keeps};
 ghost use Rattle.gdlsolve.specs.Exits.{exit_status, Replied};
 
-use crate::command::{RunFault, Status};
-use crate::grammar::{Request, request_of};
+use crate::fault::RunFault;
 use crate::running::{run, write_out};
+use replies::{Request, Status, request_of};
 use std::alloc::Global;
 use std::io::{Read, Write};
 use std::thread::Threads;

@@ -3,12 +3,13 @@ ghost use Rattle.std.specs.Prelude.{◌≡◌, ◌≢◌, ◌+◌, ◌≤◌, �
 ghost use Rattle.std.specs.Io.KnownBytes.{Consumes, IsAtEnd};
 ghost use Rattle.gdlsolve.specs.Input.{IsReadFrom};
 
-use crate::command::RunFault;
+use crate::fault::RunFault;
+use kif::TEXT_LIMIT;
 use std::alloc::{AllocError, Global};
 use std::io::Read;
 
 /// How many bytes are read at most: one more than a text may have, so that a longer one shows.
-const READ_LIMIT: usize = 1_048_577;
+const READ_LIMIT: usize = TEXT_LIMIT + 1;
 
 /// Room for so many bytes.
 fn room_for(alloc: Global, size: usize) -> Result<Vec<u8>, AllocError>

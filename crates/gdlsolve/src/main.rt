@@ -1,27 +1,17 @@
 // The program `gdlsolve`: the rules of a game on standard input, answers on standard output.
 #![tactic(auto)]
 
-mod answering;
-mod command;
 mod commands;
-mod games;
-mod grammar;
-mod grounding;
-mod history;
+mod fault;
 mod input;
-mod laws;
-mod moving;
-mod play;
-mod reply;
-mod roles;
 mod running;
-mod solving;
 #[cfg(test)]
 mod tests;
+mod working;
 
-pub use command::{Command, RunFault, Status};
 pub use commands::main_with;
-pub use laws::each_input_has_one_reply;
+pub use fault::RunFault;
+pub use replies::{Command, Status};
 pub use running::{run, run_rules};
 use std::io::{ErrorKind, Read, Write};
 use std::process::ExitCode;

@@ -2,14 +2,14 @@
 ghost use Rattle.std.specs.Prelude.{◌≡◌, ◌≢◌, ℕ, List, IfOk, IfErr, OnOk, OnErr};
 ghost use Rattle.std.specs.Io.KnownBytes.{Appends, Keeps};
 ghost use Rattle.kif.specs.Written.{AppendsFront};
+ghost use Rattle.replies.specs.Answers.{Reply};
 ghost use Rattle.gdlsolve.specs.Input.{RepliesTo};
-ghost use Rattle.gdlsolve.specs.Answers.{Reply};
 
-use crate::answering::answer;
-use crate::command::{Command, RunFault, Status};
-use crate::games::Player;
+use crate::fault::RunFault;
 use crate::input::read_input;
+use crate::working::reply_by_workers;
 use kif::write_bytes;
+use replies::{Command, Player, Status};
 use std::io::{Read, Write};
 use std::thread::Threads;
 
@@ -42,7 +42,7 @@ fn run_with<T: Threads + Sync + AllocGlobal, R: Read, W: Write>(
         × AppendsFront (W.contents output.old) (W.contents output.new) reply.output) }
 {
     let bytes = read_input(rt.alloc(), input)?;
-    let Ok(reply) = answer(rt, player, command, &bytes) else {
+    let Ok(reply) = reply_by_workers(rt, player, command, &bytes) else {
         return Err(RunFault::Memory);
     };
     write_out(output, &reply.output)?;

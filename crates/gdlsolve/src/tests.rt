@@ -9,7 +9,6 @@ mod helps;
 mod lines;
 mod moves;
 mod nets;
-mod solving;
 
 use crate::{Command, RunFault, Status, main_with, run, run_rules};
 use devices::{Full, Silent, Slow, Torn};

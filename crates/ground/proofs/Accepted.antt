@@ -1,15 +1,13 @@
 -- An accepted list of items is well formed.
 use Rattle.std.proofs.Common.{ℕ, zero, suc, Bool, true, false, not, ◌&&◌, ◌||◌, ◌≡◌, List, [], refl, sym, ap, subst, ◌∙◌, Option}
 use Rattle.kif.specs.Tree.{Tree, name, list, Trees, no_trees, tree}
-use Rattle.kif.proofs.Equality.{both}
-use Rattle.rules.specs.Words.{w_base, w_input, w_init, w_legal, w_goal, w_terminal}
-use Rattle.rules.specs.Clause.{Atom, Alternative, Relation, relation_of, is_word}
-use Rattle.rules.specs.Dependence.{IsAmong, Edge, dependences, is_distinct, is_moving, DependsDirectly, DependsIn, IsFixed, is_fixed}
-use Rattle.rules.specs.Items.{is_constant, is_connective, is_atom, atom_in, are_terms, are_literals, is_item, item_head, item_alternatives, head_tree, body_trees, alternatives}
-use Rattle.rules.specs.Profile.{Fault, or_else, first_failing, bad_form, bad_keyword, not_safe, recursive, bad_dependence, first_too_many, is_unsafe, is_recursive, depends_badly, rests_on_move, some_body, none_of, roles, misuses_word, uses, heads_well, bodies_stand_well, is_role_well, HasNoFault}
-use Rattle.rules.proofs.Accepted.{or_none, none_fails, not_not, rule_item, same_head, body_found, accepted_acyclic, accepted_safe, fixed_tested}
-use Rattle.rules.proofs.Tests.{not_false}
-use Rattle.rules.proofs.WellFormed.{IsOwn, accepted_heads, accepted_terms, role_fixed, base_fixed, input_fixed}
+use Rattle.kif.proofs.Facts.{both}
+use Rattle.profile.specs.Words.{w_base, w_input, w_init, w_legal, w_goal, w_terminal}
+use Rattle.profile.specs.Clause.{Atom, Alternative, Relation, relation_of, is_word}
+use Rattle.profile.specs.Dependence.{IsAmong, Edge, dependences, is_distinct, is_moving, DependsDirectly, DependsIn, IsFixed, is_fixed}
+use Rattle.profile.specs.Items.{is_constant, is_connective, is_atom, atom_in, are_terms, are_literals, is_item, item_head, item_alternatives, head_tree, body_trees, alternatives}
+use Rattle.profile.specs.Profile.{Fault, or_else, first_failing, bad_form, bad_keyword, not_safe, recursive, bad_dependence, first_too_many, is_unsafe, is_recursive, depends_badly, rests_on_move, some_body, none_of, roles, misuses_word, uses, heads_well, bodies_stand_well, is_role_well, HasNoFault}
+use Rattle.profile.proofs.Facts.{or_none, none_fails, not_not, rule_item, same_head, body_found, accepted_acyclic, accepted_safe, fixed_tested, not_false, IsOwn, accepted_heads, accepted_terms, role_fixed, base_fixed, input_fixed}
 use Rattle.ground.specs.Meaning.{ordinary, source_at}
 use Rattle.ground.specs.Listed.{IsWellFormed}
 

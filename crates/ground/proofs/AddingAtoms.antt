@@ -3,8 +3,8 @@ use Rattle.std.proofs.Common.{ℕ, zero, suc, ◌<◌, ◌≤◌, ◌+◌, Bool,
 use Rattle.std.proofs.lemmas.List.{map-append, length-map, map_more, drop_all}
 use Rattle.std.proofs.Math.Seq.{take_all}
 use Rattle.kif.specs.Tree.{Tree, trees_of}
-use Rattle.rules.specs.Clause.{Atom, tree_at, tree_of}
-use Rattle.rules.specs.Safety.{is_name_in}
+use Rattle.profile.specs.Clause.{Atom, tree_at, tree_of}
+use Rattle.profile.specs.Safety.{is_name_in}
 use Rattle.ground.specs.Arena.{Held, AreNumbered, sizes_of, cut}
 use Rattle.ground.specs.Founds.{IsFrontOf, AreAtoms, with_number, with_numbers}
 use Rattle.ground.specs.Keys.{AreBelow, IsKey, key_at, with_key, word_of, parts_of, word_at, term_at, tree_of_key, trees}

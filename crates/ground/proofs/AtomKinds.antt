@@ -3,11 +3,11 @@ use Rattle.std.proofs.Common.{ℕ, zero, suc, ◌≤◌, Bool, true, false, cond
 use Rattle.std.specs.Prelude.{decimal}
 use Rattle.std.proofs.lemmas.Fmt.{decimal_injective}
 use Rattle.kif.specs.Tree.{Tree, name, list, Trees, no_trees, tree, name_eq}
-use Rattle.kif.proofs.Equality.{name_eq_yes, name_eq_self}
-use Rattle.rules.specs.Words.{w_true, w_does, w_next, w_legal, w_goal, w_terminal}
-use Rattle.rules.specs.Clause.{Atom, Alternative, Relation, relation_of}
-use Rattle.rules.specs.Dependence.{IsAcyclic, is_moving, is_fixed}
-use Rattle.rules.proofs.Accepted.{fixed_tested}
+use Rattle.kif.proofs.Facts.{name_eq_yes, name_eq_self}
+use Rattle.profile.specs.Words.{w_true, w_does, w_next, w_legal, w_goal, w_terminal}
+use Rattle.profile.specs.Clause.{Atom, Alternative, Relation, relation_of}
+use Rattle.profile.specs.Dependence.{IsAcyclic, is_moving, is_fixed}
+use Rattle.profile.proofs.Facts.{fixed_tested}
 use Rattle.ground.specs.declared.kind.Kind.{Kind}
 use Rattle.ground.specs.declared.kind.Kind.TheVariants.{Fixed, Now, Does, Next, Legal, Goal, Terminal, Other}
 use Rattle.ground.specs.Meaning.{atom0, atom1, atom2}

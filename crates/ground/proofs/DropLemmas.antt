@@ -4,10 +4,10 @@ use Rattle.std.specs.Prelude.{not, filter, slice_index_or}
 use Rattle.std.specs.List.{list_any}
 use Rattle.rules.specs.declared.rule_set.Keywords.{Keywords}
 use Rattle.kif.specs.Tree.{Tree, trees_of, name_eq, tree_eq}
-use Rattle.kif.proofs.Equality.{name_eq_yes, name_eq_self, tree_eq_yes, tree_eq_self}
-use Rattle.rules.specs.Clause.{Atom, Alternative, tree_of}
+use Rattle.kif.proofs.Facts.{name_eq_yes, name_eq_self, tree_eq_yes, tree_eq_self}
+use Rattle.profile.specs.Clause.{Atom, Alternative, tree_of}
 use Rattle.rules.specs.RuleSets.{IsNumberOf, AreKeywords}
-use Rattle.rules.specs.Words.{w_init, w_next, w_legal}
+use Rattle.profile.specs.Words.{w_init, w_next, w_legal}
 use Rattle.ground.specs.Dropping.{is_input_in, is_dropped_in, dropped_in, AreListsBelow, AreShown}
 use Rattle.ground.specs.Founds.{AreAtoms}
 use Rattle.ground.specs.InOrder.{first_place}

@@ -1,11 +1,11 @@
 -- What is dropped has no effect, and the first limit passed is none exactly where all are kept.
 use Rattle.std.proofs.Common.{ℕ, Bool, true, false, not, ◌&&◌, ◌||◌, ◌≡◌, ◌⊎◌, ◌↔◌, inl, inr, List, [], ◌∷◌, refl, ap, subst, ◌∙◌}
 use Rattle.kif.specs.Tree.{Tree, Trees, no_trees, tree, name_eq, tree_eq}
-use Rattle.kif.proofs.Equality.{both, true_and, name_eq_yes, tree_eq_yes, tree_eq_self}
-use Rattle.rules.specs.Words.{w_init, w_next, w_legal}
-use Rattle.rules.specs.Clause.{Atom, Alternative, relation_of, is_word}
-use Rattle.rules.specs.Dependence.{IsAmong}
-use Rattle.rules.proofs.Tests.{or_cases, or_left, or_right, not_true}
+use Rattle.kif.proofs.Facts.{both, true_and, name_eq_yes, tree_eq_yes, tree_eq_self}
+use Rattle.profile.specs.Words.{w_init, w_next, w_legal}
+use Rattle.profile.specs.Clause.{Atom, Alternative, relation_of, is_word}
+use Rattle.profile.specs.Dependence.{IsAmong}
+use Rattle.profile.proofs.Facts.{or_cases, or_left, or_right, not_true}
 use Rattle.ground.specs.Meaning.{atom1, IsBase, IsInput}
 use Rattle.ground.specs.Listing.{role_list, base_list, input_list}
 use Rattle.ground.specs.Listed.{IsWellFormed}

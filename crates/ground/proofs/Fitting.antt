@@ -11,12 +11,11 @@ use Rattle.std.specs.Option.{option_map}
 use Rattle.std.specs.declared.cmp.Ordering.TheVariants.{Less}
 use Rattle.kif.specs.Tree.{Tree, Trees, no_trees, tree, text, tree_eq, printed_cmp}
 use Rattle.kif.specs.Lexical.{HasNames}
-use Rattle.kif.proofs.Equality.{tree_eq_yes}
-use Rattle.kif.proofs.Texts.{text_once}
-use Rattle.rules.specs.Clause.{Atom, Alternative, Relation, relation_of, is_word, atom_eq}
-use Rattle.rules.specs.Dependence.{IsAmong, is_fixed}
-use Rattle.rules.specs.Order.{relations_in_order}
-use Rattle.rules.specs.Words.{w_role, w_true, w_does}
+use Rattle.kif.proofs.Facts.{tree_eq_yes, text_once}
+use Rattle.profile.specs.Clause.{Atom, Alternative, Relation, relation_of, is_word, atom_eq}
+use Rattle.profile.specs.Dependence.{IsAmong, is_fixed}
+use Rattle.profile.specs.Order.{relations_in_order}
+use Rattle.profile.specs.Words.{w_role, w_true, w_does}
 use Rattle.ground.specs.declared.kind.Kind.{Kind}
 use Rattle.ground.specs.declared.kind.Kind.TheVariants.{Fixed, Now, Does, Next, Legal, Goal, Terminal, Other}
 use Rattle.ground.specs.Meaning.{source_of, ordinary, atom1, atom2}

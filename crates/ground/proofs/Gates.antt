@@ -2,13 +2,11 @@
 use Rattle.std.proofs.Common.{ℕ, zero, suc, ◌<◌, Bool, true, false, not, cond, ◌&&◌, ◌≡◌, ◌⊎◌, ◌↔◌, inl, inr, List, [], ◌∷◌, length, map, refl, sym, ap, subst, ◌∙◌, eqb, eqb-true}
 use Rattle.std.specs.Prelude.{filter}
 use Rattle.kif.specs.Tree.{Tree, name_eq}
-use Rattle.kif.proofs.Equality.{both, name_eq_yes}
-use Rattle.rules.specs.Clause.{Atom, Literal, positive, negative, Alternative, Relation, relation_of, atom_eq, atom_of}
-use Rattle.rules.specs.Words.{w_distinct}
-use Rattle.rules.specs.Dependence.{IsAmong, is_moving, is_distinct, DependsDirectly, DependsIn, IsFixed, is_fixed}
-use Rattle.rules.proofs.Walks.{IsHead}
-use Rattle.rules.proofs.Accepted.{fixed_tested}
-use Rattle.rules.proofs.Tests.{not_true}
+use Rattle.kif.proofs.Facts.{both, name_eq_yes}
+use Rattle.profile.specs.Clause.{Atom, Literal, positive, negative, Alternative, Relation, relation_of, atom_eq, atom_of}
+use Rattle.profile.specs.Words.{w_distinct}
+use Rattle.profile.specs.Dependence.{IsAmong, is_moving, is_distinct, DependsDirectly, DependsIn, IsFixed, is_fixed}
+use Rattle.profile.proofs.Facts.{IsHead, fixed_tested, not_true}
 use Rattle.ground.specs.Substitution.{literal_under}
 use Rattle.ground.specs.Meaning.{State, Joint, Source, now, does, distinct, ordinary, source_of, RightAs, IsRight, Holds, HoldsAlways, nothing, nobody, IsWithinBase, IsWithinInput}
 use Rattle.ground.specs.Kept.{PossibleAs, Keeps, HeadsKept, PossibleIf, IsPossible}

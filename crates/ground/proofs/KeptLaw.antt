@@ -1,11 +1,11 @@
 -- Within `Base` and `Input`, what holds is derived by kept instances alone.
 use Rattle.std.proofs.Common.{ℕ, zero, suc, Bool, true, false, ◌&&◌, cond, ◌≡◌, ◌⊎◌, ◌↔◌, inl, inr, List, length, refl, sym, subst}
 use Rattle.kif.specs.Tree.{Tree, Trees, no_trees, tree, name_eq}
-use Rattle.kif.proofs.Equality.{name_eq_yes}
-use Rattle.rules.specs.Words.{w_true, w_does, w_distinct}
-use Rattle.rules.specs.Clause.{Atom, Literal, positive, negative, Alternative, Relation, relation_of, count_trees, atom_of}
-use Rattle.rules.specs.Dependence.{is_distinct, is_moving, DependsDirectly, IsAcyclic, IsFixed}
-use Rattle.rules.proofs.Walks.{IsHead, along_dependence}
+use Rattle.kif.proofs.Facts.{name_eq_yes}
+use Rattle.profile.specs.Words.{w_true, w_does, w_distinct}
+use Rattle.profile.specs.Clause.{Atom, Literal, positive, negative, Alternative, Relation, relation_of, count_trees, atom_of}
+use Rattle.profile.specs.Dependence.{is_distinct, is_moving, DependsDirectly, IsAcyclic, IsFixed}
+use Rattle.profile.proofs.Facts.{IsHead, along_dependence}
 use Rattle.ground.specs.Substitution.{literal_under}
 use Rattle.ground.specs.Meaning.{State, Joint, Source, now, does, distinct, ordinary, source_at, source_of, RightAs, IsRight, IsDerived, Holds, nothing, nobody, IsWithinBase, IsWithinInput}
 use Rattle.ground.specs.Kept.{PossibleAs, UndecidedAs, Keeps, HeadsKept, HasRightInstance}

@@ -7,10 +7,10 @@ use Rattle.std.proofs.lemmas.Iterator.Adapters.{position_from-zero}
 use Rattle.std.proofs.lemmas.List.Quantifiers.{position-Some}
 use Rattle.std.proofs.lemmas.List.{map-append, length-map}
 use Rattle.kif.specs.Tree.{name_eq}
-use Rattle.kif.proofs.Equality.{name_eq_yes, name_eq_self}
-use Rattle.rules.specs.Safety.{is_name_in}
+use Rattle.kif.proofs.Facts.{name_eq_yes, name_eq_self}
+use Rattle.profile.specs.Safety.{is_name_in}
 use Rattle.ground.specs.Keys.{key_at, with_key}
-use Rattle.rules.proofs.Tests.{or_left, or_right}
+use Rattle.profile.proofs.Facts.{or_left, or_right}
 
 not_here : (b : Bool) (i : ℕ) (o : Option ℕ) → cond b (Some i) o ≡ None → (b ≡ false) × (o ≡ None)
 not_here true i o e = absurd cc

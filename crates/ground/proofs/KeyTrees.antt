@@ -1,8 +1,8 @@
 -- Different keys are different trees.
 use Rattle.std.proofs.Common.{ℕ, suc, zero, ◌≡◌, ◌+◌, ◌<◌, ◌≤◌, List, [], ◌∷◌, ◌++◌, Bool, true, false, cond, ◌⊎◌, inl, inr, length, refl, sym, ◌∙◌, ap, subst, arith, map}
 use Rattle.kif.specs.Tree.{Tree, Trees, no_trees, tree, trees_of}
-use Rattle.rules.specs.Clause.{tree_at}
-use Rattle.rules.specs.Safety.{is_name_in}
+use Rattle.profile.specs.Clause.{tree_at}
+use Rattle.profile.specs.Safety.{is_name_in}
 use Rattle.ground.specs.Keys.{key_at, with_key, word_of, parts_of, word_at, term_at, tree_of_key, trees_behind, trees, AreBelow, IsKey, AreDifferentWords, AreKeys, AreDifferent}
 use Rattle.ground.proofs.KeyNumbers.{is_in, last_or_before, more_different, true_or_false}
 

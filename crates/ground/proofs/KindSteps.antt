@@ -2,8 +2,8 @@
 use Rattle.std.proofs.Common.{ℕ, ◌+◌, ◌≡◌, List, [], ◌∷◌, ◌++◌, map, nat_lt, append_assoc, refl, sym, ap, ◌∙◌}
 use Rattle.std.proofs.lemmas.List.{append-nil}
 use Rattle.kif.specs.Tree.{Tree}
-use Rattle.rules.specs.Clause.{Atom, Alternative, relation_of, tree_of}
-use Rattle.rules.specs.Dependence.{is_fixed}
+use Rattle.profile.specs.Clause.{Atom, Alternative, relation_of, tree_of}
+use Rattle.profile.specs.Dependence.{is_fixed}
 use Rattle.ground.specs.declared.kind.Kind.{Kind}
 use Rattle.ground.specs.Keys.{term_at}
 use Rattle.ground.specs.Kinds.{kind_of}

@@ -6,11 +6,11 @@ use Rattle.std.specs.Option.{option_map}
 use Rattle.std.proofs.lemmas.Iterator.Adapters.{position_from-zero}
 use Rattle.std.proofs.lemmas.List.Quantifiers.{position-Some}
 use Rattle.kif.specs.Tree.{Tree, Trees, name, no_trees, tree, trees_of, name_eq, tree_eq}
-use Rattle.kif.proofs.Equality.{name_eq_yes, name_eq_self, tree_eq_yes, tree_eq_self}
-use Rattle.rules.specs.Clause.{Atom, Alternative, relation_of, tree_of, tree_at}
-use Rattle.rules.specs.Dependence.{is_fixed}
+use Rattle.kif.proofs.Facts.{name_eq_yes, name_eq_self, tree_eq_yes, tree_eq_self}
+use Rattle.profile.specs.Clause.{Atom, Alternative, relation_of, tree_of, tree_at}
+use Rattle.profile.specs.Dependence.{is_fixed}
 use Rattle.rules.specs.RuleSets.{IsNumberOf, AreKeywords}
-use Rattle.rules.specs.Words.{w_true, w_does, w_next, w_legal, w_goal, w_terminal}
+use Rattle.profile.specs.Words.{w_true, w_does, w_next, w_legal, w_goal, w_terminal}
 use Rattle.rules.specs.declared.rule_set.Keywords.{Keywords}
 use Rattle.ground.specs.declared.kind.Kind.{Kind}
 use Rattle.ground.specs.declared.kind.Kind.TheVariants.{Fixed, Now, Does, Next, Legal, Goal, Terminal, Other}

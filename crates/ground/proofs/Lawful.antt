@@ -2,14 +2,13 @@
 use Rattle.std.proofs.Common.{ℕ, suc, Bool, true, false, not, cond, ◌≡◌, ◌⊎◌, inl, inr, List, [], ◌∷◌, length, refl, sym, ap, subst, ◌∙◌}
 use Rattle.kif.specs.Tree.{Tree, name, list, Trees, no_trees, tree}
 use Rattle.kif.specs.Lexical.{AreNameBytes, IsName, is_lower_name_byte, HasNames, HaveNames}
-use Rattle.kif.proofs.Equality.{both, true_and}
-use Rattle.rules.specs.Words.{w_role, w_base, w_input}
-use Rattle.rules.specs.Clause.{is_variable, Atom, Literal, positive, negative, Alternative, Relation, relation_of, atom_of, tree_of}
-use Rattle.rules.specs.Items.{are_name_bytes, is_name, is_constant, begins_compound, is_term, are_terms}
-use Rattle.rules.specs.Dependence.{IsAmong, is_distinct, DependsDirectly, IsFixed}
-use Rattle.rules.specs.Safety.{variables, variables_in, is_binding}
-use Rattle.rules.proofs.Tests.{not_true, IsAmong-append, IsAmong-append_left, IsAmong-append_right}
-use Rattle.rules.proofs.Walks.{IsHead, along_dependence}
+use Rattle.kif.proofs.Facts.{both, true_and}
+use Rattle.profile.specs.Words.{w_role, w_base, w_input}
+use Rattle.profile.specs.Clause.{is_variable, Atom, Literal, positive, negative, Alternative, Relation, relation_of, atom_of, tree_of}
+use Rattle.profile.specs.Items.{are_name_bytes, is_name, is_constant, begins_compound, is_term, are_terms}
+use Rattle.profile.specs.Dependence.{IsAmong, is_distinct, DependsDirectly, IsFixed}
+use Rattle.profile.specs.Safety.{variables, variables_in, is_binding}
+use Rattle.profile.proofs.Facts.{not_true, IsAmong-append, IsAmong-append_left, IsAmong-append_right, IsHead, along_dependence}
 use Rattle.ground.specs.Substitution.{Map, is_ground, are_ground, substitute, substitute_all, atom_under, IsLawful, IsLawfulTerm}
 use Rattle.ground.specs.Meaning.{Source, now, does, distinct, ordinary, source_of, atom1, atom2, HoldsAlways, IsRole, IsBase, IsInput, IsDerived, State, Joint, Holds, IsWithinBase, IsWithinInput}
 use Rattle.ground.specs.Kept.{Keeps, HeadsKept, PossibleIf, IsPossible}

@@ -5,8 +5,8 @@ use Rattle.std.proofs.Math.ListN.{get_or-map}
 use Rattle.std.proofs.lemmas.List.{map-append, length-map, take-append-le, length-take-le}
 use Rattle.std.proofs.lemmas.Grind.{same_number_lists}
 use Rattle.kif.specs.Tree.{Tree, name, text, further_text, trees_of}
-use Rattle.rules.specs.Clause.{tree_at}
-use Rattle.rules.specs.Safety.{is_name_in}
+use Rattle.profile.specs.Clause.{tree_at}
+use Rattle.profile.specs.Safety.{is_name_in}
 use Rattle.ground.specs.Keys.{key_at, with_key, word_of, word_at, term_at, tree_of_key, trees_behind, trees, AreBelow, IsKey, AreKeys}
 use Rattle.ground.specs.Arena.{Held, cut, sizes_of, lengths_of, with_parts, key_length, AreNumbered, IsHeld}
 use Rattle.ground.specs.Most.{limits}

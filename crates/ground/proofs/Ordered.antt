@@ -1,8 +1,8 @@
 -- Lists in order: their parts, and that their members determine them.
 use Rattle.std.proofs.Common.{ℕ, suc, ◌<◌, Bool, true, false, cond, ◌≡◌, ◌⊎◌, ◌↔◌, inl, inr, List, [], ◌∷◌, ◌++◌, length, map, refl, sym, ap, subst, ◌∙◌, arith}
 use Rattle.std.specs.Prelude.{filter}
-use Rattle.rules.specs.Dependence.{IsAmong}
-use Rattle.rules.proofs.Tests.{IsAmong-append, IsAmong-append_left}
+use Rattle.profile.specs.Dependence.{IsAmong}
+use Rattle.profile.proofs.Facts.{IsAmong-append, IsAmong-append_left}
 use Rattle.ground.specs.InOrder.{AreInOrder, AreDistinct, first_place, IsLess}
 
 pub less_never : (ns : List ℕ) → IsLess ns ns → ⊥

@@ -2,10 +2,10 @@
 use Rattle.std.proofs.Common.{ℕ, true, false, ◌≡◌, List, [], ◌∷◌, length, map, cond, refl, Option, Some, None}
 use Rattle.std.specs.Prelude.{codes}
 use Rattle.kif.specs.Tree.{Tree, name, text, tree_eq}
-use Rattle.kif.proofs.Builder.{items_in}
-use Rattle.rules.specs.Words.{w_true, w_does, w_next, w_legal, w_terminal, w_init}
-use Rattle.rules.specs.Items.{alternatives}
-use Rattle.rules.proofs.Games.{match_text, tictactoe_text}
+use Rattle.kif.proofs.Facts.{items_in}
+use Rattle.profile.specs.Words.{w_true, w_does, w_next, w_legal, w_terminal, w_init}
+use Rattle.profile.specs.Items.{alternatives}
+use Rattle.profile.proofs.Facts.{match_text, tictactoe_text}
 use Rattle.ground.specs.declared.kind.Kind.TheVariants.{Fixed, Now, Does, Next, Legal, Terminal, Other}
 use Rattle.ground.specs.Meaning.{atom0, atom1, atom2, nothing}
 use Rattle.ground.specs.Listing.{listing}

@@ -9,11 +9,11 @@ use Rattle.std.specs.declared.cmp.Ordering.TheVariants.{Less, Equal, Greater}
 use Rattle.std.proofs.lemmas.Cmp.{tied_itself}
 use Rattle.kif.specs.Tree.{Tree, Trees, no_trees, tree, text, tree_eq, printed_cmp}
 use Rattle.kif.specs.Lexical.{HasNames}
-use Rattle.kif.proofs.Texts.{text_once}
-use Rattle.rules.specs.Clause.{Atom, relation_of, is_word}
-use Rattle.rules.specs.Dependence.{IsAmong}
-use Rattle.rules.specs.Order.{is_less}
-use Rattle.rules.proofs.Tests.{IsAmong-append_left}
+use Rattle.kif.proofs.Facts.{text_once}
+use Rattle.profile.specs.Clause.{Atom, relation_of, is_word}
+use Rattle.profile.specs.Dependence.{IsAmong}
+use Rattle.profile.specs.Order.{is_less}
+use Rattle.profile.proofs.Facts.{IsAmong-append_left}
 use Rattle.ground.specs.Meaning.{atom1, atom2}
 use Rattle.ground.specs.InOrder.{AreDistinct}
 use Rattle.ground.specs.Listing.{into_printed_order, in_printed_order, one_term, terms_of, second_of, terms_with}

@@ -2,17 +2,15 @@
 use Rattle.std.proofs.Common.{ℕ, zero, suc, Bool, true, false, not, cond, ◌&&◌, ◌≡◌, ◌⊎◌, inl, inr, List, [], ◌∷◌, ◌++◌, map, append_assoc, refl, sym, ap, subst, ◌∙◌, arith, eqb, eqb-true}
 use Rattle.std.specs.Prelude.{filter}
 use Rattle.kif.specs.Tree.{Tree, name, list, Trees, no_trees, tree, name_eq, tree_eq}
-use Rattle.kif.proofs.Equality.{both, name_eq_yes, tree_eq_yes, tree_eq_self}
-use Rattle.rules.specs.Words.{w_role}
-use Rattle.rules.specs.Clause.{is_variable, Atom, Alternative, Relation, relation_of, relation_eq, count_trees, is_word}
-use Rattle.rules.specs.Dependence.{IsAmong, is_among, is_fixed}
-use Rattle.rules.specs.Items.{item_head, item_alternatives, alternatives, body_trees, is_some, readings_of_all}
-use Rattle.rules.specs.Order.{relations_in_order}
-use Rattle.rules.specs.Safety.{variables, variables_in}
-use Rattle.rules.specs.Profile.{HasNoFault, is_empty, is_role_well, is_tree_in, first_of, role_in, with_new, roles_from, roles}
-use Rattle.rules.proofs.Accepted.{right_if, same_head, fixed_tested, relations_complete}
-use Rattle.rules.proofs.Tests.{or_cases, or_left, or_right}
-use Rattle.rules.proofs.Equality.{relation_eq_yes}
+use Rattle.kif.proofs.Facts.{both, name_eq_yes, tree_eq_yes, tree_eq_self}
+use Rattle.profile.specs.Words.{w_role}
+use Rattle.profile.specs.Clause.{is_variable, Atom, Alternative, Relation, relation_of, relation_eq, count_trees, is_word}
+use Rattle.profile.specs.Dependence.{IsAmong, is_among, is_fixed}
+use Rattle.profile.specs.Items.{item_head, item_alternatives, alternatives, body_trees, is_some, readings_of_all}
+use Rattle.profile.specs.Order.{relations_in_order}
+use Rattle.profile.specs.Safety.{variables, variables_in}
+use Rattle.profile.specs.Profile.{HasNoFault, is_empty, is_role_well, is_tree_in, first_of, role_in, with_new, roles_from, roles}
+use Rattle.profile.proofs.Facts.{right_if, same_head, fixed_tested, relations_complete, or_cases, or_left, or_right, relation_eq_yes}
 use Rattle.ground.specs.Substitution.{Map, substitute, substitute_all}
 use Rattle.ground.specs.Meaning.{atom1}
 use Rattle.ground.specs.InOrder.{AreDistinct}

@@ -3,13 +3,12 @@ use Rattle.std.proofs.Common.{ℕ, ◌<◌, true, false, ◌≡◌, List, [], �
 use Rattle.std.specs.Prelude.{filter, not}
 use Rattle.std.specs.List.{list_any}
 use Rattle.kif.specs.Tree.{Tree, name_eq, trees_of}
-use Rattle.kif.proofs.Equality.{name_eq_yes, name_eq_self}
-use Rattle.rules.specs.Clause.{Atom, Alternative, tree_of, atom_eq}
-use Rattle.rules.specs.Dependence.{IsAmong, is_fixed}
-use Rattle.rules.specs.Order.{relations_in_order}
-use Rattle.rules.specs.Words.{w_init}
-use Rattle.rules.proofs.Equality.{atom_eq_yes, atom_eq_self}
-use Rattle.rules.proofs.Tests.{IsAmong-append_left}
+use Rattle.kif.proofs.Facts.{name_eq_yes, name_eq_self}
+use Rattle.profile.specs.Clause.{Atom, Alternative, tree_of, atom_eq}
+use Rattle.profile.specs.Dependence.{IsAmong, is_fixed}
+use Rattle.profile.specs.Order.{relations_in_order}
+use Rattle.profile.specs.Words.{w_init}
+use Rattle.profile.proofs.Facts.{atom_eq_yes, atom_eq_self, IsAmong-append_left}
 use Rattle.ground.specs.Arena.{AreNumbered}
 use Rattle.ground.specs.Founds.{AreAtoms}
 use Rattle.ground.specs.Keys.{key_at, word_at, term_at, trees, tree_of_key, AreBelow, IsKey, AreKeys, AreDifferentWords}

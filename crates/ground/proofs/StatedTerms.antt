@@ -2,8 +2,8 @@
 use Rattle.std.proofs.Common.{ℕ, ◌<◌, ◌≤◌, Bool, true, false, cond, ◌&&◌, ◌==◌, ◌≡◌, List, [], ◌∷◌, ◌++◌, length, map, eqb-true, refl, sym, ap, subst, ◌∙◌, arith}
 use Rattle.std.proofs.lemmas.List.{map-append}
 use Rattle.kif.specs.Tree.{Tree, Trees, trees_of, name_eq, tree_eq}
-use Rattle.kif.proofs.Equality.{name_eq_yes, name_eq_self, tree_eq_yes, tree_eq_self}
-use Rattle.rules.specs.Clause.{Atom, relation_of, is_word, tree_of, count_trees}
+use Rattle.kif.proofs.Facts.{name_eq_yes, name_eq_self, tree_eq_yes, tree_eq_self}
+use Rattle.profile.specs.Clause.{Atom, relation_of, is_word, tree_of, count_trees}
 use Rattle.ground.specs.Keys.{key_at, word_of, parts_of, word_at, term_at, trees, IsKey, AreKeys, AreDifferentWords}
 use Rattle.ground.specs.Founds.{AreAtoms}
 use Rattle.ground.specs.Listing.{one_term, terms_of, terms_with}

@@ -3,8 +3,8 @@ use Rattle.std.proofs.Common.{ℕ, ◌≡◌, ◌⊎◌, inl, inr, Bool, true, f
 use Rattle.std.specs.List.{list_any}
 use Rattle.std.proofs.lemmas.List.{append-nil}
 use Rattle.kif.specs.Tree.{Tree}
-use Rattle.rules.specs.Dependence.{IsAmong}
-use Rattle.rules.proofs.Tests.{IsAmong-append}
+use Rattle.profile.specs.Dependence.{IsAmong}
+use Rattle.profile.proofs.Facts.{IsAmong-append}
 use Rattle.ground.specs.Founds.{with_numbers}
 use Rattle.ground.specs.InOrder.{AreDistinct}
 use Rattle.ground.specs.Keys.{term_at}

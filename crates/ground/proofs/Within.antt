@@ -3,10 +3,10 @@ use Rattle.std.proofs.Common.{ℕ, zero, ◌≤◌, ◌+◌, Bool, true, false, 
 use Rattle.std.specs.Prelude.{nat_lt, filter, ◌||◌}
 use Rattle.std.proofs.lemmas.Bool.Decides.{nat_tests}
 use Rattle.kif.specs.Tree.{text}
-use Rattle.rules.specs.Clause.{Alternative, Relation, tree_of}
-use Rattle.rules.specs.Dependence.{IsAmong, is_fixed}
-use Rattle.rules.specs.Order.{relations_in_order}
-use Rattle.rules.proofs.Tests.{IsAmong-append, IsAmong-append_left, IsAmong-append_right}
+use Rattle.profile.specs.Clause.{Alternative, Relation, tree_of}
+use Rattle.profile.specs.Dependence.{IsAmong, is_fixed}
+use Rattle.profile.specs.Order.{relations_in_order}
+use Rattle.profile.proofs.Facts.{IsAmong-append, IsAmong-append_left, IsAmong-append_right}
 use Rattle.ground.specs.declared.excess.Excess.{Excess}
 use Rattle.ground.specs.declared.excess.Excess.TheVariants.{Base, Inputs, Instances, Text}
 use Rattle.ground.specs.Listing.{Instance, kept_of_relation, with_atoms, Listing, heads, list_relation, list_relations, context_atoms, fixed_listing, role_list, base_list}

@@ -1,7 +1,7 @@
 -- The texts of atoms by the numbers of their terms, and the bytes of a text.
 use Rattle.std.specs.Prelude.{ℕ, ◌≡◌, ◌<◌, ◌≤◌, List, length, map, slice_index}
 use Rattle.kif.specs.Tree.{text, further_text, trees_of}
-use Rattle.rules.specs.Clause.{Alternative, tree_of}
+use Rattle.profile.specs.Clause.{Alternative, tree_of}
 use Rattle.ground.specs.declared.text_bytes.Place.{Place}
 use Rattle.ground.specs.declared.text_bytes.Place.TheVariants.{Byte, In}
 use Rattle.ground.specs.Arena.{Held, sizes_of}

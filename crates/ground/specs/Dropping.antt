@@ -2,7 +2,7 @@
 use Rattle.std.specs.Prelude.{ℕ, Bool, false, not, ◌&&◌, ◌||◌, ◌==◌, nat_eq, List, [], ◌∷◌, ◌≡◌, length, map, filter, slice_index_or, ⊤}
 use Rattle.std.specs.List.{list_any}
 use Rattle.kif.specs.Tree.{Tree}
-use Rattle.rules.specs.Clause.{Alternative}
+use Rattle.profile.specs.Clause.{Alternative}
 use Rattle.rules.specs.declared.rule_set.Keywords.{Keywords}
 use Rattle.ground.specs.InOrder.{first_place}
 use Rattle.ground.specs.Keys.{AreBelow, key_at, term_at}

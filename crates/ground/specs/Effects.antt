@@ -1,9 +1,9 @@
 -- Heads that have no effect on play, and what keeps within the limits.
 use Rattle.std.specs.Prelude.{◌≡◌, ◌≤◌, ◌⊎◌, List, length}
 use Rattle.kif.specs.Tree.{Tree, text}
-use Rattle.rules.specs.Words.{w_init, w_next, w_legal}
-use Rattle.rules.specs.Clause.{Atom, Alternative, tree_of}
-use Rattle.rules.specs.Dependence.{IsAmong}
+use Rattle.profile.specs.Words.{w_init, w_next, w_legal}
+use Rattle.profile.specs.Clause.{Atom, Alternative, tree_of}
+use Rattle.profile.specs.Dependence.{IsAmong}
 use Rattle.ground.specs.Meaning.{atom1, atom2, IsBase, IsInput}
 use Rattle.ground.specs.Listing.{Instance, listing, role_list, base_list}
 use Rattle.ground.specs.Limits.{count_inputs}

@@ -1,8 +1,8 @@
 -- What holds in a state and under a joint move, by going through the kept instances.
 use Rattle.std.specs.Prelude.{ℕ, zero, suc, Bool, true, false, not, cond, ◌&&◌, ◌||◌, List, [], ◌∷◌, Option, Some, None, filter, decimal}
 use Rattle.kif.specs.Tree.{Tree, name, tree_eq}
-use Rattle.rules.specs.Words.{w_next, w_legal, w_goal, w_terminal}
-use Rattle.rules.specs.Clause.{Atom, Literal, positive, negative, Alternative}
+use Rattle.profile.specs.Words.{w_next, w_legal, w_goal, w_terminal}
+use Rattle.profile.specs.Clause.{Atom, Literal, positive, negative, Alternative}
 use Rattle.ground.specs.Meaning.{State, Joint, Source, now, does, distinct, ordinary, source_of, nobody, atom0, atom1, atom2}
 use Rattle.ground.specs.Listing.{Instance, is_atom_in, listing, role_list, base_list, input_list}
 

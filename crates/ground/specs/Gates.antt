@@ -2,8 +2,8 @@
 -- another.
 use Rattle.std.specs.Prelude.{ℕ, zero, suc, Bool, true, false, not, cond, ◌&&◌, List, [], ◌∷◌, map, filter}
 use Rattle.kif.specs.Tree.{no_trees}
-use Rattle.rules.specs.Clause.{Atom, Literal, positive, negative, Alternative, relation_of}
-use Rattle.rules.specs.Dependence.{IsAmong, is_fixed}
+use Rattle.profile.specs.Clause.{Atom, Literal, positive, negative, Alternative, relation_of}
+use Rattle.profile.specs.Dependence.{IsAmong, is_fixed}
 use Rattle.ground.specs.Meaning.{State, Joint, IsRight, Holds}
 use Rattle.ground.specs.Listing.{Instance, is_atom_in, listing}
 use Rattle.ground.specs.Numbers.{number_of}

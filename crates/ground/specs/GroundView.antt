@@ -1,6 +1,6 @@
 -- What a ground tells.
 use Rattle.std.specs.Prelude.{ℕ, ◌≡◌, Bool, List, map}
-use Rattle.rules.specs.Clause.{Alternative}
+use Rattle.profile.specs.Clause.{Alternative}
 use Rattle.ground.specs.declared.kind.Kind.{Kind}
 use Rattle.ground.specs.declared.ground.Ground.{Ground}
 use Rattle.ground.specs.declared.ground.Instance.{Instance}

@@ -1,7 +1,7 @@
 -- What an instantiation gives, in numbers and texts.
 use Rattle.std.specs.Prelude.{ℕ, ◌≡◌, Bool, List, [], Vec, map, slice_index_or, None}
 use Rattle.kif.specs.Tree.{text}
-use Rattle.rules.specs.Clause.{Alternative}
+use Rattle.profile.specs.Clause.{Alternative}
 use Rattle.ground.specs.declared.kind.Kind.{Kind}
 use Rattle.ground.specs.declared.ground.Instance as shown
 use Rattle.ground.specs.Gates.{gate}

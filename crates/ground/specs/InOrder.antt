@@ -1,6 +1,6 @@
 -- Lists in order, and the place of a member.
 use Rattle.std.specs.Prelude.{ℕ, zero, suc, Bool, cond, ◌≡◌, ◌<◌, ◌⊎◌, List, [], ◌∷◌, ⊤}
-use Rattle.rules.specs.Dependence.{IsAmong}
+use Rattle.profile.specs.Dependence.{IsAmong}
 
 -- each member stands before all later ones
 abbrev pub AreInOrder : {A : Type 0} → (A → A → Type 0) → List A → Type 0

@@ -2,8 +2,8 @@
 -- among the terms before it.
 use Rattle.std.specs.Prelude.{ℕ, zero, ◌≡◌, ◌<◌, cond, List, [], ◌∷◌, ◌++◌, length, map, slice_index_or, ⊤}
 use Rattle.kif.specs.Tree.{Tree, name, trees_of}
-use Rattle.rules.specs.Clause.{tree_at}
-use Rattle.rules.specs.Safety.{is_name_in}
+use Rattle.profile.specs.Clause.{tree_at}
+use Rattle.profile.specs.Safety.{is_name_in}
 
 abbrev pub key_at : List (List ℕ) → ℕ → List ℕ
 key_at keys n = slice_index_or keys n []

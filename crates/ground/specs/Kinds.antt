@@ -2,9 +2,9 @@
 use Rattle.std.specs.Prelude.{ℕ, zero, suc, cond, ◌≡◌, ◌≤◌, List, [], ◌∷◌, Option, Some, None, decimal}
 use Rattle.std.specs.Option.{option_map}
 use Rattle.kif.specs.Tree.{Tree, name, list, Trees, no_trees, tree, name_eq, tree_eq}
-use Rattle.rules.specs.Words.{w_true, w_does, w_next, w_legal, w_goal, w_terminal}
-use Rattle.rules.specs.Clause.{Atom, Alternative, relation_of}
-use Rattle.rules.specs.Dependence.{IsFixed, is_fixed}
+use Rattle.profile.specs.Words.{w_true, w_does, w_next, w_legal, w_goal, w_terminal}
+use Rattle.profile.specs.Clause.{Atom, Alternative, relation_of}
+use Rattle.profile.specs.Dependence.{IsFixed, is_fixed}
 use Rattle.ground.specs.declared.kind.Kind.{Kind}
 use Rattle.ground.specs.declared.kind.Kind.TheVariants.{Fixed, Now, Does, Next, Legal, Goal, Terminal, Other}
 use Rattle.ground.specs.Meaning.{atom0, atom1, atom2}

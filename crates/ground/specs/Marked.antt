@@ -1,7 +1,7 @@
 -- Atoms of which the first are those of fixed relations.
 use Rattle.std.specs.Prelude.{ℕ, ◌≡◌, ◌+◌, nat_lt, List, [], ◌∷◌, ⊤}
-use Rattle.rules.specs.Clause.{Atom, Alternative, relation_of}
-use Rattle.rules.specs.Dependence.{is_fixed}
+use Rattle.profile.specs.Clause.{Atom, Alternative, relation_of}
+use Rattle.profile.specs.Dependence.{is_fixed}
 
 -- from a place on, the atoms before place n are of fixed relations, and the others of none
 abbrev pub AreMarked : List Alternative → ℕ → ℕ → List Atom → Type 0

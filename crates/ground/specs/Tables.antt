@@ -1,7 +1,7 @@
 -- The numbers of roles, base propositions and inputs, as places in lists of terms.
 use Rattle.std.specs.Prelude.{ℕ, ◌<◌, ◌≡◌, ◌^◌, ◌==◌, cond, List, [], length, map, position, slice_index, slice_index_or, Option, Some, None}
 use Rattle.kif.specs.Tree.{Tree}
-use Rattle.rules.specs.Clause.{Alternative}
+use Rattle.profile.specs.Clause.{Alternative}
 use Rattle.rules.specs.declared.rule_set.Keywords.{Keywords}
 use Rattle.ground.specs.declared.kind.Kind.{Kind}
 use Rattle.ground.specs.declared.kind.Kind.TheVariants.{Now, Does, Next, Legal, Goal, Terminal, Other}

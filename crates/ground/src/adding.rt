@@ -1,6 +1,6 @@
 // Further atoms by number.
 ghost use Rattle.std.specs.Prelude.{ℕ, List, [], ◌∷◌, ◌≡◌, ◌<◌, length, map, OnOk};
-ghost use Rattle.rules.specs.Clause.{Atom, tree_of};
+ghost use Rattle.profile.specs.Clause.{Atom, tree_of};
 ghost use Rattle.ground.specs.Founds.{IsFrontOf};
 ghost use Rattle.ground.specs.Keys.{AreBelow, IsKey, term_at, tree_of_key, trees, word_at};
 ghost use Rattle.ground.specs.Meaning.{atom1, atom2};

@@ -1,5 +1,5 @@
 // Ground terms by number, with the lengths of their texts.
-ghost use Rattle.std.specs.Prelude.{ℕ, List, Some, ◌+◌, ◌-◌, ◌≡◌, ◌<◌, ◌≤◌, [], ◌∷◌, length, slice_index, IfSome, IfOk, OnOk, OnErr, MatchOption, ◌≢◌};
+ghost use Rattle.std.specs.Prelude.{ℕ, List, Some, ◌+◌, ◌-◌, ◌≡◌, ◌<◌, ◌≤◌, [], ◌∷◌, length, take, slice_index, IfSome, IfOk, OnOk, OnErr, MatchOption, ◌≢◌};
 ghost use Rattle.kif.specs.Tree.{text};
 ghost use Rattle.rules.specs.RuleSetView.{lists_of_set};
 ghost use Rattle.ground.specs.Keys.{key_at, term_at, trees, with_key, IsKey, AreBelow, parts_of, word_of};
@@ -174,6 +174,17 @@ impl Arena {
             return Err(AllocError);
         };
         Ok(number)
+    }
+
+    /// Keeps the first terms, so many, and forgets the others. The names of the symbols stay.
+    pub fn truncate(&mut self, many: usize)
+        requires symbols { length self.old.sizes ≤ many }
+        requires within { many ≤ length self.old.keys }
+        ensures keys { self.new.keys ≡ take many self.old.keys }
+        ensures sizes { self.new.sizes ≡ self.old.sizes }
+    {
+        self.terms.truncate(many);
+        self.lengths.truncate(many);
     }
 }
 

@@ -1,9 +1,9 @@
 // The laws of the last pass.
 ghost use Rattle.std.specs.Prelude.{ℕ, ◌≡◌, List, length, map};
-ghost use Rattle.rules.specs.Clause.{Alternative};
+ghost use Rattle.profile.specs.Clause.{Alternative};
 ghost use Rattle.rules.specs.RuleSets.{IsNumberOf, AreKeywords};
 ghost use Rattle.rules.specs.declared.rule_set.Keywords.{Keywords};
-ghost use Rattle.rules.specs.Words.{w_init};
+ghost use Rattle.profile.specs.Words.{w_init};
 ghost use Rattle.ground.specs.Arena.{Held};
 ghost use Rattle.ground.specs.Dropping.{AreShown, dropped_in};
 ghost use Rattle.ground.specs.Finishing.{numbered_in};

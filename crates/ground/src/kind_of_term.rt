@@ -1,7 +1,7 @@
 // Where ground atoms stand in play.
 ghost use Rattle.std.specs.Prelude.{Some, None, ◌≡◌, ◌<◌, ◌^◌, length, map, if◌then◌else◌, IfSome};
-ghost use Rattle.rules.specs.Clause.{Atom, relation_of, tree_of};
-ghost use Rattle.rules.specs.Dependence.{is_fixed};
+ghost use Rattle.profile.specs.Clause.{Atom, relation_of, tree_of};
+ghost use Rattle.profile.specs.Dependence.{is_fixed};
 ghost use Rattle.rules.specs.RuleSetView.{lists_of_set, rules_in};
 ghost use Rattle.ground.specs.Keys.{term_at, trees};
 ghost use Rattle.ground.specs.Kinds.{kind_of, value_of, two_numbers};

@@ -1,6 +1,6 @@
 // Where all atoms stand in play.
 ghost use Rattle.std.specs.Prelude.{List, ◌≡◌, length, map, IfOk};
-ghost use Rattle.rules.specs.Clause.{Atom, tree_of};
+ghost use Rattle.profile.specs.Clause.{Atom, tree_of};
 ghost use Rattle.rules.specs.RuleSetView.{lists_of_set, rules_in};
 ghost use Rattle.ground.specs.Keys.{AreBelow, term_at, trees};
 ghost use Rattle.ground.specs.Kinds.{kind_of};

@@ -2,10 +2,10 @@
 ghost use Rattle.std.specs.Prelude.{◌≡◌, ◌↔◌, List, Bool, false, true, IsTrue};
 ghost use Rattle.kif.specs.Lexical.{HasNames};
 ghost use Rattle.kif.specs.Tree.{Tree};
-ghost use Rattle.rules.specs.Clause.{Atom, Alternative, relation_of, tree_of};
-ghost use Rattle.rules.specs.Dependence.{IsAcyclic, IsFixed, is_distinct};
-ghost use Rattle.rules.specs.Items.{alternatives, is_term};
-ghost use Rattle.rules.specs.Profile.{HasNoFault};
+ghost use Rattle.profile.specs.Clause.{Atom, Alternative, relation_of, tree_of};
+ghost use Rattle.profile.specs.Dependence.{IsAcyclic, IsFixed, is_distinct};
+ghost use Rattle.profile.specs.Items.{alternatives, is_term};
+ghost use Rattle.profile.specs.Profile.{HasNoFault};
 ghost use Rattle.ground.specs.Meaning.{State, Joint, Holds, HoldsAlways, IsDerived, IsRight, IsWithinBase, IsWithinInput, IsRole, IsBase, IsInput};
 ghost use Rattle.ground.specs.Kept.{HasRightInstance, HeadsKept, IsPossible};
 ghost use Rattle.ground.specs.Substitution.{IsLawful, IsLawfulTerm};

@@ -1,10 +1,10 @@
 // The laws of the listing: which instances it has, in which order, and how atoms are numbered.
 ghost use Rattle.std.specs.Prelude.{[], ◌≡◌, ◌↔◌, ◌++◌, List, IsTrue};
 ghost use Rattle.kif.specs.Tree.{Tree};
-ghost use Rattle.rules.specs.Clause.{Atom, Literal, Alternative};
-ghost use Rattle.rules.specs.Dependence.{IsAmong};
-ghost use Rattle.rules.specs.Items.{alternatives};
-ghost use Rattle.rules.specs.Profile.{HasNoFault, roles};
+ghost use Rattle.profile.specs.Clause.{Atom, Literal, Alternative};
+ghost use Rattle.profile.specs.Dependence.{IsAmong};
+ghost use Rattle.profile.specs.Items.{alternatives};
+ghost use Rattle.profile.specs.Profile.{HasNoFault, roles};
 ghost use Rattle.ground.specs.Meaning.{State, Joint, Holds, IsWithinBase, IsWithinInput, IsRole, IsBase, IsInput};
 ghost use Rattle.ground.specs.Kept.{HeadsKept, IsPossible};
 ghost use Rattle.ground.specs.Listing.{Instance, listing, fixed_listing, context_atoms, with_atoms, heads, fixed_part, other_part, role_list, base_list, input_list};

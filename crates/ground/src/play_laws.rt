@@ -2,12 +2,12 @@
 // kinds of atoms.
 ghost use Rattle.std.specs.Prelude.{ℕ, None, Bool, true, [], ◌≡◌, ◌≢◌, ◌↔◌, ◌<◌, List, length};
 ghost use Rattle.kif.specs.Tree.{Tree};
-ghost use Rattle.rules.specs.Clause.{Atom, Alternative, relation_of};
-ghost use Rattle.rules.specs.Dependence.{IsAcyclic, IsAmong, IsFixed};
+ghost use Rattle.profile.specs.Clause.{Atom, Alternative, relation_of};
+ghost use Rattle.profile.specs.Dependence.{IsAcyclic, IsAmong, IsFixed};
 ghost use Rattle.ground.specs.declared.kind.Kind.{Kind};
 ghost use Rattle.ground.specs.declared.kind.Kind.TheVariants.{Other};
 ghost use Rattle.ground.specs.Meaning.{State, Joint, Holds, IsWithinBase, IsWithinInput, HoldsAlways, IsRole, IsEnded, IsStuck, atom1};
-ghost use Rattle.rules.specs.Words.{w_init};
+ghost use Rattle.profile.specs.Words.{w_init};
 ghost use Rattle.ground.specs.Listing.{Instance, listing};
 ghost use Rattle.ground.specs.Listed.{IsWellFormed};
 ghost use Rattle.ground.specs.Evaluation.{holding, after_list, legal_list, is_ended, is_stuck, goal_of};

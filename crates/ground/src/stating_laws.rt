@@ -1,6 +1,6 @@
 // The laws of what atoms state.
 ghost use Rattle.std.specs.Prelude.{ℕ, ◌<◌, ◌≡◌, List, length, map};
-ghost use Rattle.rules.specs.Clause.{Atom};
+ghost use Rattle.profile.specs.Clause.{Atom};
 ghost use Rattle.ground.specs.Founds.{AreAtoms};
 ghost use Rattle.ground.specs.Keys.{AreDifferentWords, AreKeys, term_at, trees, word_at};
 ghost use Rattle.ground.specs.Listing.{terms_of, terms_with};

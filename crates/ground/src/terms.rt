@@ -1,5 +1,5 @@
 // Ground terms by number: each different one has one.
-ghost use Rattle.std.specs.Prelude.{ℕ, ◌≡◌, ◌<◌, ◌≢◌, List, length, map, IfOk, OnOk, OnErr, MatchOption};
+ghost use Rattle.std.specs.Prelude.{ℕ, ◌≡◌, ◌<◌, ◌≢◌, List, length, map, take, IfOk, OnOk, OnErr, MatchOption};
 ghost use Rattle.ground.specs.Keys.{key_at, with_key, IsKey, AreKeys, AreDifferent, AreDifferentWords, trees};
 
 use indexmap::IndexSet;
@@ -83,6 +83,13 @@ impl Terms {
         let owned = Vec::from_slice(self.alloc, key)?;
         self.keys.insert(owned)?;
         Ok(number)
+    }
+
+    /// Keeps the first terms, so many, and forgets the others.
+    pub fn truncate(&mut self, many: usize)
+        ensures { self.new ≡ take many self.old }
+    {
+        self.keys.truncate(many);
     }
 }
 

@@ -29,10 +29,12 @@ pub record IsStep (v : List ℕ) (o opens closes : ℕ) : Type 0 where
   pub opens_so_many : opened v (suc o) ≡ opened v o + opens
   pub closes_so_many : closed v (suc o) ≡ closed v o + closes
 
-counted : (kind : ℕ → Bool) (v : List ℕ) (o : ℕ) → o < length v → kind (get_or v o 0) ≡ true → count_by kind (take (suc o) v) ≡ count_by kind (take o v) + 1
+counted : (kind : ℕ → Bool) (v : List ℕ) (o : ℕ) → o < length v → kind (get_or v o 0) ≡ true
+    → count_by kind (take (suc o) v) ≡ count_by kind (take o v) + 1
 counted kind v o h e = ap (λ (i : ℕ). count_by kind (take i v)) (let f : suc o ≡ o + 1 = omega arith in f) ∙ count_by_more_yes kind v o 0 h e
 
-passed : (kind : ℕ → Bool) (v : List ℕ) (o : ℕ) → o < length v → kind (get_or v o 0) ≡ false → count_by kind (take (suc o) v) ≡ count_by kind (take o v) + 0
+passed : (kind : ℕ → Bool) (v : List ℕ) (o : ℕ) → o < length v → kind (get_or v o 0) ≡ false
+    → count_by kind (take (suc o) v) ≡ count_by kind (take o v) + 0
 passed kind v o h e =
     ap (λ (i : ℕ). count_by kind (take i v)) (let f : suc o ≡ o + 1 = omega arith in f) ∙ count_by_more_no kind v o 0 h e
     ∙ (let f : count_by kind (take o v) ≡ count_by kind (take o v) + 0 = omega arith in f)
@@ -73,9 +75,19 @@ token_step v o opening t = let w = token_within v o opening t in
 token_step v o closing t = let w = token_within v o closing t in
     record { within = w; opens_so_many = passed is_opening v o w (closing_no_opening _ t); closes_so_many = counted is_closing v o w t }
 token_step v o (word n) t = let w = token_within v o (word n) t in let h = token_byte v o (word n) t in
-    record { within = w; opens_so_many = passed is_opening v o w (name_no_opening _ h); closes_so_many = passed is_closing v o w (name_no_closing _ h) }
+    record {
+      within = w;
+      opens_so_many = passed is_opening v o w (name_no_opening _ h);
+      closes_so_many =
+          passed is_closing v o w (name_no_closing _ h);
+    }
 token_step v o stray t =
-    record { within = t.0; opens_so_many = passed is_opening v o t.0 (stray_no_opening _ t.1); closes_so_many = passed is_closing v o t.0 (stray_no_closing _ t.1) }
+    record {
+      within = t.0;
+      opens_so_many = passed is_opening v o t.0 (stray_no_opening _ t.1);
+      closes_so_many =
+          passed is_closing v o t.0 (stray_no_closing _ t.1);
+    }
 
 pub no_step : (v : List ℕ) (o : ℕ) → o < length v → ((k : Token) → IsTokenIn v o k → ⊥) → IsStep v o 0 0
 no_step v o w none = record {

@@ -1,10 +1,12 @@
 -- Of the faults at single tokens, the walk over the tokens finds the one of least offset.
-use Rattle.std.proofs.Common.{ℕ, zero, suc, ◌+◌, ◌-◌, ◌≡◌, ◌<◌, ◌≤◌, ◌⊎◌, inl, inr, Bool, true, false, nat_lt, List, [], ◌∷◌, map, take, drop, length, refl, sym, ap, subst, ◌∙◌, arith, eqb-true, length-drop, length-take, Option, Some, None}
+use Rattle.std.proofs.Common.{ℕ, zero, suc, ◌+◌, ◌-◌, ◌≡◌, ◌<◌, ◌≤◌, ◌⊎◌, inl, inr, Bool, true, false, nat_lt, List, [], ◌∷◌, map, take, drop, length}
+use Rattle.std.proofs.Common.{refl, sym, ap, subst, ◌∙◌, arith, eqb-true, length-drop, length-take, Option, Some, None}
 use Rattle.std.specs.Prelude.{◌==◌}
 use Rattle.std.proofs.lemmas.Bool.Decides.{nat_tests}
 use Rattle.std.proofs.lemmas.List.{length-map}
 use Rattle.kif.specs.Lexical.{is_name_byte, lower, Token, opening, closing, word, stray, Spot, token_here, spots_at}
-use Rattle.kif.specs.Reading.{open_limit, name_limit, Fault, too_long, bad_byte, too_deep, unclosed, unopened, name_too_long, or_else, is_zero, open_after, fault_where, fault_of, first_fault}
+use Rattle.kif.specs.Reading.{open_limit, name_limit, Fault, too_long, bad_byte, too_deep, unclosed, unopened, name_too_long, or_else, is_zero}
+use Rattle.kif.specs.Reading.{open_after, fault_where, fault_of, first_fault}
 use Rattle.kif.specs.Offsets.{offset}
 use Rattle.kif.proofs.Here.{IsRunIn, IsTokenIn, IsPlace, next_place, in_place, Here, none, one, here}
 use Rattle.kif.proofs.Tokens.{within_if_seen, token_within, spots_by, le_or_same}
@@ -144,20 +146,23 @@ no_token_no_fault v o n a u g t e =
     u i.token (at_offset v o (offset g) e i.token i.stands)
 
 -- at the one token of o, all faults are what the walk says of it
-given_here : (v : List ℕ) (o n : ℕ) (k : Token) → AreOpen v n o → ((j : Token) → IsTokenIn v o j → j ≡ k) → (g : Fault) → IsFaultIn v g → offset g ≡ o → fault_of n o k ≡ Some g
+given_here : (v : List ℕ) (o n : ℕ) (k : Token) → AreOpen v n o → ((j : Token) → IsTokenIn v o j → j ≡ k) → (g : Fault) → IsFaultIn v g → offset g ≡ o
+    → fault_of n o k ≡ Some g
 given_here v o n k a u g t e =
     let i = given v n g t (subst (AreOpen v n) (sym e) a) in
     let j = u i.token (at_offset v o (offset g) e i.token i.stands) in
     ap (λ (p : ℕ). fault_of n p k) (sym e) ∙ ap (λ (x : Token). fault_of n (offset g) x) (sym j) ∙ i.gives
 
-open_behind : (v : List ℕ) (o n : ℕ) (k : Token) → AreOpen v n o → IsStep v o (opens k) (shuts k) → fault_of n o k ≡ None → AreOpen v (open_after n k) (suc o)
+open_behind : (v : List ℕ) (o n : ℕ) (k : Token) → AreOpen v n o → IsStep v o (opens k) (shuts k) → fault_of n o k ≡ None
+    → AreOpen v (open_after n k) (suc o)
 open_behind v o n opening a s e = let x = s.opens_so_many in let y = s.closes_so_many in omega arith
 open_behind v o zero closing a s e = absurd (let f : Some (unopened o) ≡ None = e in cc)
 open_behind v o (suc n) closing a s e = let x = s.opens_so_many in let y = s.closes_so_many in omega arith
 open_behind v o n (word w) a s e = let x = s.opens_so_many in let y = s.closes_so_many in omega arith
 open_behind v o n stray a s e = let x = s.opens_so_many in let y = s.closes_so_many in omega arith
 
-pub walk_faults : (v : List ℕ) (o : ℕ) (after : Bool) (bs : List ℕ) (n : ℕ) → IsPlace v o after bs → AreOpen v n o → IsFoundFrom v o (first_fault n (spots_at o after bs))
+pub walk_faults : (v : List ℕ) (o : ℕ) (after : Bool) (bs : List ℕ) (n : ℕ) → IsPlace v o after bs → AreOpen v n o
+    → IsFoundFrom v o (first_fault n (spots_at o after bs))
 walk_faults v o after [] n p a = λ g t l.
     let w = fault_within v g t in
     let size = length-drop o v in

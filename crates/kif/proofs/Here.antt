@@ -1,5 +1,6 @@
 -- Which token begins at an offset of a text that has no comments.
-use Rattle.std.proofs.Common.{ℕ, zero, suc, ◌+◌, ◌-◌, ◌≡◌, ◌<◌, ◌≤◌, Bool, true, false, cond, List, [], ◌∷◌, map, take, drop, length, get_or, refl, sym, ap, subst, ◌∙◌, arith, eqb-true, drop-cons, length-drop}
+use Rattle.std.proofs.Common.{ℕ, zero, suc, ◌+◌, ◌-◌, ◌≡◌, ◌<◌, ◌≤◌, Bool, true, false, cond, List, [], ◌∷◌, map, take, drop, length, get_or, refl}
+use Rattle.std.proofs.Common.{sym, ap, subst, ◌∙◌, arith, eqb-true, drop-cons, length-drop}
 use Rattle.std.specs.Prelude.{◌==◌}
 use Rattle.std.proofs.lemmas.List.{get_or-drop}
 use Rattle.std.proofs.lemmas.Bool.Decides.{nat_tests}
@@ -80,7 +81,8 @@ some_front (b ∷ bs) = go (some_front bs) (is_name_byte b) refl
 front_of_run : (v : List ℕ) (o end : ℕ) → IsRunIn v o end → IsFront (end - o) (drop o v)
 front_of_run v o end r = record {
   names = λ k h. ap is_name_byte (get_or-drop o v k 0) ∙ r.names (o + k) (omega arith) (let f = r.further in omega arith);
-  ends = ap is_name_byte (get_or-drop o v (end - o) 0) ∙ ap (λ (j : ℕ). is_name_byte (get_or v j 0)) (let f = r.further in let e : o + (end - o) ≡ end = omega arith in e) ∙ r.ends;
+  ends = ap is_name_byte (get_or-drop o v (end - o) 0)
+      ∙ ap (λ (j : ℕ). is_name_byte (get_or v j 0)) (let f = r.further in let e : o + (end - o) ≡ end = omega arith in e) ∙ r.ends;
 }
 
 word_is : (v : List ℕ) (o : ℕ) (w : List ℕ) → IsTokenIn v o (word w) → w ≡ name_front (drop o v)
@@ -128,7 +130,8 @@ at_space b e closing h = grind (arith, nat_tests)
 at_space b e (word w) h = grind (arith, nat_tests)
 at_space b e stray h = grind (arith, nat_tests)
 
-at_stray : (b : ℕ) → is_name_byte b ≡ false → (b == 40) ≡ false → (b == 41) ≡ false → is_space b ≡ false → (k : Token) → begins_with k b ≡ true → k ≡ stray
+at_stray : (b : ℕ) → is_name_byte b ≡ false → (b == 40) ≡ false → (b == 41) ≡ false → is_space b ≡ false → (k : Token) → begins_with k b ≡ true
+    → k ≡ stray
 at_stray b e f g h opening t = absurd cc
 at_stray b e f g h closing t = absurd cc
 at_stray b e f g h (word w) t = absurd cc
@@ -142,7 +145,8 @@ no_word : (v : List ℕ) (o : ℕ) (w : List ℕ) (bs : List ℕ) → IsPlace v 
 no_word v zero w bs p t = let e : true ≡ false = p.start refl in absurd cc
 no_word v (suc k) w bs p t = let e = p.before k refl in let f = t.1.begins k refl in absurd cc
 
-words_same : (v : List ℕ) (o : ℕ) (bs : List ℕ) (after : Bool) → IsPlace v o after bs → (w : List ℕ) → IsTokenIn v o (word w) → word w ≡ word (name_front bs)
+words_same : (v : List ℕ) (o : ℕ) (bs : List ℕ) (after : Bool) → IsPlace v o after bs → (w : List ℕ) → IsTokenIn v o (word w)
+    → word w ≡ word (name_front bs)
 words_same v o bs after p w t = ap word (word_is v o w t ∙ ap name_front p.rest)
 
 word_here : (v : List ℕ) (o b : ℕ) (bs : List ℕ) → IsPlace v o false (b ∷ bs) → is_name_byte b ≡ true → IsTokenIn v o (word (name_front (b ∷ bs)))
@@ -175,7 +179,8 @@ here v o after b bs p = by_name (is_name_byte b) refl
     here_byte k t = ap (begins_with k) (sym (byte_here v o after b bs p)) ∙ token_byte v o k t
 
     by_after : (a : Bool) → after ≡ a → is_name_byte b ≡ true → Here v o (cond a [] (word (name_front (b ∷ bs)) ∷ []))
-    by_after true a e = none refl (λ k t. let w = at_name b e k (here_byte k t) in no_word v o w.0 (b ∷ bs) (subst (λ (c : Bool). IsPlace v o c (b ∷ bs)) a p) (subst (IsTokenIn v o) w.1 t))
+    by_after true a e = none refl (λ k t. let w = at_name b e k (here_byte k t) in
+        no_word v o w.0 (b ∷ bs) (subst (λ (c : Bool). IsPlace v o c (b ∷ bs)) a p) (subst (IsTokenIn v o) w.1 t))
     by_after false a e = one (word (name_front (b ∷ bs))) refl (word_here v o b bs (subst (λ (c : Bool). IsPlace v o c (b ∷ bs)) a p) e)
         (λ k t. let w = at_name b e k (here_byte k t) in w.1 ∙ words_same v o (b ∷ bs) after p w.0 (subst (IsTokenIn v o) w.1 t))
 
@@ -184,14 +189,19 @@ here v o after b bs p = by_name (is_name_byte b) refl
     by_space false s e f g = one stray refl (in_place v o after b bs p, ap is_stray (byte_here v o after b bs p) ∙ is_stray_byte b e f g s)
         (λ k t. at_stray b e f g s k (here_byte k t))
 
-    by_closing : (c : Bool) → (b == 41) ≡ c → is_name_byte b ≡ false → (b == 40) ≡ false → Here v o (cond c (closing ∷ []) (cond (is_space b) [] (stray ∷ [])))
-    by_closing true g e f = one closing refl (ap is_closing (byte_here v o after b bs p) ∙ g) (λ k t. at_closing b (eqb-true b 41 g) k (here_byte k t))
+    by_closing : (c : Bool) → (b == 41) ≡ c → is_name_byte b ≡ false → (b == 40) ≡ false
+        → Here v o (cond c (closing ∷ []) (cond (is_space b) [] (stray ∷ [])))
+    by_closing true g e f = one closing refl (ap is_closing (byte_here v o after b bs p) ∙ g)
+        (λ k t. at_closing b (eqb-true b 41 g) k (here_byte k t))
     by_closing false g e f = by_space (is_space b) refl e f g
 
-    by_opening : (c : Bool) → (b == 40) ≡ c → is_name_byte b ≡ false → Here v o (cond c (opening ∷ []) (cond (b == 41) (closing ∷ []) (cond (is_space b) [] (stray ∷ []))))
+    by_opening : (c : Bool) → (b == 40) ≡ c → is_name_byte b ≡ false
+        → Here v o (cond c (opening ∷ []) (cond (b == 41) (closing ∷ []) (cond (is_space b) [] (stray ∷ []))))
     by_opening true f e = one opening refl (ap is_opening (byte_here v o after b bs p) ∙ f) (λ k t. at_opening b (eqb-true b 40 f) k (here_byte k t))
     by_opening false f e = by_closing (b == 41) refl e f
 
-    by_name : (c : Bool) → is_name_byte b ≡ c → Here v o (cond c (cond after [] (word (name_front (b ∷ bs)) ∷ [])) (cond (b == 40) (opening ∷ []) (cond (b == 41) (closing ∷ []) (cond (is_space b) [] (stray ∷ [])))))
+    by_name : (c : Bool) → is_name_byte b ≡ c
+        → Here v o (cond c (cond after [] (word (name_front (b ∷ bs)) ∷ []))
+        (cond (b == 40) (opening ∷ []) (cond (b == 41) (closing ∷ []) (cond (is_space b) [] (stray ∷ [])))))
     by_name true e = by_after after refl e
     by_name false e = by_opening (b == 40) refl e

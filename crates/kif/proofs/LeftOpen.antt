@@ -1,5 +1,6 @@
 -- The walk over the tokens finds the first bracket that nothing closes.
-use Rattle.std.proofs.Common.{ℕ, zero, suc, ◌+◌, ◌≡◌, ◌<◌, ◌≤◌, ◌⊎◌, inl, inr, Bool, true, false, List, [], ◌∷◌, length, refl, sym, ap, subst, arith, length-drop, Option, Some, None}
+use Rattle.std.proofs.Common.{ℕ, zero, suc, ◌+◌, ◌≡◌, ◌<◌, ◌≤◌, ◌⊎◌, inl, inr, Bool, true, false, List, [], ◌∷◌, length, refl, sym, ap, subst, arith}
+use Rattle.std.proofs.Common.{length-drop, Option, Some, None}
 use Rattle.kif.specs.Lexical.{is_name_byte, Token, opening, closing, word, stray, Spot, token_here, tokens_of, spots_at}
 use Rattle.kif.specs.Reading.{Fault, unclosed, or_else, fault_where, never_closed, unclosed_at, first_unclosed}
 use Rattle.kif.proofs.Here.{IsTokenIn, IsPlace, next_place, in_place, Here, none, one, here}
@@ -121,7 +122,8 @@ walk_left v o after (b ∷ bs) p =
     by_token : (k : Token) → IsTokenIn v o k → IsStep v o (opens k) (shuts k) → ((j : Token) → IsTokenIn v o j → j ≡ k)
         → (AreMore v o 0 (suc o) → IsAnswer v o (suc o) (never_closed 0 (tokens_of (spots_at (suc o) (is_name_byte b) bs))))
         → IsLeftFrom v (suc o) (first_unclosed (spots_at (suc o) (is_name_byte b) bs))
-        → IsLeftFrom v o (or_else (unclosed_at o k (tokens_of (spots_at (suc o) (is_name_byte b) bs))) (first_unclosed (spots_at (suc o) (is_name_byte b) bs)))
+        → IsLeftFrom v o (or_else (unclosed_at o k (tokens_of (spots_at (suc o) (is_name_byte b) bs)))
+        (first_unclosed (spots_at (suc o) (is_name_byte b) bs)))
     by_token opening t s u answer later =
         by_answer _ t (answer (let x = s.opens_so_many in let y = s.closes_so_many in omega arith)) later
     by_token closing t s u answer later = left_later v o _ (λ i. let e = u opening i.it in absurd cc) later
@@ -133,7 +135,8 @@ walk_left v o after (b ∷ bs) p =
         → IsLeftFrom v (suc o) (first_unclosed (spots_at (suc o) (is_name_byte b) bs))
         → IsLeftFrom v o (first_unclosed (spots_at o after (b ∷ bs)))
     go (none e u) answer later =
-        subst (λ (ss : List Spot). IsLeftFrom v o (first_unclosed ss)) (sym (spots_by o after b bs [] e)) (left_later v o _ (λ i. u opening i.it) later)
+        subst (λ (ss : List Spot). IsLeftFrom v o (first_unclosed ss)) (sym (spots_by o after b bs [] e))
+        (left_later v o _ (λ i. u opening i.it) later)
     go (one k e t u) answer later =
         subst (λ (ss : List Spot). IsLeftFrom v o (first_unclosed ss)) (sym (spots_by o after b bs (k ∷ []) e))
         (by_token k t (token_step v o k t) u answer later)

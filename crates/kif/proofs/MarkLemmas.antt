@@ -82,7 +82,8 @@ mutual
 
   further_marks-text : (ts : Trees) → HaveNames ts → further_marks ts ≡ map mark (further_text ts)
   further_marks-text no_trees h = refl
-  further_marks-text (tree t ts) h = ap (λ (l : List ℕ). 64 ∷ l) (joined (text t) (further_text ts) _ _ (marks-text t h.0) (further_marks-text ts h.1))
+  further_marks-text (tree t ts) h =
+      ap (λ (l : List ℕ). 64 ∷ l) (joined (text t) (further_text ts) _ _ (marks-text t h.0) (further_marks-text ts h.1))
 
 nat_cmp-mark : (b c : ℕ) → nat_cmp (mark b) (mark c) ≡ nat_cmp b c
 nat_cmp-mark b c = go (is_name_byte b) (is_name_byte c) (λ e. ap is_name_byte e)

@@ -1,9 +1,11 @@
 -- The fault of a text is the first that stands in it.
-use Rattle.std.proofs.Common.{ℕ, zero, suc, ◌≡◌, ◌<◌, ◌≤◌, ◌⊎◌, inl, inr, Bool, true, false, nat_lt, List, length, refl, sym, ap, subst, ◌∙◌, arith, Option, Some, None}
+use Rattle.std.proofs.Common.{ℕ, zero, suc, ◌≡◌, ◌<◌, ◌≤◌, ◌⊎◌, inl, inr, Bool, true, false, nat_lt, List, length, refl, sym, ap, subst, ◌∙◌, arith}
+use Rattle.std.proofs.Common.{Option, Some, None}
 use Rattle.std.proofs.lemmas.Bool.Decides.{nat_tests}
 use Rattle.kif.specs.Lexical.{visible, opening, closing, stray, spots}
 use Rattle.kif.specs.Tree.{Trees}
-use Rattle.kif.specs.Reading.{text_limit, Reads, Fault, too_long, bad_byte, too_deep, unclosed, unopened, name_too_long, or_else, fault_where, first_fault, first_unclosed, fault_in}
+use Rattle.kif.specs.Reading.{text_limit, Reads, Fault, too_long, bad_byte, too_deep, unclosed, unopened, name_too_long, or_else, fault_where}
+use Rattle.kif.specs.Reading.{first_fault, first_unclosed, fault_in}
 use Rattle.kif.specs.Offsets.{stage, offset, Stands, Precedes, IsFirstFault}
 use Rattle.kif.proofs.Visible.{length-visible}
 use Rattle.kif.proofs.Here.{first_place}
@@ -40,7 +42,8 @@ fault_in_text text (unclosed o) e s = absurd (omega arith)
 fault_stands : (text : List ℕ) (f : Fault) → IsFaultIn (visible text) f → (stage f ≡ 1) × Stands text f
 fault_stands text too_long i = absurd i
 fault_stands text (bad_byte o) i = (refl, token_at text o stray i)
-fault_stands text (too_deep o) i = (refl, (token_at text o opening i.0, difference_of_open (opened (visible text) o) (closed (visible text) o) 100 i.1))
+fault_stands text (too_deep o) i =
+    (refl, (token_at text o opening i.0, difference_of_open (opened (visible text) o) (closed (visible text) o) 100 i.1))
 fault_stands text (unopened o) i = (refl, (token_at text o closing i.0, difference_of_open (opened (visible text) o) (closed (visible text) o) 0 i.1))
 fault_stands text (name_too_long o) i = (refl, (i.0, run_at text o i.0 i.1, i.2))
 fault_stands text (unclosed o) i = absurd i
@@ -162,9 +165,11 @@ named_left text (Some f) p h = record {
   only = λ g s d e. same_left_fault g h.place (d ∙ ap stage h.same) (e ∙ ap offset h.same) ∙ sym h.same;
 }
 
-named_token : (text : List ℕ) (r : Option Fault) → IsPast text 1 → IsFoundFrom (visible text) 0 r → IsNamed text (or_else r (first_unclosed (spots text)))
+named_token : (text : List ℕ) (r : Option Fault) → IsPast text 1 → IsFoundFrom (visible text) 0 r
+    → IsNamed text (or_else r (first_unclosed (spots text)))
 named_token text None p h =
-    named_left text (first_unclosed (spots text)) (walked_is_past text p h) (walk_left (visible text) 0 false (visible text) (first_place (visible text)))
+    named_left text (first_unclosed (spots text)) (walked_is_past text p h)
+    (walk_left (visible text) 0 false (visible text) (first_place (visible text)))
 named_token text (Some f) p h = record {
   it = first_at_token text f p h;
   only = λ g s d e. h.only g (fault_in_text text g (d ∙ (fault_stands text f h.it).0) s) e;
@@ -173,9 +178,12 @@ named_token text (Some f) p h = record {
 named : (text : List ℕ) → IsNamed text (fault_in text)
 named text = go (nat_lt text_limit (length text)) refl
   where
-    go : (b : Bool) → nat_lt text_limit (length text) ≡ b → IsNamed text (or_else (fault_where b too_long) (or_else (first_fault 0 (spots text)) (first_unclosed (spots text))))
+    go : (b : Bool) → nat_lt text_limit (length text) ≡ b
+        → IsNamed text (or_else (fault_where b too_long) (or_else (first_fault 0 (spots text)) (first_unclosed (spots text))))
     go true e = named_long text e
-    go false e = named_token text (first_fault 0 (spots text)) (short_is_past text e) (walk_faults (visible text) 0 false (visible text) 0 (first_place (visible text)) refl)
+    go false e =
+        named_token text (first_fault 0 (spots text)) (short_is_past text e)
+        (walk_faults (visible text) 0 false (visible text) 0 (first_place (visible text)) refl)
 
 pub first_if_fault : (text : List ℕ) (f : Fault) → fault_in text ≡ Some f → IsFirstFault text f
 first_if_fault text f e = let n = subst (IsNamed text) e (named text) in n.it
@@ -196,7 +204,8 @@ fault_if_first text f i = go (fault_in text) (named text)
     go None n = absurd (n f i.stands)
     go (Some g) n =
         let d : stage f ≡ stage g = neither_less (stage f) (stage g) (λ l. n.it.first f i.stands (inl l)) (λ l. i.first g n.it.stands (inl l)) in
-        let e : offset f ≡ offset g = neither_less (offset f) (offset g) (λ l. n.it.first f i.stands (inr (d, l))) (λ l. i.first g n.it.stands (inr (sym d, l))) in
+        let e : offset f ≡ offset g = neither_less (offset f) (offset g) (λ l. n.it.first f i.stands (inr (d, l)))
+        (λ l. i.first g n.it.stands (inr (sym d, l))) in
         ap Some (sym (n.only f i.stands d e))
 
 pub one_fault : (text : List ℕ) (f g : Fault) → IsFirstFault text f → IsFirstFault text g → f ≡ g

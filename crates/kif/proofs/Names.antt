@@ -3,7 +3,8 @@ use Rattle.std.proofs.Common.{ℕ, zero, suc, ◌+◌, ◌≡◌, Bool, true, fa
 use Rattle.std.specs.Prelude.{⊤, All}
 use Rattle.std.proofs.lemmas.Bool.Decides.{nat_tests}
 use Rattle.kif.specs.Tree.{Tree, name, list, Trees, no_trees, tree, trees_of}
-use Rattle.kif.specs.Lexical.{is_name_byte, is_capital, is_space, is_lower_name_byte, lower, name_front, visible, Token, opening, closing, word, stray, spots_at, tokens_of, AreNameBytes, IsName, HasNames, HaveNames}
+use Rattle.kif.specs.Lexical.{is_name_byte, is_capital, is_space, is_lower_name_byte, lower, name_front, visible, Token, opening, closing, word}
+use Rattle.kif.specs.Lexical.{stray, spots_at, tokens_of, AreNameBytes, IsName, HasNames, HaveNames}
 use Rattle.kif.specs.Reading.{tree_tokens, trees_tokens, Reads}
 use Rattle.kif.proofs.Grammar.{list_tokens, more_tokens, append_none}
 
@@ -37,19 +38,25 @@ tokens_are_lawful o after [] = tt
 tokens_are_lawful o after (b ∷ bs) = by_name (is_name_byte b) refl (tokens_are_lawful (suc o) (is_name_byte b) bs)
   where
     by_after : (a : Bool) → is_name_byte b ≡ true → HaveLawfulNames (tokens_of (spots_at (suc o) (is_name_byte b) bs))
-        → HaveLawfulNames (tokens_of (map (λ k. record { at = o; token = k }) (cond a [] (word (name_front (b ∷ bs)) ∷ [])) ++ spots_at (suc o) (is_name_byte b) bs))
+        → HaveLawfulNames (tokens_of (map (λ k. record { at = o; token = k }) (cond a [] (word (name_front (b ∷ bs)) ∷ []))
+        ++ spots_at (suc o) (is_name_byte b) bs))
     by_after true e rest = rest
     by_after false e rest = (word_is_lawful b bs e, rest)
 
     by_space : (c d f : Bool) → HaveLawfulNames (tokens_of (spots_at (suc o) (is_name_byte b) bs))
-        → HaveLawfulNames (tokens_of (map (λ k. record { at = o; token = k }) (cond c (opening ∷ []) (cond d (closing ∷ []) (cond f [] (stray ∷ [])))) ++ spots_at (suc o) (is_name_byte b) bs))
+        → HaveLawfulNames (tokens_of (map (λ k. record { at = o; token = k }) (cond c (opening ∷ []) (cond d (closing ∷ []) (cond f [] (stray ∷ []))))
+        ++ spots_at (suc o) (is_name_byte b) bs))
     by_space true d f rest = rest
     by_space false true f rest = rest
     by_space false false true rest = rest
     by_space false false false rest = rest
 
     by_name : (t : Bool) → is_name_byte b ≡ t → HaveLawfulNames (tokens_of (spots_at (suc o) (is_name_byte b) bs))
-        → HaveLawfulNames (tokens_of (map (λ k. record { at = o; token = k }) (cond t (cond after [] (word (name_front (b ∷ bs)) ∷ [])) (cond (b == 40) (opening ∷ []) (cond (b == 41) (closing ∷ []) (cond (is_space b) [] (stray ∷ []))))) ++ spots_at (suc o) (is_name_byte b) bs))
+        → HaveLawfulNames
+        (tokens_of (map (λ k. record { at = o; token = k })
+        (cond t (cond after [] (word (name_front (b ∷ bs)) ∷ []))
+        (cond (b == 40) (opening ∷ []) (cond (b == 41) (closing ∷ []) (cond (is_space b) [] (stray ∷ [])))))
+        ++ spots_at (suc o) (is_name_byte b) bs))
     by_name true e rest = by_after after e rest
     by_name false e rest = by_space (b == 40) (b == 41) (is_space b) rest
 
@@ -67,7 +74,8 @@ mutual
 
 pub read_names : (text : List ℕ) (ts : Trees) → Reads text ts → HaveNames ts
 read_names text ts r =
-    (trees_are_lawful ts [] (subst HaveLawfulNames (r.same_tokens ∙ sym (append_none (trees_tokens ts))) (tokens_are_lawful 0 false (visible text)))).0
+    (trees_are_lawful ts [] (subst HaveLawfulNames (r.same_tokens ∙ sym (append_none (trees_tokens ts)))
+    (tokens_are_lawful 0 false (visible text)))).0
 
 -- the same of the trees as a list
 each_named : (ts : List Tree) → HaveNames (trees_of ts) → All HasNames ts

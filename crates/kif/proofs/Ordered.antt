@@ -1,5 +1,6 @@
 -- Lists of marks that are compared from their fronts.
-use Rattle.std.proofs.Common.{ℕ, zero, suc, append_assoc, ◌≡◌, ◌≢◌, ◌+◌, ◌-◌, ◌%◌, ◌<◌, ◌≤◌, List, [], ◌∷◌, ◌++◌, map, take, drop, length, length-append, length-drop, get_or, refl, sym, ap, ◌∙◌, arith}
+use Rattle.std.proofs.Common.{ℕ, zero, suc, append_assoc, ◌≡◌, ◌≢◌, ◌+◌, ◌-◌, ◌%◌, ◌<◌, ◌≤◌, List, [], ◌∷◌, ◌++◌, map, take, drop, length}
+use Rattle.std.proofs.Common.{length-append, length-drop, get_or, refl, sym, ap, ◌∙◌, arith}
 use Rattle.std.proofs.lemmas.Bool.Decides.{nat_tests}
 use Rattle.std.proofs.lemmas.Cmp.{nat_cmp_total, tied_itself}
 use Rattle.std.proofs.lemmas.Map.Lookups.{exact_bytes}
@@ -47,7 +48,8 @@ orders_as o p xs ys us vs a b e f g h = record {
 }
 
 -- the opening bracket of both
-pub in_lists : (o : Ordering) (ts us : Trees) (a b : ℕ) → Orders o (parts_marks ts) a (parts_marks us) b → Orders o (marks (list ts)) a (marks (list us)) b
+pub in_lists : (o : Ordering) (ts us : Trees) (a b : ℕ) → Orders o (parts_marks ts) a (parts_marks us) b
+    → Orders o (marks (list ts)) a (marks (list us)) b
 in_lists o ts us a b h = record { law = h.law }
 
 -- names

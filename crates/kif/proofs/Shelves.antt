@@ -1,5 +1,6 @@
 -- What a reader has read of lists that are not closed yet, as plain data.
-use Rattle.std.proofs.Common.{ℕ, suc, ◌+◌, ◌≡◌, ◌≤◌, ◌⊎◌, inl, inr, List, [], ◌∷◌, ◌++◌, take, drop, length, refl, sym, ap, ◌∙◌, arith, append_assoc, length-append}
+use Rattle.std.proofs.Common.{ℕ, suc, ◌+◌, ◌≡◌, ◌≤◌, ◌⊎◌, inl, inr, List, [], ◌∷◌, ◌++◌, take, drop, length, refl, sym, ap, ◌∙◌, arith, append_assoc}
+use Rattle.std.proofs.Common.{length-append}
 use Rattle.kif.specs.declared.reader.Open.{Open}
 use Rattle.kif.specs.Tree.{Tree}
 
@@ -44,12 +45,17 @@ opens_last n (g ∷ fs) f =
     let same : (n + length g.before) + length (trees_before fs ++ f.before) ≡ n + length (g.before ++ (trees_before fs ++ f.before)) = omega arith in
     let whole = ap (λ (l : List Tree). n + length l) (sym (append_assoc g.before (trees_before fs) f.before)) in
     ap (λ (l : List Open). record { start = g.start; before = n + length g.before } ∷ l) (opens_last (n + length g.before) fs f)
-    ∙ ap (λ (m : ℕ). record { start = g.start; before = n + length g.before } ∷ (opens_from (n + length g.before) fs ++ record { start = f.start; before = m } ∷ [])) (same ∙ whole)
+    ∙ ap (λ (m : ℕ). record {
+      start = g.start;
+      before =
+          n + length g.before;
+    } ∷ (opens_from (n + length g.before) fs ++ record { start = f.start; before = m } ∷ [])) (same ∙ whole)
 
 pub none_shelved : IsShelved [] [] [] []
 none_shelved = record { opened = refl; trees = refl }
 
-pub add_shelved : (os : List Open) (ts : List Tree) (fs : List Shelf) (us : List Tree) (t : Tree) → IsShelved os ts fs us → IsShelved os (ts ++ t ∷ []) fs (us ++ t ∷ [])
+pub add_shelved : (os : List Open) (ts : List Tree) (fs : List Shelf) (us : List Tree) (t : Tree) → IsShelved os ts fs us
+    → IsShelved os (ts ++ t ∷ []) fs (us ++ t ∷ [])
 add_shelved os ts fs us t h = record {
   opened = h.opened;
   trees = ap (λ (l : List Tree). l ++ t ∷ []) h.trees ∙ append_assoc (trees_before fs) us (t ∷ []);
@@ -61,7 +67,8 @@ open_shelved os ts fs us start h =
     let f : Shelf = record { start = start; before = us } in
     record {
       opened = ap (λ (l : List Open). l ++ record { start = start; before = length ts } ∷ []) h.opened
-          ∙ ap (λ (m : ℕ). opens_from 0 fs ++ record { start = start; before = m } ∷ []) (ap length h.trees ∙ (let e : length (trees_before fs ++ us) ≡ 0 + length (trees_before fs ++ us) = omega arith in e))
+          ∙ ap (λ (m : ℕ). opens_from 0 fs ++ record { start = start; before = m } ∷ []) (ap length h.trees
+          ∙ (let e : length (trees_before fs ++ us) ≡ 0 + length (trees_before fs ++ us) = omega arith in e))
           ∙ sym (opens_last 0 fs f);
       trees = h.trees ∙ sym (trees_before_last fs f) ∙ sym (append_none (trees_before (fs ++ f ∷ [])));
     }
@@ -79,7 +86,8 @@ last_of : (fs : List Shelf) → (fs ≡ []) ⊎ ((gs : List Shelf) × (f : Shelf
 last_of [] = inl refl
 last_of (g ∷ fs) = go (last_of fs)
   where
-    go : (fs ≡ []) ⊎ ((gs : List Shelf) × (f : Shelf) × (fs ≡ gs ++ f ∷ [])) → (g ∷ fs ≡ []) ⊎ ((gs : List Shelf) × (f : Shelf) × (g ∷ fs ≡ gs ++ f ∷ []))
+    go : (fs ≡ []) ⊎ ((gs : List Shelf) × (f : Shelf) × (fs ≡ gs ++ f ∷ [])) → (g ∷ fs ≡ [])
+        ⊎ ((gs : List Shelf) × (f : Shelf) × (g ∷ fs ≡ gs ++ f ∷ []))
     go (inl e) = inr ([], g, ap (λ (l : List Shelf). g ∷ l) e)
     go (inr h) = inr (g ∷ h.0, h.1, ap (λ (l : List Shelf). g ∷ l) h.2)
 
@@ -102,7 +110,8 @@ drop_front : (xs ys : List Tree) → drop (length xs) (xs ++ ys) ≡ ys
 drop_front [] ys = refl
 drop_front (x ∷ xs) ys = drop_front xs ys
 
-pub close_shelved : (os : List Open) (o : Open) (ts : List Tree) (fs : List Shelf) (us : List Tree) → IsShelved (os ++ o ∷ []) ts fs us → IsClosed os o ts fs us
+pub close_shelved : (os : List Open) (o : Open) (ts : List Tree) (fs : List Shelf) (us : List Tree) → IsShelved (os ++ o ∷ []) ts fs us
+    → IsClosed os o ts fs us
 close_shelved os o ts fs us h = go (last_of fs)
   where
     by_last : (gs : List Shelf) (f : Shelf) → fs ≡ gs ++ f ∷ [] → IsClosed os o ts fs us
@@ -110,7 +119,8 @@ close_shelved os o ts fs us h = go (last_of fs)
         let same = same_last os (opens_from 0 gs) o (last_open 0 gs f) (h.opened ∙ ap (opens_from 0) e ∙ opens_last 0 gs f) in
         let front = trees_before gs ++ f.before in
         let at : o.before ≡ length front = ap (λ (p : Open). p.before) same.1 ∙ (let z : 0 + length front ≡ length front = omega arith in z) in
-        let whole : ts ≡ front ++ us = h.trees ∙ ap (λ (l : List Shelf). trees_before l ++ us) e ∙ ap (λ (l : List Tree). l ++ us) (trees_before_last gs f) in
+        let whole : ts ≡ front ++ us = h.trees ∙ ap (λ (l : List Shelf). trees_before l ++ us) e
+        ∙ ap (λ (l : List Tree). l ++ us) (trees_before_last gs f) in
         let size = ap length whole in
         let parts = length-append front us in
         record {

@@ -1,5 +1,6 @@
 -- The state of a reader at an offset, from one turn of its loop to the next.
-use Rattle.std.proofs.Common.{ℕ, ◌+◌, ◌-◌, ◌≡◌, ◌≢◌, ◌<◌, ◌≤◌, true, false, List, [], ◌∷◌, ◌++◌, take, drop, length, get_or, refl, sym, ap, subst, ◌∙◌, arith}
+use Rattle.std.proofs.Common.{ℕ, ◌+◌, ◌-◌, ◌≡◌, ◌≢◌, ◌<◌, ◌≤◌, true, false, List, [], ◌∷◌, ◌++◌, take, drop, length, get_or, refl, sym, ap, subst}
+use Rattle.std.proofs.Common.{◌∙◌, arith}
 use Rattle.std.specs.Prelude.{Some}
 use Rattle.kif.specs.declared.reader.Open.{Open}
 use Rattle.kif.specs.Tree.{Tree, name, list, trees_of}
@@ -8,7 +9,8 @@ use Rattle.kif.specs.Kinds.{IsStray}
 use Rattle.kif.specs.Reading.{Reads, text_limit, name_limit, open_limit, fault_in, too_deep, unopened, unclosed, bad_byte, name_too_long}
 use Rattle.kif.proofs.Shelves.{Shelf, IsShelved, length-opens, none_shelved, add_shelved, open_shelved, close_shelved}
 use Rattle.kif.proofs.Progress.{Progress, begun, read_all, left_open}
-use Rattle.kif.proofs.Turns.{left, name_between, turn-opening, turn-closing, turn-space, turn-comment, turn-name, fault-opening, fault-closing, fault-stray, fault-name, at_end}
+use Rattle.kif.proofs.Turns.{left, name_between, turn-opening, turn-closing, turn-space, turn-comment, turn-name, fault-opening, fault-closing}
+use Rattle.kif.proofs.Turns.{fault-stray, fault-name, at_end}
 
 -- some open lists and trees of theirs, of which the reader keeps os and ts, are what was read before o
 pub record IsState (text : List ℕ) (o : ℕ) (os : List Open) (ts : List Tree) : Type 0 where
@@ -38,7 +40,8 @@ state-opening text o os ps ts us s h e few f g =
           (λ full. few (ap length (s.shelved.opened) ∙ length-opens 0 s.shelves ∙ full)) refl refl;
     })
 
-pub before_fits : (text : List ℕ) (o : ℕ) (os ps : List Open) (p : Open) (ts : List Tree) → IsState text o os ts → os ≡ ps ++ p ∷ [] → p.before ≤ length ts
+pub before_fits : (text : List ℕ) (o : ℕ) (os ps : List Open) (p : Open) (ts : List Tree) → IsState text o os ts → os ≡ ps ++ p ∷ []
+    → p.before ≤ length ts
 before_fits text o os ps p ts s e =
     let c = close_shelved ps p ts s.shelves s.trees (subst (λ (l : List Open). IsShelved l ts s.shelves s.trees) e s.shelved) in c.fits
 
@@ -58,7 +61,13 @@ state-closing text o os ps qs p ts us s h e d f g =
 
 pub state-space : (text : List ℕ) (o : ℕ) (os : List Open) (ts : List Tree)
     → IsState text o os ts → o < length text → is_space (get_or text o 0) ≡ true → IsState text (o + 1) os ts
-state-space text o os ts s h e = record { shelves = s.shelves; trees = s.trees; shelved = s.shelved; progress = turn-space text o s.shelves s.trees s.progress h e }
+state-space text o os ts s h e = record {
+  shelves = s.shelves;
+  trees = s.trees;
+  shelved = s.shelved;
+  progress =
+      turn-space text o s.shelves s.trees s.progress h e;
+}
 
 pub state-comment : (text : List ℕ) (o end : ℕ) (os : List Open) (ts : List Tree)
     → IsState text o os ts → o < end → end ≤ length text → get_or text o 0 ≡ 59
@@ -89,7 +98,8 @@ state-name text o end os ps ts us s further h names stops short f g =
 -- what is answered
 
 pub deep_fault : (text : List ℕ) (o : ℕ) (os : List Open) (ts : List Tree)
-    → IsState text o os ts → length text ≤ text_limit → o < length text → get_or text o 0 ≡ 40 → length os ≡ open_limit → fault_in text ≡ Some (too_deep o)
+    → IsState text o os ts → length text ≤ text_limit → o < length text → get_or text o 0 ≡ 40 → length os ≡ open_limit
+    → fault_in text ≡ Some (too_deep o)
 deep_fault text o os ts s short h e full =
     fault-opening text o s.shelves s.trees s.progress short h e (sym (length-opens 0 s.shelves) ∙ ap length (sym s.shelved.opened) ∙ full)
 
@@ -110,7 +120,8 @@ pub name_fault : (text : List ℕ) (o end : ℕ) (os : List Open) (ts : List Tre
 name_fault text o end os ts s short further h names stops long = fault-name text o end s.shelves s.trees s.progress short further h names stops long
 
 pub unclosed_fault : (text : List ℕ) (o : ℕ) (os : List Open) (p : Open) (ts : List Tree)
-    → IsState text o os ts → length text ≤ text_limit → o ≤ length text → length text ≤ o → 0 < length os → get_or os 0 p ≡ p → fault_in text ≡ Some (unclosed p.start)
+    → IsState text o os ts → length text ≤ text_limit → o ≤ length text → length text ≤ o → 0 < length os → get_or os 0 p ≡ p
+    → fault_in text ≡ Some (unclosed p.start)
 unclosed_fault text o os p ts s short within end some e = go s.shelves s.shelved (at_end text o s.shelves s.trees s.progress within end)
   where
     go : (fs : List Shelf) → IsShelved os ts fs s.trees → Progress text fs s.trees [] → fault_in text ≡ Some (unclosed p.start)

@@ -1,5 +1,6 @@
 -- The tokens of a text are those that stand at its offsets.
-use Rattle.std.proofs.Common.{ℕ, zero, suc, ◌+◌, ◌-◌, ◌≡◌, ◌<◌, ◌≤◌, ◌⊎◌, inl, inr, Bool, true, false, List, [], ◌∷◌, ◌++◌, map, take, drop, length, get_or, refl, sym, ap, subst, ◌∙◌, arith, length-drop, Contains}
+use Rattle.std.proofs.Common.{ℕ, zero, suc, ◌+◌, ◌-◌, ◌≡◌, ◌<◌, ◌≤◌, ◌⊎◌, inl, inr, Bool, true, false, List, [], ◌∷◌, ◌++◌, map, take, drop, length}
+use Rattle.std.proofs.Common.{get_or, refl, sym, ap, subst, ◌∙◌, arith, length-drop, Contains}
 use Rattle.std.specs.Prelude.{⊤, slice_range}
 use Rattle.std.specs.List.Sorted.{IsStrictlyIncreasing}
 use Rattle.std.proofs.lemmas.List.{get_or-drop}
@@ -112,7 +113,8 @@ pub spots_by : (o : ℕ) (after : Bool) (b : ℕ) (bs : List ℕ) (ks : List Tok
     → spots_at o after (b ∷ bs) ≡ map (λ k. spot o k) ks ++ spots_at (suc o) (is_name_byte b) bs
 spots_by o after b bs ks e = ap (λ (l : List Token). map (λ k. spot o k) l ++ spots_at (suc o) (is_name_byte b) bs) e
 
-among_token : (v : List ℕ) (s : Spot) (o : ℕ) (after : Bool) (bs : List ℕ) → IsPlace v o after bs → IsAmong (spots_at o after bs) s → IsTokenIn v s.at s.token
+among_token : (v : List ℕ) (s : Spot) (o : ℕ) (after : Bool) (bs : List ℕ) → IsPlace v o after bs → IsAmong (spots_at o after bs) s
+    → IsTokenIn v s.at s.token
 among_token v s o after [] p h = absurd h
 among_token v s o after (b ∷ bs) p h = go (here v o after b bs p) (among_token v s (suc o) (is_name_byte b) bs (next_place v o after b bs p))
   where
@@ -135,7 +137,8 @@ le_or_same (suc o) (suc p) h = go (le_or_same o p (omega arith))
     go (inl e) = inl (ap suc e)
     go (inr l) = inr (omega arith)
 
-token_among : (v : List ℕ) (q : ℕ) (k : Token) → IsTokenIn v q k → (o : ℕ) (after : Bool) (bs : List ℕ) → IsPlace v o after bs → o ≤ q → IsAmong (spots_at o after bs) (spot q k)
+token_among : (v : List ℕ) (q : ℕ) (k : Token) → IsTokenIn v q k → (o : ℕ) (after : Bool) (bs : List ℕ) → IsPlace v o after bs → o ≤ q
+    → IsAmong (spots_at o after bs) (spot q k)
 token_among v q k t o after [] p h =
     let a = token_within v q k t in
     let size = length-drop o v in
@@ -155,11 +158,14 @@ token_among v q k t o after (b ∷ bs) p h =
     go (one j e i u) (inr l) later = subst (λ (x : List Spot). IsAmong x (spot q k)) (sym (spots_by o after b bs (j ∷ []) e)) (inr (later l))
 
 pub spot_stands : (text : List ℕ) (s : Spot) → Contains (spots text) s → IsTokenAt text s.at s.token
-spot_stands text s h = token_at text s.at s.token (among_token (visible text) s 0 false (visible text) (first_place (visible text)) (among_if_contains (spots text) s h.0 h.1 h.2))
+spot_stands text s h =
+    token_at text s.at s.token (among_token (visible text) s 0 false (visible text) (first_place (visible text))
+    (among_if_contains (spots text) s h.0 h.1 h.2))
 
 pub token_is_a_spot : (text : List ℕ) (s : Spot) → IsTokenAt text s.at s.token → Contains (spots text) s
 token_is_a_spot text s t =
-    contains_if_among (spots text) s (token_among (visible text) s.at s.token (token_in text s.at s.token t) 0 false (visible text) (first_place (visible text)) (omega arith))
+    contains_if_among (spots text) s (token_among (visible text) s.at s.token (token_in text s.at s.token t) 0 false (visible text)
+    (first_place (visible text)) (omega arith))
 
 -- and they stand in order
 
@@ -182,7 +188,8 @@ spots_rise v o after (b ∷ bs) p = go (here v o after b bs p) (spots_rise v (su
 abbrev offsets : List Spot → List ℕ
 offsets ss = map (λ s. s.at) ss
 
-rise_by_place : (o : ℕ) (ss : List Spot) → IsRising o ss → (k : ℕ) → suc k < length (offsets ss) → get_or (offsets ss) k 0 < get_or (offsets ss) (suc k) 0
+rise_by_place : (o : ℕ) (ss : List Spot) → IsRising o ss → (k : ℕ) → suc k < length (offsets ss)
+    → get_or (offsets ss) k 0 < get_or (offsets ss) (suc k) 0
 rise_by_place o [] r k h = absurd (omega arith)
 rise_by_place o (s ∷ []) r k h = absurd (omega arith)
 rise_by_place o (s ∷ (t ∷ ss)) r zero h = r.1.0

@@ -16,7 +16,9 @@ pub seen_if_at : (kind : ℕ → Bool) (text : List ℕ) (o : ℕ) → IsAt kind
 seen_if_at kind text o h = ap kind (others_stay text o h.outside) ∙ h.byte
 
 -- a byte that is seen as another than a space is no comment's
-pub at_if_seen : (kind : ℕ → Bool) (text : List ℕ) (o : ℕ) → kind 32 ≡ false → o < length text → kind (get_or (visible text) o 0) ≡ true → IsAt kind text o
+pub at_if_seen : (kind : ℕ → Bool) (text : List ℕ) (o : ℕ) → kind 32 ≡ false → o < length text → kind (get_or (visible text) o 0) ≡ true
+    → IsAt kind text o
 at_if_seen kind text o blank within h =
-    let out : IsInComment text o → ⊥ = λ i. let e : kind (get_or (visible text) o 0) ≡ kind 32 = ap kind (comment_blank text o within i) in absurd cc in
+    let out : IsInComment text o → ⊥ = λ i. let e : kind (get_or (visible text) o 0) ≡ kind 32 = ap kind (comment_blank text o within i) in
+    absurd cc in
     record { within = within; outside = out; byte = ap kind (sym (others_stay text o out)) ∙ h }

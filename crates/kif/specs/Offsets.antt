@@ -1,5 +1,6 @@
 -- What stands at an offset of a text, and which fault a text has, by offsets and counts.
-use Rattle.std.specs.Prelude.{ℕ, suc, ◌+◌, Bool, true, not, ◌||◌, ◌==◌, ◌<◌, ◌≤◌, ◌≡◌, ◌≢◌, ◌⊎◌, List, length, map, take, count_by, slice_index, slice_range, ℤ, pos, ◌-ℤ◌}
+use Rattle.std.specs.Prelude.{ℕ, suc, ◌+◌, Bool, true, not, ◌||◌, ◌==◌, ◌<◌, ◌≤◌, ◌≡◌, ◌≢◌, ◌⊎◌, List, length, map, take, count_by, slice_index}
+use Rattle.std.specs.Prelude.{slice_range, ℤ, pos, ◌-ℤ◌}
 use Rattle.kif.specs.Lexical.{is_space, is_name_byte, lower, IsInComment, visible, Token, opening, closing, word, stray}
 use Rattle.kif.specs.Reading.{text_limit, name_limit, open_limit, Fault, too_long, bad_byte, too_deep, unclosed, unopened, name_too_long}
 

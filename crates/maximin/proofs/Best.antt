@@ -3,9 +3,9 @@ use Rattle.std.proofs.lemmas.Int.{ints, clamps}
 use Rattle.std.proofs.lemmas.Bool.{cases_lt}
 use Rattle.std.proofs.lemmas.Bool.Decides.{nat_tests}
 use Rattle.std.specs.Prelude.{ℤ, pos, negsuc, ◌<ℤ◌, ◌≤ℤ◌, ◌==◌, ◌||◌, ◌⊎◌, if◌then◌else◌, find, Option, None, slice_get}
-use Rattle.position.specs.Rules.{Rules, State, is_stuck}
-use Rattle.position.specs.declared.at_bound.AtBound.{AtBound}
-use Rattle.position.specs.Value.{Answers, value, worst, choice_of}
+use Rattle.game.specs.Rules.{Rules, State, is_stuck}
+use Rattle.game.specs.declared.at_bound.AtBound.{AtBound}
+use Rattle.game.specs.Value.{Answers, value, worst, choice_of}
 use Rattle.maximin.proofs.Values.{IsOpen, value_reached, worst_le_value}
 
 -- the best of the moves before `place` stands at `chosen`, and is better than each move before it
@@ -102,20 +102,37 @@ pub choice_none : (g : Rules) (role depth : ℕ) (at : AtBound) (s : State) → 
 choice_none g role zero at s h = refl
 choice_none g role (suc depth) at s h = either_true (g.ended s) (is_stuck g s) None _ h
 
+test_true : (x y : ℕ) → x ≡ y → (x == y) ≡ true
+test_true x y e = grind (arith, nat_tests)
+
+test_false : (x y : ℕ) → x < y → (x == y) ≡ false
+test_false x y e = grind (arith, nat_tests)
+
+-- the first move that is worth what the state is
+pub choice_here : (g : Rules) (role depth : ℕ) (at : AtBound) (s : State) (chosen : ℕ) → IsOpen g depth s → chosen < length (g.legal s role)
+    → worst_at_place g role depth at s chosen ≡ value g role depth at s → ((k : ℕ) → k < chosen → worst_at_place g role depth at s k < value g role depth at s)
+    → choice_of g role depth at s ≡ slice_get (g.legal s role) chosen
+choice_here g role zero at s chosen h inside here before = absurd (h.turn refl)
+choice_here g role (suc depth) at s chosen h inside here before =
+    let same : suc depth - 1 ≡ depth = omega arith in
+    let attained : worst g role depth at s (get_or (g.legal s role) chosen 0) ≡ value g role (suc depth) at s = rw same at here in
+    let missed : (k : ℕ) → k < chosen → worst g role depth at s (get_or (g.legal s role) k 0) < value g role (suc depth) at s = λ k lt. rw same at (before k lt) in
+    either_false (g.ended s) (is_stuck g s) None _ h.going h.free ∙ (find_first (λ m. worst g role depth at s m == value g role (suc depth) at s) (g.legal s role) chosen inside
+    (test_true _ _ attained) (λ k lt. test_false _ _ (missed k lt)))
+
 pub choice_found : (g : Rules) (role depth : ℕ) (at : AtBound) (s : State) (place : ℕ) (best : ℤ) (chosen : ℕ) → IsOpen g depth s → role < g.roles → place ≡ length (g.legal s role)
     → IsBest (worst_at_place g role depth at s) place best chosen → choice_of g role depth at s ≡ slice_get (g.legal s role) chosen
-choice_found g role zero at s place best chosen h known all is = absurd (h.turn refl)
-choice_found g role (suc depth) at s place best chosen h known all is =
-    let best_one = best_is_value g role (suc depth) at s place best chosen h known all is in
-    let same : suc depth - 1 ≡ depth = omega arith in
-    let here : worst g role depth at s (get_or (g.legal s role) chosen 0) ≡ value g role (suc depth) at s = rw same at best_one.1 in
-    let before : (k : ℕ) → k < chosen → worst g role depth at s (get_or (g.legal s role) k 0) < value g role (suc depth) at s =
-    λ k lt. let less = rw same at (is.first k lt) in let reached = rw same at (is.reached (omega (arith, best_one.0))) in omega (arith, ints) in
-    either_false (g.ended s) (is_stuck g s) None _ h.going h.free ∙ (find_first (λ m. worst g role depth at s m == value g role (suc depth) at s) (g.legal s role) chosen best_one.0
-    (test_true _ _ here) (λ k lt. test_false _ _ (before k lt)))
-  where
-    test_true : (x y : ℕ) → x ≡ y → (x == y) ≡ true
-    test_true x y e = grind (arith, nat_tests)
+choice_found g role depth at s place best chosen h known all is =
+    let best_one = best_is_value g role depth at s place best chosen h known all is in
+    choice_here g role depth at s chosen h best_one.0 best_one.1
+    (λ k lt. let less = is.first k lt in let reached = is.reached (omega (arith, best_one.0)) in let same = best_one.1 in omega (arith, ints))
 
-    test_false : (x y : ℕ) → x < y → (x == y) ≡ false
-    test_false x y e = grind (arith, nat_tests)
+-- a move behind which there is none is worth it, where those before it are not
+pub choice_last : (g : Rules) (role depth : ℕ) (at : AtBound) (s : State) (chosen : ℕ) → IsOpen g depth s → role < g.roles → chosen < length (g.legal s role)
+    → length (g.legal s role) ≤ chosen + 1 → ((k : ℕ) → k < chosen → worst_at_place g role depth at s k < value g role depth at s)
+    → choice_of g role depth at s ≡ slice_get (g.legal s role) chosen
+choice_last g role depth at s chosen h known inside last before =
+    let top = value_reached g role depth at s h known in
+    let at_last : top.0 ≡ chosen = elim (cases_lt top.0 chosen)
+    [ inl less ↦ let missed = before top.0 less in let same = top.2 in absurd (omega arith) | inr more ↦ omega (arith, top.1) ] in
+    choice_here g role depth at s chosen h inside (rw at_last at top.2) before

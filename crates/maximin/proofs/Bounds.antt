@@ -1,10 +1,10 @@
 use Rattle.std.proofs.Common.{true, false, ℕ, ◌≤◌, Bool, List, [], ◌∷◌, zero, suc, arith}
 use Rattle.std.specs.Prelude.{map, if◌then◌else◌}
-use Rattle.position.specs.Rules.{Rules, State, Turn, is_stuck, turns_with}
-use Rattle.position.specs.declared.at_bound.AtBound.{AtBound}
-use Rattle.position.specs.declared.at_bound.AtBound.TheVariants.{Zero, Goal}
-use Rattle.position.specs.AtBound.{bound_worth}
-use Rattle.position.specs.Value.{value, worst, least, greatest}
+use Rattle.game.specs.Rules.{Rules, State, Turn, is_stuck, turns_with}
+use Rattle.game.specs.declared.at_bound.AtBound.{AtBound}
+use Rattle.game.specs.declared.at_bound.AtBound.TheVariants.{Zero, Goal}
+use Rattle.game.specs.AtBound.{bound_worth}
+use Rattle.game.specs.Value.{value, worst, least, greatest}
 use Rattle.maximin.proofs.Windows.{least_head}
 
 if_at_most : (b : Bool) (x y n : ℕ) → x ≤ n → y ≤ n → (if b then x else y) ≤ n

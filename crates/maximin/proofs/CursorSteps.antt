@@ -5,7 +5,7 @@ use Rattle.std.proofs.Common.{inl, inr}
 use Rattle.std.proofs.lemmas.Bool.{cases_order}
 use Rattle.std.specs.Prelude.{Some, slice_get}
 use Rattle.std.proofs.lemmas.Option.{get_or_from_slice_get, slice_get_within}
-use Rattle.position.specs.Rules.{Turn, picks}
+use Rattle.game.specs.Rules.{Turn, picks}
 use Rattle.maximin.specs.Turns.{StandsAt, later}
 use Rattle.maximin.proofs.TurnLemmas.{picks_first, later_next, later_none}
 

@@ -7,4 +7,7 @@ pub mod Parts
 pub mod Best
 pub mod Bounds
 pub mod Reply
+pub mod Beside
+pub mod Stays
+pub mod OwnTurns
 pub mod Runs

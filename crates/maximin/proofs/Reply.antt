@@ -3,8 +3,8 @@ use Rattle.std.proofs.lemmas.Int.{ints, clamps}
 use Rattle.std.proofs.lemmas.Bool.Decides.{nat_tests}
 use Rattle.std.specs.Prelude.{ℤ, pos, negsuc, ◌<ℤ◌, ◌≤ℤ◌, ◌==◌, min, map, find, Option, Some}
 use Rattle.std.specs.Int.{int_min}
-use Rattle.position.specs.Rules.{Turn}
-use Rattle.position.specs.Value.{Answers, least}
+use Rattle.game.specs.Rules.{Turn}
+use Rattle.game.specs.Value.{Answers, least}
 
 -- the least worth of the joint moves
 abbrev pub least_worth : (Turn → ℕ) → List Turn → ℕ
@@ -43,19 +43,19 @@ pub record IsFirstAt (worth : Turn → ℕ) (turns : List Turn) (all : ℕ) (joi
   pub low : negsuc 0 <ℤ upper
   pub high : upper ≤ℤ pos 101
 
-find_here : (p : Turn → Bool) (joint : Turn) (behind : List Turn) → p joint ≡ true → find p (joint ∷ behind) ≡ Some joint
+pub find_here : (p : Turn → Bool) (joint : Turn) (behind : List Turn) → p joint ≡ true → find p (joint ∷ behind) ≡ Some joint
 find_here p joint behind h = rw h refl
 
-find_behind : (p : Turn → Bool) (joint : Turn) (behind : List Turn) → p joint ≡ false → find p (joint ∷ behind) ≡ find p behind
+pub find_behind : (p : Turn → Bool) (joint : Turn) (behind : List Turn) → p joint ≡ false → find p (joint ∷ behind) ≡ find p behind
 find_behind p joint behind h = rw h refl
 
-test_true : (x y : ℕ) → x ≡ y → (x == y) ≡ true
+pub test_true : (x y : ℕ) → x ≡ y → (x == y) ≡ true
 test_true x y e = grind (arith, nat_tests)
 
-test_false : (x y : ℕ) → x ≢ y → (x == y) ≡ false
+pub test_false : (x y : ℕ) → x ≢ y → (x == y) ≡ false
 test_false x y e = grind (arith, nat_tests)
 
-least_part : (x : ℕ) (xs : List ℕ) → least (x ∷ xs) ≤ x
+pub least_part : (x : ℕ) (xs : List ℕ) → least (x ∷ xs) ≤ x
 least_part x [] = omega arith
 least_part x (y ∷ ys) = omega arith
 

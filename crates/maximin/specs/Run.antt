@@ -1,7 +1,7 @@
 -- A run of joint moves.
 use Rattle.std.specs.Prelude.{◌≡◌, ℕ, ◌≤◌, List, ◌∷◌, All, length, map, take, vec_capacity}
 use Rattle.smallvec.specs.SmallVec.{SmallVec}
-use Rattle.position.specs.Rules.{Turn}
+use Rattle.game.specs.Rules.{Turn}
 use Rattle.maximin.specs.declared.run.Run.{Run}
 
 -- a run for a game with this many roles

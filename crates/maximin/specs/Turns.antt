@@ -1,7 +1,7 @@
 -- The joint moves of a state, in order.
 use Rattle.std.specs.Prelude.{◌≡◌, ℕ, ◌<◌, ◌++◌, suc, List, [], ◌∷◌, length, map, drop, slice_index, slice_index_or}
 use Rattle.std.specs.List.{flat_map}
-use Rattle.position.specs.Rules.{Turn, picks}
+use Rattle.game.specs.Rules.{Turn, picks}
 
 -- the joint move stands at these places of the lists
 pub record StandsAt (lists : List (List ℕ)) (places : List ℕ) (joint : Turn) : Type 0 where

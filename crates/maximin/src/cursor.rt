@@ -2,12 +2,11 @@
 ghost use Rattle.std.specs.Prelude.{◌≡◌, ◌≢◌, ℕ, ◌+◌, ◌<◌, ◌≤◌, ◌∷◌, [], false, IfOk, slice_get, slice_index_or};
 ghost use Rattle.std.specs.Bool.{OnTrue, OnFalse};
 ghost use Rattle.smallvec.specs.SmallVec.{small_vec_len};
-ghost use Rattle.position.specs.Rules.{is_stuck as stuck, choices, turns_with};
+ghost use Rattle.game.specs.Rules.{is_stuck as stuck, choices, turns_with};
 ghost use Rattle.maximin.specs.Turns.{StandsAt, later};
 ghost use Rattle.maximin.specs.Cursor.{IsCursorOf, cursor_capacities};
 
-use position::Game;
-use propnet::Joint;
+use game::{Game, Joint};
 use smallvec::SmallVec;
 use std::alloc::{AllocError, Global};
 

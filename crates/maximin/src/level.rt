@@ -4,7 +4,7 @@ ghost use Rattle.maximin.specs.Level.{IsLevelOf};
 
 use crate::cursor::Cursor;
 use crate::run::{Run, new_run};
-use position::Game;
+use game::Game;
 use std::alloc::{AllocError, Global};
 
 /// What the search keeps of one turn: a place among the joint moves, a run of them, the states after these, and one of those.

@@ -1,13 +1,13 @@
 // The memory of a search, and the calls that use it.
 ghost use Rattle.std.specs.Prelude.{◌≡◌, ◌-◌, ◌<◌, ◌≤◌, ◌<ℤ◌, ◌≤ℤ◌, pos, negsuc, false, IfOk, Some, Contains};
-ghost use Rattle.position.specs.Rules.{is_stuck as stuck};
-ghost use Rattle.position.specs.Value.{Answers, value, choice_of, reply_of};
+ghost use Rattle.game.specs.Rules.{is_stuck as stuck};
+ghost use Rattle.game.specs.Value.{Answers, value, worst, choice_of, reply_of};
 ghost use Rattle.maximin.specs.Room.{IsRoomOf, room_depth, room_capacities};
 
+use crate::known::{choice_worth, reply_worth};
 use crate::level::{Level, new_level};
-use crate::search::{Asked, choice_at, reply_at, value_at};
-use position::{AtBound, Game};
-use propnet::Joint;
+use crate::search::{Asked, choice_at, reply_at, value_within};
+use game::{AtBound, Game, Joint};
 use std::alloc::{AllocError, Global};
 
 /// All the memory of a search: room to step many joint moves at once, and for each turn that it looks ahead a run of joint moves, the
@@ -66,7 +66,7 @@ pub fn value_in<G: Game>(
         at,
     };
     let levels = room.levels.as_mut_slice();
-    value_at(g, p, asked, a, b, &mut room.wide, levels)
+    value_within(g, p, asked, a, b, &mut room.wide, levels)
 }
 
 /// The first legal move of the role, in printed order, that attains the value of the state. There is none where the game has ended,
@@ -96,6 +96,37 @@ pub fn choice<G: Game>(
     };
     let levels = room.levels.as_mut_slice();
     choice_at(g, p, asked, &mut room.wide, levels)
+}
+
+/// The same as `choice`, where it is known that the value of the state is `worth`: each move is searched for whether it attains that,
+/// and a move that has no other behind it not at all.
+pub fn choice_by_value<G: Game>(
+    g: &G,
+    p: &G::Pos,
+    role: usize,
+    depth: u32,
+    at: AtBound,
+    worth: i16,
+    room: &mut Room<G>,
+) -> Option<u32>
+    requires fits { G.fits g.now p.now }
+    requires role { role < (G.rules g.now).roles }
+    requires room { IsRoomOf (G.fits g.now) (G.fits_wide g.now) (G.fits_many g.now) (G.rules g.now).roles room.old }
+    requires deep { depth ≤ room_depth room.old }
+    requires worth { worth ≡ pos (value (G.rules g.now) role depth at (G.state g.now p.now)) }
+    ensures choice { result ≡ choice_of (G.rules g.now) role depth at (G.state g.now p.now) }
+    ensures room { IsRoomOf (G.fits g.now) (G.fits_wide g.now) (G.fits_many g.now) (G.rules g.now).roles room.new }
+    ensures deep { room_depth room.new ≡ room_depth room.old }
+    ensures capacities { room_capacities (G.capacities g.now) (G.wide_capacities g.now) (G.many_capacities g.now) room.new
+        ≡ room_capacities (G.capacities g.now) (G.wide_capacities g.now) (G.many_capacities g.now) room.old }
+{
+    let asked = Asked {
+        role,
+        depth: depth as usize,
+        at,
+    };
+    let levels = room.levels.as_mut_slice();
+    choice_worth(g, p, asked, worth, &mut room.wide, levels)
 }
 
 /// Writes the first joint legal move that leaves the least value where the role plays `own`, which stands in its place. Joint moves are
@@ -133,4 +164,43 @@ pub fn first_reply<G: Game>(
     };
     let levels = room.levels.as_mut_slice();
     reply_at(g, p, asked, own, &mut room.wide, levels, out)
+}
+
+/// The same as `first_reply`, where it is known that the least value that `own` leaves is `worth`: each joint move is searched for
+/// whether it leaves that, and one that has no other behind it not at all.
+pub fn reply_by_value<G: Game>(
+    g: &G,
+    p: &G::Pos,
+    role: usize,
+    own: u32,
+    depth: u32,
+    at: AtBound,
+    worth: i16,
+    room: &mut Room<G>,
+    out: &mut Joint,
+)
+    requires fits { G.fits g.now p.now }
+    requires role { role < (G.rules g.now).roles }
+    requires own { Contains ((G.rules g.now).legal (G.state g.now p.now) role) own }
+    requires going { (G.rules g.now).ended (G.state g.now p.now) ≡ false }
+    requires free { stuck (G.rules g.now) (G.state g.now p.now) ≡ false }
+    requires turn { 0 < depth }
+    requires room { IsRoomOf (G.fits g.now) (G.fits_wide g.now) (G.fits_many g.now) (G.rules g.now).roles room.old }
+    requires deep { depth ≤ room_depth room.old }
+    requires worth { worth ≡ pos (worst (G.rules g.now) role (depth - 1) at (G.state g.now p.now) own) }
+    requires out { (G.rules g.now).roles ≤ out.old.capacity }
+    ensures reply { reply_of (G.rules g.now) role (depth - 1) at (G.state g.now p.now) own ≡ Some out.new.items }
+    ensures out { out.new.capacity ≡ out.old.capacity }
+    ensures room { IsRoomOf (G.fits g.now) (G.fits_wide g.now) (G.fits_many g.now) (G.rules g.now).roles room.new }
+    ensures deep { room_depth room.new ≡ room_depth room.old }
+    ensures capacities { room_capacities (G.capacities g.now) (G.wide_capacities g.now) (G.many_capacities g.now) room.new
+        ≡ room_capacities (G.capacities g.now) (G.wide_capacities g.now) (G.many_capacities g.now) room.old }
+{
+    let asked = Asked {
+        role,
+        depth: depth as usize - 1,
+        at,
+    };
+    let levels = room.levels.as_mut_slice();
+    reply_worth(g, p, asked, own, worth, &mut room.wide, levels, out)
 }

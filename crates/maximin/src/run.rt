@@ -2,14 +2,13 @@
 ghost use Rattle.std.specs.Prelude.{◌≡◌, ◌+◌, ◌<◌, ◌≤◌, ◌∷◌, ◌++◌, [], false, All, IfOk};
 ghost use Rattle.std.specs.Bool.{OnTrue, OnFalse};
 ghost use Rattle.smallvec.specs.SmallVec.{small_vec_len};
-ghost use Rattle.position.specs.Rules.{is_stuck as stuck, choices, IsTurn};
+ghost use Rattle.game.specs.Rules.{is_stuck as stuck, choices, IsTurn};
 ghost use Rattle.maximin.specs.Turns.{StandsAt, later};
 ghost use Rattle.maximin.specs.Cursor.{IsCursorOf, cursor_capacities};
 ghost use Rattle.maximin.specs.Run.{IsRunOf, turns_in, run_capacities};
 
 use crate::cursor::{Cursor, next_turn, write_joint};
-use position::Game;
-use propnet::Joint;
+use game::{Game, Joint};
 use smallvec::SmallVec;
 use std::alloc::{AllocError, Global};
 

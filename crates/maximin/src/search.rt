@@ -1,15 +1,16 @@
 // The search, level by level.
 ghost use Rattle.std.specs.Prelude.{◌≡◌, ◌<◌, ◌≤◌, ◌<ℤ◌, ◌≤ℤ◌, pos, negsuc, false, Some, All, length, map, if◌then◌else◌};
-ghost use Rattle.position.specs.AtBound.{bound_worth};
-ghost use Rattle.position.specs.Rules.{is_stuck as stuck};
-ghost use Rattle.position.specs.Value.{Answers, choice_of, least, reply_of, value, worst};
+ghost use Rattle.game.specs.AtBound.{bound_worth};
+ghost use Rattle.game.specs.Rules.{is_stuck as stuck};
+ghost use Rattle.game.specs.Value.{Answers, choice_of, greatest, least, reply_of, value, worst};
+ghost use Rattle.maximin.specs.Alone.{IsAlone};
 ghost use Rattle.maximin.specs.Level.{IsLevelOf, all_capacities};
 
+use crate::alone::{gather_own, is_alone};
 use crate::cursor::{next_turn, start_turns, write_joint};
 use crate::level::Level;
 use crate::run::{LONGEST_RUN, gather};
-use position::{AtBound, Game, is_stuck};
-use propnet::Joint;
+use game::{AtBound, Game, Joint, is_stuck};
 
 /// What is asked of a state: what a role can be sure of within some turns.
 #[derive(Clone, Copy)]
@@ -34,7 +35,7 @@ fn bound_at<G: Game>(game: &G, from: &G::Pos, role: usize, at: AtBound) -> i16
 
 /// The value of a state within a window.
 #[cycle(search)]
-pub fn value_at<G: Game>(
+fn value_at<G: Game>(
     game: &G,
     from: &G::Pos,
     asked: Asked,
@@ -71,6 +72,9 @@ pub fn value_at<G: Game>(
         depth: asked.depth - 1,
         ..asked
     };
+    if is_alone(game, from, asked.role) {
+        return best_at(game, from, next, a, b, wide, levels);
+    }
     let mut best = a;
     let mut place = 0;
     while let Some(own) = game.legal(from, asked.role, place) {
@@ -190,6 +194,156 @@ fn least_at<G: Game>(
         }
     }
     upper
+}
+
+/// The greatest value of a state that can follow, within a window, where no other role has a choice.
+#[cycle(search)]
+fn best_at<G: Game>(
+    game: &G,
+    from: &G::Pos,
+    asked: Asked,
+    a: i16,
+    b: i16,
+    wide: &mut G::Wide,
+    levels: &mut [Level<G::Pos, G::Many>],
+) -> i16
+    requires fits { G.fits game.now from.now }
+    requires role { asked.role < (G.rules game.now).roles }
+    requires open { stuck (G.rules game.now) (G.state game.now from.now) ≡ false }
+    requires alone { IsAlone (G.rules game.now) (G.state game.now from.now) asked.role }
+    requires deep { asked.depth < length levels.old }
+    requires wide { G.fits_wide game.now wide.old }
+    requires levels { All (IsLevelOf (G.fits game.now) (G.fits_many game.now) (G.rules game.now).roles) levels.old }
+    requires low { negsuc 1 ≤ℤ a }
+    requires order { a <ℤ b }
+    requires high { b ≤ℤ pos 101 }
+    ensures answers { Answers (greatest (map (worst (G.rules game.now) asked.role asked.depth asked.at (G.state game.now from.now))
+        ((G.rules game.now).legal (G.state game.now from.now) asked.role))) a b result }
+    ensures wide { G.fits_wide game.now wide.new }
+    ensures wide_capacities { G.wide_capacities game.now wide.new ≡ G.wide_capacities game.now wide.old }
+    ensures levels { All (IsLevelOf (G.fits game.now) (G.fits_many game.now) (G.rules game.now).roles) levels.new }
+    ensures capacities { all_capacities (G.capacities game.now) (G.many_capacities game.now) levels.new
+        ≡ all_capacities (G.capacities game.now) (G.many_capacities game.now) levels.old }
+{
+    let (first, rest) = levels.split_at_mut(1);
+    let level = &mut first[0];
+    start_turns(game, from, asked.role, 0, &mut level.cursor);
+    let mut best = a;
+    let mut place = 0;
+    let mut most = 1;
+    'runs: loop {
+        gather_own(
+            game,
+            from,
+            asked.role,
+            place,
+            &level.cursor.joint,
+            most,
+            &mut level.run,
+        );
+        let count = level.run.count;
+        if count == 0 {
+            return best;
+        }
+        game.steps(from, &level.run.joints[..count], wide, &mut level.many);
+        let greatest = greatest_at(
+            game,
+            &level.many,
+            count,
+            asked,
+            best,
+            b,
+            wide,
+            &mut level.position,
+            rest,
+        );
+        best = best.max(greatest);
+        if best >= b {
+            return best;
+        }
+        place += count;
+        most = LONGEST_RUN.min(8 * most);
+    }
+}
+
+/// The greatest value of some states, within a window.
+#[cycle(search)]
+fn greatest_at<G: Game>(
+    game: &G,
+    many: &G::Many,
+    count: usize,
+    asked: Asked,
+    a: i16,
+    b: i16,
+    wide: &mut G::Wide,
+    position: &mut G::Pos,
+    levels: &mut [Level<G::Pos, G::Many>],
+) -> i16
+    requires many { G.fits_many game.now many.now }
+    requires count { count ≡ length (G.states game.now many.now) }
+    requires some { 0 < count }
+    requires role { asked.role < (G.rules game.now).roles }
+    requires deep { asked.depth ≤ length levels.old }
+    requires position { G.fits game.now position.old }
+    requires wide { G.fits_wide game.now wide.old }
+    requires levels { All (IsLevelOf (G.fits game.now) (G.fits_many game.now) (G.rules game.now).roles) levels.old }
+    requires low { negsuc 1 ≤ℤ a }
+    requires order { a <ℤ b }
+    requires high { b ≤ℤ pos 101 }
+    ensures answers { Answers (greatest (map (value (G.rules game.now) asked.role asked.depth asked.at) (G.states game.now many.now))) a b result }
+    ensures wide { G.fits_wide game.now wide.new }
+    ensures wide_capacities { G.wide_capacities game.now wide.new ≡ G.wide_capacities game.now wide.old }
+    ensures position { G.fits game.now position.new }
+    ensures position_capacities { G.capacities game.now position.new ≡ G.capacities game.now position.old }
+    ensures levels { All (IsLevelOf (G.fits game.now) (G.fits_many game.now) (G.rules game.now).roles) levels.new }
+    ensures capacities { all_capacities (G.capacities game.now) (G.many_capacities game.now) levels.new
+        ≡ all_capacities (G.capacities game.now) (G.many_capacities game.now) levels.old }
+{
+    let mut lower = a;
+    for child in 0..count {
+        game.take(many, child, position);
+        lower = lower.max(value_at(game, position, asked, lower, b, wide, levels));
+        if lower >= b {
+            return lower;
+        }
+    }
+    lower
+}
+
+/// The least and the greatest value of a state, as goal values are.
+const LEAST: i16 = 0;
+
+const GREATEST: i16 = 100;
+
+/// The value of a state within a window, searched for within the part of the window where values can be.
+pub fn value_within<G: Game>(
+    game: &G,
+    from: &G::Pos,
+    asked: Asked,
+    a: i16,
+    b: i16,
+    wide: &mut G::Wide,
+    levels: &mut [Level<G::Pos, G::Many>],
+) -> i16
+    requires fits { G.fits game.now from.now }
+    requires role { asked.role < (G.rules game.now).roles }
+    requires deep { asked.depth ≤ length levels.old }
+    requires wide { G.fits_wide game.now wide.old }
+    requires levels { All (IsLevelOf (G.fits game.now) (G.fits_many game.now) (G.rules game.now).roles) levels.old }
+    requires order { a <ℤ b }
+    ensures answers { Answers (value (G.rules game.now) asked.role asked.depth asked.at (G.state game.now from.now)) a b result }
+    ensures wide { G.fits_wide game.now wide.new }
+    ensures wide_capacities { G.wide_capacities game.now wide.new ≡ G.wide_capacities game.now wide.old }
+    ensures levels { All (IsLevelOf (G.fits game.now) (G.fits_many game.now) (G.rules game.now).roles) levels.new }
+    ensures capacities { all_capacities (G.capacities game.now) (G.many_capacities game.now) levels.new
+        ≡ all_capacities (G.capacities game.now) (G.many_capacities game.now) levels.old }
+{
+    let low = a.max(LEAST);
+    let high = b.min(GREATEST);
+    if low >= high {
+        return high;
+    }
+    value_at(game, from, asked, low, high, wide, levels)
 }
 
 /// The first move of the role that attains the value of the state.

@@ -1,11 +1,10 @@
 // Values, choices and replies over the table.
 ghost use Rattle.std.specs.Prelude.{◌<◌, ◌<ℤ◌, ◌≤ℤ◌, pos, negsuc};
 
-use crate::{Room, choice, first_reply, value_in};
-use position::AtBound::{Goal, Zero};
-use position::Game;
-use position::table::{Chosen, Table};
-use propnet::Joint;
+use crate::{Room, choice, choice_by_value, first_reply, reply_by_value, value_in};
+use game::AtBound::{Goal, Zero};
+use game::table::{Chosen, Table};
+use game::{Game, Joint};
 use smallvec::SmallVec;
 use std::alloc::{AllocError, Global};
 use std::sync::atomic::{AtomicUsize, Ordering};
@@ -291,5 +290,86 @@ fn narrow_window_steps_less(rt: HostRuntime) -> Result<(), AllocError> {
     let high = value_of(&game, rt.alloc(), (0, 10))?;
     assert!(rt; 10 <= high && high <= 30);
     assert_eq!(rt; game.steps.load(Ordering::SeqCst), 4);
+    Ok(())
+}
+
+// The row's second side is worth 30. Nothing is behind it, so it is not looked at.
+#[test]
+fn choice_by_a_known_value_steps_less(rt: HostRuntime) -> Result<(), AllocError> {
+    let game = Counted {
+        inner: LEVEL,
+        steps: AtomicUsize::new(0),
+    };
+    let mut room = Room::new(rt.alloc(), &game, 1)?;
+    let start = game.fresh()?;
+    assert_eq!(rt;
+        choice_by_value(&game, &start, 0, 1, Zero, 30, &mut room),
+        Some(1)
+    );
+    assert_eq!(rt; game.steps.load(Ordering::SeqCst), 2);
+    Ok(())
+}
+
+// Of the row's first side cell 1 is the first that is worth 10.
+#[test]
+fn reply_by_a_known_value_steps_less(rt: HostRuntime) -> Result<(), AllocError> {
+    let game = Counted {
+        inner: LEVEL,
+        steps: AtomicUsize::new(0),
+    };
+    let mut room = Room::new(rt.alloc(), &game, 1)?;
+    let start = game.fresh()?;
+    let mut reply = SmallVec::new(rt.alloc());
+    reply_by_value(&game, &start, 0, 0, 1, Zero, 10, &mut room, &mut reply);
+    assert_eq!(rt; reply.as_slice(), [0, 0, 1].as_slice());
+    assert_eq!(rt; game.steps.load(Ordering::SeqCst), 2);
+    Ok(())
+}
+
+// The row can be sure of 40 by both sides.
+#[test]
+fn first_of_equals_by_a_known_value(rt: HostRuntime) -> Result<(), AllocError> {
+    let table = Table {
+        worth: [70, 40, 90, 80, 60, 40, 50, 45],
+        ends: [true; 8],
+    };
+    let mut room = Room::new(rt.alloc(), &table, 1)?;
+    let start = table.fresh()?;
+    let mut reply = SmallVec::new(rt.alloc());
+    assert_eq!(rt;
+        choice_by_value(&table, &start, 0, 1, Zero, 40, &mut room),
+        Some(0)
+    );
+    reply_by_value(&table, &start, 0, 0, 1, Zero, 40, &mut room, &mut reply);
+    assert_eq!(rt; reply.as_slice(), [0, 0, 1].as_slice());
+    assert_eq!(rt;
+        choice_by_value(&table, &start, 0, 0, Zero, 0, &mut room),
+        None
+    );
+    Ok(())
+}
+
+// By its second side the row gets 100 whatever the others do, and the column gets nothing by its first.
+#[test]
+fn ends_of_the_range_are_known_values(rt: HostRuntime) -> Result<(), AllocError> {
+    let table = Table {
+        worth: [100, 100, 100, 0, 100, 100, 100, 100],
+        ends: [true; 8],
+    };
+    let mut room = Room::new(rt.alloc(), &table, 1)?;
+    let start = table.fresh()?;
+    let mut reply = SmallVec::new(rt.alloc());
+    assert_eq!(rt;
+        choice_by_value(&table, &start, 0, 1, Zero, 100, &mut room),
+        Some(1)
+    );
+    reply_by_value(&table, &start, 0, 1, 1, Zero, 100, &mut room, &mut reply);
+    assert_eq!(rt; reply.as_slice(), [1, 0, 0].as_slice());
+    assert_eq!(rt;
+        choice_by_value(&table, &start, 1, 1, Zero, 0, &mut room),
+        Some(0)
+    );
+    reply_by_value(&table, &start, 1, 0, 1, Zero, 0, &mut room, &mut reply);
+    assert_eq!(rt; reply.as_slice(), [0, 0, 0].as_slice());
     Ok(())
 }

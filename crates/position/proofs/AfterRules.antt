@@ -3,11 +3,11 @@ use Rattle.std.proofs.Common.{ℕ, zero, suc, ◌+◌, ◌<◌, Bool, true, fals
 use Rattle.std.specs.Prelude.{IsTrue, nat_lt, slice_index, ◌==◌}
 use Rattle.std.specs.Option.{option_map}
 use Rattle.kif.specs.Tree.{Tree, tree_eq}
-use Rattle.kif.proofs.Equality.{both, true_and}
-use Rattle.rules.specs.Words.{w_next}
-use Rattle.rules.specs.Clause.{Atom, Alternative, relation_of}
-use Rattle.rules.specs.Dependence.{IsAmong}
-use Rattle.rules.proofs.Accepted.{fixed_tested}
+use Rattle.kif.proofs.Facts.{both, true_and}
+use Rattle.profile.specs.Words.{w_next}
+use Rattle.profile.specs.Clause.{Atom, Alternative, relation_of}
+use Rattle.profile.specs.Dependence.{IsAmong}
+use Rattle.profile.proofs.Facts.{fixed_tested}
 use Rattle.ground.specs.declared.kind.Kind.{Kind}
 use Rattle.ground.specs.declared.kind.Kind.TheVariants.{Fixed, Now, Does, Next, Legal, Goal, Terminal, Other}
 use Rattle.ground.specs.Meaning.{Source, now, does, distinct, ordinary, source_of, RightAs, Holds, IsRole, IsInput, IsWithinInput, atom1}
@@ -25,8 +25,8 @@ use Rattle.ground.proofs.Gates.{distinct_fixed}
 use Rattle.ground.proofs.ListedLaw.{is_atom_yes, is_atom_in_yes}
 use Rattle.ground.proofs.Possible.{now_is, does_is}
 use Rattle.position.specs.declared.naming.Naming.TheVariants.{ByNext}
-use Rattle.position.specs.Played.{tree_at}
-use Rattle.position.specs.Rules.{Turn}
+use Rattle.game.specs.Played.{tree_at}
+use Rattle.game.specs.Rules.{Turn}
 use Rattle.position.specs.RulePlay.{is_given, holds, names, is_named, named_below}
 use Rattle.position.specs.RuleMeaning.{Agree, stands_at, state_of, chosen_at, joint_of, trees_at}
 use Rattle.position.proofs.Trees.{trees_picked, picked_filter, placed, place_at, among_tree}

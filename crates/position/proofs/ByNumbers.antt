@@ -1,10 +1,10 @@
 -- Going through the kept instances by numbers finds the numbers of what holds.
 use Rattle.std.proofs.Common.{ℕ, zero, suc, ◌<◌, Bool, true, false, not, cond, ◌&&◌, ◌||◌, ◌≡◌, ◌⊎◌, ◌↔◌, inl, inr, List, [], ◌∷◌, ◌++◌, append_assoc, length, map, refl, sym, ap, subst, ◌∙◌, arith, eqb-true, eq-eqb}
 use Rattle.std.specs.Prelude.{filter, ◌==◌}
-use Rattle.kif.proofs.Equality.{both, true_and}
-use Rattle.rules.specs.Clause.{Atom, Literal, positive, negative, Alternative, relation_of, atom_eq, atom_of}
-use Rattle.rules.specs.Dependence.{IsAmong, is_fixed}
-use Rattle.rules.proofs.Tests.{not_true, not_false, IsAmong-append, IsAmong-append_right, or_cases, or_left, or_right}
+use Rattle.kif.proofs.Facts.{both, true_and}
+use Rattle.profile.specs.Clause.{Atom, Literal, positive, negative, Alternative, relation_of, atom_eq, atom_of}
+use Rattle.profile.specs.Dependence.{IsAmong, is_fixed}
+use Rattle.profile.proofs.Facts.{not_true, not_false, IsAmong-append, IsAmong-append_right, or_cases, or_left, or_right}
 use Rattle.ground.specs.declared.kind.Kind.{Kind}
 use Rattle.ground.specs.Meaning.{State, Joint, Source, now, does, distinct, ordinary, source_of, RightAs, IsRight, Holds, IsWithinBase, IsWithinInput}
 use Rattle.ground.specs.Numbers.{number_of}
@@ -21,7 +21,7 @@ use Rattle.ground.proofs.Gates.{atom_found, gate_right, gate_numbered}
 use Rattle.ground.proofs.ListedLaw.{source_under}
 use Rattle.ground.proofs.Ordered.{among_map_out, among_filter}
 use Rattle.ground.proofs.Rising.{atom_test}
-use Rattle.position.specs.Rules.{Turn}
+use Rattle.game.specs.Rules.{Turn}
 use Rattle.position.specs.RuleMeaning.{Agree}
 use Rattle.position.specs.RulePlay.{stands_in, kind_at, is_given, is_right, all_right, found_by, holds}
 

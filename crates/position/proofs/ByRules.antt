@@ -4,12 +4,11 @@ use Rattle.std.specs.Prelude.{filter, IsTrue, nat_lt, slice_index, ◌==◌}
 use Rattle.std.specs.Option.{option_map}
 use Rattle.std.proofs.lemmas.List.{length-map}
 use Rattle.kif.specs.Tree.{Tree, Trees, no_trees, tree, name_eq, tree_eq}
-use Rattle.kif.proofs.Equality.{both, true_and, name_eq_yes}
-use Rattle.rules.specs.Words.{w_true, w_does, w_distinct, w_terminal}
-use Rattle.rules.specs.Clause.{Atom, Alternative, relation_of, atom_eq}
-use Rattle.rules.specs.Dependence.{IsAmong, is_fixed}
-use Rattle.rules.proofs.Accepted.{fixed_tested}
-use Rattle.rules.proofs.Tests.{or_cases, or_left, or_right}
+use Rattle.kif.proofs.Facts.{both, true_and, name_eq_yes, tree_eq_yes}
+use Rattle.profile.specs.Words.{w_true, w_does, w_distinct, w_terminal}
+use Rattle.profile.specs.Clause.{Atom, Alternative, relation_of, atom_eq}
+use Rattle.profile.specs.Dependence.{IsAmong, is_fixed}
+use Rattle.profile.proofs.Facts.{fixed_tested, or_cases, or_left, or_right}
 use Rattle.ground.specs.declared.kind.Kind.{Kind}
 use Rattle.ground.specs.declared.kind.Kind.TheVariants.{Fixed, Now, Does, Next, Legal, Goal, Terminal, Other}
 use Rattle.ground.specs.Meaning.{State, Joint, Source, now, does, distinct, ordinary, source_at, source_of, RightAs, Holds, nobody, IsEnded, IsBase, IsWithinBase, IsWithinInput, atom0, atom1}
@@ -27,11 +26,10 @@ use Rattle.ground.proofs.Gates.{distinct_fixed}
 use Rattle.ground.proofs.Numbered.{one_number}
 use Rattle.ground.proofs.Ordered.{place_below}
 use Rattle.ground.proofs.Rising.{atom_test}
-use Rattle.kif.proofs.Equality.{tree_eq_yes}
-use Rattle.position.specs.Rules.{Turn}
+use Rattle.game.specs.Rules.{Turn}
 use Rattle.position.specs.RulePlay.{marked, no_turn, kind_at, is_given, holds, some_below, is_terminal, ends}
 use Rattle.position.specs.RuleMeaning.{Agree, stands_at, state_of, trees_at}
-use Rattle.position.specs.Played.{tree_at}
+use Rattle.game.specs.Played.{tree_at}
 use Rattle.position.proofs.Trees.{trees_picked, picked_filter}
 use Rattle.ground.specs.Play as play
 use Rattle.ground.specs.Play.{AreStart}

@@ -5,7 +5,7 @@ use Rattle.std.specs.List.{range_with_len}
 use Rattle.std.proofs.lemmas.List.{length-map, get_or-map}
 use Rattle.std.proofs.lemmas.List.Elements.{All-filter}
 use Rattle.kif.specs.Tree.{Tree, text}
-use Rattle.rules.specs.Clause.{Alternative}
+use Rattle.profile.specs.Clause.{Alternative}
 use Rattle.ground.specs.declared.kind.Kind.{Kind}
 use Rattle.ground.specs.declared.ground.Ground.{Ground}
 use Rattle.ground.specs.Meaning.{IsInAfter, IsLegal, IsEnded}
@@ -17,15 +17,15 @@ use Rattle.ground.specs.GroundView.{roles_of, base_of, inputs_of, kinds_of, inst
 use Rattle.ground.specs.Play as play
 use Rattle.ground.specs.Play.{AreStart, AreAfter, AreLegal, IsGoal}
 use Rattle.position.specs.declared.naming.Naming.TheVariants.{ByNext, ByLegal}
-use Rattle.position.specs.NamedRules.{NamedRules}
-use Rattle.position.specs.Played.{tree_at}
-use Rattle.position.specs.Rules.{Turn, IsTurn}
+use Rattle.game.specs.NamedRules.{NamedRules}
+use Rattle.game.specs.Played.{tree_at}
+use Rattle.game.specs.Rules.{Turn, IsTurn}
 use Rattle.position.specs.RulePlay.{no_turn, marked, holds, is_named, rules_by}
 use Rattle.position.specs.RuleMeaning.{state_of, joint_of, trees_at}
 use Rattle.position.specs.RulesGame.{role_at, inputs_at, AreNumbersOf, IsGameOf}
 use Rattle.position.specs.RuleState.{rules_of, named_rules_of}
 use Rattle.position.specs.RuleLaws.{below_range}
-use Rattle.position.proofs.States.{get_or_any}
+use Rattle.game.proofs.ManyStates.{get_or_any}
 use Rattle.position.proofs.ByRules.{ends_by_rules, start_are}
 use Rattle.position.proofs.LegalRules.{legal_are}
 use Rattle.position.proofs.AfterRules.{after_are}

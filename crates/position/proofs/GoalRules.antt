@@ -5,9 +5,9 @@ use Rattle.std.proofs.Math.Nat.{le-max_left, le-max_right, max-eq_left, max-eq_r
 use Rattle.std.proofs.lemmas.Bool.{cases_lt}
 use Rattle.std.proofs.lemmas.List.{length-map}
 use Rattle.kif.specs.Tree.{Tree, name}
-use Rattle.kif.proofs.Equality.{both, true_and}
-use Rattle.rules.specs.Words.{w_goal}
-use Rattle.rules.specs.Clause.{Atom, Alternative}
+use Rattle.kif.proofs.Facts.{both, true_and}
+use Rattle.profile.specs.Words.{w_goal}
+use Rattle.profile.specs.Clause.{Atom, Alternative}
 use Rattle.ground.specs.declared.kind.Kind.{Kind}
 use Rattle.ground.specs.declared.kind.Kind.TheVariants.{Fixed, Now, Does, Next, Legal, Goal, Terminal, Other}
 use Rattle.ground.specs.Meaning.{nobody, atom2}
@@ -19,7 +19,7 @@ use Rattle.ground.specs.Grounds.{numbered}
 use Rattle.ground.specs.Play.{HasGoal, IsGoal}
 use Rattle.ground.proofs.AtomKinds.{kind_sound}
 use Rattle.ground.proofs.Context.{roles_once}
-use Rattle.position.specs.Played.{tree_at}
+use Rattle.game.specs.Played.{tree_at}
 use Rattle.position.specs.RulePlay.{no_turn, kind_at, holds, some_below, greatest_below, goal_value, best_goal}
 use Rattle.position.specs.RuleMeaning.{state_of}
 use Rattle.position.proofs.Trees.{placed, place_at}

@@ -3,8 +3,8 @@ use Rattle.std.proofs.Common.{ℕ, ◌+◌, ◌<◌, Bool, true, false, cond, �
 use Rattle.std.specs.Prelude.{◌==◌}
 use Rattle.std.specs.declared.cmp.Ordering.TheVariants.{Less}
 use Rattle.kif.specs.Tree.{Tree, printed_cmp}
-use Rattle.rules.specs.Words.{w_legal}
-use Rattle.rules.specs.Clause.{Atom, Alternative}
+use Rattle.profile.specs.Words.{w_legal}
+use Rattle.profile.specs.Clause.{Atom, Alternative}
 use Rattle.ground.specs.declared.kind.Kind.{Kind}
 use Rattle.ground.specs.declared.kind.Kind.TheVariants.{Fixed, Now, Does, Next, Legal, Goal, Terminal, Other}
 use Rattle.ground.specs.Meaning.{Holds, nobody, atom2, IsRole}
@@ -22,7 +22,7 @@ use Rattle.ground.proofs.ListedLaw.{is_atom_yes, is_atom_in_yes}
 use Rattle.ground.proofs.Ordered.{order_other}
 use Rattle.ground.proofs.Printed.{printed_never}
 use Rattle.position.specs.declared.naming.Naming.TheVariants.{ByLegal}
-use Rattle.position.specs.Played.{tree_at}
+use Rattle.game.specs.Played.{tree_at}
 use Rattle.position.specs.RulePlay.{no_turn, holds, names, is_number, is_named, named_below}
 use Rattle.position.specs.RuleMeaning.{state_of, trees_at}
 use Rattle.position.proofs.Trees.{trees_picked, picked_filter, placed, place_at, among_tree}

@@ -1,7 +1,3 @@
-pub mod Ascending
-pub mod Roles
-pub mod FirstFaults
-pub mod LegalMoves
 pub mod Marks
 pub mod States
 pub mod ByNumbers
@@ -15,13 +11,12 @@ pub mod PlanLemmas
 pub mod FlatLemmas
 pub mod GameRules
 pub mod OneGame
-pub mod Alike
-pub mod PlayRange
-pub mod SamePlays
-pub mod PlainValues
 pub mod Shown
 pub mod NetReads
 pub mod NetFacts
 pub mod Words
+pub mod Kept
+pub mod Places
 pub mod Lanes
-pub mod ManyStates
+pub mod LaneLemmas
+pub mod RuleRooms

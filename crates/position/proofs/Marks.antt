@@ -11,7 +11,7 @@ use Rattle.std.proofs.Math.Bool.{or-false}
 use Rattle.ground.specs.declared.ground.Instance as shown
 use Rattle.ground.specs.Grounds.{Kept, kept_of}
 use Rattle.ground.specs.Fits.{IsKeptWithin}
-use Rattle.position.specs.Rules.{State, Turn}
+use Rattle.game.specs.Rules.{State, Turn}
 use Rattle.position.specs.RulePlay.{stands_in, marked, kind_at, is_given, is_right, all_right, found_by, AreMarks, with_heads, some_below, greatest_below}
 
 other_than : (a p : ℕ) → (p < a) ⊎ (a + 1 ≤ p) → (a == p) ≡ false

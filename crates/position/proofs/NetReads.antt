@@ -4,10 +4,9 @@ use Rattle.std.specs.Prelude.{◌==◌, nat_lt, slice_index, unwrap_or, IsTrue}
 use Rattle.std.proofs.Math.Logic.{∥∥₁_elim}
 use Rattle.std.proofs.Props.{props}
 use Rattle.std.proofs.lemmas.List.{length-map}
-use Rattle.std.proofs.lemmas.Nat.Bits.{bit_at-lt}
 use Rattle.kif.specs.Tree.{Tree, text}
-use Rattle.rules.specs.Clause.{Atom, Alternative, relation_of}
-use Rattle.rules.specs.Dependence.{IsAmong, is_fixed}
+use Rattle.profile.specs.Clause.{Atom, Alternative, relation_of}
+use Rattle.profile.specs.Dependence.{IsAmong, is_fixed}
 use Rattle.ground.specs.declared.kind.Kind.{Kind}
 use Rattle.ground.specs.declared.kind.Kind.TheVariants.{Fixed, Now, Does, Next, Legal, Goal, Terminal, Other}
 use Rattle.ground.specs.declared.ground.Ground.{Ground}
@@ -31,16 +30,15 @@ use Rattle.propnet.specs.Bodies.{needs_view}
 use Rattle.propnet.specs.Builders.{IsNetOf}
 use Rattle.propnet.specs.Nets.{gates_of}
 use Rattle.propnet.specs.Network.{given, value}
-use Rattle.propnet.specs.Values.{bit}
 use Rattle.propnet.proofs.BuildLemmas.{stands_below}
 use Rattle.propnet.proofs.NetLaw.{view_law, transition_law, told_law}
 use Rattle.position.specs.declared.naming.Naming.TheVariants.{ByNext}
-use Rattle.position.specs.Rules.{State, Turn, IsTurn}
-use Rattle.position.specs.Played.{tree_at}
+use Rattle.game.specs.Rules.{State, Turn, IsTurn}
+use Rattle.game.specs.Played.{tree_at}
 use Rattle.position.specs.RuleMeaning.{stands_at, state_of, chosen_at, joint_of}
 use Rattle.position.specs.RulePlay.{no_turn, kind_at, holds, is_named}
 use Rattle.position.specs.RuleState.{rules_of, holds_in}
-use Rattle.position.specs.NetState.{is_on, is_shown, state_bits, view_of}
+use Rattle.position.specs.NetState.{is_shown, told_state, view_of}
 use Rattle.position.proofs.AfterRules.{place_within, within_input, next_holds}
 use Rattle.position.proofs.ByNumbers.{numbers_exact, right_there}
 use Rattle.position.proofs.ByRules.{among_atom, number_at, kind_at_number, moving_kind, place_among, within_base, no_move, agree_now}
@@ -88,19 +86,19 @@ module _ (rules : List Alternative) (w : IsWellFormed rules) where
 
   -- Bits and numbers that tell the same as terms.
 
-  module _ (words : List ℕ) where
+  module _ (state : ℕ → ℕ) (is_bit : (n : ℕ) → state n < 2) where
     abbrev s : State
-    s = state_bits words (length (base_list rules))
+    s = told_state state (length (base_list rules))
 
-    bits_now : (p : Tree) (n : ℕ) → place_in p (base_list rules) ≡ Some n → (bit words n ≡ 1) ↔ IsTrue (state_of rules s p)
+    bits_now : (p : Tree) (n : ℕ) → place_in p (base_list rules) ≡ Some n → (state n ≡ 1) ↔ IsTrue (state_of rules s p)
     bits_now p n e =
-        let same : state_of rules s p ≡ is_on words n =
-        ap (stands_at s) e ∙ inside (is_on words) 0 (length (base_list rules)) n (omega arith) (let lt = place_within p (base_list rules) n e in omega arith) in
-        ((λ h. same ∙ eq-eqb (bit words n) 1 h), (λ h. eqb-true (bit words n) 1 (sym same ∙ h)))
+        let same : state_of rules s p ≡ (state n == 1) =
+        ap (stands_at s) e ∙ inside (λ i. state i == 1) 0 (length (base_list rules)) n (omega arith) (let lt = place_within p (base_list rules) n e in omega arith) in
+        ((λ h. same ∙ eq-eqb (state n) 1 h), (λ h. eqb-true (state n) 1 (sym same ∙ h)))
 
-    agree_bits_now : agreement.Agree rules (state_of rules s) nobody (bit words) no_turn
+    agree_bits_now : agreement.Agree rules (state_of rules s) nobody state no_turn
     agree_bits_now = record {
-      bits = λ n. bit_at-lt _ _;
+      bits = is_bit;
       now = bits_now;
       does = λ r m k n e f. ((λ h. absurd (none k n h)), (λ (h : ◌≡◌ {A = Option Tree} None (Some m)). absurd cc));
     }
@@ -145,21 +143,21 @@ module _ (rules : List Alternative) (w : IsWellFormed rules) where
               let i : slice_index j k ≡ n = let z : Some (slice_index j k) ≡ Some n = sym place ∙ f in cc in
               test ∙ if_one (slice_index j k == n) (eq-eqb (slice_index j k) n i)
 
-      agree_bits_move : agreement.Agree rules (state_of rules s) (joint_of rules j) (bit words) j
-      agree_bits_move = record { bits = λ n. bit_at-lt _ _; now = bits_now; does = given_told }
+      agree_bits_move : agreement.Agree rules (state_of rules s) (joint_of rules j) state j
+      agree_bits_move = record { bits = is_bit; now = bits_now; does = given_told }
 
 -- What the views of a state and the transitions of a turn tell, in the words of the ground alone.
 
-pub record IsViewTold (g : Ground) (net : Net) (words : List ℕ) (a : ℕ) : Type 0 where
+pub record IsViewTold (g : Ground) (net : Net) (state : ℕ → ℕ) (a : ℕ) : Type 0 where
   pub below : view_of net.views.items a < length (gates_of net)
-  pub told : (value (gates_of net) (bit words) no_turn (view_of net.views.items a) == 1) ≡ holds_in g (state_bits words (length g.starts.items)) a
+  pub told : (value (gates_of net) state no_turn (view_of net.views.items a) == 1) ≡ holds_in g (told_state state (length g.starts.items)) a
 
-pub record IsTransitionTold (g : Ground) (net : Net) (words : List ℕ) (j : Turn) (p : ℕ) : Type 0 where
+pub record IsTransitionTold (g : Ground) (net : Net) (state : ℕ → ℕ) (j : Turn) (p : ℕ) : Type 0 where
   pub below : get_or net.transitions.items p 0 < length (gates_of net)
-  pub told : (value (gates_of net) (bit words) j (get_or net.transitions.items p 0) == 1)
-      ≡ is_named (kinds_of g) (holds (kinds_of g) (instances_of g) (state_bits words (length g.starts.items)) j) ByNext p
+  pub told : (value (gates_of net) state j (get_or net.transitions.items p 0) == 1)
+      ≡ is_named (kinds_of g) (holds (kinds_of g) (instances_of g) (told_state state (length g.starts.items)) j) ByNext p
 
-module _ (rules : List Alternative) (g : Ground) (is : IsGround rules g) (net : Net) (of : IsNetOf g net) (words : List ℕ) where
+module _ (rules : List Alternative) (g : Ground) (is : IsGround rules g) (net : Net) (of : IsNetOf g net) (state : ℕ → ℕ) (is_bit : (n : ℕ) → state n < 2) where
   abbrev kinds : List Kind
   kinds = map (kind_of rules) (listing rules).atoms
 
@@ -170,11 +168,11 @@ module _ (rules : List Alternative) (g : Ground) (is : IsGround rules g) (net : 
   count = ap (λ (bs : List Bool). length bs) is.starts_are ∙ length-map (base_list rules) (play.starts rules)
 
   abbrev kept_words : State
-  kept_words = state_bits words (length (base_list rules))
+  kept_words = told_state state (length (base_list rules))
 
-  counted : (j : Turn) → holds (kinds_of g) (instances_of g) (state_bits words (length g.starts.items)) j ≡ holds kinds kept kept_words j
+  counted : (j : Turn) → holds (kinds_of g) (instances_of g) (told_state state (length g.starts.items)) j ≡ holds kinds kept kept_words j
   counted j =
-      ap (λ (n : ℕ). holds (kinds_of g) (instances_of g) (state_bits words n) j) count
+      ap (λ (n : ℕ). holds (kinds_of g) (instances_of g) (told_state state n) j) count
       ∙ ap (λ (ks : List Kind). holds ks (instances_of g) kept_words j) is.kinds_are
       ∙ ap (λ (ks : List Kept). holds kinds ks kept_words j) is.kept_are
 
@@ -200,21 +198,21 @@ module _ (rules : List Alternative) (g : Ground) (is : IsGround rules g) (net : 
     moving : is_fixed rules (relation_of x) ≡ false
     moving = shown_moving rules is.well_formed x (kind_of rules x) refl kind_shown
 
-    view_told_by : IsViewTold g net words a
+    view_told_by : IsViewTold g net state a
     view_told_by =
         let w = is.well_formed in
         let r = told_law rules g is net of x listed moving (shown_view (kind_of rules x) kind_shown) in
         let S = state_of rules kept_words in
         let node : view_of net.views.items a ≡ r.0 = ap (λ (o : Option ℕ). unwrap_or o 0) (ap (λ (i : ℕ). get_or net.views.items i None) (sym number) ∙ r.1) in
-        let law = view_law rules g is net of S nobody (within_base rules w kept_words) (no_move rules w kept_words) (bit words) no_turn (agree_bits_now rules w words) x listed moving r.0 r.2 in
+        let law = view_law rules g is net of S nobody (within_base rules w kept_words) (no_move rules w kept_words) state no_turn (agree_bits_now rules w state is_bit) x listed moving r.0 r.2 in
         let found = numbers_exact rules w S nobody (within_base rules w kept_words) (no_move rules w kept_words) kept_words no_turn (agree_now rules w kept_words) x listed moving in
         let plain = right_there S nobody (Holds rules S nobody x) (source_of x) (shown_plain rules w x (kind_of rules x) refl kind_shown) in
         let held : (holds kinds kept kept_words no_turn (number_of x (listing rules).atoms) ≡ true) ↔ Holds rules S nobody x = ((λ e. plain.1 (found.0 e)), (λ h. found.1 (plain.0 h))) in
-        let same : (value (gates_of net) (bit words) no_turn r.0 == 1) ≡ holds kinds kept kept_words no_turn (number_of x (listing rules).atoms) =
-        same_answer (value (gates_of net) (bit words) no_turn r.0 == 1) (holds kinds kept kept_words no_turn (number_of x (listing rules).atoms)) (Holds rules S nobody x) (one_told _ (Holds rules S nobody x) law) held in
+        let same : (value (gates_of net) state no_turn r.0 == 1) ≡ holds kinds kept kept_words no_turn (number_of x (listing rules).atoms) =
+        same_answer (value (gates_of net) state no_turn r.0 == 1) (holds kinds kept kept_words no_turn (number_of x (listing rules).atoms)) (Holds rules S nobody x) (one_told _ (Holds rules S nobody x) law) held in
         record {
           below = subst (λ (n : ℕ). n < length (gates_of net)) (sym node) (stands_below (gates_of net) r.0 _ r.2);
-          told = ap (λ (n : ℕ). value (gates_of net) (bit words) no_turn n == 1) node ∙ same ∙ ap (holds kinds kept kept_words no_turn) number ∙ sym (ap (λ (f : ℕ → Bool). f a) (counted no_turn));
+          told = ap (λ (n : ℕ). value (gates_of net) state no_turn n == 1) node ∙ same ∙ ap (holds kinds kept kept_words no_turn) number ∙ sym (ap (λ (f : ℕ → Bool). f a) (counted no_turn));
         }
 
   module _ (j : Turn) (turn : IsTurn (rules_of g) j) where
@@ -226,7 +224,7 @@ module _ (rules : List Alternative) (g : Ground) (is : IsGround rules g) (net : 
         let lt : q < (rules_of g).roles = subst (λ (n : ℕ). q < n) (sym (game_of_ground rules g is).roles_are) below in
         subst (λ (n : ℕ). slice_index j q < n) ((game_of_ground rules g is).moves_are q lt) (turn.each_known q lt)
 
-    transition_told_by : (p : ℕ) → p < length g.starts.items → IsTransitionTold g net words j p
+    transition_told_by : (p : ℕ) → p < length g.starts.items → IsTransitionTold g net state j p
     transition_told_by p lt =
         let w = is.well_formed in
         let inside : p < length (base_list rules) = let c = count in omega arith in
@@ -237,25 +235,25 @@ module _ (rules : List Alternative) (g : Ground) (is : IsGround rules g) (net : 
         let place : place_in t (base_list rules) ≡ Some p = place_at (base_list rules) (in_order_once (base_list rules) (bases_in_order rules w)) p inside in
         let n = get_or net.transitions.items p 0 in
         let stands = of.transitions.each p (omega arith) in
-        let law = transition_law rules g is net of S J (within_base rules w kept_words) (within_input rules w kept_words j many known) (bit words) j (agree_bits_move rules w words j many known) t p place n stands in
+        let law = transition_law rules g is net of S J (within_base rules w kept_words) (within_input rules w kept_words j many known) state j (agree_bits_move rules w state is_bit j many known) t p place n stands in
         let next = next_holds rules w kept_words j many known p inside in
         let named : (is_named kinds (holds kinds kept kept_words j) ByNext p ≡ true) ↔ meaning.IsInAfter rules S J t =
         ((λ e. ((bases_exact rules w t).0 (among_tree (base_list rules) p inside), next.0 e)), (λ h. next.1 h.1)) in
         record {
           below = stands_below (gates_of net) n _ stands;
-          told = same_answer (value (gates_of net) (bit words) j n == 1) (is_named kinds (holds kinds kept kept_words j) ByNext p) (meaning.IsInAfter rules S J t) (one_told _ (meaning.IsInAfter rules S J t) law) named
+          told = same_answer (value (gates_of net) state j n == 1) (is_named kinds (holds kinds kept kept_words j) ByNext p) (meaning.IsInAfter rules S J t) (one_told _ (meaning.IsInAfter rules S J t) law) named
               ∙ sym (ap (λ (f : ℕ → Bool). is_named (kinds_of g) f ByNext p) (counted j) ∙ ap (λ (ks : List Kind). is_named ks (holds kinds kept kept_words j) ByNext p) is.kinds_are);
         }
 
 -- the same of each ground with a network of it
-pub view_told : (g : Ground) (net : Net) → ∥ IsNetOf g net ∥₁ → (words : List ℕ) (a : ℕ) → a < length (kinds_of g) → is_shown (kind_at (kinds_of g) a) ≡ true → IsViewTold g net words a
-view_told g net made words a lt shown = record {
-  below = ∥∥₁_elim made (Prim.hlevel props) (λ of. ∥∥₁_elim g.sound (Prim.hlevel props) (λ s. (view_told_by s.0 g s.1 net of words a lt shown).below));
-  told = ∥∥₁_elim made (Prim.hlevel props) (λ of. ∥∥₁_elim g.sound (Prim.hlevel props) (λ s. (view_told_by s.0 g s.1 net of words a lt shown).told));
+pub view_told : (g : Ground) (net : Net) → ∥ IsNetOf g net ∥₁ → (state : ℕ → ℕ) → ((n : ℕ) → state n < 2) → (a : ℕ) → a < length (kinds_of g) → is_shown (kind_at (kinds_of g) a) ≡ true → IsViewTold g net state a
+view_told g net made state is_bit a lt shown = record {
+  below = ∥∥₁_elim made (Prim.hlevel props) (λ of. ∥∥₁_elim g.sound (Prim.hlevel props) (λ s. (view_told_by s.0 g s.1 net of state is_bit a lt shown).below));
+  told = ∥∥₁_elim made (Prim.hlevel props) (λ of. ∥∥₁_elim g.sound (Prim.hlevel props) (λ s. (view_told_by s.0 g s.1 net of state is_bit a lt shown).told));
 }
 
-pub transition_told : (g : Ground) (net : Net) → ∥ IsNetOf g net ∥₁ → (words : List ℕ) (j : Turn) → IsTurn (rules_of g) j → (p : ℕ) → p < length g.starts.items → IsTransitionTold g net words j p
-transition_told g net made words j turn p lt = record {
-  below = ∥∥₁_elim made (Prim.hlevel props) (λ of. ∥∥₁_elim g.sound (Prim.hlevel props) (λ s. (transition_told_by s.0 g s.1 net of words j turn p lt).below));
-  told = ∥∥₁_elim made (Prim.hlevel props) (λ of. ∥∥₁_elim g.sound (Prim.hlevel props) (λ s. (transition_told_by s.0 g s.1 net of words j turn p lt).told));
+pub transition_told : (g : Ground) (net : Net) → ∥ IsNetOf g net ∥₁ → (state : ℕ → ℕ) → ((n : ℕ) → state n < 2) → (j : Turn) → IsTurn (rules_of g) j → (p : ℕ) → p < length g.starts.items → IsTransitionTold g net state j p
+transition_told g net made state is_bit j turn p lt = record {
+  below = ∥∥₁_elim made (Prim.hlevel props) (λ of. ∥∥₁_elim g.sound (Prim.hlevel props) (λ s. (transition_told_by s.0 g s.1 net of state is_bit j turn p lt).below));
+  told = ∥∥₁_elim made (Prim.hlevel props) (λ of. ∥∥₁_elim g.sound (Prim.hlevel props) (λ s. (transition_told_by s.0 g s.1 net of state is_bit j turn p lt).told));
 }

@@ -3,7 +3,7 @@ use Rattle.std.proofs.Common.{ℕ, ◌<◌, ◌≡◌, List, [], ◌∷◌, leng
 use Rattle.std.specs.Prelude.{All, slice_index}
 use Rattle.std.proofs.lemmas.List.Elements.{All-head, All-tail}
 use Rattle.kif.specs.Tree.{Tree}
-use Rattle.rules.specs.Clause.{Alternative}
+use Rattle.profile.specs.Clause.{Alternative}
 use Rattle.ground.specs.InOrder.{AreDistinct}
 use Rattle.ground.specs.Kinds.{place_in}
 use Rattle.ground.specs.Listing.{role_list, base_list}
@@ -11,12 +11,12 @@ use Rattle.ground.specs.Listed.{IsWellFormed}
 use Rattle.ground.specs.Meaning.{IsEnded, IsRole}
 use Rattle.ground.proofs.Context.{bases_in_order, inputs_in_order, one_list_of, one_goal}
 use Rattle.ground.proofs.Fold.{roles_exact}
-use Rattle.position.specs.NamedRules.{NamedRules}
-use Rattle.position.specs.Played.{tree_at}
-use Rattle.position.specs.Rules.{Turn, IsTurn}
+use Rattle.game.specs.NamedRules.{NamedRules}
+use Rattle.game.specs.Played.{tree_at}
+use Rattle.game.specs.Rules.{Turn, IsTurn}
 use Rattle.position.specs.RuleMeaning.{state_of, trees_at}
 use Rattle.position.specs.RulesGame.{role_at, inputs_at, AreNumbersOf, IsGameOf}
-use Rattle.position.specs.SamePlay.{SamePlay}
+use Rattle.game.specs.SamePlay.{SamePlay}
 use Rattle.position.proofs.LegalRules.{same_answer, in_order_once}
 use Rattle.position.proofs.Trees.{place_at, among_tree}
 

@@ -13,7 +13,7 @@ use Rattle.position.specs.declared.naming.Naming.{Naming}
 use Rattle.position.specs.declared.plan.Sought.{Sought}
 use Rattle.position.specs.declared.plan.Sought.TheVariants.{Given, Named, Goals, Ends}
 use Rattle.position.specs.declared.plan.Standing.{Standing}
-use Rattle.position.specs.Rules.{State, Turn}
+use Rattle.game.specs.Rules.{State, Turn}
 use Rattle.position.specs.RuleLaws.{below_range}
 use Rattle.position.specs.RulePlay.{AreMarks, marked, named_below, stands_in, is_right, kind_at, is_given, is_number, number_named, names, is_named, is_terminal, ends, goal_value, best_goal, some_below, greatest_below}
 use Rattle.position.specs.Plans.{is_told, is_goal_of, seeks, standing_at, standing_below, all_standing, gives, names_among, ends_among, goal_among, greatest_of}

@@ -77,12 +77,15 @@ goals_alike kinds f g r h =
     greatest_agree (λ a. cond (f a) (goal_value r (kind_at kinds a)) 0) (λ a. cond (g a) (goal_value r (kind_at kinds a)) 0) (length kinds)
     (λ k lt. same_if (f k) (g k) (is_shown (kind_at kinds k)) (goal_value r (kind_at kinds k)) (h k lt) (goal_unshown r (kind_at kinds k)))
 
+pub named_alike : (kinds : List Kind) (f g : ℕ → Bool) (r m : ℕ) → Alike kinds f g → is_named kinds f (ByLegal r) m ≡ is_named kinds g (ByLegal r) m
+named_alike kinds f g r m h =
+    below_agree (λ a. f a && names (ByLegal r) (kind_at kinds a) m) (λ a. g a && names (ByLegal r) (kind_at kinds a) m) (length kinds)
+    (λ k lt. same_and (f k) (g k) (names (ByLegal r) (kind_at kinds k) m) (λ e. h k lt (legal_shown r m (kind_at kinds k) e)))
+
 pub legals_alike : (kinds : List Kind) (f g : ℕ → Bool) (r n : ℕ) → Alike kinds f g → named_below kinds f (ByLegal r) n ≡ named_below kinds g (ByLegal r) n
 legals_alike kinds f g r n h =
     filters_agree (is_named kinds f (ByLegal r)) (is_named kinds g (ByLegal r)) 0 n
-    (λ m from to.
-    below_agree (λ a. f a && names (ByLegal r) (kind_at kinds a) m) (λ a. g a && names (ByLegal r) (kind_at kinds a) m) (length kinds)
-    (λ k lt. same_and (f k) (g k) (names (ByLegal r) (kind_at kinds k) m) (λ e. h k lt (legal_shown r m (kind_at kinds k) e))))
+    (λ m from to. named_alike kinds f g r m h)
 
 pub reads_alike : (kinds : List Kind) (f g : ℕ → Bool) (inputs : List (List (List ℕ))) (fs : List RoleState) → Alike kinds f g → AreRead kinds f inputs fs → AreRead kinds g inputs fs
 reads_alike kinds f g inputs fs h all r d lt =
@@ -120,15 +123,18 @@ module _ (kinds : List Kind) (views : List (Option ℕ)) (on : ℕ → Bool) whe
       ∙ ap greatest_of (map_map (λ (p : Standing). cond (on p.atom) (goal_value r p.kind) 0) (told_by views) (all_standing (Goals r) kinds))
       ∙ goals_all kinds seen r
 
+  pub told_names : (by : Naming) (list lent : List Standing) (m : ℕ) → list ≡ map (told_by views) (all_standing (Named by) kinds) → lent ≡ list → names_among lent on by m ≡ is_named kinds seen by m
+  told_names by list lent m is same =
+      ap (λ (ps : List Standing). names_among ps on by m) (same ∙ is)
+      ∙ any_map (λ (p : Standing). on p.atom && names by p.kind m) (told_by views) (all_standing (Named by) kinds)
+      ∙ names_all kinds seen by m
+
   pub told_marks : (by : Naming) (list lent : List Standing) (marks : List Bool) (n m : ℕ) → list ≡ map (told_by views) (all_standing (Named by) kinds) → lent ≡ list
       → AreMarks marks n (names_among lent on by) → n ≡ m → marked marks ≡ named_below kinds seen by m
   told_marks by list lent marks n m is same are size =
       marked_are marks n (names_among lent on by) are
       ∙ filters_agree (names_among lent on by) (is_named kinds seen by) 0 n
-      (λ k from to.
-      ap (λ (ps : List Standing). names_among ps on by k) (same ∙ is)
-      ∙ any_map (λ (p : Standing). on p.atom && names by p.kind k) (told_by views) (all_standing (Named by) kinds)
-      ∙ names_all kinds seen by k)
+      (λ k from to. told_names by list lent k is same)
       ∙ ap (named_below kinds seen by) size
 
 -- Where the nodes stand.

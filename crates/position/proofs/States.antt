@@ -1,5 +1,5 @@
 -- What is told of a state, by marks that agree with what holds.
-use Rattle.std.proofs.Common.{◌≡◌, ℕ, ◌+◌, ◌<◌, Bool, cond, ◌&&◌, List, [], ◌∷◌, length, take, zero, suc, refl, sym, ◌∙◌, ap, subst, arith, inl, inr, get_or, get_or-set_same, get_or-set_other}
+use Rattle.std.proofs.Common.{◌≡◌, ℕ, ◌+◌, ◌<◌, Bool, cond, ◌&&◌, List, length, take, sym, ◌∙◌, ap, subst, arith, inl, inr, get_or, get_or-set_same, get_or-set_other}
 use Rattle.std.proofs.Math.ListN.{set, length-set}
 use Rattle.std.proofs.lemmas.Bool.{cases_eq}
 use Rattle.ground.specs.declared.kind.Kind.{Kind}
@@ -56,11 +56,6 @@ read_more P fs r y lt one before k d below = elim (cases_eq k r) [
       subst (λ (f : RoleState). P k f) (sym (ap (λ (i : ℕ). get_or (set fs r y) i d) same ∙ get_or-set_same fs r y d lt)) (subst (λ (i : ℕ). P i y) (sym same) one)
   | inr other ↦ subst (λ (f : RoleState). P k f) (sym (get_or-set_other fs r k y d other)) (before k d (omega arith))
 ]
-
-pub get_or_any : {A : Type 0} (xs : List A) (k : ℕ) (d e : A) → k < length xs → get_or xs k d ≡ get_or xs k e
-get_or_any [] k d e lt = absurd (omega arith)
-get_or_any (x ∷ xs) zero d e lt = refl
-get_or_any (x ∷ xs) (suc k) d e lt = get_or_any xs k d e (omega arith)
 
 abbrev pub AreCopied : List RoleState → List RoleState → List RoleState → Type 0
 AreCopied from old new = (r : ℕ) (d : RoleState) → r < length from → IsCopied (get_or from r d) (get_or old r d) (get_or new r d)

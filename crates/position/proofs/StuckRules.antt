@@ -4,19 +4,19 @@ use Rattle.std.specs.Prelude.{◌==◌}
 use Rattle.std.specs.List.{list_any, range_with_len}
 use Rattle.std.proofs.lemmas.List.{length-map}
 use Rattle.kif.specs.Tree.{Tree, text}
-use Rattle.rules.specs.Clause.{Alternative}
-use Rattle.rules.specs.Dependence.{IsAmong}
-use Rattle.rules.proofs.Tests.{or_cases}
+use Rattle.profile.specs.Clause.{Alternative}
+use Rattle.profile.specs.Dependence.{IsAmong}
+use Rattle.profile.proofs.Facts.{or_cases}
 use Rattle.ground.specs.declared.ground.Ground.{Ground}
 use Rattle.ground.specs.Meaning.{IsLegal, IsEnded, IsStuck}
 use Rattle.ground.specs.Listing.{role_list, input_list}
 use Rattle.ground.specs.GroundView.{inputs_of, IsGround}
 use Rattle.ground.proofs.Fold.{roles_exact}
-use Rattle.position.specs.Played.{tree_at}
-use Rattle.position.specs.Rules.{is_stuck}
+use Rattle.game.specs.Played.{tree_at}
+use Rattle.game.specs.Rules.{is_stuck}
 use Rattle.position.specs.RuleMeaning.{state_of, trees_at}
 use Rattle.position.specs.RuleState.{rules_of}
-use Rattle.position.proofs.Roles.{list_any_range}
+use Rattle.game.proofs.Roles.{list_any_range}
 use Rattle.position.proofs.Trees.{among_tree}
 use Rattle.position.proofs.GameRules.{ended_by_rules, legal_by_rules}
 

@@ -4,11 +4,11 @@ use Rattle.std.specs.Prelude.{filter}
 use Rattle.std.specs.List.{range_with_len}
 use Rattle.std.specs.Option.{option_map}
 use Rattle.kif.specs.Tree.{Tree, tree_eq}
-use Rattle.kif.proofs.Equality.{tree_eq_yes, tree_eq_self}
-use Rattle.rules.specs.Dependence.{IsAmong}
+use Rattle.kif.proofs.Facts.{tree_eq_yes, tree_eq_self}
+use Rattle.profile.specs.Dependence.{IsAmong}
 use Rattle.ground.specs.InOrder.{AreDistinct}
 use Rattle.ground.specs.Kinds.{place_in}
-use Rattle.position.specs.Played.{tree_at}
+use Rattle.game.specs.Played.{tree_at}
 use Rattle.position.specs.RuleMeaning.{trees_at}
 
 -- the trees whose places, counted from a on, pass

@@ -1,47 +1,96 @@
--- Many states of a game over a network, a word for each base proposition.
-use Rattle.std.specs.Prelude.{ℕ, ◌≡◌, ◌<◌, ◌≤◌, ◌==◌, Bool, List, [], ◌∷◌, length, map, filter, get_or, vec_capacity}
+-- Many states of a game over a network, a word for each base proposition, and what is told of each.
+use Rattle.std.specs.Prelude.{ℕ, ◌≡◌, ◌<◌, ◌≤◌, ◌+◌, ◌==◌, Bool, List, [], ◌∷◌, length, map, filter, take, not, All, sum, get_or, slice_index, flat_map, vec_capacity}
+use Rattle.std.specs.Int.{bit_at}
 use Rattle.std.specs.List.{range_with_len}
 use Rattle.smallvec.specs.SmallVec.{SmallVec}
+use Rattle.ground.specs.declared.kind.Kind.{Kind}
 use Rattle.ground.specs.declared.ground.Ground.{Ground}
-use Rattle.ground.specs.GroundView.{kinds_of, instances_of}
+use Rattle.ground.specs.Grounds.{texts_at}
+use Rattle.ground.specs.GroundView.{inputs_of, kinds_of}
 use Rattle.propnet.specs.declared.net.Net.{Net}
-use Rattle.propnet.specs.Values.{lane}
-use Rattle.propnet.specs.Nets.{gates_of, joint_at}
-use Rattle.position.specs.declared.naming.Naming.TheVariants.{ByNext}
+use Rattle.position.specs.declared.naming.Naming.TheVariants.{ByLegal}
+use Rattle.tape.specs.Tapes.{slots_in}
+use Rattle.position.specs.declared.lane_plan.LanePlan.{LanePlan}
 use Rattle.position.specs.declared.net_many.NetWide.{NetWide}
 use Rattle.position.specs.declared.net_many.NetMany.{NetMany}
-use Rattle.position.specs.Rules.{State}
-use Rattle.position.specs.RulePlay.{holds, is_named}
-use Rattle.position.specs.NetState.{state_bits}
-
--- bit k of word n is 1
-abbrev pub is_lane_on : List ℕ → ℕ → ℕ → Bool
-is_lane_on words k n = lane words k n == 1
-
--- the state whose base propositions below n have bits in lane k
-abbrev pub lane_state : List ℕ → ℕ → ℕ → State
-lane_state words n k = filter (is_lane_on words k) (range_with_len 0 n)
+use Rattle.position.specs.declared.net_many.RoleLanes.{RoleLanes}
+use Rattle.game.specs.Rules.{State}
+use Rattle.position.specs.RulePlay.{is_named, ends, best_goal}
+use Rattle.position.specs.RuleState.{holds_in, rules_of}
+use Rattle.position.specs.NetState.{is_lane_on, lane_state, view_of, Alike}
+use Rattle.position.specs.LanePlans.{places_of}
 
 -- the states that the words keep
 abbrev pub lane_states : Ground → NetMany → List State
-lane_states g m = map (lane_state m.lanes.items (length g.starts.items)) (range_with_len 0 m.count)
+lane_states g m = map (lane_state m.states.items (length g.starts.items)) (range_with_len 0 m.count)
 
--- the words of the transitions tell the state after each joint move
-abbrev pub TellLanes : Ground → Net → List ℕ → List (SmallVec ℕ) → List ℕ → Type 0
-TellLanes g net words joints lanes = (k p : ℕ) → k < length joints → p < length g.starts.items
-    → is_lane_on lanes k (get_or net.transitions.items p 0)
-    ≡ is_named (kinds_of g) (holds (kinds_of g) (instances_of g) (state_bits words (length g.starts.items)) (joint_at joints k)) ByNext p
+-- what holds in the state that the words keep in lane k
+abbrev pub holds_lane : Ground → List ℕ → ℕ → ℕ → Bool
+holds_lane g states k = holds_in g (lane_state states (length g.starts.items) k)
+
+-- the words keep the states after the one of the first lane and each joint move
+abbrev pub AreAfter : Ground → List ℕ → List (SmallVec ℕ) → List ℕ → Type 0
+AreAfter g from joints states =
+    map (lane_state states (length g.starts.items)) (range_with_len 0 (length joints)) ≡ map (λ (j : SmallVec ℕ). (rules_of g).after (lane_state from (length g.starts.items) 0) j.items) joints
+
+-- the words of what is asked tell it of each state
+abbrev pub TellStates : Ground → List ℕ → List ℕ → Type 0
+TellStates g states told = (k : ℕ) → k < 64 → Alike (kinds_of g) (λ a. is_lane_on told k (view_of (places_of (kinds_of g)) a)) (holds_lane g states k)
+
+-- the word is not 0
+abbrev pub is_used : List ℕ → ℕ → Bool
+is_used words m = not (slice_index words m == 0)
+
+-- there is room for what is told of a role with n moves
+pub record HasLanesRoom (n : ℕ) (f : RoleLanes) : Type 0 where
+  pub legals : length f.legals.items ≡ n
+  pub used : length f.used.items ≡ n
+  pub goals : length f.goals.items ≡ 64
+
+-- the legal moves and the goal of a role are those of what holds in each of so many states, and no move is legal in one of these
+-- that is not among the listed ones
+pub record IsRoleTold (kinds : List Kind) (right : ℕ → ℕ → Bool) (role n count : ℕ) (f : RoleLanes) : Type 0 where
+  pub legal : (k m : ℕ) → k < count → m < n → is_lane_on f.legals.items k m ≡ is_named kinds (right k) (ByLegal role) m
+  pub used : (k : ℕ) → k < count → filter (is_lane_on f.legals.items k) (take f.used_count f.used.items) ≡ filter (is_lane_on f.legals.items k) (range_with_len 0 n)
+  pub within : 0 < count → All (λ m. m < n) (take f.used_count f.used.items)
+  pub used_count : 0 < count → f.used_count ≤ length f.used.items
+  pub goal : (k : ℕ) → k < count → slice_index f.goals.items k ≡ best_goal kinds (right k) role
+
+pub record HaveLanesRoom (inputs : List (List (List ℕ))) (fs : List RoleLanes) : Type 0 where
+  pub size : length fs ≡ length inputs
+  pub each : (r : ℕ) (d : RoleLanes) → r < length inputs → HasLanesRoom (length (texts_at inputs r)) (get_or fs r d)
+
+abbrev pub AreTold : List Kind → (ℕ → ℕ → Bool) → List (List (List ℕ)) → ℕ → List RoleLanes → Type 0
+AreTold kinds right inputs count fs =
+    (r : ℕ) (d : RoleLanes) → r < length inputs → IsRoleTold kinds right r (length (texts_at inputs r)) count (get_or fs r d)
 
 -- there is room for so many states
 pub record HasManyRoom (g : Ground) (m : NetMany) : Type 0 where
-  pub lanes : length m.lanes.items ≡ length g.starts.items
+  pub states : length m.states.items ≡ length g.starts.items
   pub few : m.count ≤ 64
+  pub roles : HaveLanesRoom (inputs_of g) m.roles.items
 
-abbrev pub HasWideRoom : Net → NetWide → Type 0
-HasWideRoom net w = length w.lanes.items ≡ length (gates_of net)
+-- what is told of each state is so
+pub record IsNetMany (g : Ground) (m : NetMany) : Type 0 where
+  pub room : HasManyRoom g m
+  pub ended : (k : ℕ) → k < m.count → (bit_at m.ended k == 1) ≡ ends (kinds_of g) (holds_lane g m.states.items k)
+  pub roles : AreTold (kinds_of g) (holds_lane g m.states.items) (inputs_of g) m.count m.roles.items
+
+-- there is room for the words that passes over the tapes are given and write
+pub record HasWideRoom (net : Net) (plan : LanePlan) (w : NetWide) : Type 0 where
+  pub words : length w.words.items ≡ net.base + sum net.inputs.items
+  pub next : length w.next.items ≡ slots_in plan.next
+  pub asked : length w.asked.items ≡ slots_in plan.asked
+  pub told : length w.told.items ≡ plan.count
 
 abbrev pub wide_capacities : NetWide → List ℕ
-wide_capacities w = vec_capacity w.lanes ∷ []
+wide_capacities w = vec_capacity w.words ∷ vec_capacity w.next ∷ vec_capacity w.asked ∷ vec_capacity w.told ∷ []
+
+abbrev pub lanes_capacities : RoleLanes → List ℕ
+lanes_capacities f = vec_capacity f.legals ∷ vec_capacity f.used ∷ vec_capacity f.goals ∷ []
+
+abbrev pub all_lanes_capacities : List RoleLanes → List ℕ
+all_lanes_capacities fs = flat_map lanes_capacities fs
 
 abbrev pub many_capacities : NetMany → List ℕ
-many_capacities m = vec_capacity m.lanes ∷ []
+many_capacities m = vec_capacity m.states ∷ vec_capacity m.roles ∷ all_lanes_capacities m.roles.items

@@ -6,7 +6,7 @@ use Rattle.ground.specs.declared.kind.Kind.TheVariants.{Fixed, Now, Does, Next, 
 use Rattle.ground.specs.declared.ground.Ground.{Ground}
 use Rattle.ground.specs.GroundView.{inputs_of, kinds_of, instances_of}
 use Rattle.propnet.specs.declared.net.Net.{Net}
-use Rattle.propnet.specs.Values.{bit}
+use Rattle.propnet.specs.Values.{bit, lane}
 use Rattle.propnet.specs.Nets.{gates_of}
 use Rattle.position.specs.declared.naming.Naming.TheVariants.{ByNext, ByLegal}
 use Rattle.position.specs.declared.plan.Sought.TheVariants.{Named, Goals, Ends}
@@ -14,7 +14,7 @@ use Rattle.position.specs.declared.plan.Standing.{Standing}
 use Rattle.position.specs.declared.plan.RolePlan.{RolePlan}
 use Rattle.position.specs.declared.net_plan.NetPlan.{NetPlan}
 use Rattle.position.specs.declared.net_pos.NetPos.{NetPos}
-use Rattle.position.specs.Rules.{State, Turn}
+use Rattle.game.specs.Rules.{State, Turn}
 use Rattle.position.specs.RulePlay.{kind_at, holds, is_named, ends}
 use Rattle.position.specs.Plans.{all_standing}
 use Rattle.position.specs.RuleState.{holds_in, HaveRoom, AreRead, all_capacities}
@@ -23,9 +23,25 @@ use Rattle.position.specs.RuleState.{holds_in, HaveRoom, AreRead, all_capacities
 abbrev pub is_on : List ℕ → ℕ → Bool
 is_on words n = bit words n == 1
 
+-- bit k of word n is 1
+abbrev pub is_lane_on : List ℕ → ℕ → ℕ → Bool
+is_lane_on words k n = lane words k n == 1
+
+-- the state whose base propositions below n are 1
+abbrev pub told_state : (ℕ → ℕ) → ℕ → State
+told_state state n = filter (λ p. state p == 1) (range_with_len 0 n)
+
 -- the state whose base propositions below n have bits
 abbrev pub state_bits : List ℕ → ℕ → State
-state_bits words n = filter (is_on words) (range_with_len 0 n)
+state_bits words n = told_state (bit words) n
+
+-- the state whose base propositions below n have bits in lane k
+abbrev pub lane_state : List ℕ → ℕ → ℕ → State
+lane_state words n k = told_state (lane words k) n
+
+-- each word has the same bit in every lane
+abbrev pub AreSpread : List ℕ → Type 0
+AreSpread words = (p k : ℕ) → k < 64 → lane words k p ≡ lane words 0 p
 
 -- the number of the view of an atom, or 0
 abbrev pub view_of : List (Option ℕ) → ℕ → ℕ
@@ -54,16 +70,16 @@ Alike kinds f g = (a : ℕ) → a < length kinds → is_shown (kind_at kinds a) 
 abbrev pub AreViewsBelow : List Kind → List (Option ℕ) → ℕ → Type 0
 AreViewsBelow kinds views n = (a : ℕ) → a < length kinds → is_shown (kind_at kinds a) ≡ true → view_of views a < n
 
--- the nodes that tell of a role
+-- the nodes, or whatever tells of atoms by number, that tell of a role
 pub record IsRoleNetPlanOf (views : List (Option ℕ)) (kinds : List Kind) (r : ℕ) (plan : RolePlan) : Type 0 where
   pub legals : plan.legals.items ≡ map (told_by views) (all_standing (Named (ByLegal r)) kinds)
   pub goals : plan.goals.items ≡ map (told_by views) (all_standing (Goals r) kinds)
 
 -- the lists have the nodes that tell of each state
-pub record IsNetPlanOf (g : Ground) (net : Net) (plan : NetPlan) : Type 0 where
-  pub ends : plan.ends.items ≡ map (told_by net.views.items) (all_standing Ends (kinds_of g))
+pub record IsNetPlanOf (g : Ground) (views : List (Option ℕ)) (plan : NetPlan) : Type 0 where
+  pub ends : plan.ends.items ≡ map (told_by views) (all_standing Ends (kinds_of g))
   pub size : length plan.roles.items ≡ length (inputs_of g)
-  pub roles : (r : ℕ) (d : RolePlan) → r < length (inputs_of g) → IsRoleNetPlanOf net.views.items (kinds_of g) r (get_or plan.roles.items r d)
+  pub roles : (r : ℕ) (d : RolePlan) → r < length (inputs_of g) → IsRoleNetPlanOf views (kinds_of g) r (get_or plan.roles.items r d)
 
 -- as many words as hold so many bits, or one more
 abbrev pub words_for : ℕ → ℕ
@@ -80,20 +96,22 @@ TellNext g net words j bits = (p : ℕ) → p < length g.starts.items
 
 -- there is room for a state of the game
 pub record HasNetRoom (g : Ground) (net : Net) (p : NetPos) : Type 0 where
+  pub lanes : length p.lanes.items ≡ length g.starts.items
   pub words : length p.words.items ≡ words_for (length g.starts.items)
   pub bits : length p.bits.items ≡ words_for (length (gates_of net))
   pub roles : HaveRoom (inputs_of g) p.roles.items
 
--- the state that the words keep
+-- the state that is kept
 abbrev pub kept_state : Ground → NetPos → State
-kept_state g p = state_bits p.words.items (length g.starts.items)
+kept_state g p = lane_state p.lanes.items (length g.starts.items) 0
 
 -- what is told of the state is so
 pub record IsNetState (g : Ground) (net : Net) (p : NetPos) : Type 0 where
   pub room : HasNetRoom g net p
+  pub spread : AreSpread p.lanes.items
   pub ended : p.ended ≡ ends (kinds_of g) (holds_in g (kept_state g p))
   pub roles : AreRead (kinds_of g) (holds_in g (kept_state g p)) (inputs_of g) p.roles.items
 
 -- the capacities of what the state keeps
 abbrev pub net_capacities : NetPos → List ℕ
-net_capacities p = vec_capacity p.words ∷ vec_capacity p.bits ∷ vec_capacity p.roles ∷ all_capacities p.roles.items
+net_capacities p = vec_capacity p.lanes ∷ vec_capacity p.words ∷ vec_capacity p.bits ∷ vec_capacity p.roles ∷ all_capacities p.roles.items

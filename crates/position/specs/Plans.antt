@@ -12,7 +12,7 @@ use Rattle.position.specs.declared.plan.Sought.TheVariants.{Given, Named, Goals,
 use Rattle.position.specs.declared.plan.Standing.{Standing}
 use Rattle.position.specs.declared.plan.RolePlan.{RolePlan}
 use Rattle.position.specs.declared.plan.Plan.{Plan}
-use Rattle.position.specs.Rules.{State, Turn}
+use Rattle.game.specs.Rules.{State, Turn}
 use Rattle.position.specs.Flats.{IsFlatOf}
 use Rattle.position.specs.RulePlay.{kind_at, is_given, number_named, names, is_terminal, goal_value}
 

@@ -1,13 +1,13 @@
 -- How play by numbers and the meaning of the rules agree.
 use Rattle.std.specs.Prelude.{ℕ, ◌≡◌, Bool, true, false, ◌↔◌, List, Option, Some, None, map, slice_index}
 use Rattle.kif.specs.Tree.{Tree}
-use Rattle.position.specs.Played.{tree_at}
-use Rattle.rules.specs.Clause.{Atom, Alternative, relation_of}
-use Rattle.rules.specs.Dependence.{IsAmong, is_fixed}
+use Rattle.game.specs.Played.{tree_at}
+use Rattle.profile.specs.Clause.{Atom, Alternative, relation_of}
+use Rattle.profile.specs.Dependence.{IsAmong, is_fixed}
 use Rattle.ground.specs.Meaning.{State, Joint, source_of, RightAs}
 use Rattle.ground.specs.Kinds.{kind_of, place_in}
 use Rattle.ground.specs.Listing.{listing, role_list, base_list, input_list}
-use Rattle.position.specs.Rules.{Turn}
+use Rattle.game.specs.Rules.{Turn}
 use Rattle.position.specs.RulePlay.{is_given, stands_in}
 
 -- the numbers of the state and the moves make right what the state and the joint move make right

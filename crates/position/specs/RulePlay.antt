@@ -7,7 +7,7 @@ use Rattle.ground.specs.declared.kind.Kind.TheVariants.{Fixed, Now, Does, Next, 
 use Rattle.ground.specs.Grounds.{Kept, texts_at}
 use Rattle.position.specs.declared.naming.Naming.{Naming}
 use Rattle.position.specs.declared.naming.Naming.TheVariants.{ByNext, ByLegal}
-use Rattle.position.specs.Rules.{Rules, State, Turn}
+use Rattle.game.specs.Rules.{Rules, State, Turn}
 
 -- where no role moves
 abbrev pub no_turn : Turn

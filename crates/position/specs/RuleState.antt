@@ -7,8 +7,8 @@ use Rattle.ground.specs.GroundView.{roles_of, inputs_of, kinds_of, instances_of}
 use Rattle.position.specs.declared.naming.Naming.TheVariants.{ByLegal}
 use Rattle.position.specs.declared.rule_pos.RoleState.{RoleState}
 use Rattle.position.specs.declared.rule_pos.RulePos.{RulePos}
-use Rattle.position.specs.NamedRules.{NamedRules}
-use Rattle.position.specs.Rules.{Rules, State}
+use Rattle.game.specs.NamedRules.{NamedRules}
+use Rattle.game.specs.Rules.{Rules, State}
 use Rattle.position.specs.RulePlay.{no_turn, marked, holds, ends, best_goal, named_below, rules_by}
 
 -- the rules of a game, by its instantiation

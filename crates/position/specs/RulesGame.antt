@@ -3,14 +3,14 @@
 use Rattle.std.specs.Prelude.{ℕ, ◌≡◌, ◌<◌, true, ◌↔◌, List, length}
 use Rattle.std.specs.List.{All}
 use Rattle.kif.specs.Tree.{Tree, text}
-use Rattle.rules.specs.Clause.{Alternative}
+use Rattle.profile.specs.Clause.{Alternative}
 use Rattle.ground.specs.Meaning.{IsInStart, IsInAfter, IsLegal, IsEnded}
 use Rattle.ground.specs.Listing.{role_list, base_list, input_list}
 use Rattle.ground.specs.Play.{IsListOf, IsGoal}
-use Rattle.position.specs.NamedRules.{NamedRules}
-use Rattle.position.specs.Played.{tree_at}
+use Rattle.game.specs.NamedRules.{NamedRules}
+use Rattle.game.specs.Played.{tree_at}
 use Rattle.position.specs.RuleMeaning.{state_of, joint_of, trees_at}
-use Rattle.position.specs.Rules.{IsTurn}
+use Rattle.game.specs.Rules.{IsTurn}
 
 -- the role of a number, and its inputs in printed order
 abbrev pub role_at : List Alternative → ℕ → Tree

@@ -2,17 +2,21 @@
 ghost use Rattle.std.specs.Prelude.{◌≡◌, IfOk};
 ghost use Rattle.propnet.specs.Builders.{IsNetOf};
 ghost use Rattle.position.specs.NetState.{IsNetPlanOf};
+ghost use Rattle.position.specs.LanePlans.{IsLanePlanOf};
 
-use crate::game::Game;
-use crate::net_lanes::{net_steps, net_take, new_net_many, new_net_wide};
+use crate::lane_plan::LanePlan;
+use crate::lane_planning::make_lane_plan;
+use crate::net_lanes::{net_steps, new_net_many, new_net_wide};
 use crate::net_many::{NetMany, NetWide};
 use crate::net_plan::NetPlan;
 use crate::net_planning::make_net_plan;
 use crate::net_playing::{start_net_state, step_net_state};
 use crate::net_pos::NetPos;
+use crate::net_taking::net_take;
 use crate::rule_pos::{copy_roles, legal_at};
+use game::{Game, Joint};
 use ground::Ground;
-use propnet::{Joint, Net};
+use propnet::Net;
 use std::alloc::{AllocError, Global};
 
 /// The game that an instantiation describes, played over its network.
@@ -22,8 +26,10 @@ pub struct NetGame {
     pub(crate) played: Ground,
     pub(crate) net: Net,
     pub(crate) plan: NetPlan,
+    pub(crate) lane_plan: LanePlan,
     pub ghost compiled: { ∥ IsNetOf played net ∥₁ },
-    pub ghost planned: { IsNetPlanOf played net plan },
+    pub ghost planned: { IsNetPlanOf played net.views.items plan },
+    pub ghost laned: { IsLanePlanOf played net lane_plan },
 }
 
 impl NetGame {
@@ -33,11 +39,13 @@ impl NetGame {
         ensures { IfOk result (λ game. game.played ≡ g) }
     {
         let plan = make_net_plan(alloc, &g, &n)?;
+        let lane_plan = make_lane_plan(alloc, &g, &n)?;
         Ok(NetGame {
             alloc,
             played: g,
             net: n,
             plan,
+            lane_plan,
         })
     }
 }
@@ -47,7 +55,7 @@ impl Game for NetGame {
     ghost use Rattle.ground.specs.GroundView.{roles_of, inputs_of};
     ghost use Rattle.position.specs.RuleState.{rules_of};
     ghost use Rattle.position.specs.NetState.{IsNetState, kept_state, net_capacities};
-    ghost use Rattle.position.specs.NetLanes.{HasWideRoom, HasManyRoom, lane_states, wide_capacities as capacities_wide, many_capacities as capacities_many};
+    ghost use Rattle.position.specs.NetLanes.{HasWideRoom, IsNetMany, lane_states, wide_capacities as capacities_wide, many_capacities as capacities_many};
     ghost use Rattle.position.specs.RuleLaws.{goal_at_most, few_moves_of, legal_below, legal_in_order, moves_in_order, roles_once};
 
     type Pos = NetPos;
@@ -68,9 +76,9 @@ impl Game for NetGame {
 
     ghost capacities = { λ _ p. net_capacities p };
 
-    ghost fits_wide = { λ g w. HasWideRoom g.net w };
+    ghost fits_wide = { λ g w. HasWideRoom g.net g.lane_plan w };
 
-    ghost fits_many = { λ g m. HasManyRoom g.played m };
+    ghost fits_many = { λ g m. IsNetMany g.played m };
 
     ghost states = { λ g m. lane_states g.played m };
 
@@ -115,7 +123,7 @@ impl Game for NetGame {
     }
 
     fn copy(&self, p: &NetPos, q: &mut NetPos) {
-        q.words.copy_from_slice(&p.words);
+        q.lanes.copy_from_slice(&p.lanes);
         q.ended = p.ended;
         copy_roles(&p.roles, &mut q.roles);
     }

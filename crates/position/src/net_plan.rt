@@ -2,7 +2,8 @@
 
 use crate::plan::{RolePlan, Standing};
 
-/// The nodes that are asked for in play, in the order of their atoms: in these lists the number of a node stands for its atom.
+/// What is asked of a state, in the order of the atoms: in these lists a node's number, or its place among those that are asked, stands for
+/// its atom.
 #[derive(Drop)]
 pub struct NetPlan {
     pub(crate) ends: Vec<Standing>,

@@ -3,18 +3,20 @@ ghost use Rattle.std.specs.Prelude.{◌≡◌, ◌<◌, ℕ, length, vec_capacit
 ghost use Rattle.ground.specs.Grounds.{texts_at};
 ghost use Rattle.ground.specs.GroundView.{inputs_of, kinds_of};
 ghost use Rattle.propnet.specs.Nets.{gates_of};
-ghost use Rattle.position.specs.Rules.{IsTurn};
+ghost use Rattle.game.specs.Rules.{IsTurn};
 ghost use Rattle.position.specs.RulePlay.{marked};
 ghost use Rattle.position.specs.RuleState.{HasRoleRoom, IsRoleRead, HaveRoom, AreRead, role_capacities, all_capacities, rules_of};
-ghost use Rattle.position.specs.NetState.{is_on, view_of, words_for as count_for, kept_state, HasNetRoom, IsNetState, net_capacities};
+ghost use Rattle.position.specs.NetState.{is_on, state_bits, view_of, words_for as count_for, kept_state, HasNetRoom, IsNetState, net_capacities};
 
 use crate::naming::Naming;
 use crate::net_game::NetGame;
 use crate::net_pos::NetPos;
-use crate::net_words::{eval_after, eval_now, start_words, words_for, write_next};
+use crate::net_words::{
+    eval_after, eval_now, start_words, words_for, write_first, write_next, write_spread,
+};
 use crate::reading::{best_goal, has_ended, list_marked, mark_named};
 use crate::rule_pos::{RoleState, new_roles};
-use propnet::Joint;
+use game::Joint;
 use std::alloc::AllocError;
 
 /// Writes what the bits of the nodes tell of a role.
@@ -46,19 +48,20 @@ fn read_net_roles(game: &NetGame, bits: &Vec<u64>, roles: &mut Vec<RoleState>)
     }
 }
 
-/// Writes what is told of the state that the words keep.
-pub(crate) fn read_net_state(game: &NetGame, p: &mut NetPos)
+/// Writes the state that the words keep, and what is told of it.
+fn read_net_state(game: &NetGame, p: &mut NetPos)
     requires { HasNetRoom game.now.played game.now.net p.old }
     ensures state { IsNetState game.now.played game.now.net p.new }
-    ensures same { p.new.words.items ≡ p.old.words.items }
+    ensures kept { kept_state game.now.played p.new ≡ state_bits p.old.words.items (length game.now.played.starts.items) }
     ensures capacities { net_capacities p.new ≡ net_capacities p.old }
 {
+    write_spread(&p.words, &mut p.lanes);
     eval_now(game, &p.words, &mut p.bits);
     p.ended = has_ended(&game.plan.ends, &p.bits);
     read_net_roles(game, &p.bits, &mut p.roles);
 }
 
-/// Writes the state after another and a joint move. The other's words are read, and this one's are written.
+/// Writes the state after another and a joint move.
 pub(crate) fn step_net_state(game: &NetGame, p: &NetPos, joint: &Joint, q: &mut NetPos)
     requires from { HasNetRoom game.now.played game.now.net p.now }
     requires joint { IsTurn (rules_of game.now.played) joint.now.items }
@@ -67,7 +70,8 @@ pub(crate) fn step_net_state(game: &NetGame, p: &NetPos, joint: &Joint, q: &mut 
     ensures after { kept_state game.now.played q.new ≡ (rules_of game.now.played).after (kept_state game.now.played p.now) joint.now.items }
     ensures capacities { net_capacities q.new ≡ net_capacities q.old }
 {
-    eval_after(game, &p.words, joint, &mut q.bits);
+    write_first(&p.lanes, &mut q.words);
+    eval_after(game, &q.words, joint, &mut q.bits);
     write_next(game, &q.bits, &mut q.words);
     read_net_state(game, q);
 }
@@ -79,6 +83,7 @@ pub(crate) fn start_net_state(game: &NetGame) -> Result<NetPos, AllocError>
 {
     let alloc = game.alloc;
     let mut p = NetPos {
+        lanes: vec![in alloc; 0u64; game.played.base()]?,
         words: start_words(alloc, &game.played)?,
         bits: vec![in alloc; 0u64; words_for(game.net.nodes())]?,
         roles: new_roles(alloc, &game.played)?,

@@ -1,15 +1,17 @@
 // Bits of nodes and of states.
-ghost use Rattle.std.specs.Prelude.{◌≡◌, ◌<◌, ◌*◌, ℕ, length, get_or, slice_index_or, false, vec_capacity, IfOk};
-ghost use Rattle.propnet.specs.Values.{bit};
+ghost use Rattle.std.specs.Prelude.{◌≡◌, ◌<◌, ◌≤◌, ◌*◌, ℕ, length, get_or, slice_index_or, false, vec_capacity, IfOk};
+ghost use Rattle.std.specs.Int.{bit_at};
+ghost use Rattle.propnet.specs.Values.{bit, lane};
 ghost use Rattle.propnet.specs.Nets.{gates_of};
-ghost use Rattle.position.specs.Rules.{IsTurn};
+ghost use Rattle.game.specs.Rules.{IsTurn};
 ghost use Rattle.position.specs.RulePlay.{marked};
 ghost use Rattle.position.specs.RuleState.{rules_of};
-ghost use Rattle.position.specs.NetState.{is_on, words_for as count_for, state_bits, TellNow, TellNext};
+ghost use Rattle.position.specs.NetState.{is_on, words_for as count_for, state_bits, lane_state, AreSpread, TellNow, TellNext};
 
 use crate::net_game::NetGame;
+use game::Joint;
 use ground::Ground;
-use propnet::{Joint, get_bit, put_bit};
+use propnet::{get_bit, put_bit};
 use std::alloc::{AllocError, Global};
 
 /// How many words hold so many bits.
@@ -64,6 +66,65 @@ pub(crate) fn write_next(game: &NetGame, bits: &[u64], words: &mut Vec<u64>)
     ensures capacity { vec_capacity words.new ≡ vec_capacity words.old }
 {
     put_next(game, bits, words);
+}
+
+/// A word with one bit in all lanes.
+pub(crate) fn all_alike(bit: u64) -> u64
+    requires { bit < 2 }
+    ensures { (k : ℕ) → k < 64 → bit_at result k ≡ bit }
+{
+    if bit == 1 { u64::MAX } else { 0 }
+}
+
+/// Writes each bit of the words to all lanes of a word of its own.
+fn put_spread(words: &[u64], lanes: &mut [u64])
+    requires { length lanes.old ≤ 64 * length words.now }
+    ensures { (p k : ℕ) → p < length lanes.old → k < 64 → lane lanes.new k p ≡ bit words.now p }
+{
+    for p in 0..lanes.len() {
+        lanes[p] = all_alike(get_bit(words, p));
+    }
+}
+
+/// Writes the state that the words keep, each bit to all lanes of a word of its own.
+pub(crate) fn write_spread(words: &[u64], lanes: &mut Vec<u64>)
+    requires { length lanes.old.items ≤ 64 * length words.now }
+    ensures spread { AreSpread lanes.new.items }
+    ensures told { lane_state lanes.new.items (length lanes.old.items) 0 ≡ state_bits words.now (length lanes.old.items) }
+    ensures size { length lanes.new.items ≡ length lanes.old.items }
+    ensures capacity { vec_capacity lanes.new ≡ vec_capacity lanes.old }
+{
+    put_spread(words, lanes);
+}
+
+/// Bit k of a word.
+pub(crate) fn lane_bit(word: u64, k: usize) -> u64
+    requires { k < 64 }
+    ensures is_bit { result < 2 }
+    ensures value { result ≡ bit_at word k }
+{
+    (word >> k) & 1
+}
+
+/// Writes the bits of the first lane.
+fn put_first(lanes: &[u64], words: &mut [u64])
+    requires { length words.old ≡ count_for (length lanes.now) }
+    ensures { (p : ℕ) → p < length lanes.now → bit words.new p ≡ lane lanes.now 0 p }
+{
+    words.fill(0);
+    for p in 0..lanes.len() {
+        put_bit(words, p, lane_bit(lanes[p], 0));
+    }
+}
+
+/// Writes the state that the first lane keeps.
+pub(crate) fn write_first(lanes: &[u64], words: &mut Vec<u64>)
+    requires { length words.old.items ≡ count_for (length lanes.now) }
+    ensures told { state_bits words.new.items (length lanes.now) ≡ lane_state lanes.now (length lanes.now) 0 }
+    ensures size { length words.new.items ≡ length words.old.items }
+    ensures capacity { vec_capacity words.new ≡ vec_capacity words.old }
+{
+    put_first(lanes, words);
 }
 
 /// Writes the bits of the base propositions that hold at the start, where all bits are 0.

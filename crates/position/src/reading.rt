@@ -99,7 +99,7 @@ pub(crate) fn mark_named<M: Marks>(list: &[Standing], right: &M, by: Naming, mar
 }
 
 /// The value that an atom of this kind gives a role, if it holds, else 0.
-fn value_of(holds: bool, kind: Kind, role: usize) -> u8
+pub(crate) fn value_of(holds: bool, kind: Kind, role: usize) -> u8
     ensures { result ≡ (if holds then goal_value role kind else 0) }
 {
     match kind {

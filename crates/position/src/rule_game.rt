@@ -2,13 +2,12 @@
 ghost use Rattle.std.specs.Prelude.{◌≡◌, IfOk};
 ghost use Rattle.position.specs.Plans.{IsPlanOf};
 
-use crate::game::Game;
 use crate::plan::Plan;
 use crate::planning::make_plan;
 use crate::rule_many::{RuleMany, RuleWide, new_bases, step_each};
 use crate::rule_pos::{RulePos, copy_roles, legal_at, read_state, start_state, step_state};
+use game::{Game, Joint};
 use ground::Ground;
-use propnet::Joint;
 use std::alloc::{AllocError, Global};
 
 /// The game that an instantiation describes, played over its kept instances.

@@ -1,22 +1,22 @@
 // The game of an instantiation plays by the rules.
 ghost use Rattle.std.specs.Prelude.{ℕ, Bool, true, false, ◌≡◌, ◌↔◌, ◌<◌, List, length, map};
-ghost use Rattle.rules.specs.Clause.{Atom, Alternative, relation_of};
-ghost use Rattle.rules.specs.Dependence.{IsAmong, is_fixed};
+ghost use Rattle.profile.specs.Clause.{Atom, Alternative, relation_of};
+ghost use Rattle.profile.specs.Dependence.{IsAmong, is_fixed};
 ghost use Rattle.ground.specs.Meaning.{State, Joint, Holds, IsEnded, IsStuck, RightAs, source_of, IsWithinBase, IsWithinInput};
 ghost use Rattle.ground.specs.Listing.{listing, base_list, role_list, input_list};
 ghost use Rattle.ground.specs.Listed.{IsWellFormed};
 ghost use Rattle.ground.specs.Numbers.{number_of};
 ghost use Rattle.ground.specs.Kinds.{kind_of};
 ghost use Rattle.ground.specs.Grounds.{numbered};
-ghost use Rattle.position.specs.Rules.{Turn, IsTurn, is_stuck};
-ghost use Rattle.position.specs.Played.{tree_at};
+ghost use Rattle.game.specs.Rules.{Turn, IsTurn, is_stuck};
+ghost use Rattle.game.specs.Played.{tree_at};
 ghost use Rattle.position.specs.RulePlay.{holds};
 ghost use Rattle.ground.specs.declared.ground.Ground.{Ground};
 ghost use Rattle.ground.specs.GroundView.{IsGround};
 ghost use Rattle.position.specs.RuleState.{rules_of, named_rules_of};
-ghost use Rattle.position.specs.NamedRules.{NamedRules};
+ghost use Rattle.game.specs.NamedRules.{NamedRules};
 ghost use Rattle.position.specs.RulesGame.{IsGameOf};
-ghost use Rattle.position.specs.SamePlay.{SamePlay};
+ghost use Rattle.game.specs.SamePlay.{SamePlay};
 ghost use Rattle.position.specs.RuleMeaning.{Agree, state_of, joint_of, trees_at};
 ghost use Rattle.ground.specs.Play.{AreStart, AreAfter, AreLegal, IsGoal};
 

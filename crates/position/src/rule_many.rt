@@ -1,7 +1,7 @@
 // Up to 64 states of a game of rules.
 ghost use Rattle.std.specs.Prelude.{◌≡◌, ◌<◌, ◌≤◌, ℕ, length, get_or, vec_capacity, IfOk};
 ghost use Rattle.ground.specs.GroundView.{kinds_of};
-ghost use Rattle.propnet.specs.Nets.{joint_at};
+ghost use Rattle.game.specs.Joints.{joint_at};
 ghost use Rattle.position.specs.declared.rule_many.RuleBase.{RuleBase};
 ghost use Rattle.position.specs.RulePlay.{marked};
 ghost use Rattle.position.specs.RuleState.{rules_of};
@@ -9,7 +9,7 @@ ghost use Rattle.position.specs.RuleMany.{HaveBaseRoom, all_base_capacities};
 
 use crate::rule_game::RuleGame;
 use crate::rule_pos::{RulePos, mark_next};
-use propnet::Joint;
+use game::Joint;
 use std::alloc::AllocError;
 
 /// Working room.

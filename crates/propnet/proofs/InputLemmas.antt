@@ -14,7 +14,7 @@ use Rattle.propnet.specs.declared.node.Name.TheVariants.{Base, Input, Not, And, 
 use Rattle.propnet.specs.Values.{lane}
 use Rattle.propnet.specs.Network.{Gate, given}
 use Rattle.propnet.specs.Names.{has_view, is_negated, gates_of, atom_names, base_names, role_names, input_names, node_names}
-use Rattle.propnet.specs.Nets.{joint_at}
+use Rattle.game.specs.Joints.{joint_at}
 use Rattle.propnet.specs.Building.{names_of, Stands}
 use Rattle.propnet.specs.Placing.{input_number, ArePlaced}
 use Rattle.propnet.specs.Given.{AreGiven, IsGivenAs}

@@ -5,7 +5,7 @@ use Rattle.propnet.specs.declared.node.Name.{Name}
 use Rattle.propnet.specs.declared.node.Name.TheVariants.{Base, Input, Not, And, View, Transition}
 use Rattle.propnet.specs.Values.{lane}
 use Rattle.propnet.specs.Network.{given}
-use Rattle.propnet.specs.Nets.{joint_at}
+use Rattle.game.specs.Joints.{joint_at}
 use Rattle.propnet.specs.Placing.{input_number}
 
 -- the words of the inputs say which joint moves give them

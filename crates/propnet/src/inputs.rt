@@ -3,7 +3,7 @@ ghost use Rattle.std.specs.Prelude.{ℕ, ◌≡◌, ◌≢◌, ◌+◌, ◌<◌,
 ghost use Rattle.std.specs.Int.{bit_at};
 ghost use Rattle.propnet.specs.Values.{lane};
 ghost use Rattle.propnet.specs.Network.{given};
-ghost use Rattle.propnet.specs.Nets.{joint_at};
+ghost use Rattle.game.specs.Joints.{joint_at};
 ghost use Rattle.propnet.specs.Given.{AreGiven};
 
 use crate::Joint;
@@ -67,7 +67,8 @@ fn write_role(out: &mut [u64], start: usize, end: usize, joints: &[Joint], role:
 pub(crate) fn write_inputs(out: &mut [u64], base: usize, inputs: &[usize], joints: &[Joint])
     requires within { base + sum inputs.now ≤ length out.old }
     requires at_most_all { length joints.now ≤ 64 }
-    ensures { AreGiven base inputs.now joints.now out.new }
+    ensures given { AreGiven base inputs.now joints.now out.new }
+    ensures before { (n : ℕ) → n < base → slice_index out.new n ≡ slice_index out.old n }
 {
     let mut start = base;
     for role in 0..inputs.len() {

@@ -12,6 +12,7 @@ mod inputs;
 mod laws;
 mod marking;
 mod net;
+mod net_gates;
 mod net_view;
 mod node;
 mod nodes;
@@ -24,6 +25,7 @@ mod words;
 
 pub use bits::{get_bit, put_bit};
 pub use fault::NetFault;
+pub use game::Joint;
 pub use laws::{
     each_name_is_one_node, factoring_keeps_values, sharing_keeps_values,
     values_solve_the_equations, views_say_what_holds,
@@ -31,8 +33,3 @@ pub use laws::{
 pub use net::Net;
 pub use node::{Name, Node};
 pub use nodes::Nodes;
-use smallvec::SmallVec;
-use std::alloc::Global;
-
-/// The number of a move of each role, in the order of the roles.
-pub type Joint = SmallVec<u32, 8, Global>;

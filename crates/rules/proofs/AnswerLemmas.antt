@@ -1,24 +1,25 @@
 -- The fault that is found first, and the rule set where none is found.
-use Rattle.std.proofs.Common.{ℕ, suc, zero, ◌≡◌, ◌==◌, Bool, true, false, not, cond, List, [], ◌∷◌, length, map, refl, sym, ◌∙◌, ap, arith, Option, Some, None}
-use Rattle.std.specs.Prelude.{All}
+use Rattle.std.proofs.Common.{ℕ, ◌≡◌, ◌==◌, Bool, false, List, [], ◌∷◌, length, map, refl, sym, ◌∙◌, ap, Option}
+use Rattle.std.proofs.Common.{Some, None}
 use Rattle.kif.specs.Tree.{Tree, text}
-use Rattle.rules.specs.declared.fault.RuleFault.{RuleFault}
-use Rattle.rules.specs.declared.fault.RuleFault.TheVariants as errors
+use Rattle.profile.specs.declared.fault.RuleFault.{RuleFault}
+use Rattle.profile.specs.declared.fault.RuleFault.TheVariants as errors
 use Rattle.rules.specs.declared.rule_set.Keywords.{Keywords}
-use Rattle.rules.specs.Answer.{PassesFirstTests, IsFaultOf}
-use Rattle.rules.specs.Clause as said
-use Rattle.rules.specs.Adding.{AreDifferentSignatures, HaveNames, StandForEach}
-use Rattle.rules.specs.Dependence.{dependences, is_fixed}
+use Rattle.profile.specs.Answer.{PassesFirstTests, IsFaultOf}
+use Rattle.profile.specs.Clause as said
+use Rattle.clauses.specs.Adding.{AreDifferentSignatures, HaveNames, StandForEach}
+use Rattle.profile.specs.Dependence.{dependences, is_fixed}
 use Rattle.rules.specs.Drafts.{Numbered, alternative_of, AlternativeStandsFor, StandForAlternatives}
-use Rattle.rules.specs.Items.{is_item, alternatives}
+use Rattle.profile.specs.Items.{alternatives}
 use Rattle.rules.specs.Layout.{IsLayoutOf, IsDependenceFault}
-use Rattle.rules.specs.Order.{relations_in_order}
-use Rattle.rules.specs.Profile.{Fault, bad_form, bad_keyword, not_safe, recursive, bad_dependence, or_else, first_failing, first_too_many, misuses_word, is_unsafe, is_recursive, depends_badly, none_of, roles, fault_in}
+use Rattle.profile.specs.Order.{relations_in_order}
+use Rattle.profile.specs.Profile.{Fault, bad_keyword, not_safe, recursive, bad_dependence, or_else, first_failing, first_too_many}
+use Rattle.profile.specs.Profile.{misuses_word, is_unsafe, is_recursive, depends_badly, none_of, roles, fault_in}
 use Rattle.rules.specs.RuleSets.{rules_of, AreWhole, AreKeywords, HasItems, IsSound}
-use Rattle.rules.specs.Stated.{AreRolePlaces, roles_at}
-use Rattle.rules.specs.Numbers.{AreDifferent}
-use Rattle.rules.specs.Store.{Data, relation_at, literal_at}
-use Rattle.rules.proofs.SafetyLemmas.{is_inside, are_inside}
+use Rattle.profile.specs.Stated.{AreRolePlaces, roles_at}
+use Rattle.clauses.specs.Numbers.{AreDifferent}
+use Rattle.clauses.specs.Store.{Data, relation_at, literal_at}
+use Rattle.clauses.proofs.Facts.{is_inside, are_inside}
 
 -- The tests, each with those behind it.
 
@@ -52,9 +53,11 @@ past_safety items p e = past_first items p ∙ past _ (from_recursive items) e
 
 -- Faults.
 
-pub dependence_fault : (items : List Tree) (fault : RuleFault) → PassesFirstTests items → first_failing not_safe is_unsafe 1 items ≡ None → IsDependenceFault items fault → IsFaultOf items fault
+pub dependence_fault : (items : List Tree) (fault : RuleFault) → PassesFirstTests items → first_failing not_safe is_unsafe 1 items ≡ None
+    → IsDependenceFault items fault → IsFaultOf items fault
 dependence_fault items (errors.Recursive n) p e s = past_safety items p e ∙ here _ (from_bad items) (recursive n) s
-dependence_fault items (errors.BadDependence n) p e s = past_safety items p e ∙ past _ (from_bad items) s.0 ∙ here _ (none_of (roles items)) (bad_dependence n) s.1
+dependence_fault items (errors.BadDependence n) p e s = past_safety items p e ∙ past _ (from_bad items) s.0
+    ∙ here _ (none_of (roles items)) (bad_dependence n) s.1
 dependence_fault items errors.NoMemory p e s = p
 dependence_fault items (errors.BadForm n) p e s = absurd s
 dependence_fault items (errors.BadKeyword n) p e s = absurd s
@@ -63,23 +66,10 @@ dependence_fault items errors.NoRole p e s = absurd s
 dependence_fault items (errors.TooMany n excess) p e s = absurd s
 
 -- only the roles are left to look at
-roles_left : (items : List Tree) (d : Data) (fixed : List Bool) (order : List ℕ) → PassesFirstTests items → first_failing not_safe is_unsafe 1 items ≡ None → IsLayoutOf d items fixed order
+roles_left : (items : List Tree) (d : Data) (fixed : List Bool) (order : List ℕ) → PassesFirstTests items
+    → first_failing not_safe is_unsafe 1 items ≡ None → IsLayoutOf d items fixed order
     → fault_in items ≡ none_of (roles items)
 roles_left items d fixed order p e l = past_safety items p e ∙ past _ (from_bad items) l.not_recursive ∙ past _ (none_of (roles items)) l.not_bad
-
--- Each tree is an item.
-
-passed : (b : Bool) (f : Fault) (o : Option Fault) → cond (not b) (Some f) o ≡ None → (b ≡ true) × (o ≡ None)
-passed true f o e = (refl, e)
-passed false f o e = absurd cc
-
-items_from : (n : ℕ) (ts : List Tree) → first_failing bad_form (λ t. not (is_item t)) n ts ≡ None → All (λ t. is_item t ≡ true) ts
-items_from n [] e k d h = absurd (let bad : ⊥ = omega (arith, h) in bad)
-items_from n (t ∷ ts) e zero d h = (passed (is_item t) (bad_form n) (first_failing bad_form (λ u. not (is_item u)) (suc n) ts) e).0
-items_from n (t ∷ ts) e (suc k) d h = items_from (suc n) ts (passed (is_item t) (bad_form n) (first_failing bad_form (λ u. not (is_item u)) (suc n) ts) e).1 k d (omega (arith, h))
-
-pub are_items : (ts : List Tree) → first_failing bad_form (λ t. not (is_item t)) 1 ts ≡ None → All (λ t. is_item t ≡ true) ts
-are_items ts e = items_from 1 ts e
 
 -- Alternatives.
 
@@ -87,7 +77,8 @@ body_stands : (from : ℕ) (d : Data) (ns : List ℕ) (ls : List said.Literal) �
 body_stands from d [] [] s = refl
 body_stands from d [] (l ∷ ls) s = absurd s
 body_stands from d (n ∷ ns) [] s = absurd s
-body_stands from d (n ∷ ns) (l ∷ ls) s = ap (λ (k : said.Literal). k ∷ map (literal_at d from) ns) s.0.same ∙ ap (λ (ks : List said.Literal). l ∷ ks) (body_stands from d ns ls s.1)
+body_stands from d (n ∷ ns) (l ∷ ls) s = ap (λ (k : said.Literal). k ∷ map (literal_at d from) ns) s.0.same
+    ∙ ap (λ (ks : List said.Literal). l ∷ ks) (body_stands from d ns ls s.1)
 
 alternative_stands : (d : Data) (n : Numbered) (a : said.Alternative) → AlternativeStandsFor d n a → alternative_of d n ≡ a
 alternative_stands d n a s =
@@ -98,13 +89,17 @@ pub rules_stand : (d : Data) (ns : List Numbered) (rules : List said.Alternative
 rules_stand d [] [] s = refl
 rules_stand d [] (a ∷ rules) s = absurd s
 rules_stand d (n ∷ ns) [] s = absurd s
-rules_stand d (n ∷ ns) (a ∷ rules) s = ap (λ (b : said.Alternative). b ∷ rules_of d ns) (alternative_stands d n a s.0) ∙ ap (λ (bs : List said.Alternative). a ∷ bs) (rules_stand d ns rules s.1)
+rules_stand d (n ∷ ns) (a ∷ rules) s = ap (λ (b : said.Alternative). b ∷ rules_of d ns) (alternative_stands d n a s.0)
+    ∙ ap (λ (bs : List said.Alternative). a ∷ bs) (rules_stand d ns rules s.1)
 
 pub whole_stand : (d : Data) (ns : List Numbered) (rules : List said.Alternative) → StandForAlternatives d ns rules → AreWhole d ns
 whole_stand d [] [] s = tt
 whole_stand d [] (a ∷ rules) s = absurd s
 whole_stand d (n ∷ ns) [] s = absurd s
-whole_stand d (n ∷ ns) (a ∷ rules) s = ((is_inside _ d n.head a.head s.0.head, are_inside _ d n.body a.body s.0.body, s.0.variables), whole_stand d ns rules s.1)
+whole_stand d (n ∷ ns) (a ∷ rules) s = (
+  (is_inside _ d n.head a.head s.0.head, are_inside _ d n.body a.body s.0.body, s.0.variables),
+  whole_stand d ns rules s.1,
+)
 
 -- What is accepted.
 
@@ -113,22 +108,28 @@ role_there [] e = absurd cc
 role_there (r ∷ rs) e = refl
 
 -- no fault is left where some item states a role
-pub no_fault : (items : List Tree) (places : List ℕ) (d : Data) (fixed : List Bool) (order : List ℕ) → PassesFirstTests items → first_failing not_safe is_unsafe 1 items ≡ None
-    → IsLayoutOf d items fixed order → roles_at items places ≡ roles items → AreRolePlaces items places → (length places == 0) ≡ false → fault_in items ≡ None
+pub no_fault : (items : List Tree) (places : List ℕ) (d : Data) (fixed : List Bool) (order : List ℕ) → PassesFirstTests items
+    → first_failing not_safe is_unsafe 1 items ≡ None
+    → IsLayoutOf d items fixed order → roles_at items places ≡ roles items → AreRolePlaces items places → (length places == 0) ≡ false
+    → fault_in items ≡ None
 no_fault items places d fixed order p e l same are some =
     roles_left items d fixed order p e l
     ∙ role_there (roles items) (ap (λ (n : ℕ). n == 0) (sym (ap (λ (rs : List Tree). length rs) same) ∙ are.each_one) ∙ some)
 
 -- the texts are those of the roles
-pub texts_are : (items : List Tree) (places read : List ℕ) (texts : List (List ℕ)) → roles_at items places ≡ roles items → read ≡ places → texts ≡ map text (roles_at items read)
+pub texts_are : (items : List Tree) (places read : List ℕ) (texts : List (List ℕ)) → roles_at items places ≡ roles items → read ≡ places
+    → texts ≡ map text (roles_at items read)
     → texts ≡ map text (roles items)
-texts_are items places read texts same there e = e ∙ ap (λ (ks : List ℕ). map text (roles_at items ks)) there ∙ ap (λ (rs : List Tree). map text rs) same
+texts_are items places read texts same there e = e ∙ ap (λ (ks : List ℕ). map text (roles_at items ks)) there
+    ∙ ap (λ (rs : List Tree). map text rs) same
 
-pub has_items : (items : List Tree) (d : Data) (ns : List Numbered) (texts : List (List ℕ)) → fault_in items ≡ None → StandForAlternatives d ns (alternatives items) → texts ≡ map text (roles items)
+pub has_items : (items : List Tree) (d : Data) (ns : List Numbered) (texts : List (List ℕ)) → fault_in items ≡ None
+    → StandForAlternatives d ns (alternatives items) → texts ≡ map text (roles items)
     → HasItems (rules_of d ns) texts
 has_items items d ns texts none s e = record { items = items; accepted = none; same = sym (rules_stand d ns (alternatives items) s); roles_are = e }
 
-pub is_sound : (items : List Tree) (d : Data) (ns : List Numbered) (fixed : List Bool) (order : List ℕ) (k : Keywords) → AreDifferent d.words → AreDifferentSignatures d.signatures → HaveNames d
+pub is_sound : (items : List Tree) (d : Data) (ns : List Numbered) (fixed : List Bool) (order : List ℕ) (k : Keywords) → AreDifferent d.words
+    → AreDifferentSignatures d.signatures → HaveNames d
     → StandForAlternatives d ns (alternatives items) → IsLayoutOf d items fixed order → AreKeywords d.words k → IsSound d ns fixed order k
 is_sound items d ns fixed order k words signatures named s l keywords =
     let same = sym (rules_stand d ns (alternatives items) s) in

@@ -1,35 +1,35 @@
 -- The graph of what items join is the graph of dependence.
 use Rattle.std.proofs.Common.{ℕ, suc, zero, ◌≡◌, ◌<◌, ◌⊎◌, inl, inr, List, [], ◌∷◌, ◌++◌, length, refl, sym, ◌∙◌, ap, subst, arith, get_or}
-use Rattle.std.specs.Prelude.{slice_index_or, vec_len}
+use Rattle.std.specs.Prelude.{slice_index_or}
 use Rattle.kif.specs.Tree.{Tree}
-use Rattle.rules.specs.Clause as said
-use Rattle.rules.specs.Clause.{relation_of}
-use Rattle.rules.specs.Dependence.{IsAmong}
-use Rattle.rules.specs.Items.{item_head, item_alternatives, alternatives}
-use Rattle.rules.specs.declared.graph.Arrow.{Arrow}
-use Rattle.rules.specs.declared.graph.Graph.{Graph}
+use Rattle.profile.specs.Clause as said
+use Rattle.profile.specs.Clause.{relation_of}
+use Rattle.profile.specs.Dependence.{IsAmong}
+use Rattle.profile.specs.Items.{item_head, item_alternatives, alternatives}
+use Rattle.digraph.specs.declared.graph.Arrow.{Arrow}
+use Rattle.digraph.specs.GraphView.{arrows_of, nodes_of}
+use Rattle.digraph.specs.declared.graph.Graph.{Graph}
 use Rattle.rules.specs.declared.item_links.Links.{Links}
-use Rattle.rules.specs.declared.signatures.Signature.{Signature}
-use Rattle.rules.specs.Graph.{arrow_at, Leads, ReachesIn, Reaches, IsCyclic, IsReachedFrom}
-use Rattle.rules.specs.Numbers.{AreDifferent}
-use Rattle.rules.specs.Signatures.{signature_at}
-use Rattle.rules.specs.Store.{Data, relation_at}
-use Rattle.rules.specs.Adding.{AreDifferentSignatures, HaveNames}
+use Rattle.clauses.specs.declared.signatures.Signature.{Signature}
+use Rattle.digraph.specs.Graph.{arrow_at, Leads, ReachesIn, Reaches, IsCyclic, IsReachedFrom}
+use Rattle.clauses.specs.Numbers.{AreDifferent}
+use Rattle.clauses.specs.Signatures.{signature_at}
+use Rattle.clauses.specs.Store.{Data, relation_at}
+use Rattle.clauses.specs.Adding.{AreDifferentSignatures, HaveNames}
 use Rattle.rules.specs.Numbering.{IsGraphOf, IsInBodies}
 use Rattle.rules.specs.Drafts.{LinkStandsFor, StandForItems}
 use Rattle.rules.specs.ItemLinks.{IsWithin}
 use Rattle.rules.specs.Arrows.{arrows_from, arrows_in}
-use Rattle.rules.proofs.Tests.{IsAmong-append, IsAmong-append_left, IsAmong-append_right}
-use Rattle.rules.proofs.Accepted.{rule_item, same_head}
+use Rattle.profile.proofs.Facts.{IsAmong-append, IsAmong-append_left, IsAmong-append_right, rule_item, same_head}
 
 -- of all numbers of a body, arrows to the rest are still to be added
 pub record Arrowing (start now : Graph) (head : ℕ) (all rest : List ℕ) : Type 0 where
-  pub same : now.arrows.items ++ arrows_from head rest ≡ start.arrows.items ++ arrows_from head all
-  pub nodes : vec_len now.ends ≡ vec_len start.ends
+  pub same : arrows_of now ++ arrows_from head rest ≡ arrows_of start ++ arrows_from head all
+  pub nodes : nodes_of now ≡ nodes_of start
 
 pub record ArrowingAll (now : Graph) (nodes : ℕ) (all rest : List Links) : Type 0 where
-  pub same : now.arrows.items ++ arrows_in rest ≡ arrows_in all
-  pub counted : vec_len now.ends ≡ nodes
+  pub same : arrows_of now ++ arrows_in rest ≡ arrows_in all
+  pub counted : nodes_of now ≡ nodes
 
 -- Members by place.
 
@@ -82,7 +82,8 @@ comes d [] (t ∷ items) a s h = absurd s
 comes d (l ∷ links) [] a s h = absurd s
 comes d (l ∷ links) (t ∷ items) a s h = go (IsAmong-append a (arrows_from l.head l.body.items) (arrows_in links) h) (λ k. comes d links items a s.1 k)
   where
-    go : IsAmong a (arrows_from l.head l.body.items) ⊎ IsAmong a (arrows_in links) → (IsAmong a (arrows_in links) → Comes d items a) → Comes d (t ∷ items) a
+    go : IsAmong a (arrows_from l.head l.body.items) ⊎ IsAmong a (arrows_in links) → (IsAmong a (arrows_in links) → Comes d items a)
+        → Comes d (t ∷ items) a
     go (inl k) next = record { link = l; item = t; among = inl refl; stands = s.0; joins = from_head l.head l.body.items a k }
     go (inr k) next = let m = next k in record { link = m.link; item = m.item; among = inr m.among; stands = m.stands; joins = m.joins }
 
@@ -105,25 +106,33 @@ linked d (l ∷ links) (u ∷ items) t s (inr h) =
     let m = linked d links items t s.1 h in
     record { link = m.link; stands = m.stands; all = λ a k. IsAmong-append_right a (arrows_from l.head l.body.items) (arrows_in links) (m.all a k) }
 
-in_alternatives : (items : List Tree) (t : Tree) (rule : said.Alternative) → IsAmong t items → IsAmong rule (item_alternatives t) → IsAmong rule (alternatives items)
+in_alternatives : (items : List Tree) (t : Tree) (rule : said.Alternative) → IsAmong t items → IsAmong rule (item_alternatives t)
+    → IsAmong rule (alternatives items)
 in_alternatives [] t rule h k = absurd h
-in_alternatives (u ∷ items) t rule (inl e) k = IsAmong-append_left rule (item_alternatives u) (alternatives items) (subst (λ (x : Tree). IsAmong rule (item_alternatives x)) e k)
+in_alternatives (u ∷ items) t rule (inl e) k =
+    IsAmong-append_left rule (item_alternatives u) (alternatives items) (subst (λ (x : Tree). IsAmong rule (item_alternatives x)) e k)
 in_alternatives (u ∷ items) t rule (inr h) k = IsAmong-append_right rule (item_alternatives u) (alternatives items) (in_alternatives items t rule h k)
 
-body_at : (d : Data) (l : Links) (t : Tree) (b : ℕ) → LinkStandsFor d l t → IsAmong b l.body.items → (b < length d.signatures) × IsInBodies (item_alternatives t) (relation_at d b)
+body_at : (d : Data) (l : Links) (t : Tree) (b : ℕ) → LinkStandsFor d l t → IsAmong b l.body.items
+    → (b < length d.signatures) × IsInBodies (item_alternatives t) (relation_at d b)
 body_at d l t b s h =
-    let p = number_among l.body.items b h in
-    (subst (λ (x : ℕ). x < length d.signatures) p.2 (s.body.inside p.0 p.1), subst (λ (x : ℕ). IsInBodies (item_alternatives t) (relation_at d x)) p.2 (s.body.sound p.0 p.1))
+    let p = number_among l.body.items b h in (
+      subst (λ (x : ℕ). x < length d.signatures) p.2 (s.body.inside p.0 p.1),
+      subst (λ (x : ℕ). IsInBodies (item_alternatives t) (relation_at d x)) p.2 (s.body.sound p.0 p.1),
+    )
 
-same_relations : (d : Data) → AreDifferent d.words → AreDifferentSignatures d.signatures → HaveNames d → (i j : ℕ) → i < length d.signatures → j < length d.signatures → relation_at d i ≡ relation_at d j → i ≡ j
+same_relations : (d : Data) → AreDifferent d.words → AreDifferentSignatures d.signatures → HaveNames d → (i j : ℕ) → i < length d.signatures
+    → j < length d.signatures → relation_at d i ≡ relation_at d j → i ≡ j
 same_relations d words signatures there i j h k e =
     let s : Signature = signature_at d.signatures i in
     let t : Signature = signature_at d.signatures j in
     let w : s.word ≡ t.word = words s.word t.word (there i h) (there j k) (ap (λ (r : said.Relation). r.word) e) in
     let a : s.arity ≡ t.arity = ap (λ (r : said.Relation). r.arity) e in
-    signatures i j h k (ap (λ (x : ℕ). let g : Signature = record { word = x; arity = s.arity } in g) w ∙ ap (λ (x : ℕ). let g : Signature = record { word = t.word; arity = x } in g) a)
+    signatures i j h k (ap (λ (x : ℕ). let g : Signature = record { word = x; arity = s.arity } in g) w
+    ∙ ap (λ (x : ℕ). let g : Signature = record { word = t.word; arity = x } in g) a)
 
-pub graph_stands : (d : Data) (links : List Links) (items : List Tree) → AreDifferent d.words → AreDifferentSignatures d.signatures → HaveNames d → StandForItems d links items
+pub graph_stands : (d : Data) (links : List Links) (items : List Tree) → AreDifferent d.words → AreDifferentSignatures d.signatures → HaveNames d
+    → StandForItems d links items
     → IsGraphOf (length d.signatures) (λ r. relation_at d r) (arrows_in links) (alternatives items)
 graph_stands d links items words signatures there s =
     let arrows : List Arrow = arrows_in links in
@@ -133,7 +142,8 @@ graph_stands d links items words signatures there s =
           let m = comes d links items (arrow_at arrows k) s (arrow_among arrows k h) in
           subst (λ (x : ℕ). x < length d.signatures) (sym m.joins.from) m.stands.head_in;
       to_in = λ k h.
-          let m = comes d links items (arrow_at arrows k) s (arrow_among arrows k h) in (body_at d m.link m.item (arrow_at arrows k).to m.stands m.joins.to).0;
+          let m = comes d links items (arrow_at arrows k) s (arrow_among arrows k h) in
+          (body_at d m.link m.item (arrow_at arrows k).to m.stands m.joins.to).0;
       sound = λ k h.
           let m = comes d links items (arrow_at arrows k) s (arrow_among arrows k h) in
           let b = (body_at d m.link m.item (arrow_at arrows k).to m.stands m.joins.to).1 in
@@ -141,7 +151,8 @@ graph_stands d links items words signatures there s =
             rule = b.rule;
             literal = b.literal;
             is_rule = in_alternatives items m.item b.rule m.among b.is_rule;
-            heads = ap relation_of (same_head (item_head m.item) _ b.rule b.is_rule) ∙ sym m.stands.named ∙ ap (λ (r : ℕ). relation_at d r) (sym m.joins.from);
+            heads = ap relation_of (same_head (item_head m.item) _ b.rule b.is_rule) ∙ sym m.stands.named
+                ∙ ap (λ (r : ℕ). relation_at d r) (sym m.joins.from);
             in_body = b.in_body;
             names = b.names;
             not_distinct = b.not_distinct;
@@ -149,7 +160,8 @@ graph_stands d links items words signatures there s =
       complete = λ p q x.
           let i = rule_item items x.rule x.is_rule in
           let m = linked d links items i.0 s i.1 in
-          let in_bodies : IsInBodies (item_alternatives i.0) q = record { rule = x.rule; literal = x.literal; is_rule = i.2; in_body = x.in_body; names = x.names; not_distinct = x.not_distinct } in
+          let in_bodies : IsInBodies (item_alternatives i.0) q =
+          record { rule = x.rule; literal = x.literal; is_rule = i.2; in_body = x.in_body; names = x.names; not_distinct = x.not_distinct } in
           let c = m.stands.body.complete q in_bodies in
           let b : ℕ = slice_index_or m.link.body.items c.0 0 in
           let a : Arrow = record { from = m.link.head; to = b } in
@@ -157,7 +169,8 @@ graph_stands d links items words signatures there s =
           record {
             place = k.0;
             inside = k.1;
-            from = ap (λ (y : Arrow). relation_at d y.from) k.2 ∙ m.stands.named ∙ ap relation_of (sym (same_head (item_head i.0) _ x.rule i.2)) ∙ x.heads;
+            from = ap (λ (y : Arrow). relation_at d y.from) k.2 ∙ m.stands.named ∙ ap relation_of (sym (same_head (item_head i.0) _ x.rule i.2))
+                ∙ x.heads;
             to = ap (λ (y : Arrow). relation_at d y.to) k.2 ∙ c.2;
           };
     }
@@ -169,10 +182,12 @@ contained [] x k h e = absurd (let bad : ⊥ = omega (arith, h) in bad)
 contained (y ∷ xs) x zero h e = inl (sym e)
 contained (y ∷ xs) x (suc k) h e = inr (contained xs x k (omega (arith, h)) e)
 
-pub link_arrows : (links : List Links) (l : Links) (k : ℕ) → k < length links → (a : Arrow) → IsAmong a (arrows_from (get_or links k l).head (get_or links k l).body.items) → IsAmong a (arrows_in links)
+pub link_arrows : (links : List Links) (l : Links) (k : ℕ) → k < length links → (a : Arrow)
+    → IsAmong a (arrows_from (get_or links k l).head (get_or links k l).body.items) → IsAmong a (arrows_in links)
 link_arrows [] l k h a i = absurd (let bad : ⊥ = omega (arith, h) in bad)
 link_arrows (m ∷ links) l zero h a i = IsAmong-append_left a (arrows_from m.head m.body.items) (arrows_in links) i
-link_arrows (m ∷ links) l (suc k) h a i = IsAmong-append_right a (arrows_from m.head m.body.items) (arrows_in links) (link_arrows links l k (omega (arith, h)) a i)
+link_arrows (m ∷ links) l (suc k) h a i = IsAmong-append_right a (arrows_from m.head m.body.items) (arrows_in links)
+    (link_arrows links l k (omega (arith, h)) a i)
 
 round : (arrows : List Arrow) (head start : ℕ) → Leads arrows head start → (start ≡ head) ⊎ Reaches arrows start head → Reaches arrows head head
 round arrows head start a (inl e) = (0, subst (λ (x : ℕ). Leads arrows head x) e a)
@@ -189,20 +204,25 @@ no_link_reached arrows links e acyclic k l h r =
     let m : Links = get_or links k l in
     let there : IsAmong r.start m.body.items = contained m.body.items r.start r.is_start.0 r.is_start.1 r.is_start.2 in
     let a = first_step arrows m.head r.start
-    (subst (λ (as' : List Arrow). IsAmong {A = Arrow} (record { from = m.head; to = r.start }) as') (sym e) (link_arrows links l k h (record { from = m.head; to = r.start }) (to_each m.head m.body.items r.start there))) in
+    (subst (λ (as' : List Arrow). IsAmong {A = Arrow} (record { from = m.head; to = r.start }) as') (sym e)
+    (link_arrows links l k h (record { from = m.head; to = r.start }) (to_each m.head m.body.items r.start there))) in
     acyclic (m.head, round arrows m.head r.start a r.leads)
 
-from_in_links : (n : ℕ) (links : List Links) → ((k : ℕ) (l : Links) → k < length links → IsWithin n (get_or links k l)) → (a : Arrow) → IsAmong a (arrows_in links) → a.from < n
+from_in_links : (n : ℕ) (links : List Links) → ((k : ℕ) (l : Links) → k < length links → IsWithin n (get_or links k l)) → (a : Arrow)
+    → IsAmong a (arrows_in links) → a.from < n
 from_in_links n [] w a h = absurd h
-from_in_links n (l ∷ links) w a h = go (IsAmong-append a (arrows_from l.head l.body.items) (arrows_in links) h) (λ k. from_in_links n links (λ j m less. w (suc j) m (omega (arith, less))) a k)
+from_in_links n (l ∷ links) w a h = go (IsAmong-append a (arrows_from l.head l.body.items) (arrows_in links) h)
+    (λ k. from_in_links n links (λ j m less. w (suc j) m (omega (arith, less))) a k)
   where
     go : IsAmong a (arrows_from l.head l.body.items) ⊎ IsAmong a (arrows_in links) → (IsAmong a (arrows_in links) → a.from < n) → a.from < n
     go (inl k) next = subst (λ (x : ℕ). x < n) (sym (from_head l.head l.body.items a k).from) (w 0 l (omega arith)).head
     go (inr k) next = next k
 
-pub arrows_inside : (n : ℕ) (arrows : List Arrow) (links : List Links) → arrows ≡ arrows_in links → ((k : ℕ) (l : Links) → k < length links → IsWithin n (get_or links k l))
+pub arrows_inside : (n : ℕ) (arrows : List Arrow) (links : List Links) → arrows ≡ arrows_in links
+    → ((k : ℕ) (l : Links) → k < length links → IsWithin n (get_or links k l))
     → (k : ℕ) → k < length arrows → (arrow_at arrows k).from < n
-arrows_inside n arrows links e w k h = from_in_links n links w (arrow_at arrows k) (subst (λ (as' : List Arrow). IsAmong (arrow_at arrows k) as') e (arrow_among arrows k h))
+arrows_inside n arrows links e w k h =
+    from_in_links n links w (arrow_at arrows k) (subst (λ (as' : List Arrow). IsAmong (arrow_at arrows k) as') e (arrow_among arrows k h))
 
 -- In a cycle some body rests on its head.
 
@@ -217,11 +237,13 @@ joined : (links : List Links) (a : Arrow) → IsAmong a (arrows_in links) → Jo
 joined [] a h = absurd h
 joined (l ∷ links) a h = go (IsAmong-append a (arrows_from l.head l.body.items) (arrows_in links) h) (λ k. joined links a k)
   where
-    go : IsAmong a (arrows_from l.head l.body.items) ⊎ IsAmong a (arrows_in links) → (IsAmong a (arrows_in links) → Joins links a) → Joins (l ∷ links) a
+    go : IsAmong a (arrows_from l.head l.body.items) ⊎ IsAmong a (arrows_in links) → (IsAmong a (arrows_in links) → Joins links a)
+        → Joins (l ∷ links) a
     go (inl k) next = record { link = l; place = 0; inside = omega arith; joins = λ m. from_head l.head l.body.items a k }
     go (inr k) next = let m = next k in record { link = l; place = suc m.place; inside = (let i = m.inside in omega (arith, i)); joins = m.joins }
 
-first_of_chain : (arrows : List Arrow) (p : ℕ) (m : ℕ) → ReachesIn arrows m p p → (a : ℕ) × (a < length arrows) × ((arrow_at arrows a).from ≡ p) × (((arrow_at arrows a).to ≡ p) ⊎ Reaches arrows (arrow_at arrows a).to p)
+first_of_chain : (arrows : List Arrow) (p : ℕ) (m : ℕ) → ReachesIn arrows m p p → (a : ℕ) × (a < length arrows) × ((arrow_at arrows a).from ≡ p)
+    × (((arrow_at arrows a).to ≡ p) ⊎ Reaches arrows (arrow_at arrows a).to p)
 first_of_chain arrows p zero l = (l.place, l.inside, l.from, inl l.to)
 first_of_chain arrows p (suc m) c = let l = c.1 in (l.place, l.inside, l.from, inr (subst (λ (x : ℕ). Reaches arrows x p) (sym l.to) (m, c.2)))
 

@@ -1,20 +1,20 @@
 -- The relations that head alternatives, and those that rest on anything.
-use Rattle.std.proofs.Common.{ℕ, suc, zero, ◌≡◌, ◌<◌, ◌⊎◌, inl, inr, Bool, true, false, List, [], ◌∷◌, length, map, replicate, refl, sym, ◌∙◌, ap, subst, arith, get_or}
+use Rattle.std.proofs.Common.{ℕ, suc, zero, ◌≡◌, ◌<◌, ◌⊎◌, inl, inr, Bool, true, false, List, [], ◌∷◌, length, map, replicate, refl, sym, ◌∙◌, ap}
+use Rattle.std.proofs.Common.{subst, arith, get_or}
 use Rattle.std.specs.Prelude.{slice_set, All}
 use Rattle.std.proofs.lemmas.List.{length-set, get_or-replicate}
 use Rattle.kif.specs.Tree.{Tree}
-use Rattle.rules.specs.Clause as said
-use Rattle.rules.specs.Clause.{Relation, relation_of}
-use Rattle.rules.specs.Dependence.{IsAmong, heads_of}
-use Rattle.rules.specs.Items.{item_head, item_alternatives, alternatives, body_trees, readings_of_all}
-use Rattle.rules.specs.declared.clauses.Alternative.{Alternative}
+use Rattle.profile.specs.Clause as said
+use Rattle.profile.specs.Clause.{Relation, relation_of}
+use Rattle.profile.specs.Dependence.{IsAmong, heads_of}
+use Rattle.profile.specs.Items.{item_head, item_alternatives, alternatives, body_trees, readings_of_all}
+use Rattle.clauses.specs.declared.numbered.Alternative.{Alternative}
 use Rattle.rules.specs.declared.item_links.Links.{Links}
-use Rattle.rules.specs.Store.{Data, relation_at}
+use Rattle.clauses.specs.Store.{Data, relation_at}
 use Rattle.rules.specs.Numbering.{HasBody, AreBodies}
 use Rattle.rules.specs.Drafts.{numbered, StandForAlternatives, StandForItems, some_literal_in, rests_on_any}
 use Rattle.rules.specs.Heads.{with_heads, with_passing}
-use Rattle.rules.proofs.Tests.{IsAmong-append, IsAmong-append_left, IsAmong-append_right}
-use Rattle.rules.proofs.Accepted.{same_head}
+use Rattle.profile.proofs.Facts.{IsAmong-append, IsAmong-append_left, IsAmong-append_right, same_head}
 use Rattle.rules.proofs.LinkLemmas.{in_map, of_map}
 
 -- the marks, with those of the alternatives that are left, are those of all
@@ -22,7 +22,8 @@ pub record Heading (nodes : ℕ) (marks : List Bool) (all rest : List Alternativ
   pub same : with_heads marks rest ≡ with_heads (replicate nodes false) all
   pub counted : length marks ≡ nodes
 
-pub record Passing (nodes : ℕ) (marks : List Bool) (all : List Links) (all_tests : List Bool) (rest : List Links) (rest_tests : List Bool) : Type 0 where
+pub record Passing (nodes : ℕ) (marks : List Bool) (all : List Links) (all_tests : List Bool) (rest : List Links)
+    (rest_tests : List Bool) : Type 0 where
   pub same : with_passing marks rest rest_tests ≡ with_passing (replicate nodes false) all all_tests
   pub counted : length marks ≡ nodes
 
@@ -72,7 +73,8 @@ passing_long marks (l ∷ links) [] = refl
 passing_long marks (l ∷ links) (true ∷ tests) = passing_long (slice_set marks l.head true) links tests ∙ length-set marks l.head true
 passing_long marks (l ∷ links) (false ∷ tests) = passing_long marks links tests
 
-pub all_passing_long : (n : ℕ) (links : List Links) (tests marks : List Bool) → marks ≡ with_passing (replicate n false) links tests → length marks ≡ n
+pub all_passing_long : (n : ℕ) (links : List Links) (tests marks : List Bool) → marks ≡ with_passing (replicate n false) links tests
+    → length marks ≡ n
 all_passing_long n links tests marks e = ap length e ∙ passing_long (replicate n false) links tests ∙ no_marks_long n
 
 -- Heads of alternatives.
@@ -81,7 +83,8 @@ abbrev IsHeaded : List Alternative → ℕ → Type 0
 IsHeaded [] r = ⊥
 IsHeaded (a ∷ as') r = (a.head.relation ≡ r) ⊎ IsHeaded as' r
 
-heads_out : (marks : List Bool) (as' : List Alternative) (r : ℕ) → get_or (with_heads marks as') r false ≡ true → (get_or marks r false ≡ true) ⊎ IsHeaded as' r
+heads_out : (marks : List Bool) (as' : List Alternative) (r : ℕ) → get_or (with_heads marks as') r false ≡ true
+    → (get_or marks r false ≡ true) ⊎ IsHeaded as' r
 heads_out marks [] r h = inl h
 heads_out marks (a ∷ as') r h = elim (heads_out (slice_set marks a.head.relation true) as' r h) [
   | inl m ↦ elim (set_out marks a.head.relation r m) [ inl e ↦ inr (inl e) | inr k ↦ inl k ]
@@ -99,7 +102,8 @@ heads_in marks (a ∷ as') r h (inr i) =
     let l : length (slice_set marks a.head.relation true) ≡ length marks = length-set marks a.head.relation true in
     heads_in (slice_set marks a.head.relation true) as' r (omega (arith, l, h)) i
 
-headed_among : (d : Data) (as' : List Alternative) (rules : List said.Alternative) (r : ℕ) → StandForAlternatives d (map numbered as') rules → IsHeaded as' r → IsAmong (relation_at d r) (heads_of rules)
+headed_among : (d : Data) (as' : List Alternative) (rules : List said.Alternative) (r : ℕ) → StandForAlternatives d (map numbered as') rules
+    → IsHeaded as' r → IsAmong (relation_at d r) (heads_of rules)
 headed_among d [] rules r s i = absurd i
 headed_among d (a ∷ as') [] r s i = absurd s
 headed_among d (a ∷ as') (rule ∷ rules) r s (inl e) = inl (ap (λ (x : ℕ). relation_at d x) (sym e) ∙ s.0.head.same_relation)
@@ -112,7 +116,8 @@ pub record Headed (d : Data) (as' : List Alternative) (p : Relation) : Type 0 wh
   pub named : relation_at d number ≡ p
   pub heads : IsHeaded as' number
 
-among_headed : (d : Data) (as' : List Alternative) (rules : List said.Alternative) (p : Relation) → StandForAlternatives d (map numbered as') rules → IsAmong p (heads_of rules) → Headed d as' p
+among_headed : (d : Data) (as' : List Alternative) (rules : List said.Alternative) (p : Relation) → StandForAlternatives d (map numbered as') rules
+    → IsAmong p (heads_of rules) → Headed d as' p
 among_headed d [] [] p s i = absurd i
 among_headed d [] (rule ∷ rules) p s i = absurd s
 among_headed d (a ∷ as') [] p s i = absurd s
@@ -121,14 +126,16 @@ among_headed d (a ∷ as') (rule ∷ rules) p s (inl e) =
 among_headed d (a ∷ as') (rule ∷ rules) p s (inr i) =
     let m = among_headed d as' rules p s.1 i in record { number = m.number; inside = m.inside; named = m.named; heads = inr m.heads }
 
-pub heads_within : (d : Data) (as' : List Alternative) (rules : List said.Alternative) → StandForAlternatives d (map numbered as') rules → All (λ (a : Alternative). a.head.relation < length d.signatures) as'
+pub heads_within : (d : Data) (as' : List Alternative) (rules : List said.Alternative) → StandForAlternatives d (map numbered as') rules
+    → All (λ (a : Alternative). a.head.relation < length d.signatures) as'
 heads_within d [] rules s k e h = absurd (let bad : ⊥ = omega (arith, h) in bad)
 heads_within d (a ∷ as') [] s k e h = absurd s
 heads_within d (a ∷ as') (rule ∷ rules) s zero e h = s.0.head.relation
 heads_within d (a ∷ as') (rule ∷ rules) s (suc k) e h = heads_within d as' rules s.1 k e (omega (arith, h))
 
 -- what is marked heads an alternative
-pub marked_heads : (d : Data) (as' : List Alternative) (rules : List said.Alternative) (marks : List Bool) → StandForAlternatives d (map numbered as') rules → marks ≡ with_heads (replicate (length d.signatures) false) as'
+pub marked_heads : (d : Data) (as' : List Alternative) (rules : List said.Alternative) (marks : List Bool)
+    → StandForAlternatives d (map numbered as') rules → marks ≡ with_heads (replicate (length d.signatures) false) as'
     → (r : ℕ) → r < length d.signatures → get_or marks r false ≡ true → IsAmong (relation_at d r) (heads_of rules)
 marked_heads d as' rules marks s e r h m =
     elim (heads_out (replicate (length d.signatures) false) as' r (subst (λ (bs : List Bool). get_or bs r false ≡ true) e m)) [
@@ -137,7 +144,8 @@ marked_heads d as' rules marks s e r h m =
     ]
 
 -- what heads an alternative has a number that is marked
-pub heads_marked : (d : Data) (as' : List Alternative) (rules : List said.Alternative) (marks : List Bool) → StandForAlternatives d (map numbered as') rules → marks ≡ with_heads (replicate (length d.signatures) false) as'
+pub heads_marked : (d : Data) (as' : List Alternative) (rules : List said.Alternative) (marks : List Bool)
+    → StandForAlternatives d (map numbered as') rules → marks ≡ with_heads (replicate (length d.signatures) false) as'
     → (p : Relation) → IsAmong p (heads_of rules) → (r : ℕ) × (r < length d.signatures) × (relation_at d r ≡ p) × (get_or marks r false ≡ true)
 heads_marked d as' rules marks s e p i =
     let m = among_headed d as' rules p s i in
@@ -156,7 +164,8 @@ IsPassing [] tests r = ⊥
 IsPassing (l ∷ links) [] r = ⊥
 IsPassing (l ∷ links) (b ∷ tests) r = ((l.head ≡ r) × (b ≡ true)) ⊎ IsPassing links tests r
 
-passing_out : (marks : List Bool) (links : List Links) (tests : List Bool) (r : ℕ) → get_or (with_passing marks links tests) r false ≡ true → (get_or marks r false ≡ true) ⊎ IsPassing links tests r
+passing_out : (marks : List Bool) (links : List Links) (tests : List Bool) (r : ℕ) → get_or (with_passing marks links tests) r false ≡ true
+    → (get_or marks r false ≡ true) ⊎ IsPassing links tests r
 passing_out marks [] tests r h = inl h
 passing_out marks (l ∷ links) [] r h = inl h
 passing_out marks (l ∷ links) (true ∷ tests) r h = elim (passing_out (slice_set marks l.head true) links tests r h) [
@@ -165,13 +174,15 @@ passing_out marks (l ∷ links) (true ∷ tests) r h = elim (passing_out (slice_
 ]
 passing_out marks (l ∷ links) (false ∷ tests) r h = elim (passing_out marks links tests r h) [ inl m ↦ inl m | inr i ↦ inr (inr i) ]
 
-passing_kept : (marks : List Bool) (links : List Links) (tests : List Bool) (r : ℕ) → get_or marks r false ≡ true → get_or (with_passing marks links tests) r false ≡ true
+passing_kept : (marks : List Bool) (links : List Links) (tests : List Bool) (r : ℕ) → get_or marks r false ≡ true
+    → get_or (with_passing marks links tests) r false ≡ true
 passing_kept marks [] tests r h = h
 passing_kept marks (l ∷ links) [] r h = h
 passing_kept marks (l ∷ links) (true ∷ tests) r h = passing_kept (slice_set marks l.head true) links tests r (set_kept marks l.head r h)
 passing_kept marks (l ∷ links) (false ∷ tests) r h = passing_kept marks links tests r h
 
-passing_in : (marks : List Bool) (links : List Links) (tests : List Bool) (r : ℕ) → r < length marks → IsPassing links tests r → get_or (with_passing marks links tests) r false ≡ true
+passing_in : (marks : List Bool) (links : List Links) (tests : List Bool) (r : ℕ) → r < length marks → IsPassing links tests r
+    → get_or (with_passing marks links tests) r false ≡ true
 passing_in marks [] tests r h i = absurd i
 passing_in marks (l ∷ links) [] r h i = absurd i
 passing_in marks (l ∷ links) (true ∷ tests) r h (inl p) = passing_kept (slice_set marks l.head true) links tests r (set_at marks l.head r p.0 h)
@@ -192,7 +203,8 @@ some_found ([] ∷ rs) b l (inl e) j = absurd (subst (λ (x : List said.Literal)
 some_found ([] ∷ rs) b l (inr i) j = some_found rs b l i j
 some_found ((k ∷ ks) ∷ rs) b l i j = refl
 
-passing_body : (d : Data) (links : List Links) (items : List Tree) (r : ℕ) → StandForItems d links items → IsPassing links (map rests_on_any items) r → HasBody (alternatives items) (relation_at d r)
+passing_body : (d : Data) (links : List Links) (items : List Tree) (r : ℕ) → StandForItems d links items → IsPassing links (map rests_on_any items) r
+    → HasBody (alternatives items) (relation_at d r)
 passing_body d [] items r s i = absurd i
 passing_body d (l ∷ links) [] r s i = absurd i
 passing_body d (l ∷ links) (t ∷ items) r s (inl p) =
@@ -208,12 +220,20 @@ passing_body d (l ∷ links) (t ∷ items) r s (inl p) =
     }
 passing_body d (l ∷ links) (t ∷ items) r s (inr i) =
     let b = passing_body d links items r s.1 i in
-    record { rule = b.rule; literal = b.literal; is_rule = IsAmong-append_right b.rule (item_alternatives t) (alternatives items) b.is_rule; heads = b.heads; in_body = b.in_body }
+    record {
+      rule = b.rule;
+      literal = b.literal;
+      is_rule = IsAmong-append_right b.rule (item_alternatives t) (alternatives items) b.is_rule;
+      heads =
+          b.heads;
+      in_body = b.in_body;
+    }
 
 Different : Data → Type 0
 Different d = (i j : ℕ) → i < length d.signatures → j < length d.signatures → relation_at d i ≡ relation_at d j → i ≡ j
 
-body_passing : (d : Data) (links : List Links) (items : List Tree) (r : ℕ) → Different d → StandForItems d links items → r < length d.signatures → (rule : said.Alternative) (l : said.Literal)
+body_passing : (d : Data) (links : List Links) (items : List Tree) (r : ℕ) → Different d → StandForItems d links items → r < length d.signatures
+    → (rule : said.Alternative) (l : said.Literal)
     → IsAmong rule (alternatives items) → relation_of rule.head ≡ relation_at d r → IsAmong l rule.body → IsPassing links (map rests_on_any items) r
 unfolding Different
 body_passing d [] [] r x s h rule l i e j = absurd i
@@ -222,14 +242,19 @@ body_passing d (k ∷ links) [] r x s h rule l i e j = absurd s
 body_passing d (k ∷ links) (t ∷ items) r x s h rule l i e j =
     go (IsAmong-append rule (item_alternatives t) (alternatives items) i) (λ m. body_passing d links items r x s.1 h rule l m e j)
   where
-    go : IsAmong rule (item_alternatives t) ⊎ IsAmong rule (alternatives items) → (IsAmong rule (alternatives items) → IsPassing links (map rests_on_any items) r) → IsPassing (k ∷ links) (map rests_on_any (t ∷ items)) r
+    go : IsAmong rule (item_alternatives t) ⊎ IsAmong rule (alternatives items)
+        → (IsAmong rule (alternatives items) → IsPassing links (map rests_on_any items) r) → IsPassing (k ∷ links) (map rests_on_any (t ∷ items)) r
     go (inl m) next =
         let rs : List (List said.Literal) = readings_of_all (body_trees t) in
-        inl (x k.head r s.0.head_in h (s.0.named ∙ ap relation_of (sym (same_head (item_head t) rs rule m)) ∙ e), some_found rs rule.body l (of_map (item_head t) rule rs m) j)
+        inl (
+          x k.head r s.0.head_in h (s.0.named ∙ ap relation_of (sym (same_head (item_head t) rs rule m)) ∙ e),
+          some_found rs rule.body l (of_map (item_head t) rule rs m) j,
+        )
     go (inr m) next = inr (next m)
 
 -- the marks of the heads of items with a literal are those of relations with a body
-pub marks_are_bodies : (d : Data) (links : List Links) (items : List Tree) (rests marks : List Bool) → ((i j : ℕ) → i < length d.signatures → j < length d.signatures → relation_at d i ≡ relation_at d j → i ≡ j)
+pub marks_are_bodies : (d : Data) (links : List Links) (items : List Tree) (rests marks : List Bool)
+    → ((i j : ℕ) → i < length d.signatures → j < length d.signatures → relation_at d i ≡ relation_at d j → i ≡ j)
     → StandForItems d links items → rests ≡ map rests_on_any items → marks ≡ with_passing (replicate (length d.signatures) false) links rests
     → AreBodies (length d.signatures) (λ r. relation_at d r) (alternatives items) marks
 unfolding Different
@@ -239,12 +264,14 @@ marks_are_bodies d links items rests marks x s e f r h = (into, out)
     same = f ∙ ap (λ (bs : List Bool). with_passing (replicate (length d.signatures) false) links bs) e
 
     into : get_or marks r false ≡ true → HasBody (alternatives items) (relation_at d r)
-    into m = elim (passing_out (replicate (length d.signatures) false) links (map rests_on_any items) r (subst (λ (bs : List Bool). get_or bs r false ≡ true) same m)) [
-      | inl k ↦ absurd (no_mark (length d.signatures) r h k)
-      | inr i ↦ passing_body d links items r s i
-    ]
+    into m = elim (passing_out (replicate (length d.signatures) false) links (map rests_on_any items) r
+        (subst (λ (bs : List Bool). get_or bs r false ≡ true) same m)) [
+          | inl k ↦ absurd (no_mark (length d.signatures) r h k)
+          | inr i ↦ passing_body d links items r s i
+        ]
 
     out : HasBody (alternatives items) (relation_at d r) → get_or marks r false ≡ true
     out b = subst (λ (bs : List Bool). get_or bs r false ≡ true) (sym same)
-        (passing_in (replicate (length d.signatures) false) links (map rests_on_any items) r (let l = no_marks_long (length d.signatures) in omega (arith, l, h))
+        (passing_in (replicate (length d.signatures) false) links (map rests_on_any items) r (let l = no_marks_long (length d.signatures) in
+        omega (arith, l, h))
         (body_passing d links items r x s h b.rule b.literal b.is_rule b.heads b.in_body))

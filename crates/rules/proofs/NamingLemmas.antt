@@ -1,24 +1,34 @@
 -- Names that were given numbers.
-use Rattle.std.proofs.Common.{ℕ, ◌≡◌, ◌<◌, List, [], length, ◌∙◌}
+use Rattle.std.proofs.Common.{ℕ, ◌≡◌, ◌<◌, List, [], length, ◌∙◌, subst}
 use Rattle.rules.specs.declared.rule_set.Keywords.{Keywords}
 use Rattle.rules.specs.declared.draft.Draft.{Draft}
-use Rattle.rules.specs.declared.store.Store.{Store}
+use Rattle.clauses.specs.declared.store.Store.{Store}
 use Rattle.kif.specs.Tree.{Tree}
-use Rattle.rules.specs.Words.{w_role, w_base, w_input, w_init, w_true, w_does, w_next, w_legal, w_goal, w_terminal, w_distinct}
-use Rattle.rules.specs.Adding.{Grows}
+use Rattle.profile.specs.Words.{w_role, w_base, w_input, w_init, w_true, w_does, w_next, w_legal, w_goal, w_terminal, w_distinct}
+use Rattle.clauses.specs.Adding.{Grows}
 use Rattle.rules.specs.Drafts.{IsDraftOf}
 use Rattle.rules.specs.Naming.{NumbersName, NumbersKeywords}
-use Rattle.rules.specs.Numbers.{word_at, with_word}
-use Rattle.rules.specs.Store.{Data}
-use Rattle.rules.specs.StoreView.{data_of}
-use Rattle.rules.proofs.AddingLemmas.{begins_at, begins_less, extends_trans, grows_trans, grows_word}
+use Rattle.clauses.specs.Numbers.{word_at, with_word}
+use Rattle.clauses.specs.Store.{Data}
+use Rattle.clauses.specs.StoreView.{data_of}
+use Rattle.clauses.proofs.Facts.{begins_at, begins_less, extends_trans, grows_trans, grows_word}
 
-pub numbers_name : (a b : Data) (n : ℕ) (w : List ℕ) → b ≡ record a { words = with_word a.words w } → (n < length b.words) × (word_at b.words n ≡ w) → NumbersName a b n w
+numbers_name : (a b : Data) (n : ℕ) (w : List ℕ) → b ≡ record a { words = with_word a.words w } → (n < length b.words) × (word_at b.words n ≡ w)
+    → NumbersName a b n w
 numbers_name a b n w e (inside, same) =
     record {
       grows = grows_word 0 a b w e;
-      named = λ later x. record { inside = begins_less b.words later.words n x.words inside; same = begins_at b.words later.words n [] x.words inside ∙ same };
+      named = λ later x. record {
+        inside = begins_less b.words later.words n x.words inside;
+        same = begins_at b.words later.words n [] x.words inside
+            ∙ same;
+      };
     }
+
+-- the name is that of a word
+pub numbers_word : (a b : Data) (n : ℕ) (name word : List ℕ) → name ≡ word → b ≡ record a { words = with_word a.words name }
+    → (n < length b.words) × (word_at b.words n ≡ name) → NumbersName a b n word
+numbers_word a b n name word same e found = subst (λ (w : List ℕ). NumbersName a b n w) same (numbers_name a b n name e found)
 
 -- each name in turn
 pub numbers_keywords : (a0 a1 a2 a3 a4 a5 a6 a7 a8 a9 a10 a11 : Data) (k : Keywords)
@@ -64,7 +74,8 @@ numbers_keywords a0 a1 a2 a3 a4 a5 a6 a7 a8 a9 a10 a11 k x1 x2 x3 x4 x5 x6 x7 x8
     }
 
 -- a draft stays one of the items where its lists grow
-pub draft_grown : (draft : Draft) (s : Store) (items : List Tree) → IsDraftOf draft items → Grows 0 (data_of draft.store) (data_of s) → IsDraftOf (record draft { store = s }) items
+pub draft_grown : (draft : Draft) (s : Store) (items : List Tree) → IsDraftOf draft items → Grows 0 (data_of draft.store) (data_of s)
+    → IsDraftOf (record draft { store = s }) items
 draft_grown draft s items d g =
     record {
       words = g.words d.words;

@@ -1,6 +1,6 @@
 -- The arrows of what items join.
 use Rattle.std.specs.Prelude.{ℕ, List, [], ◌∷◌, ◌++◌}
-use Rattle.rules.specs.declared.graph.Arrow.{Arrow}
+use Rattle.digraph.specs.declared.graph.Arrow.{Arrow}
 use Rattle.rules.specs.declared.item_links.Links.{Links}
 
 abbrev pub arrows_from : ℕ → List ℕ → List Arrow

@@ -1,8 +1,8 @@
 -- The relations that bodies name, by number.
 use Rattle.std.specs.Prelude.{ℕ, ◌↔◌, Bool, true, false, cond, List, [], ◌∷◌, ◌++◌}
-use Rattle.rules.specs.Dependence.{IsAmong, is_distinct}
-use Rattle.rules.specs.Store.{Data, relation_at}
-use Rattle.rules.specs.Marks.{literal_in}
+use Rattle.profile.specs.Dependence.{IsAmong, is_distinct}
+use Rattle.clauses.specs.Store.{Data, relation_at}
+use Rattle.clauses.specs.Marks.{literal_in}
 
 -- the relation of a literal, which is none of `distinct`
 abbrev pub named_relation : Data → ℕ → List ℕ

@@ -1,24 +1,24 @@
 -- What a draft of a rule set holds.
 use Rattle.std.specs.Prelude.{ℕ, ◌≡◌, ◌<◌, Bool, true, false, List, [], ◌∷◌, ◌++◌, map, length, Some}
 use Rattle.kif.specs.Tree.{Tree}
-use Rattle.rules.specs.declared.clauses.Alternative.{Alternative}
-use Rattle.rules.specs.declared.clauses.Atom.{Atom}
-use Rattle.rules.specs.declared.clauses.Span.{Span}
+use Rattle.clauses.specs.declared.numbered.Alternative.{Alternative}
+use Rattle.clauses.specs.declared.numbered.Atom.{Atom}
+use Rattle.clauses.specs.declared.numbered.Span.{Span}
 use Rattle.rules.specs.declared.draft.Draft.{Draft}
-use Rattle.rules.specs.declared.items.Item.{Item}
+use Rattle.clauses.specs.declared.items.Item.{Item}
 use Rattle.rules.specs.declared.item_links.Links.{Links}
-use Rattle.rules.specs.Clause as said
-use Rattle.rules.specs.Items.{item_head, item_alternatives, alternatives, body_trees, readings_of_all}
-use Rattle.rules.specs.declared.fault.RuleFault.{RuleFault}
-use Rattle.rules.specs.declared.fault.RuleFault.TheVariants as errors
+use Rattle.profile.specs.Clause as said
+use Rattle.profile.specs.Items.{item_head, item_alternatives, alternatives, body_trees, readings_of_all}
+use Rattle.profile.specs.declared.fault.RuleFault.{RuleFault}
+use Rattle.profile.specs.declared.fault.RuleFault.TheVariants as errors
 use Rattle.rules.specs.Numbering.{AreBodyNumbers}
-use Rattle.rules.specs.Profile.{first_failing, not_safe, is_unsafe}
-use Rattle.rules.specs.Numbers.{AreDifferent}
-use Rattle.rules.specs.Spread.{lists_of}
-use Rattle.rules.specs.Store.{Data, relation_at, atom_of, literal_at}
-use Rattle.rules.specs.StoreView.{data_of}
-use Rattle.rules.specs.Adding.{Extends, AreDifferentSignatures, HasVariables, HaveNames, StandsFor, StandForEach}
-use Rattle.rules.specs.ItemView.{ItemStandsFor}
+use Rattle.profile.specs.Profile.{first_failing, not_safe, is_unsafe}
+use Rattle.clauses.specs.Numbers.{AreDifferent}
+use Rattle.clauses.specs.Spread.{lists_of}
+use Rattle.clauses.specs.Store.{Data, relation_at, atom_of, literal_at}
+use Rattle.clauses.specs.StoreView.{data_of}
+use Rattle.clauses.specs.Adding.{Extends, AreDifferentSignatures, HasVariables, HaveNames, StandsFor, StandForEach}
+use Rattle.clauses.specs.ItemView.{ItemStandsFor}
 use Rattle.rules.specs.Bodies.{all_named_relations, HaveSame, has_literal}
 
 -- an alternative as numbers
@@ -116,6 +116,7 @@ pub record IsDraftOf (draft : Draft) (items : List Tree) : Type 0 where
   pub words : AreDifferent (data_of draft.store).words
   pub signatures : AreDifferentSignatures (data_of draft.store).signatures
   pub named : HaveNames (data_of draft.store)
-  pub alternatives : (later : Data) → Extends (data_of draft.store) later → StandForAlternatives later (map numbered draft.alternatives.items) (alternatives items)
+  pub alternatives : (later : Data) → Extends (data_of draft.store) later
+      → StandForAlternatives later (map numbered draft.alternatives.items) (alternatives items)
   pub links : (later : Data) → Extends (data_of draft.store) later → StandForItems later draft.links.items items
   pub rests : draft.rests.items ≡ map rests_on_any items

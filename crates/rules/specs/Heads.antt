@@ -1,6 +1,6 @@
 -- Which relations head alternatives, by number.
 use Rattle.std.specs.Prelude.{Bool, true, cond, List, [], ◌∷◌, slice_set}
-use Rattle.rules.specs.declared.clauses.Alternative.{Alternative}
+use Rattle.clauses.specs.declared.numbered.Alternative.{Alternative}
 use Rattle.rules.specs.declared.item_links.Links.{Links}
 
 -- the marks, and those of the heads of alternatives

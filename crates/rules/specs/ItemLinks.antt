@@ -5,13 +5,13 @@ use Rattle.kif.specs.Tree.{Tree}
 use Rattle.rules.specs.declared.item_links.Links.{Links}
 use Rattle.rules.specs.declared.item_links.Bound.{Bound}
 use Rattle.rules.specs.declared.item_links.Bound.TheVariants.{NoMove, FixedOnly, Free}
-use Rattle.rules.specs.declared.graph.Arrow.{Arrow}
-use Rattle.rules.specs.declared.fault.RuleFault.{RuleFault}
-use Rattle.rules.specs.declared.fault.RuleFault.TheVariants as errors
-use Rattle.rules.specs.Graph.{IsReachedFrom}
-use Rattle.rules.specs.Words.{w_base, w_input, w_init, w_legal, w_goal, w_terminal}
-use Rattle.rules.specs.Clause.{Relation, relation_of, is_word}
-use Rattle.rules.specs.Items.{item_head, item_alternatives}
+use Rattle.digraph.specs.declared.graph.Arrow.{Arrow}
+use Rattle.profile.specs.declared.fault.RuleFault.{RuleFault}
+use Rattle.profile.specs.declared.fault.RuleFault.TheVariants as errors
+use Rattle.digraph.specs.Graph.{IsReachedFrom}
+use Rattle.profile.specs.Words.{w_base, w_input, w_init, w_legal, w_goal, w_terminal}
+use Rattle.profile.specs.Clause.{Relation, relation_of, is_word}
+use Rattle.profile.specs.Items.{item_head, item_alternatives}
 use Rattle.rules.specs.Numbering.{AreBodyNumbers}
 
 -- the numbers are below n

@@ -1,18 +1,19 @@
 -- Which relations are fixed, and the order of relations, in the items of a draft.
-use Rattle.std.specs.Prelude.{ℕ, ◌≡◌, ◌<◌, Bool, false, not, List, length, map, All, Some, None, slice_index, slice_index_or, vec_len}
+use Rattle.std.specs.Prelude.{ℕ, ◌≡◌, ◌<◌, Bool, false, not, List, length, map, All, Some, None, slice_index, slice_index_or}
 use Rattle.kif.specs.Tree.{Tree}
 use Rattle.rules.specs.declared.draft.Draft.{Draft}
-use Rattle.rules.specs.declared.fault.RuleFault.{RuleFault}
-use Rattle.rules.specs.declared.fault.RuleFault.TheVariants as errors
-use Rattle.rules.specs.declared.graph.Graph.{Graph}
+use Rattle.profile.specs.declared.fault.RuleFault.{RuleFault}
+use Rattle.profile.specs.declared.fault.RuleFault.TheVariants as errors
+use Rattle.digraph.specs.declared.graph.Graph.{Graph}
+use Rattle.digraph.specs.GraphView.{arrows_of, nodes_of}
 use Rattle.rules.specs.Arrows.{arrows_in}
-use Rattle.rules.specs.Dependence.{IsAcyclic, dependences, is_fixed}
+use Rattle.profile.specs.Dependence.{IsAcyclic, dependences, is_fixed}
 use Rattle.rules.specs.Drafts.{IsDraftOf}
-use Rattle.rules.specs.Items.{alternatives}
-use Rattle.rules.specs.Order.{rank, relations_in_order}
-use Rattle.rules.specs.Profile.{first_failing, recursive, bad_dependence, is_recursive, depends_badly}
-use Rattle.rules.specs.Store.{Data, relation_at}
-use Rattle.rules.specs.StoreView.{data_of}
+use Rattle.profile.specs.Items.{alternatives}
+use Rattle.profile.specs.Order.{rank, relations_in_order}
+use Rattle.profile.specs.Profile.{first_failing, recursive, bad_dependence, is_recursive, depends_badly}
+use Rattle.clauses.specs.Store.{Data, relation_at}
+use Rattle.clauses.specs.StoreView.{data_of}
 
 -- the items have no fault of dependence, these relations are fixed, and those that head an item stand
 -- in this order
@@ -56,8 +57,8 @@ relation_count draft = length (data_of draft.store).signatures
 
 -- the graph has the relations as nodes, and the arrows of the links
 pub record IsGraphOfDraft (draft : Draft) (graph : Graph) : Type 0 where
-  pub nodes : vec_len graph.ends ≡ relation_count draft
-  pub joined : graph.arrows.items ≡ arrows_in draft.links.items
+  pub nodes : nodes_of graph ≡ relation_count draft
+  pub joined : arrows_of graph ≡ arrows_in draft.links.items
 
 -- the marks say which relations are not fixed
 pub record AreMoving (draft : Draft) (marks : List Bool) : Type 0 where

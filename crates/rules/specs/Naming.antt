@@ -1,9 +1,9 @@
 -- Names that were given numbers.
 use Rattle.std.specs.Prelude.{ℕ, List}
 use Rattle.rules.specs.declared.rule_set.Keywords.{Keywords}
-use Rattle.rules.specs.Adding.{Extends, Grows}
+use Rattle.clauses.specs.Adding.{Extends, Grows}
 use Rattle.rules.specs.RuleSets.{IsNumberOf, AreKeywords}
-use Rattle.rules.specs.Store.{Data}
+use Rattle.clauses.specs.Store.{Data}
 
 -- the name has the number, whatever comes behind the names
 pub record NumbersName (old new : Data) (number : ℕ) (word : List ℕ) : Type 0 where

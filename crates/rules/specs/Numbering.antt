@@ -1,9 +1,9 @@
 -- Relations by number, and a graph over the numbers that stands for dependence.
 use Rattle.std.specs.Prelude.{ℕ, ◌<◌, ◌≡◌, ◌↔◌, Bool, true, false, List, length, slice_index_or}
-use Rattle.rules.specs.declared.graph.Arrow.{Arrow}
-use Rattle.rules.specs.Clause.{Literal, Alternative, Relation, relation_of, atom_of}
-use Rattle.rules.specs.Dependence.{IsAmong, is_distinct, DependsDirectly}
-use Rattle.rules.specs.Graph.{arrow_at}
+use Rattle.digraph.specs.declared.graph.Arrow.{Arrow}
+use Rattle.profile.specs.Clause.{Literal, Alternative, Relation, relation_of, atom_of}
+use Rattle.profile.specs.Dependence.{IsAmong, is_distinct, DependsDirectly}
+use Rattle.digraph.specs.Graph.{arrow_at}
 
 -- an arrow leads from the number of p to the number of q
 pub record LeadsBetween (name : ℕ → Relation) (arrows : List Arrow) (p q : Relation) : Type 0 where

@@ -5,9 +5,9 @@ use Rattle.std.specs.Ordering.{nat_cmp, bool_cmp}
 use Rattle.std.specs.Cmp.Lexicographic.{slice_cmp}
 use Rattle.std.specs.declared.cmp.Ordering.{Ordering}
 use Rattle.rules.specs.declared.order_of_relations.Entry.{Entry}
-use Rattle.rules.specs.Clause.{Alternative, Relation}
-use Rattle.rules.specs.Dependence.{IsAmong, heads_of, is_fixed}
-use Rattle.rules.specs.Order.{then_by, rank}
+use Rattle.profile.specs.Clause.{Alternative, Relation}
+use Rattle.profile.specs.Dependence.{IsAmong, heads_of, is_fixed}
+use Rattle.profile.specs.Order.{then_by, rank}
 
 -- fixed ones first, then by rank, by the bytes of the name, by the number of arguments, by the number
 abbrev pub entry_cmp : Entry → Entry → Ordering

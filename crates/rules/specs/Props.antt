@@ -1,15 +1,15 @@
 -- What a rule set says of its numbers is a proposition, so it may be a ghost field.
 use Rattle.std.specs.Prelude.{ℕ, Bool, List, [], ◌∷◌}
 use denote.Struct.Props as logic
-use Rattle.rules.specs.declared.clauses.Part.{Part}
-use Rattle.rules.specs.declared.clauses.Part.TheVariants as parts
-use Rattle.rules.specs.declared.clauses.Atom.{Atom}
-use Rattle.rules.specs.declared.clauses.Span.{Span}
+use Rattle.clauses.specs.declared.numbered.Part.{Part}
+use Rattle.clauses.specs.declared.numbered.Part.TheVariants as parts
+use Rattle.clauses.specs.declared.numbered.Atom.{Atom}
+use Rattle.clauses.specs.declared.numbered.Span.{Span}
 use Rattle.rules.specs.declared.rule_set.Keywords.{Keywords}
-use Rattle.rules.specs.Clause as said
-use Rattle.rules.specs.Store.{Data, AreFull}
-use Rattle.rules.specs.Adding.{HasVariables, IsSorted, AreSorted}
-use Rattle.rules.specs.Marks.{IsInside, AreInside}
+use Rattle.profile.specs.Clause as said
+use Rattle.clauses.specs.Store.{Data, AreFull}
+use Rattle.clauses.specs.Adding.{HasVariables, IsSorted, AreSorted}
+use Rattle.clauses.specs.Marks.{IsInside, AreInside}
 use Rattle.rules.specs.Drafts.{Numbered}
 use Rattle.rules.specs.RuleSets.{AreWhole, IsSound}
 

@@ -2,17 +2,17 @@
 use Rattle.std.specs.Prelude.{ℕ, ◌≡◌, ◌<◌, Bool, false, List, [], ◌∷◌, All, Vec, length, map, slice_index_or}
 use Rattle.kif.specs.Tree.{Tree, text}
 use Rattle.rules.specs.declared.rule_set.Keywords.{Keywords}
-use Rattle.rules.specs.Words.{w_role, w_base, w_input, w_init, w_true, w_does, w_next, w_legal, w_goal, w_terminal, w_distinct}
-use Rattle.rules.specs.Dependence.{is_fixed}
-use Rattle.rules.specs.Items.{alternatives}
-use Rattle.rules.specs.Numbers.{word_at, AreDifferent}
-use Rattle.rules.specs.Order.{relations_in_order}
-use Rattle.rules.specs.Profile as profile
-use Rattle.rules.specs.Profile.{HasNoFault}
-use Rattle.rules.specs.Store.{Data, relation_at}
-use Rattle.rules.specs.Adding.{AreDifferentSignatures, HasVariables, HaveNames}
-use Rattle.rules.specs.Clause as said
-use Rattle.rules.specs.Marks.{IsInside, AreInside}
+use Rattle.profile.specs.Words.{w_role, w_base, w_input, w_init, w_true, w_does, w_next, w_legal, w_goal, w_terminal, w_distinct}
+use Rattle.profile.specs.Dependence.{is_fixed}
+use Rattle.profile.specs.Items.{alternatives}
+use Rattle.clauses.specs.Numbers.{word_at, AreDifferent}
+use Rattle.profile.specs.Order.{relations_in_order}
+use Rattle.profile.specs.Profile as profile
+use Rattle.profile.specs.Profile.{HasNoFault}
+use Rattle.clauses.specs.Store.{Data, relation_at}
+use Rattle.clauses.specs.Adding.{AreDifferentSignatures, HasVariables, HaveNames}
+use Rattle.profile.specs.Clause as said
+use Rattle.clauses.specs.Marks.{IsInside, AreInside}
 use Rattle.rules.specs.Drafts.{Numbered, alternative_of}
 
 -- the number is that of the name

@@ -2,14 +2,13 @@
 ghost use Rattle.std.specs.Prelude.{◌≡◌, ◌<◌, ◌++◌, ◌∷◌, [], length, IfOk, OnOk, if◌then◌else◌};
 ghost use Rattle.std.specs.List.Sorted.{IsStrictlyIncreasing};
 ghost use Rattle.rules.specs.Bodies.{named_relations, all_named_relations, HaveSame, has_literal};
-ghost use Rattle.rules.specs.Dependence.{is_distinct};
-ghost use Rattle.rules.specs.Marks.{literal_in, IsInside, AreInside, AreAllInside};
-ghost use Rattle.rules.specs.Spread.{lists_of};
-ghost use Rattle.rules.specs.Store.{relation_at};
-ghost use Rattle.rules.specs.StoreView.{data_of};
+ghost use Rattle.profile.specs.Dependence.{is_distinct};
+ghost use Rattle.clauses.specs.Marks.{literal_in, IsInside, AreInside, AreAllInside};
+ghost use Rattle.clauses.specs.Spread.{lists_of};
+ghost use Rattle.clauses.specs.Store.{relation_at};
+ghost use Rattle.clauses.specs.StoreView.{data_of};
 
-use crate::items::Item;
-use crate::store::Store;
+use clauses::{Item, Store};
 use std::alloc::{AllocError, Global};
 
 /// Adds the relation of a literal, unless it is `distinct`.
@@ -22,7 +21,8 @@ fn add_relation(
     requires number { number < length (data_of store.now).literals }
     requires inside { IsInside from (data_of store.now) (literal_in (data_of store.now) number).atom }
     ensures { OnOk result (out.new.items ≡ out.old.items
-        ++ (if is_distinct (relation_at (data_of store.now) (literal_in (data_of store.now) number).atom.relation) then [] else (literal_in (data_of store.now) number).atom.relation ∷ [])) }
+        ++ (if is_distinct (relation_at (data_of store.now) (literal_in (data_of store.now) number).atom.relation)
+        then [] else (literal_in (data_of store.now) number).atom.relation ∷ [])) }
 {
     let relation = store.literal(number).atom.relation;
     if store.is_distinct(relation) {

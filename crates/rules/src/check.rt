@@ -2,45 +2,22 @@
 ghost use Rattle.std.specs.Prelude.{◌≡◌, map, IfOk, IfErr, OnOk, None};
 ghost use Rattle.kif.specs.Tree.{text};
 ghost use Rattle.kif.specs.View.{trees_in};
-ghost use Rattle.rules.specs.Answer.{PassesFirstTests, IsFaultOf};
+ghost use Rattle.profile.specs.Answer.{PassesFirstTests, IsFaultOf};
 ghost use Rattle.rules.specs.Drafts.{IsDraftOf};
-ghost use Rattle.rules.specs.Items.{alternatives};
-ghost use Rattle.rules.specs.Profile.{HasNoFault, first_failing, not_safe, is_unsafe, roles};
+ghost use Rattle.profile.specs.Items.{alternatives};
+ghost use Rattle.profile.specs.Profile.{HasNoFault, first_failing, not_safe, is_unsafe, roles};
 ghost use Rattle.rules.specs.RuleSets.{AreKeywords};
 ghost use Rattle.rules.specs.RuleSetView.{rules_in, roles_in};
-ghost use Rattle.rules.specs.Stated.{AreRolePlaces, roles_at};
-ghost use Rattle.rules.specs.StoreView.{data_of};
+ghost use Rattle.clauses.specs.StoreView.{data_of};
 
 use crate::draft::{Draft, read_items};
-use crate::fault::RuleFault;
-use crate::forms::first_bad_form;
 use crate::keywords::number_keywords;
 use crate::layout::layout_of;
-use crate::limits::ROLES_LIMIT;
-use crate::places::first_misused_word;
 use crate::role_texts::role_texts;
-use crate::roles::roles_within_limits;
 use crate::rule_set::{Keywords, RuleSet};
-use arrayvec::ArrayVec;
 use kif::Expr;
+use profile::{RuleFault, first_tests};
 use std::alloc::{Allocator, Global};
-
-/// The places of the items that state each role for the first time, if the tests of forms, words and
-/// limits are passed. They take no memory.
-fn first_tests<A: Allocator>(items: &[Expr<A>]) -> Result<ArrayVec<usize, ROLES_LIMIT>, RuleFault>
-    ensures passed { OnOk result (PassesFirstTests (trees_in items.now)) }
-    ensures roles { IfOk result (λ places. roles_at (trees_in items.now) places.items ≡ roles (trees_in items.now)) }
-    ensures places { IfOk result (λ places. AreRolePlaces (trees_in items.now) places.items) }
-    ensures faults { IfErr result (λ fault. IsFaultOf (trees_in items.now) fault) }
-{
-    if let Some(item) = first_bad_form(items) {
-        return Err(RuleFault::BadForm(item));
-    }
-    if let Some(item) = first_misused_word(items) {
-        return Err(RuleFault::BadKeyword(item));
-    }
-    roles_within_limits(items)
-}
 
 /// Reads the items, if each is safe, and numbers the names that have a meaning in play.
 fn read_all<A: Allocator>(alloc: Global, items: &[Expr<A>]) -> Result<(Draft, Keywords), RuleFault>

@@ -2,20 +2,17 @@
 ghost use Rattle.std.specs.Prelude.{◌≡◌, ◌++◌, true, map, IfOk, IfErr, OnOk, None};
 ghost use Rattle.kif.specs.View.{tree_of, trees_in};
 ghost use Rattle.rules.specs.Drafts.{numbered, numbered_of, AddsItem, IsDraftOf, IsSafetyFault};
-ghost use Rattle.rules.specs.Items.{is_item};
-ghost use Rattle.rules.specs.Numbers.{AreDifferent};
-ghost use Rattle.rules.specs.Parts.{AreItems};
-ghost use Rattle.rules.specs.Profile.{first_failing, not_safe, is_unsafe};
-ghost use Rattle.rules.specs.StoreView.{data_of};
+ghost use Rattle.profile.specs.Items.{is_item};
+ghost use Rattle.clauses.specs.Numbers.{AreDifferent};
+ghost use Rattle.profile.specs.Parts.{AreItems};
+ghost use Rattle.profile.specs.Profile.{first_failing, not_safe, is_unsafe};
+ghost use Rattle.clauses.specs.StoreView.{data_of};
 
 use crate::bodies::{is_resting, relations_of};
-use crate::clauses::Alternative;
-use crate::fault::RuleFault;
 use crate::item_links::Links;
-use crate::items::{Item, read_item};
-use crate::safety::is_safe_item;
-use crate::store::Store;
+use clauses::{Alternative, Item, Store, is_safe_item, read_item};
 use kif::Expr;
+use profile::RuleFault;
 use std::alloc::{AllocError, Allocator, Global};
 
 /// What was read so far: names, relations and terms, the alternatives, and for each item what its

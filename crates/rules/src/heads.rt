@@ -3,8 +3,8 @@ ghost use Rattle.std.specs.Prelude.{◌≡◌, ◌<◌, All, IfOk, length, repli
 ghost use Rattle.rules.specs.Heads.{with_heads, with_passing};
 ghost use Rattle.rules.specs.ItemLinks.{IsWithin};
 
-use crate::clauses::Alternative;
 use crate::item_links::Links;
+use clauses::Alternative;
 use std::alloc::{AllocError, Global};
 
 /// Marks the heads of alternatives.

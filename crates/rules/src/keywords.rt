@@ -1,17 +1,19 @@
 // The names that the language gives a meaning in play, by number.
 ghost use Rattle.std.specs.Prelude.{IfOk};
+ghost use Rattle.profile.specs.Uses.{use_in};
 ghost use Rattle.rules.specs.Naming.{NumbersName, NumbersKeywords};
-ghost use Rattle.rules.specs.StoreView.{data_of};
+ghost use Rattle.clauses.specs.StoreView.{data_of};
 
 use crate::rule_set::Keywords;
-use crate::store::Store;
+use clauses::Store;
+use profile::Word;
 use std::alloc::AllocError;
 
-/// The number of a name, which is the next one if it has none yet.
-fn number_name(store: &mut Store, name: &[u8]) -> Result<usize, AllocError>
-    ensures { IfOk result (λ number. NumbersName (data_of store.old) (data_of store.new) number name.now) }
+/// The number of a word's name, which is the next one if it has none yet.
+fn number_word(store: &mut Store, word: Word) -> Result<usize, AllocError>
+    ensures { IfOk result (λ number. NumbersName (data_of store.old) (data_of store.new) number (use_in word).word) }
 {
-    let number = store.symbol(name)?;
+    let number = store.symbol(word.name())?;
     Ok(number)
 }
 
@@ -19,17 +21,17 @@ fn number_name(store: &mut Store, name: &[u8]) -> Result<usize, AllocError>
 pub(crate) fn number_keywords(store: &mut Store) -> Result<Keywords, AllocError>
     ensures { IfOk result (λ keywords. NumbersKeywords (data_of store.old) (data_of store.new) keywords) }
 {
-    let role = number_name(store, b"role")?;
-    let base = number_name(store, b"base")?;
-    let input = number_name(store, b"input")?;
-    let init = number_name(store, b"init")?;
-    let now = number_name(store, b"true")?;
-    let does = number_name(store, b"does")?;
-    let next = number_name(store, b"next")?;
-    let legal = number_name(store, b"legal")?;
-    let goal = number_name(store, b"goal")?;
-    let terminal = number_name(store, b"terminal")?;
-    let distinct = number_name(store, b"distinct")?;
+    let role = number_word(store, Word::Role)?;
+    let base = number_word(store, Word::Base)?;
+    let input = number_word(store, Word::Input)?;
+    let init = number_word(store, Word::Init)?;
+    let now = number_word(store, Word::True)?;
+    let does = number_word(store, Word::Does)?;
+    let next = number_word(store, Word::Next)?;
+    let legal = number_word(store, Word::Legal)?;
+    let goal = number_word(store, Word::Goal)?;
+    let terminal = number_word(store, Word::Terminal)?;
+    let distinct = number_word(store, Word::Distinct)?;
     Ok(Keywords {
         role,
         base,

@@ -1,16 +1,17 @@
 // What the relations of a description mean to the language.
 ghost use Rattle.std.specs.Prelude.{◌≡◌, ◌<◌, length, IfOk};
-ghost use Rattle.rules.specs.Adding.{HaveNames};
-ghost use Rattle.rules.specs.Dependence.{is_moving};
-ghost use Rattle.rules.specs.Clause.{relation_eq};
+ghost use Rattle.clauses.specs.Adding.{HaveNames};
+ghost use Rattle.profile.specs.Dependence.{is_moving};
+ghost use Rattle.profile.specs.Clause.{relation_eq};
 ghost use Rattle.rules.specs.ItemLinks.{bound_of, AreBounds};
 ghost use Rattle.rules.specs.Numbering.{AreTests};
-ghost use Rattle.rules.specs.Profile.{does_relation};
-ghost use Rattle.rules.specs.Store.{relation_at};
-ghost use Rattle.rules.specs.StoreView.{data_of};
+ghost use Rattle.profile.specs.Profile.{does_relation};
+ghost use Rattle.clauses.specs.Store.{relation_at};
+ghost use Rattle.clauses.specs.StoreView.{data_of};
 
 use crate::item_links::Bound;
-use crate::store::Store;
+use clauses::Store;
+use profile::Word;
 use std::alloc::{AllocError, Global};
 
 /// What the items of a relation may rest on.
@@ -19,17 +20,15 @@ fn bound_of_relation(store: &Store, relation: usize) -> Bound
     requires relation { relation < length (data_of store.now).signatures }
     ensures { result ≡ bound_of (relation_at (data_of store.now) relation) }
 {
-    if store.is_relation(relation, b"legal", 2) {
+    if store.is_word(relation, Word::Legal)
+        || store.is_word(relation, Word::Goal)
+        || store.is_word(relation, Word::Terminal)
+    {
         Bound::NoMove
-    } else if store.is_relation(relation, b"goal", 2) {
-        Bound::NoMove
-    } else if store.is_relation(relation, b"terminal", 0) {
-        Bound::NoMove
-    } else if store.is_relation(relation, b"base", 1) {
-        Bound::FixedOnly
-    } else if store.is_relation(relation, b"input", 2) {
-        Bound::FixedOnly
-    } else if store.is_relation(relation, b"init", 1) {
+    } else if store.is_word(relation, Word::Base)
+        || store.is_word(relation, Word::Input)
+        || store.is_word(relation, Word::Init)
+    {
         Bound::FixedOnly
     } else {
         Bound::Free
@@ -42,12 +41,12 @@ fn is_moving_relation(store: &Store, relation: usize) -> bool
     requires relation { relation < length (data_of store.now).signatures }
     ensures { result ≡ is_moving (relation_at (data_of store.now) relation) }
 {
-    store.is_relation(relation, b"true", 1)
-        || store.is_relation(relation, b"does", 2)
-        || store.is_relation(relation, b"next", 1)
-        || store.is_relation(relation, b"legal", 2)
-        || store.is_relation(relation, b"goal", 2)
-        || store.is_relation(relation, b"terminal", 0)
+    store.is_word(relation, Word::True)
+        || store.is_word(relation, Word::Does)
+        || store.is_word(relation, Word::Next)
+        || store.is_word(relation, Word::Legal)
+        || store.is_word(relation, Word::Goal)
+        || store.is_word(relation, Word::Terminal)
 }
 
 /// For each relation, what its items may rest on.
@@ -67,7 +66,8 @@ pub(crate) fn bounds_of(alloc: Global, store: &Store) -> Result<Vec<Bound>, Allo
 pub(crate) fn moving_of(alloc: Global, store: &Store) -> Result<Vec<bool>, AllocError>
     requires { HaveNames (data_of store.now) }
     ensures length { IfOk result (λ tests. length tests.items ≡ length (data_of store.now).signatures) }
-    ensures tests { IfOk result (λ tests. AreTests (length (data_of store.now).signatures) (λ r. relation_at (data_of store.now) r) is_moving tests.items) }
+    ensures tests { IfOk result (λ tests. AreTests (length (data_of store.now).signatures) (λ r. relation_at (data_of store.now) r) is_moving
+        tests.items) }
 {
     let mut tests = Vec::new(alloc);
     for relation in 0..store.count_relations() {
@@ -80,11 +80,12 @@ pub(crate) fn moving_of(alloc: Global, store: &Store) -> Result<Vec<bool>, Alloc
 pub(crate) fn moves_of(alloc: Global, store: &Store) -> Result<Vec<bool>, AllocError>
     requires { HaveNames (data_of store.now) }
     ensures length { IfOk result (λ tests. length tests.items ≡ length (data_of store.now).signatures) }
-    ensures tests { IfOk result (λ tests. AreTests (length (data_of store.now).signatures) (λ r. relation_at (data_of store.now) r) (λ q. relation_eq q does_relation) tests.items) }
+    ensures tests { IfOk result (λ tests. AreTests (length (data_of store.now).signatures) (λ r. relation_at (data_of store.now) r)
+        (λ q. relation_eq q does_relation) tests.items) }
 {
     let mut tests = Vec::new(alloc);
     for relation in 0..store.count_relations() {
-        tests.push(store.is_relation(relation, b"does", 2))?;
+        tests.push(store.is_word(relation, Word::Does))?;
     }
     Ok(tests)
 }

@@ -2,12 +2,12 @@
 ghost use Rattle.std.specs.Prelude.{◌≡◌, ◌<◌, ◌++◌, All, length, map, IfOk, OnOk};
 ghost use Rattle.kif.specs.Tree.{text};
 ghost use Rattle.kif.specs.View.{tree_of, trees_in};
-ghost use Rattle.rules.specs.Profile.{role_in};
+ghost use Rattle.profile.specs.Profile.{role_in};
 ghost use Rattle.rules.specs.RuleSets.{texts_of};
-ghost use Rattle.rules.specs.Stated.{roles_at};
+ghost use Rattle.profile.specs.Stated.{roles_at};
 
-use crate::roles::role_of;
 use kif::Expr;
+use profile::role_of;
 use std::alloc::{AllocError, Allocator, Global};
 
 /// The canonical text of a tree, in its own memory.

@@ -10,8 +10,7 @@ use Rattle.std.specs.Option.{option_map}
 use Rattle.std.specs.Prelude.{not, is_some, All, map, Option, Some, None, IfSome, IfNone}
 use Rattle.std.specs.List.{slice_split, join_with_byte, position_or_len}
 use Rattle.std.specs.Fmt.{decimal}
-use Rattle.share.specs.Cuts.{IsCut, levels_from, cut_text, is_x, pieces_of}
-use Rattle.share.specs.declared.cut.Cut.{Cut}
+use Rattle.share.specs.Cuts.{IsCut, cut_text, is_x, pieces_of}
 
 -- a number from 10 on and below 20 is a 1 and a digit
 pub two_digits : (n : ℕ) → 10 ≤ n → n < 20 → decimal n ≡ 49 ∷ (38 + n) ∷ []
@@ -137,12 +136,12 @@ Refused text = (levels : List ℕ) → IsCut levels → cut_text levels ≡ text
 
 module _ (text levels : List ℕ) (each : AreLevels levels) (parts : slice_split is_x text ≡ map decimal levels) where
   -- the cut of the levels that were read is that of the text
-  pub read_cut : (result : Option Cut) → IfSome result (λ cut. IsCut levels × (levels_from cut.first cut.second cut.third ≡ levels))
-      → IfSome result (λ cut. IsCut (levels_from cut.first cut.second cut.third) × (cut_text (levels_from cut.first cut.second cut.third) ≡ text))
+  pub read_cut : (result : Option (List ℕ)) → IfSome result (λ cut. IsCut levels × (cut ≡ levels))
+      → IfSome result (λ cut. IsCut cut × (cut_text cut ≡ text))
   read_cut (Some cut) h = (subst IsCut (sym h.1) h.0, ap cut_text h.1 ∙ parts_text levels text parts)
   read_cut None h = tt
 
-  pub read_none : (result : Option Cut) → IfNone result (IsCut levels → ⊥) → IfNone result ((other : List ℕ) → IsCut other → cut_text other ≡ text → ⊥)
+  pub read_none : (result : Option (List ℕ)) → IfNone result (IsCut levels → ⊥) → IfNone result ((other : List ℕ) → IsCut other → cut_text other ≡ text → ⊥)
   read_none (Some cut) h = tt
   read_none None h = λ other cut e. h (subst IsCut (same_levels other levels (λ k below. (cut.each k below).1) (λ k below. (each k below).1) (sym (cut_parts other text cut e) ∙ parts)) cut)
 

@@ -4,9 +4,9 @@ use Rattle.std.proofs.lemmas.Bool.{cases_lt}
 use Rattle.std.proofs.lemmas.List.{get_or-replicate}
 use Rattle.std.proofs.lemmas.Int.{ints}
 use Rattle.std.specs.Prelude.{ℤ, pos, negsuc, ◌≤ℤ◌, false, replicate, slice_get}
-use Rattle.position.specs.Rules.{Rules, State}
-use Rattle.position.specs.declared.at_bound.AtBound.{AtBound}
-use Rattle.position.specs.Value.{Answers as Result, value, worst, choice_of}
+use Rattle.game.specs.Rules.{Rules, State}
+use Rattle.game.specs.declared.at_bound.AtBound.{AtBound}
+use Rattle.game.specs.Value.{Answers as Result, value, worst, choice_of}
 use Rattle.maximin.proofs.Values.{IsOpen, value_reached, worst_le_value}
 use Rattle.maximin.proofs.Best.{IsBest, worst_at_place, choice_found}
 use Rattle.board.specs.Values.{least}

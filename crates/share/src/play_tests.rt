@@ -3,10 +3,10 @@ ghost use Rattle.std.specs.Prelude.{◌<◌};
 
 use crate::watched::{Watch, Watched};
 use crate::{Answer, Cut, Gate, solve};
+use game::{AtBound, Game, Joint};
 use ground::instantiate;
 use kif::read;
-use position::{AtBound, Game, RuleGame};
-use propnet::Joint;
+use position::RuleGame;
 use rules::RuleSet;
 use std::alloc::AllocGlobal;
 use std::hint::spin_loop;
@@ -40,6 +40,16 @@ const LIVE: &[u8] = b"(role a) (role b) (first x) (first y) (first z)
 (<= (next wz) (does a z)) (<= (next low) (does a go))
 (<= terminal (true wx)) (<= terminal (true wz)) (<= terminal (true low))
 (<= (goal a 90) (true wx)) (<= (goal a 10) (true low))";
+
+/// Two roles choose at once. Whatever b chooses, y is worth 90 to a and z 20, and x is worth 10 or 60.
+const PAIRS: &[u8] = b"(role a) (role b) (own x) (own y) (own z) (reply l) (reply r)
+(<= (input a ?m) (own ?m)) (<= (input b ?n) (reply ?n))
+(<= (base (did ?m ?n)) (own ?m) (reply ?n))
+(<= (legal a ?m) (own ?m)) (<= (legal b ?n) (reply ?n))
+(<= (next (did ?m ?n)) (does a ?m) (does b ?n))
+(<= terminal (true (did ?m ?n)))
+(<= (goal a 10) (true (did x l))) (<= (goal a 60) (true (did x r)))
+(<= (goal a 90) (true (did y ?n))) (<= (goal a 20) (true (did z ?n)))";
 
 /// Four roles with sixteen moves each, and one turn.
 const WIDE: &[u8] = b"(role r1) (role r2) (role r3) (role r4)
@@ -165,6 +175,64 @@ fn work_goes_on_past_a_worker_that_is_held(rt: HostRuntime) -> Result<(), Fail> 
     finds(&rt, &game, 1, b"2", &gate, 70, 1)?;
     assert!(rt; !gate.gave_up.load(Ordering::SeqCst));
     Ok(())
+}
+
+/// A gate that holds task 1 until task 4 was called, and how many steps of the joint move of task 1 were made.
+#[derive(Drop)]
+struct Late {
+    gate: Held,
+    steps: AtomicUsize,
+}
+
+impl Watch for &Late {
+    fn stepped(&self, joint: &Joint) {
+        if is_move(joint, [0, 1]) {
+            self.steps.fetch_add(1, Ordering::SeqCst);
+        }
+    }
+}
+
+impl Gate for Late {
+    fn at(&self, task: usize) {
+        self.gate.at(task);
+    }
+}
+
+const TWO_AT_THE_ROOT: [&[u8]; 3] = [b"2", b"2x2", b"2x2x2"];
+
+/// Searches the pairs by cuts of two workers at the root, and asserts that task 1 was held and not searched.
+fn passes_over_what_was_held<R: Threads + Abort + Sync + AllocGlobal, G: Game>(
+    rt: &R,
+    game: &G,
+    late: &Late,
+) -> Result<(), Fail> {
+    for cut in TWO_AT_THE_ROOT {
+        late.gate.called.store(0, Ordering::SeqCst);
+        finds(rt, game, 1, cut, late, 90, 1)?;
+    }
+    assert!(rt; !late.gate.gave_up.load(Ordering::SeqCst));
+    assert_eq!(rt; late.steps.load(Ordering::SeqCst), 0);
+    Ok(())
+}
+
+// The moves are x, y and z, the replies l and r. When task 4 is called, x is known to be worth at most 10 and y 90. So a window
+// that is read behind the gate leaves nothing to search of task 1, x and r, and one that was read before it leaves something.
+#[test]
+fn a_window_is_read_behind_the_gate(rt: HostRuntime) -> Result<(), Fail> {
+    let late = Late {
+        gate: Held {
+            task: 1,
+            until: 4,
+            called: AtomicUsize::new(0),
+            gave_up: AtomicBool::new(false),
+        },
+        steps: AtomicUsize::new(0),
+    };
+    let game = Watched {
+        inner: game_of(&rt, PAIRS)?,
+        watch: &late,
+    };
+    passes_over_what_was_held(&rt, &game, &late)
 }
 
 /// A gate whose first call waits until a second was made.

@@ -1,6 +1,6 @@
 // The search of a state by one worker, who needs no board.
 ghost use Rattle.std.specs.Prelude.{◌≡◌, ◌-◌, ◌<◌, ◌≤◌, ◌<ℤ◌, ◌≤ℤ◌, pos, negsuc, All, length, slice_get};
-ghost use Rattle.position.specs.Value.{Answers, value, worst, choice_of};
+ghost use Rattle.game.specs.Value.{Answers, value, worst, choice_of};
 ghost use Rattle.maximin.specs.Room.{IsRoomOf, room_depth};
 ghost use Rattle.share.specs.Tasks.{own_at};
 ghost use Rattle.share.specs.Step.{IsStepOf};
@@ -12,8 +12,8 @@ use crate::gate::Gate;
 use crate::last::value_behind;
 use crate::node::Node;
 use crate::step::Step;
+use game::Game;
 use maximin::Room;
-use position::Game;
 
 // The least value of a state that can follow a move, between what is best so far and 101. Each of its tasks passes the gate,
 // also where nothing is left to search.

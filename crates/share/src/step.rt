@@ -2,8 +2,7 @@ ghost use Rattle.std.specs.Prelude.{◌≡◌, IfOk};
 ghost use Rattle.smallvec.specs.SmallVec.{small_vec_len};
 ghost use Rattle.share.specs.Step.{IsStepOf};
 
-use position::Game;
-use propnet::Joint;
+use game::{Game, Joint};
 use smallvec::SmallVec;
 use std::alloc::{AllocError, Global};
 

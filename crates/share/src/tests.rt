@@ -1,7 +1,8 @@
 // Texts of cuts, and answers over the table.
+use crate::cut::Levels;
 use crate::{Cut, Gate, solve};
-use position::table::Table;
-use position::{AtBound, Game};
+use game::table::Table;
+use game::{AtBound, Game};
 use std::alloc::AllocGlobal;
 use std::process::Abort;
 use std::sync::atomic::{AtomicUsize, Ordering};
@@ -89,25 +90,23 @@ fn no_turn_to_come(rt: HostRuntime) -> Result<(), Fail> {
     Ok(())
 }
 
-const CUTS: [(&[u8], u32, Option<u32>, Option<u32>); 7] = [
-    (b"1", 1, None, None),
-    (b"9", 9, None, None),
-    (b"10", 10, None, None),
-    (b"16", 16, None, None),
-    (b"16x4", 16, Some(4), None),
-    (b"1x1x1", 1, Some(1), Some(1)),
-    (b"2x2x16", 2, Some(2), Some(16)),
+const CUTS: [(&[u8], Levels); 7] = [
+    (b"1", Levels::One(1)),
+    (b"9", Levels::One(9)),
+    (b"10", Levels::One(10)),
+    (b"16", Levels::One(16)),
+    (b"16x4", Levels::Two(16, 4)),
+    (b"1x1x1", Levels::Three(1, 1, 1)),
+    (b"2x2x16", Levels::Three(2, 2, 16)),
 ];
 
 #[test]
 fn lawful_cuts_are_read(rt: HostRuntime) -> Result<(), Fail> {
-    for (text, first, second, third) in CUTS {
+    for (text, levels) in CUTS {
         let Some(cut) = Cut::parse(text) else {
             panic!(rt; "refused")
         };
-        assert_eq!(rt; cut.first(), first);
-        assert_eq!(rt; cut.second(), second);
-        assert_eq!(rt; cut.third(), third);
+        assert_eq!(rt; cut.levels(), levels);
     }
     Ok(())
 }

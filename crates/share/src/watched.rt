@@ -1,6 +1,5 @@
 // A game for tests, whose steps are watched.
-use position::Game;
-use propnet::Joint;
+use game::{Game, Joint};
 use std::alloc::AllocError;
 
 /// What is told of each step before it is made.

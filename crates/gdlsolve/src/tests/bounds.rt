@@ -3,7 +3,7 @@ use super::games::MATCH;
 use super::lines::OPEN;
 use super::{replies, told};
 use crate::Command;
-use position::AtBound;
+use game::AtBound;
 use share::Cut;
 use std::alloc::AllocError;
 use std::thread::Threads;

@@ -2,11 +2,11 @@
 ghost use Rattle.std.specs.Prelude.{◌<ℤ◌, ◌≤ℤ◌, pos, negsuc, IfOk};
 
 use super::games::{FOUR, LIVE};
+use game::{AtBound, Game, Joint, replay};
 use ground::instantiate;
 use kif::read;
 use maximin::{Room, value_in};
-use position::{AtBound, Game, RuleGame, replay};
-use propnet::Joint;
+use position::RuleGame;
 use rules::RuleSet;
 use std::alloc::{AllocError, Global};
 use std::sync::atomic::{AtomicUsize, Ordering};

@@ -3,7 +3,7 @@ use super::games::{FOUR, LIVE, MARKS, SIXTEEN};
 use super::lines::{MARKED, OPEN};
 use super::{replies, told};
 use crate::Command;
-use position::AtBound;
+use game::AtBound;
 use share::Cut;
 use std::alloc::{AllocError, Global};
 use std::io::Write;

@@ -2,7 +2,7 @@
 use super::games::{FOUR, LIVE, MARKS, MATCH, SIXTEEN};
 use super::{replies, told};
 use crate::Command;
-use position::AtBound;
+use game::AtBound;
 use share::Cut;
 use std::alloc::AllocError;
 use std::thread::Threads;

@@ -1,5 +1,5 @@
 use Rattle.std.proofs.Common.{IsTrue}
-use Rattle.rules.specs.Clause.{Atom}
+use Rattle.profile.specs.Clause.{Atom}
 use Rattle.ground.specs.Meaning.{IsRight}
 use Rattle.ground.proofs.Derivations.{derived_once, IsRight-local}
 use Rattle.ground.proofs.laws.one_meaning.Goals as goal

@@ -9,5 +9,6 @@ abbrev pub invariant-order_of_parts-loop-index : goal.invariant-order_of_parts-l
 invariant-order_of_parts-loop-index g l = record {
   x_more : l.index < length l.xs → l.index < length l.ys;
   y_more : l.index < length l.ys → l.index < length l.xs;
-  left : Left (marks (list (trees_of (trees_in l.xs)))) (marks (list (trees_of (trees_in l.ys)))) (left_marks (trees_in (drop l.index l.xs))) (left_marks (trees_in (drop l.index l.ys)));
+  left : Left (marks (list (trees_of (trees_in l.xs)))) (marks (list (trees_of (trees_in l.ys)))) (left_marks (trees_in (drop l.index l.xs)))
+      (left_marks (trees_in (drop l.index l.ys)));
 }

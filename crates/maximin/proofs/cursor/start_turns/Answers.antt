@@ -1,7 +1,7 @@
 use Rattle.std.proofs.Common.{◌≡◌, ◌<◌, ◌≤◌, [], length, sym, ◌∙◌, ap, arith, get_or}
 use Rattle.std.proofs.Math.ListN.{length-set}
-use Rattle.position.specs.Rules.{choices}
-use Rattle.position.proofs.LegalMoves.{none_past}
+use Rattle.game.specs.Rules.{choices}
+use Rattle.game.proofs.LegalMoves.{none_past}
 use Rattle.maximin.proofs.Choices.{length-choices, choices_some}
 use Rattle.maximin.proofs.CursorSteps.{first_more, first_stands, first_picks}
 use Rattle.maximin.proofs.cursor.start_turns.Goals as goal

@@ -1,21 +1,25 @@
-use Rattle.std.proofs.Common.{◌≡◌, ℕ, ◌+◌, ◌-◌, ◌<◌, ◌≤◌, length, [], ◌∷◌, List, take, get_or, arith, sym, ◌∙◌, ap, subst, w16, min, refl, rules as facts, below_more}
-use Rattle.std.proofs.lemmas.Int.{ints, to_z-of_z}
+use Rattle.std.proofs.Common.{◌≡◌, ℕ, ◌+◌, ◌-◌, ◌<◌, ◌≤◌, length, [], ◌∷◌, List, take, drop, get_or, arith, sym, ◌∙◌, ap, subst, w16, min, refl, rules as facts, below_more}
+use Rattle.std.proofs.Math.ListN.{set}
+use Rattle.std.proofs.lemmas.Int.{ints, clamps, to_z-of_z}
+use Rattle.std.proofs.lemmas.List.{length-map}
 use mir.Val.{SFits, of_z, to_z}
 use Rattle.std.specs.Prelude.{pos, ◌≤ℤ◌, map}
 use Rattle.std.specs.Int.{int_min, int_max}
 use Rattle.smallvec.specs.SmallVec.{SmallVec}
-use Rattle.position.specs.Rules.{Turn, choices, IsTurn}
-use Rattle.position.specs.Value.{Answers, value, worst, least}
+use Rattle.game.specs.Rules.{Turn, choices, IsTurn}
+use Rattle.game.specs.Value.{Answers, value, worst, least, greatest}
 use Rattle.maximin.specs.declared.level.Level.{Level}
 use Rattle.maximin.specs.Turns.{later}
 use Rattle.maximin.specs.Cursor.{cursor_capacities}
 use Rattle.maximin.specs.Run.{turns_in, run_capacities}
 use Rattle.maximin.specs.Level.{IsLevelOf, level_capacities}
 use Rattle.maximin.proofs.Windows.{raised_most, raised_seen, raised_now, raised_above, cut_above, lowered_least, lowered_most, lowered_end, lowered_seen, lowered_now, exact, cut_below, start_least, start_most, lowered_below, le_z_true, le_z_false}
-use Rattle.maximin.proofs.Values.{IsOpen, worst_le_value, value_reached, value_ended, value_stuck}
+use Rattle.maximin.proofs.Choices.{legal_some}
+use Rattle.maximin.proofs.OwnTurns.{alone_worst, own_worths, run_seen, run_most, run_end, greatest_worth_above, greatest_worth_reached, map_part}
+use Rattle.maximin.proofs.Values.{turn_known, value_open, IsOpen, worst_le_value, value_reached, value_ended, value_stuck}
 use Rattle.maximin.proofs.Parts.{All-first_and_rest, four_joined, all_kept}
 use Rattle.maximin.proofs.Runs.{known_each, some_taken, worths_after, least_worth_below, least_worth_reached, least_behind, least_of_run, fewer_behind}
-use Rattle.position.proofs.LegalMoves.{legal_known, legal_place, legal_count, none_past}
+use Rattle.game.proofs.LegalMoves.{legal_known, legal_place, legal_count, none_past}
 use Rattle.maximin.proofs.search.+search.Goals as goal
 use Rattle.maximin.proofs.search.+search.Goals.{worst_at-then-upper-a-via-then-upper-a, worst_at-then-upper-a-via-else-upper-a+then-not-more}
 
@@ -385,3 +389,291 @@ worst_at-runs-preserved g t c =
       part = omega (arith, next, c.runs.invariant.part);
       at_most = rw lowered (lowered_most all here left a upper r (rw next at c.runs.invariant.at_most) answers);
     }
+
+pub greatest_at-loop-child-preserved : goal.greatest_at-loop-child-preserved
+greatest_at-loop-child-preserved g t c =
+    let rules = g.G.Game.rules c.args.game.now in
+    let states = g.G.Game.states c.args.game.now c.args.many.now in
+    let worth : List ℕ → ℕ = λ s. value rules c.args.asked.role c.args.asked.depth c.args.asked.at s in
+    let all = greatest (map worth states) in
+    let here = worth (get_or states c.loop-child.child []) in
+    let a = to_z w16 (of_z w16 c.args.a) in
+    let b = to_z w16 (of_z w16 c.args.b) in
+    let r = c.value_at.result in
+    let lower = to_z w16 c.loop-child.lower-bits in
+    let fits_r : SFits w16 r = search facts in
+    let fits_m : SFits w16 c.max-lower.result = search facts in
+    let raised : to_z w16 (of_z w16 c.max-lower.result) ≡ int_max lower r =
+    to_z-of_z w16 c.max-lower.result fits_m ∙ c.max-lower.ensures.value ∙ ap (λ z. int_max lower z) (to_z-of_z w16 r fits_r) in
+    let answers : Answers here lower b r = rw c.take.ensures.taken at c.value_at.ensures.answers in
+    let part : here ≤ all = greatest_worth_above worth states c.loop-child.child (omega (arith, c.requires.count, c.loop-child-test.true)) in
+    record {
+      position = c.take.ensures.fits;
+      levels = c.value_at.ensures.levels;
+      wide = c.value_at.ensures.wide;
+      position_capacities = c.take.ensures.capacities ∙ c.loop-child.invariant.position_capacities;
+      capacities = c.value_at.ensures.capacities ∙ c.loop-child.invariant.capacities;
+      wide_capacities = c.value_at.ensures.wide_capacities ∙ c.loop-child.invariant.wide_capacities;
+      deep = omega arith;
+      above = rw raised (raised_above a lower r c.loop-child.invariant.above);
+      below = le_z_false b _ c.if-lower-b.false;
+      at_most = rw raised (raised_most all here a b lower r part c.loop-child.invariant.at_most answers);
+      seen = below_more _ _
+          (λ k lt. rw raised (raised_seen (worth (get_or states k [])) b lower r (c.loop-child.invariant.seen k lt)))
+          (rw raised (raised_now here b lower r answers));
+    }
+
+pub greatest_at-returns-then-lower-b-clause-answers : goal.greatest_at-returns-then-lower-b-clause-answers
+greatest_at-returns-then-lower-b-clause-answers g t c =
+    let rules = g.G.Game.rules c.args.game.now in
+    let states = g.G.Game.states c.args.game.now c.args.many.now in
+    let worth : List ℕ → ℕ = λ s. value rules c.args.asked.role c.args.asked.depth c.args.asked.at s in
+    let all = greatest (map worth states) in
+    let here = worth (get_or states c.loop-child.child []) in
+    let a = to_z w16 (of_z w16 c.args.a) in
+    let b = to_z w16 (of_z w16 c.args.b) in
+    let r = c.value_at.result in
+    let lower = to_z w16 c.loop-child.lower-bits in
+    let fits_r : SFits w16 r = search facts in
+    let fits_m : SFits w16 c.max-lower.result = search facts in
+    let raised : to_z w16 (of_z w16 c.max-lower.result) ≡ int_max lower r =
+    to_z-of_z w16 c.max-lower.result fits_m ∙ c.max-lower.ensures.value ∙ ap (λ z. int_max lower z) (to_z-of_z w16 r fits_r) in
+    let answers : Answers here lower b r = rw c.take.ensures.taken at c.value_at.ensures.answers in
+    let part : here ≤ all = greatest_worth_above worth states c.loop-child.child (omega (arith, c.requires.count, c.loop-child-test.true)) in
+    let most : int_max lower r ≤ℤ int_max (pos all) a = raised_most all here a b lower r part c.loop-child.invariant.at_most answers in
+    let ea : a ≡ c.args.a = to_z-of_z w16 c.args.a c.ranges.a in
+    let eb : b ≡ c.args.b = to_z-of_z w16 c.args.b c.ranges.b in
+    rw (← ea, ← eb, raised) (cut_above all a b (int_max lower r) (rw raised at (le_z_true b _ c.if-lower-b.true)) most)
+
+pub greatest_at-returns-clause-answers : goal.greatest_at-returns-clause-answers
+greatest_at-returns-clause-answers g t c =
+    let rules = g.G.Game.rules c.args.game.now in
+    let states = g.G.Game.states c.args.game.now c.args.many.now in
+    let worth : List ℕ → ℕ = λ s. value rules c.args.asked.role c.args.asked.depth c.args.asked.at s in
+    let a = to_z w16 (of_z w16 c.args.a) in
+    let b = to_z w16 (of_z w16 c.args.b) in
+    let ea : a ≡ c.args.a = to_z-of_z w16 c.args.a c.ranges.a in
+    let eb : b ≡ c.args.b = to_z-of_z w16 c.args.b c.ranges.b in
+    let top = greatest_worth_reached worth states (omega (arith, c.requires.count, c.requires.some)) in
+    rw (← ea, ← eb) record {
+      at_least = rw top.2 at (c.loop-child.invariant.seen top.0 (omega (arith, top.1, c.requires.count, c.loop-child-test.false)));
+      at_most = c.loop-child.invariant.at_most;
+    }
+
+pub value_at-returns-then-is_alone-clause-answers : goal.value_at-returns-then-is_alone-clause-answers
+value_at-returns-then-is_alone-clause-answers g t c =
+    let rules = g.G.Game.rules c.args.game.now in
+    let state = g.G.Game.state c.args.game.now c.args.from.now in
+    let free : IsOpen rules c.args.asked.depth state = record { turn = c.if-asked-eq0.false; going = sym c.ended.ensures ∙ c.if-ended.false; free = sym c.is_stuck.ensures ∙ c.if-is_stuck.false } in
+    let ea = to_z-of_z w16 c.args.a c.ranges.a in
+    let eb = to_z-of_z w16 c.args.b c.ranges.b in
+    let fits : SFits w16 c.best_at.result = search facts in
+    rw (to_z-of_z w16 c.best_at.result fits, value_open rules c.args.asked.role c.args.asked.depth c.args.asked.at state free)
+    (rw (ea, eb) at c.best_at.ensures.answers)
+
+pub best_at-runs-init : goal.best_at-runs-init
+best_at-runs-init g t c =
+    let a = to_z w16 (of_z w16 c.args.a) in
+    let ea : a ≡ c.args.a = to_z-of_z w16 c.args.a c.ranges.a in
+    let first = c.requires.levels 0 c.index-first-0.result (omega arith) in
+    let there = c.split_at_mut-first.ensures.by_index.0 0 c.index-first-0.result (omega arith) in
+    record {
+      level = record { position = rw there first.position; cursor = c.start_turns.ensures.cursor; run = rw there first.run; many = rw there first.many };
+      rest = λ k d below. rw (c.split_at_mut-first.ensures.by_index.1 k d) (c.requires.levels (1 + k) d (omega arith));
+      wide = c.requires.wide;
+      capacities = refl;
+      rest_capacities = refl;
+      wide_capacities = refl;
+      deep = omega arith;
+      some = omega arith;
+      few = omega arith;
+      stands = c.start_turns.ensures.stands;
+      in_list = omega arith;
+      above = omega (arith, ints);
+      below = omega (arith, ints);
+      at_most = omega (arith, ints, clamps);
+      seen = λ k lt. absurd (omega arith);
+    }
+
+pub best_at-gather_own-requires-clause-joint : goal.best_at-gather_own-requires-clause-joint
+best_at-gather_own-requires-clause-joint g t c κs within =
+    let rules = g.G.Game.rules c.args.game.now in
+    let state = g.G.Game.state c.args.game.now c.args.from.now in
+    let law = g.met.G.Game g.world.𝓛 g.world.𝓜 g.world.𝓡 ((λ _ x. x), (λ x. x), (λ x. x), λ x. x) in
+    let some = legal_some rules state c.args.asked.role c.requires.«open» c.requires.role in
+    let first = law.legal_within c.args.game.now state c.args.asked.role c.requires.role 0 0 some in
+    turn_known rules state c.args.asked.role 0 c.runs.level.cursor.places.items c.runs.level.cursor.joint.items c.runs.invariant.stands (omega arith)
+    (λ q below. law.legal_within c.args.game.now state q below)
+
+pub best_at-steps-requires-clause-joints : goal.best_at-steps-requires-clause-joints
+best_at-steps-requires-clause-joints g t c =
+    let rules = g.G.Game.rules c.args.game.now in
+    known_each (λ j. IsTurn rules j) (take c.gather_own.new.run.count c.deref.result.now) (rw c.deref.ensures.value c.gather_own.ensures.known)
+
+pub best_at-returns-then-count-eq0-clause-answers : goal.best_at-returns-then-count-eq0-clause-answers
+best_at-returns-then-count-eq0-clause-answers g t c =
+    let rules = g.G.Game.rules c.args.game.now in
+    let state = g.G.Game.state c.args.game.now c.args.from.now in
+    let worths = map (worst rules c.args.asked.role c.args.asked.depth c.args.asked.at state) (rules.legal state c.args.asked.role) in
+    let size : length worths ≡ length (rules.legal state c.args.asked.role) = length-map (rules.legal state c.args.asked.role) (worst rules c.args.asked.role c.args.asked.depth c.args.asked.at state) in
+    let some = legal_some rules state c.args.asked.role c.requires.«open» c.requires.role in
+    let none = c.if-count-eq0.true in
+    let past = c.gather_own.ensures.all (omega (arith, c.runs.invariant.some)) in
+    let a = to_z w16 (of_z w16 c.args.a) in
+    let b = to_z w16 (of_z w16 c.args.b) in
+    let ea : a ≡ c.args.a = to_z-of_z w16 c.args.a c.ranges.a in
+    let eb : b ≡ c.args.b = to_z-of_z w16 c.args.b c.ranges.b in
+    rw (← ea, ← eb) record {
+      at_least = run_end worths c.runs.place b (to_z w16 c.runs.best-bits) (omega arith) (omega arith) c.runs.invariant.seen;
+      at_most = c.runs.invariant.at_most;
+    }
+
+pub best_at-returns-then-count-eq0-clause-levels : goal.best_at-returns-then-count-eq0-clause-levels
+best_at-returns-then-count-eq0-clause-levels g t c =
+    let roles = (g.G.Game.rules c.args.game.now).roles in
+    let P = λ (level : Level g.row.G-Pos.Denot g.row.G-Many.Denot). IsLevelOf (g.G.Game.fits c.args.game.now) (g.G.Game.fits_many c.args.game.now) roles level in
+    let kept = c.runs.invariant.level in
+    All-first_and_rest P c.split_at_mut-first.result.0.now c.runs.rest _ c.split_at_mut-first.ensures.front_len
+    (record { position = kept.position; cursor = kept.cursor; run = c.gather_own.ensures.run; many = kept.many }) c.runs.invariant.rest
+
+pub best_at-returns-then-count-eq0-clause-capacities : goal.best_at-returns-then-count-eq0-clause-capacities
+best_at-returns-then-count-eq0-clause-capacities g t c =
+    let of_position = g.G.Game.capacities c.args.game.now in
+    let of_many = g.G.Game.many_capacities c.args.game.now in
+    let split = c.split_at_mut-first.ensures in
+    let old = get_or c.split_at_mut-first.result.0.now 0 c.index-first-0.result in
+    let now = c.runs.level in
+    let begun : level_capacities of_position of_many now ≡ level_capacities of_position of_many old =
+    c.runs.invariant.capacities
+    ∙ four_joined (cursor_capacities c.start_turns.new.cursor) (run_capacities old.run) (of_position old.position) (of_many old.many)
+    (cursor_capacities old.cursor) (run_capacities old.run) (of_position old.position) (of_many old.many) c.start_turns.ensures.capacities refl refl refl in
+    let level : Level g.row.G-Pos.Denot g.row.G-Many.Denot = record { position = now.position; cursor = now.cursor; run = c.gather_own.new.run; many = now.many } in
+    let turned : level_capacities of_position of_many level ≡ level_capacities of_position of_many now =
+    four_joined (cursor_capacities now.cursor) (run_capacities c.gather_own.new.run) (of_position now.position) (of_many now.many)
+    (cursor_capacities now.cursor) (run_capacities now.run) (of_position now.position) (of_many now.many) refl c.gather_own.ensures.capacities refl refl in
+    all_kept (level_capacities of_position of_many) c.args.levels.now c.split_at_mut-first.result.0.now c.split_at_mut-first.result.1.now c.runs.rest
+    level c.index-first-0.result split.value split.front_len (turned ∙ begun) c.runs.invariant.rest_capacities
+
+pub best_at-returns-then-best-b-clause-answers : goal.best_at-returns-then-best-b-clause-answers
+best_at-returns-then-best-b-clause-answers g t c =
+    let rules = g.G.Game.rules c.args.game.now in
+    let state = g.G.Game.state c.args.game.now c.args.from.now in
+    let legal = rules.legal state c.args.asked.role in
+    let own_worth = worst rules c.args.asked.role c.args.asked.depth c.args.asked.at state in
+    let worths = map own_worth legal in
+    let value_of : List ℕ → ℕ = λ s. value rules c.args.asked.role c.args.asked.depth c.args.asked.at s in
+    let joint = c.runs.level.cursor.joint.items in
+    let run = c.gather_own.new.run in
+    let a = to_z w16 (of_z w16 c.args.a) in
+    let b = to_z w16 (of_z w16 c.args.b) in
+    let best = to_z w16 c.runs.best-bits in
+    let r = c.greatest_at-greatest.result in
+    let fits_r : SFits w16 r = search facts in
+    let fits_m : SFits w16 c.max-best.result = search facts in
+    let raised : to_z w16 (of_z w16 c.max-best.result) ≡ int_max best r =
+    to_z-of_z w16 c.max-best.result fits_m ∙ c.max-best.ensures.value ∙ ap (λ z. int_max best z) (to_z-of_z w16 r fits_r) in
+    let each = alone_worst rules c.args.asked.role c.args.asked.depth c.args.asked.at state 0 c.runs.level.cursor.places.items joint c.requires.role c.requires.alone c.runs.invariant.stands in
+    let found : map value_of (g.G.Game.states c.args.game.now c.steps.new.out) ≡ take run.count (drop c.runs.place worths) =
+    ap (map value_of) (c.steps.ensures.after ∙ ap (λ (js : List (SmallVec ℕ)). map (λ (j : SmallVec ℕ). rules.after state j.items) (take run.count js)) c.deref.ensures.value)
+    ∙ worths_after value_of (rules.after state) (take run.count run.joints.items)
+    ∙ ap (λ (ts : List Turn). map (λ t. value_of (rules.after state t)) ts) c.gather_own.ensures.turns
+    ∙ own_worths (λ t. value_of (rules.after state t)) (λ m. set joint c.args.asked.role m) own_worth each (take run.count (drop c.runs.place legal))
+    ∙ map_part own_worth c.runs.place run.count legal in
+    let answers : Answers (greatest (take run.count (drop c.runs.place worths))) best b r = subst (λ (ws : List ℕ). Answers (greatest ws) best b r) found c.greatest_at-greatest.ensures.answers in
+    let size : length worths ≡ length legal = length-map legal own_worth in
+    let some = c.if-count-eq0.false in
+    let most = run_most worths c.runs.place run.count a b best r (omega arith) (omega (arith, c.gather_own.ensures.within)) c.runs.invariant.at_most answers in
+    let ea : a ≡ c.args.a = to_z-of_z w16 c.args.a c.ranges.a in
+    let eb : b ≡ c.args.b = to_z-of_z w16 c.args.b c.ranges.b in
+    rw (← ea, ← eb, raised) (cut_above (greatest worths) a b (int_max best r) (rw raised at (le_z_true b _ c.if-best-b.true)) most)
+
+pub best_at-returns-then-best-b-clause-levels : goal.best_at-returns-then-best-b-clause-levels
+best_at-returns-then-best-b-clause-levels g t c =
+    let roles = (g.G.Game.rules c.args.game.now).roles in
+    let P = λ (level : Level g.row.G-Pos.Denot g.row.G-Many.Denot). IsLevelOf (g.G.Game.fits c.args.game.now) (g.G.Game.fits_many c.args.game.now) roles level in
+    All-first_and_rest P c.split_at_mut-first.result.0.now c.greatest_at-greatest.new.levels _ c.split_at_mut-first.ensures.front_len
+    (record { position = c.greatest_at-greatest.ensures.position; cursor = c.runs.invariant.level.cursor; run = c.gather_own.ensures.run; many = c.steps.ensures.many })
+    c.greatest_at-greatest.ensures.levels
+
+pub best_at-returns-then-best-b-clause-capacities : goal.best_at-returns-then-best-b-clause-capacities
+best_at-returns-then-best-b-clause-capacities g t c =
+    let of_position = g.G.Game.capacities c.args.game.now in
+    let of_many = g.G.Game.many_capacities c.args.game.now in
+    let split = c.split_at_mut-first.ensures in
+    let old = get_or c.split_at_mut-first.result.0.now 0 c.index-first-0.result in
+    let now = c.runs.level in
+    let begun : level_capacities of_position of_many now ≡ level_capacities of_position of_many old =
+    c.runs.invariant.capacities
+    ∙ four_joined (cursor_capacities c.start_turns.new.cursor) (run_capacities old.run) (of_position old.position) (of_many old.many)
+    (cursor_capacities old.cursor) (run_capacities old.run) (of_position old.position) (of_many old.many) c.start_turns.ensures.capacities refl refl refl in
+    let level : Level g.row.G-Pos.Denot g.row.G-Many.Denot =
+    record { position = c.greatest_at-greatest.new.position; cursor = now.cursor; run = c.gather_own.new.run; many = c.steps.new.out } in
+    let turned : level_capacities of_position of_many level ≡ level_capacities of_position of_many now =
+    four_joined (cursor_capacities now.cursor) (run_capacities c.gather_own.new.run) (of_position c.greatest_at-greatest.new.position) (of_many c.steps.new.out)
+    (cursor_capacities now.cursor) (run_capacities now.run) (of_position now.position) (of_many now.many)
+    refl c.gather_own.ensures.capacities c.greatest_at-greatest.ensures.position_capacities c.steps.ensures.many_capacities in
+    all_kept (level_capacities of_position of_many) c.args.levels.now c.split_at_mut-first.result.0.now c.split_at_mut-first.result.1.now c.greatest_at-greatest.new.levels
+    level c.index-first-0.result split.value split.front_len (turned ∙ begun) (c.greatest_at-greatest.ensures.capacities ∙ c.runs.invariant.rest_capacities)
+
+pub best_at-runs-preserved : goal.best_at-runs-preserved
+best_at-runs-preserved g t c =
+    let rules = g.G.Game.rules c.args.game.now in
+    let state = g.G.Game.state c.args.game.now c.args.from.now in
+    let legal = rules.legal state c.args.asked.role in
+    let own_worth = worst rules c.args.asked.role c.args.asked.depth c.args.asked.at state in
+    let worths = map own_worth legal in
+    let value_of : List ℕ → ℕ = λ s. value rules c.args.asked.role c.args.asked.depth c.args.asked.at s in
+    let joint = c.runs.level.cursor.joint.items in
+    let run = c.gather_own.new.run in
+    let a = to_z w16 (of_z w16 c.args.a) in
+    let b = to_z w16 (of_z w16 c.args.b) in
+    let best = to_z w16 c.runs.best-bits in
+    let r = c.greatest_at-greatest.result in
+    let fits_r : SFits w16 r = search facts in
+    let fits_m : SFits w16 c.max-best.result = search facts in
+    let raised : to_z w16 (of_z w16 c.max-best.result) ≡ int_max best r =
+    to_z-of_z w16 c.max-best.result fits_m ∙ c.max-best.ensures.value ∙ ap (λ z. int_max best z) (to_z-of_z w16 r fits_r) in
+    let each = alone_worst rules c.args.asked.role c.args.asked.depth c.args.asked.at state 0 c.runs.level.cursor.places.items joint c.requires.role c.requires.alone c.runs.invariant.stands in
+    let found : map value_of (g.G.Game.states c.args.game.now c.steps.new.out) ≡ take run.count (drop c.runs.place worths) =
+    ap (map value_of) (c.steps.ensures.after ∙ ap (λ (js : List (SmallVec ℕ)). map (λ (j : SmallVec ℕ). rules.after state j.items) (take run.count js)) c.deref.ensures.value)
+    ∙ worths_after value_of (rules.after state) (take run.count run.joints.items)
+    ∙ ap (λ (ts : List Turn). map (λ t. value_of (rules.after state t)) ts) c.gather_own.ensures.turns
+    ∙ own_worths (λ t. value_of (rules.after state t)) (λ m. set joint c.args.asked.role m) own_worth each (take run.count (drop c.runs.place legal))
+    ∙ map_part own_worth c.runs.place run.count legal in
+    let answers : Answers (greatest (take run.count (drop c.runs.place worths))) best b r = subst (λ (ws : List ℕ). Answers (greatest ws) best b r) found c.greatest_at-greatest.ensures.answers in
+    let size : length worths ≡ length legal = length-map legal own_worth in
+    let some = c.if-count-eq0.false in
+    let inside : c.runs.place + run.count ≤ length worths = omega (arith, c.gather_own.ensures.within) in
+    let now = c.runs.level in
+    let of_position = g.G.Game.capacities c.args.game.now in
+    let of_many = g.G.Game.many_capacities c.args.game.now in
+    record {
+      level = record { position = c.greatest_at-greatest.ensures.position; cursor = c.runs.invariant.level.cursor; run = c.gather_own.ensures.run; many = c.steps.ensures.many };
+      rest = c.greatest_at-greatest.ensures.levels;
+      wide = c.greatest_at-greatest.ensures.wide;
+      capacities =
+          four_joined (cursor_capacities now.cursor) (run_capacities c.gather_own.new.run) (of_position c.greatest_at-greatest.new.position) (of_many c.steps.new.out)
+          (cursor_capacities now.cursor) (run_capacities now.run) (of_position now.position) (of_many now.many)
+          refl c.gather_own.ensures.capacities c.greatest_at-greatest.ensures.position_capacities c.steps.ensures.many_capacities
+          ∙ c.runs.invariant.capacities;
+      rest_capacities = c.greatest_at-greatest.ensures.capacities ∙ c.runs.invariant.rest_capacities;
+      wide_capacities = c.greatest_at-greatest.ensures.wide_capacities ∙ c.steps.ensures.wide_capacities ∙ c.runs.invariant.wide_capacities;
+      deep = omega arith;
+      some = omega (arith, c.min-most.ensures, c.runs.invariant.some);
+      few = omega (arith, c.min-most.ensures);
+      stands = c.runs.invariant.stands;
+      in_list = omega (arith, c.gather_own.ensures.within);
+      above = rw raised (raised_above a best r c.runs.invariant.above);
+      below = le_z_false b _ c.if-best-b.false;
+      at_most = rw raised (run_most worths c.runs.place run.count a b best r (omega arith) inside c.runs.invariant.at_most answers);
+      seen = λ k lt. rw raised (run_seen worths c.runs.place run.count b best r inside c.runs.invariant.seen answers k lt);
+    }
+
+pub best_at-overflow_add-place : goal.best_at-overflow_add-place
+best_at-overflow_add-place g t c =
+    let rules = g.G.Game.rules c.args.game.now in
+    let state = g.G.Game.state c.args.game.now c.args.from.now in
+    let law = g.met.G.Game g.world.𝓛 g.world.𝓜 g.world.𝓡 ((λ _ x. x), (λ x. x), (λ x. x), λ x. x) in
+    let few = legal_count rules state c.args.asked.role (law.legal_ascending c.args.game.now state c.args.asked.role c.requires.role) (law.legal_within c.args.game.now state c.args.asked.role c.requires.role)
+    (law.moves_within c.args.game.now c.args.asked.role c.requires.role) in
+    omega (arith, c.gather_own.ensures.within)

@@ -1,8 +1,8 @@
 use Rattle.std.proofs.Common.{◌≡◌, ℕ, ◌+◌, ◌*◌, ◌-◌, ◌<◌, ◌≤◌, length, [], ◌∷◌, get_or}
 use Rattle.std.specs.Prelude.{pos, ◌<ℤ◌, ◌≤ℤ◌, All, map}
 use Rattle.std.specs.Int.{int_min, int_max}
-use Rattle.position.specs.Rules.{choices}
-use Rattle.position.specs.Value.{value, worst, least}
+use Rattle.game.specs.Rules.{choices}
+use Rattle.game.specs.Value.{value, worst, least, greatest}
 use Rattle.maximin.specs.Turns.{StandsAt, later}
 use Rattle.maximin.specs.Level.{IsLevelOf, level_capacities, all_capacities}
 use Rattle.maximin.proofs.search.+search.Given as goal
@@ -94,4 +94,61 @@ invariant-least_at-loop-place g l =
       below : l.upper ≤ℤ l.b;
       at_least : int_min (pos all) l.b ≤ℤ l.upper;
       seen : (k : ℕ) → k < l.place → l.upper ≤ℤ int_max (pos (value rules l.asked.role l.asked.depth l.asked.at (get_or states k []))) l.a;
+    }
+
+abbrev pub decreases-best_at : goal.decreases-best_at
+decreases-best_at g l = 3 * l.asked.depth + 2
+
+abbrev pub decreases-greatest_at : goal.decreases-greatest_at
+decreases-greatest_at g l = 3 * l.asked.depth + 1
+
+-- best is a lower bound of the answer that every move so far keeps to, and it is no more than the value or a
+abbrev pub invariant-best_at-runs : goal.invariant-best_at-runs
+invariant-best_at-runs g l =
+    let rules = g.G.Game.rules l.game in
+    let state = g.G.Game.state l.game l.from in
+    let worths = map (worst rules l.asked.role l.asked.depth l.asked.at state) (rules.legal state l.asked.role) in
+    let of_position = g.G.Game.capacities l.game in
+    let of_many = g.G.Game.many_capacities l.game in
+    record {
+      level : IsLevelOf (g.G.Game.fits l.game) (g.G.Game.fits_many l.game) rules.roles l.level;
+      rest : All (IsLevelOf (g.G.Game.fits l.game) (g.G.Game.fits_many l.game) rules.roles) l.rest;
+      wide : g.G.Game.fits_wide l.game l.wide;
+      capacities : level_capacities of_position of_many l.level ≡ level_capacities of_position of_many l.initial.level;
+      rest_capacities : all_capacities of_position of_many l.rest ≡ all_capacities of_position of_many l.initial.rest;
+      wide_capacities : g.G.Game.wide_capacities l.game l.wide ≡ g.G.Game.wide_capacities l.game l.fn.wide;
+      deep : l.asked.depth ≤ length l.rest;
+      some : 0 < l.most;
+      few : l.most ≤ 64;
+      stands : StandsAt (choices rules state l.asked.role 0) l.level.cursor.places.items l.level.cursor.joint.items;
+      in_list : l.place ≤ length (rules.legal state l.asked.role);
+      above : l.a ≤ℤ l.best;
+      below : l.best <ℤ l.b;
+      at_most : l.best ≤ℤ int_max (pos (greatest worths)) l.a;
+      seen : (k : ℕ) → k < l.place → int_min (pos (get_or worths k 0)) l.b ≤ℤ l.best;
+    }
+
+abbrev pub decreases-best_at-runs : goal.decreases-best_at-runs
+decreases-best_at-runs g l = length ((g.G.Game.rules l.game).legal (g.G.Game.state l.game l.from) l.asked.role) - l.place
+
+-- lower is a lower bound of the answer that every state so far keeps to, and it is no more than the greatest value or a
+abbrev pub invariant-greatest_at-loop-child : goal.invariant-greatest_at-loop-child
+invariant-greatest_at-loop-child g l =
+    let rules = g.G.Game.rules l.game in
+    let states = g.G.Game.states l.game l.many in
+    let all = greatest (map (value rules l.asked.role l.asked.depth l.asked.at) states) in
+    let of_position = g.G.Game.capacities l.game in
+    let of_many = g.G.Game.many_capacities l.game in
+    record {
+      position : g.G.Game.fits l.game l.position;
+      levels : All (IsLevelOf (g.G.Game.fits l.game) (g.G.Game.fits_many l.game) rules.roles) l.levels;
+      wide : g.G.Game.fits_wide l.game l.wide;
+      position_capacities : g.G.Game.capacities l.game l.position ≡ g.G.Game.capacities l.game l.fn.position;
+      capacities : all_capacities of_position of_many l.levels ≡ all_capacities of_position of_many l.initial.levels;
+      wide_capacities : g.G.Game.wide_capacities l.game l.wide ≡ g.G.Game.wide_capacities l.game l.fn.wide;
+      deep : length l.levels ≡ length l.initial.levels;
+      above : l.a ≤ℤ l.lower;
+      below : l.lower <ℤ l.b;
+      at_most : l.lower ≤ℤ int_max (pos all) l.a;
+      seen : (k : ℕ) → k < l.child → int_min (pos (value rules l.asked.role l.asked.depth l.asked.at (get_or states k []))) l.b ≤ℤ l.lower;
     }

@@ -2,12 +2,12 @@ use Rattle.std.proofs.Common.{◌-◌, ◌<◌, ◌≤◌, length, get_or, arith
 use Rattle.std.proofs.lemmas.Int.{to_z-of_z}
 use mir.Val.{SFits, to_z}
 use Rattle.std.specs.Prelude.{pos}
-use Rattle.position.specs.Value.{Answers}
+use Rattle.game.specs.Value.{Answers}
 use Rattle.maximin.proofs.Windows.{lt_z_true, lt_z_false}
 use Rattle.maximin.proofs.Bounds.{worst_at_most}
 use Rattle.maximin.proofs.Best.{worst_at_place, best_raised, best_kept, choice_found}
 use Rattle.maximin.proofs.Values.{IsOpen}
-use Rattle.position.proofs.LegalMoves.{legal_known, legal_place, legal_count, none_past}
+use Rattle.game.proofs.LegalMoves.{legal_known, legal_place, legal_count, none_past}
 use Rattle.maximin.proofs.search.choice_at.Goals as goal
 use Rattle.maximin.proofs.search.choice_at.Goals.{then-worst-best, else-worst-best}
 

@@ -1,13 +1,16 @@
-use Rattle.std.proofs.Common.{List, ℕ, get_or, ap, subst, ◌∙◌}
-use Rattle.position.specs.NetLanes.{TellLanes}
-use Rattle.position.proofs.Lanes.{gathered}
+use Rattle.std.proofs.Common.{ℕ, List, length, map, ap, ◌∙◌}
+use Rattle.std.specs.List.{range_with_len}
+use Rattle.smallvec.specs.SmallVec.{SmallVec}
+use Rattle.position.specs.RuleState.{rules_of}
+use Rattle.position.specs.NetState.{lane_state}
 use Rattle.position.proofs.net_lanes.net_steps.Goals as goal
 
 pub returns-clause-after : goal.returns-clause-after
 returns-clause-after c =
-    let game = c.args.game.now in
-    let words = c.args.p.now.words.items in
-    let lanes = c.eval_lanes.new.lanes.items in
-    let told = subst (λ (ws : List ℕ). TellLanes game.played game.net ws c.args.joints.now lanes) c.deref.ensures.value c.eval_lanes.ensures.told in
-    gathered game.played game.net words lanes c.gather.new.out.items c.args.joints.now told
-    (λ p lt. c.gather.ensures.told p lt ∙ ap (λ (ls : List ℕ). get_or ls (get_or game.net.transitions.items p 0) 0) c.deref-2.ensures.value)
+    let g = c.args.game.now.played in
+    let n = length g.starts.items in
+    let joints = c.args.joints.now in
+    ap (λ (m : ℕ). map (lane_state c.tell_lanes.new.out.states.items n) (range_with_len 0 m)) c.tell_lanes.ensures.count
+    ∙ ap (λ (ws : List ℕ). map (lane_state ws n) (range_with_len 0 (length joints))) c.tell_lanes.ensures.states
+    ∙ c.step_lanes.ensures.after
+    ∙ ap (λ (ws : List ℕ). map (λ (j : SmallVec ℕ). (rules_of g).after (lane_state ws n 0) j.items) joints) c.deref.ensures.value

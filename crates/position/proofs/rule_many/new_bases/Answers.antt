@@ -1,7 +1,7 @@
 use Rattle.std.proofs.Common.{◌≡◌, ◌+◌, List, [], ◌∷◌, length, get_or, sym, subst, ap, ◌∙◌, arith}
 use Rattle.std.proofs.lemmas.List.{length-append}
 use Rattle.position.specs.declared.rule_many.RuleBase.{RuleBase}
-use Rattle.position.proofs.ManyStates.{push_all}
+use Rattle.game.proofs.ManyStates.{push_all}
 use Rattle.position.proofs.rule_many.new_bases.Goals as goal
 
 pub loop-i-preserved : goal.loop-i-preserved

@@ -1,12 +1,13 @@
 use Rattle.std.proofs.Common.{◌≡◌, ◌<◌, ℕ, List, [], ◌∷◌, length, ap, ◌∙◌, arith}
 use Rattle.std.proofs.Math.ListN.{length-set}
-use Rattle.propnet.specs.Nets.{joint_at}
+use Rattle.game.specs.Joints.{joint_at}
 use Rattle.position.specs.declared.rule_many.RuleBase.{RuleBase}
 use Rattle.position.specs.RulePlay.{marked}
 use Rattle.position.specs.RuleState.{rules_of}
 use Rattle.position.specs.RuleMany.{base_capacities}
 use Rattle.position.proofs.Marks.{flat_map-set}
-use Rattle.position.proofs.ManyStates.{set_all, set_more, joint_read, base_room}
+use Rattle.game.proofs.ManyStates.{set_all, set_more, joint_read}
+use Rattle.position.proofs.RuleRooms.{base_room}
 use Rattle.position.proofs.rule_many.step_each.Goals as goal
 
 pub step_base-requires-clause-room : goal.step_base-requires-clause-room

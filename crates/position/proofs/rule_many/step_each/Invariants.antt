@@ -1,5 +1,5 @@
 use Rattle.std.proofs.Common.{◌≡◌, ℕ, ◌<◌, length, get_or, vec_capacity}
-use Rattle.propnet.specs.Nets.{joint_at}
+use Rattle.game.specs.Joints.{joint_at}
 use Rattle.position.specs.declared.rule_many.RuleBase.{RuleBase}
 use Rattle.position.specs.RulePlay.{marked}
 use Rattle.position.specs.RuleState.{rules_of}

@@ -3,7 +3,8 @@ use Rattle.std.proofs.Math.ListN.{length-set}
 use Rattle.position.specs.declared.rule_pos.RoleState.{RoleState}
 use Rattle.position.specs.RuleState.{IsCopied, role_capacities}
 use Rattle.position.proofs.Marks.{flat_map-set}
-use Rattle.position.proofs.States.{read_more, get_or_any}
+use Rattle.game.proofs.ManyStates.{get_or_any}
+use Rattle.position.proofs.States.{read_more}
 use Rattle.position.proofs.rule_pos.copy_roles.Goals as goal
 
 pub loop-role-preserved : goal.loop-role-preserved

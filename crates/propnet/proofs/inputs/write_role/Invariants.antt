@@ -1,7 +1,7 @@
 use Rattle.std.proofs.Common.{ℕ, ◌≡◌, ◌+◌, ◌<◌, ◌≤◌, get_or}
 use Rattle.propnet.specs.Values.{lane}
 use Rattle.propnet.specs.Network.{given}
-use Rattle.propnet.specs.Nets.{joint_at}
+use Rattle.game.specs.Joints.{joint_at}
 use Rattle.propnet.proofs.inputs.write_role.Given as goal
 
 abbrev pub invariant-loop-k : goal.invariant-loop-k

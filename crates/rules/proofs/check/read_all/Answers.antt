@@ -1,5 +1,5 @@
-use Rattle.rules.proofs.AddingLemmas.{extends_refl}
-use Rattle.rules.proofs.AnswerLemmas.{are_items}
+use Rattle.clauses.proofs.Facts.{extends_refl}
+use Rattle.profile.proofs.Facts.{are_items}
 use Rattle.rules.proofs.NamingLemmas.{draft_grown}
 use Rattle.rules.proofs.check.read_all.Goals as goal
 

@@ -1,5 +1,5 @@
 use Rattle.std.proofs.Common.{◌≡◌, ◌++◌, map}
-use Rattle.rules.specs.Spread.{lists_of}
+use Rattle.clauses.specs.Spread.{lists_of}
 use Rattle.rules.specs.Drafts.{numbered, numbered_with}
 use Rattle.rules.proofs.draft.add_alternatives.Given as goal
 

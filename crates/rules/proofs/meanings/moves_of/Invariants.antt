@@ -1,6 +1,6 @@
-use Rattle.rules.specs.Clause.{relation_eq}
-use Rattle.rules.specs.Profile.{does_relation}
-use Rattle.rules.specs.StoreView.{data_of}
+use Rattle.profile.specs.Clause.{relation_eq}
+use Rattle.profile.specs.Profile.{does_relation}
+use Rattle.clauses.specs.StoreView.{data_of}
 use Rattle.rules.proofs.MeaningLemmas.{Tested}
 use Rattle.rules.proofs.meanings.moves_of.Given as goal
 

@@ -2,7 +2,7 @@ use Rattle.std.proofs.Common.{◌-◌, ◌≤◌, arith, get_or, w16, rules as f
 use Rattle.std.proofs.lemmas.Int.{to_z-of_z}
 use mir.Val.{SFits, to_z}
 use Rattle.std.specs.Prelude.{pos}
-use Rattle.position.specs.Value.{Answers}
+use Rattle.game.specs.Value.{Answers}
 use Rattle.maximin.proofs.Windows.{lt_z_true, lt_z_false}
 use Rattle.maximin.proofs.Bounds.{worst_at_most}
 use Rattle.maximin.proofs.Best.{worst_at_place, best_raised, best_kept}

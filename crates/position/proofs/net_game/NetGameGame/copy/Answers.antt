@@ -3,7 +3,7 @@ use Rattle.ground.specs.GroundView.{inputs_of, kinds_of}
 use Rattle.position.specs.declared.rule_pos.RoleState.{RoleState}
 use Rattle.position.specs.RulePlay.{ends}
 use Rattle.position.specs.RuleState.{AreRead, holds_in}
-use Rattle.position.specs.NetState.{state_bits}
+use Rattle.position.specs.NetState.{AreSpread, lane_state}
 use Rattle.position.proofs.States.{AreCopied, copied_room, copied_read}
 use Rattle.position.proofs.net_game.NetGameGame.copy.Goals as goal
 
@@ -18,11 +18,13 @@ returns-clause-fits c =
     let copied : AreCopied from old new = subst (λ (fs : List RoleState). AreCopied fs old new) c.deref-2.ensures.value c.copy_roles.ensures.copied in
     record {
       room = record {
-        words = ap length same ∙ c.requires.from.room.words;
+        lanes = ap length same ∙ c.requires.from.room.lanes;
+        words = c.requires.to.room.words;
         bits = c.requires.to.room.bits;
         roles = copied_room (inputs_of g) from old new c.requires.from.room.roles c.requires.to.room.roles c.copy_roles.ensures.size copied;
       };
-      ended = c.requires.from.ended ∙ ap (λ (ws : List ℕ). ends (kinds_of g) (holds_in g (state_bits ws n))) (sym same);
-      roles = subst (λ (ws : List ℕ). AreRead (kinds_of g) (holds_in g (state_bits ws n)) (inputs_of g) new) (sym same)
-          (copied_read (kinds_of g) (holds_in g (state_bits c.args.p.now.words.items n)) (inputs_of g) from old new c.requires.from.room.roles copied c.requires.from.roles);
+      spread = subst AreSpread (sym same) c.requires.from.spread;
+      ended = c.requires.from.ended ∙ ap (λ (ws : List ℕ). ends (kinds_of g) (holds_in g (lane_state ws n 0))) (sym same);
+      roles = subst (λ (ws : List ℕ). AreRead (kinds_of g) (holds_in g (lane_state ws n 0)) (inputs_of g) new) (sym same)
+          (copied_read (kinds_of g) (holds_in g (lane_state c.args.p.now.lanes.items n 0)) (inputs_of g) from old new c.requires.from.room.roles copied c.requires.from.roles);
     }

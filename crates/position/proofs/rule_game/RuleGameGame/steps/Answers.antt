@@ -2,7 +2,7 @@ use Rattle.std.proofs.Common.{◌≡◌, length, arith}
 use Rattle.position.specs.RulePlay.{marked}
 use Rattle.position.specs.RuleState.{rules_of}
 use Rattle.position.specs.declared.rule_many.RuleBase.{RuleBase}
-use Rattle.position.proofs.ManyStates.{taken_map}
+use Rattle.game.proofs.ManyStates.{taken_map}
 use Rattle.position.proofs.rule_game.RuleGameGame.steps.Goals as goal
 
 pub returns-clause-after : goal.returns-clause-after

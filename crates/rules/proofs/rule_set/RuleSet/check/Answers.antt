@@ -1,12 +1,12 @@
 use Rattle.std.proofs.Common.{◌∙◌, sym, subst, map}
 use Rattle.kif.specs.View.{trees_in}
-use Rattle.rules.specs.declared.fault.RuleFault.{RuleFault}
-use Rattle.rules.specs.Answer.{IsFaultOf}
+use Rattle.profile.specs.declared.fault.RuleFault.{RuleFault}
+use Rattle.profile.specs.Answer.{IsFaultOf}
 use Rattle.rules.specs.Drafts.{numbered}
-use Rattle.rules.specs.StoreView.{data_of}
-use Rattle.rules.proofs.AddingLemmas.{extends_refl}
+use Rattle.clauses.specs.StoreView.{data_of}
+use Rattle.clauses.proofs.Facts.{extends_refl}
 use Rattle.rules.proofs.AnswerLemmas.{dependence_fault, no_fault, texts_are, has_items, is_sound, rules_stand}
-use Rattle.rules.proofs.Results.{err_given}
+use Rattle.profile.proofs.Facts.{err_given}
 use Rattle.rules.proofs.TextLemmas.{places_inside}
 use Rattle.rules.proofs.rule_set.RuleSet.check.Goals as goal
 
@@ -18,7 +18,8 @@ returns-in_err-layout-clause-refused g c =
     let items = trees_in c.args.items.now in
     let said = c.in_err-layout.ensures.faults items c.in_ok-draft.ensures.read in
     err_given c.from_residual-in_err-layout.result _ _ c.from_residual-in_err-layout.ensures.1
-    (λ fault same. subst (λ (f : RuleFault). IsFaultOf items f) (sym same) (dependence_fault items _ c.in_ok-places.ensures.passed c.in_ok-draft.ensures.safe said))
+    (λ fault same. subst (λ (f : RuleFault). IsFaultOf items f) (sym same)
+    (dependence_fault items _ c.in_ok-places.ensures.passed c.in_ok-draft.ensures.safe said))
 
 pub role_texts-requires : goal.role_texts-requires
 role_texts-requires g c = places_inside c.args.items.now c.in_ok-places.places.items _ c.in_ok-places.ensures.places.within c.deref.ensures.0
@@ -31,8 +32,10 @@ invariant_of-result g c =
     let read = c.in_ok-draft.ensures.read in
     let stand = read.alternatives d (extends_refl d) in
     let laid = c.in_ok-layout.ensures.laid items read in
-    let none = no_fault items c.in_ok-places.places.items d _ _ c.in_ok-places.ensures.passed c.in_ok-draft.ensures.safe laid c.in_ok-places.ensures.roles c.in_ok-places.ensures.places (sym c.is_empty.ensures ∙ c.if-is_empty.false) in
-    let texts = texts_are items c.in_ok-places.places.items c.deref.result.now _ c.in_ok-places.ensures.roles c.deref.ensures.0 c.in_ok-roles.ensures in
+    let none = no_fault items c.in_ok-places.places.items d _ _ c.in_ok-places.ensures.passed c.in_ok-draft.ensures.safe laid
+    c.in_ok-places.ensures.roles c.in_ok-places.ensures.places (sym c.is_empty.ensures ∙ c.if-is_empty.false) in
+    let texts = texts_are items c.in_ok-places.places.items c.deref.result.now _ c.in_ok-places.ensures.roles c.deref.ensures.0
+    c.in_ok-roles.ensures in
     record {
       accepted = ∣ has_items items d ns _ none stand texts ∣₁;
       sound = is_sound items d ns _ _ _ read.words read.signatures read.named stand laid c.in_ok-draft.ensures.keywords;
@@ -45,7 +48,8 @@ returns-clause-accepted g c =
     let ns = map numbered c.in_ok-draft.draft.alternatives.items in
     let read = c.in_ok-draft.ensures.read in
     let laid = c.in_ok-layout.ensures.laid items read in (
-      no_fault items c.in_ok-places.places.items d _ _ c.in_ok-places.ensures.passed c.in_ok-draft.ensures.safe laid c.in_ok-places.ensures.roles c.in_ok-places.ensures.places (sym c.is_empty.ensures ∙ c.if-is_empty.false),
+      no_fault items c.in_ok-places.places.items d _ _ c.in_ok-places.ensures.passed c.in_ok-draft.ensures.safe laid c.in_ok-places.ensures.roles
+          c.in_ok-places.ensures.places (sym c.is_empty.ensures ∙ c.if-is_empty.false),
       rules_stand d ns _ (read.alternatives d (extends_refl d)),
       texts_are items c.in_ok-places.places.items c.deref.result.now _ c.in_ok-places.ensures.roles c.deref.ensures.0 c.in_ok-roles.ensures,
     )

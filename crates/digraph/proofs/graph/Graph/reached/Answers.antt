@@ -1,0 +1,56 @@
+use Rattle.std.proofs.Common.{◌∙◌, arith, ℕ, ◌<◌, length, rules, List, subst, refl}
+use Rattle.digraph.proofs.Search.{look, looked_at, work_falls, closed_pop, started_more, before_inside, all_marked_at, Searching}
+use Rattle.digraph.proofs.graph.Graph.reached.Goals as goal
+
+pub loop-pending-preserved : goal.loop-pending-preserved
+loop-pending-preserved c =
+    let some : 0 < length c.loop-pending.pending.items = search rules in
+    let at = look _ c.args.self.now.ends.items c.args.self.now.before.items c.args.starts.now
+    (length c.args.starts.now) c.loop-pending.marks.items c.loop-pending.ends.items c.loop-pending.pending.items
+    c.len-in-loop-pending.result c.index-node.result.now c.index-end.result.now c.index-in-loop-pending.result.now c.index.result.now
+    c.args.self.now.linked c.loop-pending.invariant some (c.len-in-loop-pending.ensures
+    ∙ c.loop-pending.pending.ok.0) c.index-node.ensures c.index-end.ensures c.if-end-eq0.false c.index.ensures c.index-in-loop-pending.ensures in
+    looked_at _ c.args.self.now.ends.items c.args.self.now.before.items _ _ _ _ _ _ _ _ _ at c.loop-pending.invariant _ _
+    c.in_ok-mark-2.ensures.marked c.in_ok-mark-2.ensures.noted
+
+pub loop-pending-preserved-then-end-eq0 : goal.loop-pending-preserved-then-end-eq0
+loop-pending-preserved-then-end-eq0 c =
+    closed_pop _ _ _ _ _ _ _ _ c.pop.result c.len-in-loop-pending.result c.index-node.result.now c.index-end.result.now c.loop-pending.invariant
+    (search rules)
+    (c.len-in-loop-pending.ensures ∙ c.loop-pending.pending.ok.0) c.index-node.ensures c.index-end.ensures c.if-end-eq0.true c.pop.ensures.items
+    (search rules)
+
+pub loop-pending-smaller : goal.loop-pending-smaller
+loop-pending-smaller c =
+    let some : 0 < length c.loop-pending.pending.items = search rules in
+    let at = look _ c.args.self.now.ends.items c.args.self.now.before.items c.args.starts.now
+    (length c.args.starts.now) c.loop-pending.marks.items c.loop-pending.ends.items c.loop-pending.pending.items
+    c.len-in-loop-pending.result c.index-node.result.now c.index-end.result.now c.index-in-loop-pending.result.now c.index.result.now
+    c.args.self.now.linked c.loop-pending.invariant some (c.len-in-loop-pending.ensures
+    ∙ c.loop-pending.pending.ok.0) c.index-node.ensures c.index-end.ensures c.if-end-eq0.false c.index.ensures c.index-in-loop-pending.ensures in
+    work_falls _ c.args.self.now.ends.items c.args.self.now.before.items _ _ _ _ _ _ _ _ _ at c.loop-pending.invariant _ _
+    c.in_ok-mark-2.ensures.marked c.in_ok-mark-2.ensures.noted
+
+pub loop-start-preserved : goal.loop-start-preserved
+loop-start-preserved c = record {
+  searching = started_more _ _ _ _ _ _ _ c.loop-start-test.true
+      (omega (arith, c.requires c.loop-start.start-index 0 c.loop-start-test.true, c.args.self.now.ends.ok.0))
+      (subst (λ (x : List ℕ). Searching c.args.self.now.arrows.items c.args.starts.now (length c.args.self.now.ends.items) c.loop-start.start-index
+      c.loop-start.marks.items x c.loop-start.pending.items) refl c.loop-start.invariant.searching)
+      _ _ c.in_ok-mark.ensures.marked c.in_ok-mark.ensures.noted;
+  ends_are = c.loop-start.invariant.ends_are;
+}
+
+pub index-requires-in-loop-pending : goal.index-requires-in-loop-pending
+index-requires-in-loop-pending c =
+    let inside =
+    before_inside _ _ c.args.self.now.before.items c.args.starts.now (length c.args.starts.now) c.loop-pending.marks.items
+    c.loop-pending.ends.items c.loop-pending.pending.items
+    c.len-in-loop-pending.result c.index-node.result.now c.index-end.result.now c.args.self.now.linked c.loop-pending.invariant (search rules)
+    (c.len-in-loop-pending.ensures ∙ c.loop-pending.pending.ok.0) c.index-node.ensures c.index-end.ensures c.if-end-eq0.false in
+    omega (arith, inside, c.args.self.now.before.ok.0)
+
+pub returns : goal.returns
+returns c =
+    all_marked_at _ _ _ c.args.self.now.linked _ (λ i h. omega (arith, c.requires i 0 h, c.args.self.now.ends.ok.0)) _ _ _ _ c.args.self.now.ends.ok.0
+    (search rules) c.loop-pending.invariant

@@ -1,0 +1,9 @@
+pub mod Ascending
+pub mod Roles
+pub mod FirstFaults
+pub mod LegalMoves
+pub mod Alike
+pub mod PlayRange
+pub mod SamePlays
+pub mod PlainValues
+pub mod ManyStates

@@ -1,0 +1,19 @@
+use Rattle.std.proofs.Common.{◌≡◌, ℕ, ◌<◌, [], take, ◌+◌}
+use Rattle.smallvec.specs.SmallVec.{small_vec_len}
+use Rattle.kif.specs.View.{trees_in, parts_of}
+use Rattle.game.specs.Played.{turn_faults, state_after, tree_at}
+use Rattle.game.proofs.replaying.replay.Given as goal
+
+-- the turns before this one have no fault, and the state is the one after them
+abbrev pub invariant-loop-place : goal.invariant-loop-place
+invariant-loop-place g l =
+    let rules = g.G.Game.rules l.g in
+    let names = g.G.Game.move_name l.g in
+    let turns = trees_in l.turns in
+    record {
+      here : g.G.Game.fits l.g l.here;
+      next : g.G.Game.fits l.g l.next;
+      size : small_vec_len l.joint ≡ rules.roles;
+      state : g.G.Game.state l.g l.here ≡ state_after rules names (take l.place turns);
+      clear : (k : ℕ) → k < l.place → turn_faults rules names (state_after rules names (take k turns)) (parts_of (tree_at turns k)) (k + 1) ≡ [];
+    }

@@ -1,0 +1,12 @@
+pub mod Rules
+pub mod AtBound
+pub mod Value
+pub mod PlainValue
+pub mod Joints
+pub mod Played
+pub mod Refusal
+pub mod Table
+pub mod TableLaws
+pub mod TableMany
+pub mod NamedRules
+pub mod SamePlay

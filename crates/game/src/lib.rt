@@ -1,0 +1,27 @@
+//! What it means to play a game, whichever way its states are kept: its states and joint moves, histories of turns, and what play is
+//! worth to a role.
+#![tactic(auto)]
+
+mod at_bound;
+mod fault;
+mod game;
+mod joint;
+mod play_laws;
+mod refusal;
+mod replaying;
+mod stuck;
+pub mod table;
+#[cfg(test)]
+mod tests;
+
+pub use at_bound::AtBound;
+pub use fault::HistoryFault;
+pub use game::Game;
+pub use joint::{Joint, new_joint, put_move};
+pub use play_laws::{
+    nothing_at_the_bound_is_the_plain_value, play_stays_within_the_game,
+    same_play_is_played_the_same,
+};
+pub use refusal::add_history_refusal;
+pub use replaying::replay;
+pub use stuck::is_stuck;

@@ -1,0 +1,54 @@
+// What holds of play in every game, and what games that tell the same have in common.
+ghost use Rattle.std.specs.Prelude.{ℕ, ◌≡◌, ◌<◌, List, All, IfSome, IfErr};
+ghost use Rattle.kif.specs.Tree.{Tree};
+ghost use Rattle.game.specs.declared.at_bound.AtBound.{AtBound};
+ghost use Rattle.game.specs.declared.at_bound.AtBound.TheVariants.{Zero};
+ghost use Rattle.game.specs.NamedRules.{NamedRules};
+ghost use Rattle.game.specs.PlainValue.{plain_value, plain_worst, plain_choice, plain_reply, plain_line};
+ghost use Rattle.game.specs.Played.{MoveNames, played};
+ghost use Rattle.game.specs.Refusal.{IsRoleOf};
+ghost use Rattle.game.specs.Rules.{Rules, State, IsTurn, is_stuck, turns_with};
+ghost use Rattle.game.specs.SamePlay.{SamePlay, AreLegalMoves};
+ghost use Rattle.game.specs.Value.{value, worst, choice_of, reply_of, line_of};
+
+/// A refusal names a role of the game, if it names one. Where each legal move of a role is a move of the role, what a role
+/// chooses is one of its moves, and joint moves, replies and the turns of a line have a move of each role.
+pub fn play_stays_within_the_game()
+    ensures fault { (g : Rules) (names : MoveNames) (ts : List Tree) → IfErr (played g names ts) (IsRoleOf g.roles) }
+    ensures turns { (g : Rules) → AreLegalMoves g → (s : State) (role own : ℕ) → own < g.moves role
+        → All (IsTurn g) (turns_with g s role own) }
+    ensures choice { (g : Rules) → AreLegalMoves g → (role depth : ℕ) (at : AtBound) (s : State) → role < g.roles
+        → IfSome (choice_of g role depth at s) (λ m. m < g.moves role) }
+    ensures reply { (g : Rules) → AreLegalMoves g → (role depth : ℕ) (at : AtBound) (s : State) (own : ℕ) → own < g.moves role
+        → IfSome (reply_of g role depth at s own) (IsTurn g) }
+    ensures line { (g : Rules) → AreLegalMoves g → (role depth : ℕ) (at : AtBound) (s : State) → role < g.roles
+        → All (IsTurn g) (line_of g role depth at s) }
+{}
+
+/// Games that tell the same are stuck in the same states, refuse the same histories for the same fault, and lead from the
+/// others to the same state. Each role has the same values, choices and lines in them, and after each of its moves the same
+/// worth and reply.
+pub fn same_play_is_played_the_same()
+    ensures stuck { (g h : NamedRules) → SamePlay g h → (s : State) → is_stuck g.rules s ≡ is_stuck h.rules s }
+    ensures played { (g h : NamedRules) → SamePlay g h → (ts : List Tree) → played g.rules g.move_name ts ≡ played h.rules h.move_name ts }
+    ensures value { (g h : NamedRules) → SamePlay g h → (role : ℕ) → role < g.rules.roles → (depth : ℕ) (at : AtBound) (s : State)
+        → value g.rules role depth at s ≡ value h.rules role depth at s }
+    ensures worst { (g h : NamedRules) → SamePlay g h → (role : ℕ) → role < g.rules.roles → (depth : ℕ) (at : AtBound) (s : State) (own : ℕ)
+        → own < g.rules.moves role → worst g.rules role depth at s own ≡ worst h.rules role depth at s own }
+    ensures choice { (g h : NamedRules) → SamePlay g h → (role : ℕ) → role < g.rules.roles → (depth : ℕ) (at : AtBound) (s : State)
+        → choice_of g.rules role depth at s ≡ choice_of h.rules role depth at s }
+    ensures reply { (g h : NamedRules) → SamePlay g h → (role : ℕ) → role < g.rules.roles → (depth : ℕ) (at : AtBound) (s : State) (own : ℕ)
+        → own < g.rules.moves role → reply_of g.rules role depth at s own ≡ reply_of h.rules role depth at s own }
+    ensures line { (g h : NamedRules) → SamePlay g h → (role : ℕ) → role < g.rules.roles → (depth : ℕ) (at : AtBound) (s : State)
+        → line_of g.rules role depth at s ≡ line_of h.rules role depth at s }
+{}
+
+/// Where a state at the bound is worth nothing, a role has the plain value, choice and line of each state, and after each of its
+/// moves the plain worth and reply: those of definitions that know of no other worth there.
+pub fn nothing_at_the_bound_is_the_plain_value()
+    ensures value { (g : Rules) (role depth : ℕ) (s : State) → value g role depth Zero s ≡ plain_value g role depth s }
+    ensures worst { (g : Rules) (role depth : ℕ) (s : State) (own : ℕ) → worst g role depth Zero s own ≡ plain_worst g role depth s own }
+    ensures choice { (g : Rules) (role depth : ℕ) (s : State) → choice_of g role depth Zero s ≡ plain_choice g role depth s }
+    ensures reply { (g : Rules) (role depth : ℕ) (s : State) (own : ℕ) → reply_of g role depth Zero s own ≡ plain_reply g role depth s own }
+    ensures line { (g : Rules) (role depth : ℕ) (s : State) → line_of g role depth Zero s ≡ plain_line g role depth s }
+{}

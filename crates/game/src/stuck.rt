@@ -1,0 +1,18 @@
+// Whether play can go on.
+ghost use Rattle.std.specs.Prelude.{◌≡◌};
+ghost use Rattle.game.specs.Rules.{is_stuck as stuck};
+
+use crate::game::Game;
+
+/// Whether some role has no legal move. A state in which the game has ended is not called stuck, whatever this answers.
+pub fn is_stuck<G: Game>(g: &G, p: &G::Pos) -> bool
+    requires { G.fits g.now p.now }
+    ensures { result ≡ stuck (G.rules g.now) (G.state g.now p.now) }
+{
+    for role in 0..g.roles() {
+        if g.legal(p, role, 0).is_none() {
+            return true;
+        }
+    }
+    false
+}

@@ -1,5 +1,0 @@
-use Rattle.gdlsolve.proofs.OneReply.{some_reply, one_reply}
-use Rattle.gdlsolve.proofs.laws.each_input_has_one_reply.Goals as goal
-
-pub returns : goal.returns
-returns c = record { some = some_reply; once = one_reply }

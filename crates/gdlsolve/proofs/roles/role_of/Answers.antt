@@ -1,7 +1,0 @@
-use Rattle.gdlsolve.specs.Histories.{named}
-use Rattle.gdlsolve.proofs.OneTree.{no_role, one_role}
-use Rattle.gdlsolve.proofs.roles.role_of.Goals as goal
-
-pub returns-then-trees-ne1-clause-found : goal.returns-then-trees-ne1-clause-found
-returns-then-trees-ne1-clause-found g c =
-    no_role (named (g.G.Game.rules c.args.g.now) (g.G.Game.role_name c.args.g.now) (g.G.Game.move_name c.args.g.now)) c.args.trees.now c.if-trees-ne1.true

@@ -1,0 +1,26 @@
+use Rattle.std.proofs.Common.{◌≡◌, ℕ, ◌<◌, ◌-◌, length, get_or}
+use Rattle.std.specs.Prelude.{All}
+use Rattle.game.specs.Value.{value}
+use Rattle.maximin.specs.Level.{IsLevelOf, all_capacities}
+use Rattle.maximin.proofs.Best.{worst_at_place}
+use Rattle.maximin.proofs.known.choice_worth.Given as goal
+
+-- no move before the one at hand attains the value
+abbrev pub invariant-loop-further : goal.invariant-loop-further
+invariant-loop-further g l =
+    let rules = g.G.Game.rules l.game in
+    let state = g.G.Game.state l.game l.from in
+    record {
+      levels : All (IsLevelOf (g.G.Game.fits l.game) (g.G.Game.fits_many l.game) rules.roles) l.levels;
+      wide : g.G.Game.fits_wide l.game l.wide;
+      capacities : all_capacities (g.G.Game.capacities l.game) (g.G.Game.many_capacities l.game) l.levels
+          ≡ all_capacities (g.G.Game.capacities l.game) (g.G.Game.many_capacities l.game) l.initial.levels;
+      wide_capacities : g.G.Game.wide_capacities l.game l.wide ≡ g.G.Game.wide_capacities l.game l.fn.wide;
+      deep : length l.levels ≡ length l.initial.levels;
+      in_list : l.place < length (rules.legal state l.asked.role);
+      here : get_or (rules.legal state l.asked.role) l.place 0 ≡ l.own;
+      before : (k : ℕ) → k < l.place → worst_at_place rules l.asked.role l.asked.depth l.asked.at state k < value rules l.asked.role l.asked.depth l.asked.at state;
+    }
+
+abbrev pub decreases-loop-further : goal.decreases-loop-further
+decreases-loop-further g l = length ((g.G.Game.rules l.game).legal (g.G.Game.state l.game l.from) l.asked.role) - l.place

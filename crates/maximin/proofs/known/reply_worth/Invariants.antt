@@ -1,0 +1,36 @@
+use Rattle.std.proofs.Common.{◌≡◌, ℕ, ◌≤◌, ◌∷◌, length}
+use Rattle.std.specs.Prelude.{All}
+use Rattle.game.specs.Rules.{choices, turns_with, Turn}
+use Rattle.game.specs.Value.{value, worst}
+use Rattle.maximin.specs.Turns.{StandsAt, later}
+use Rattle.maximin.specs.Level.{IsLevelOf, level_capacities, all_capacities}
+use Rattle.maximin.proofs.Beside.{IsAhead}
+use Rattle.maximin.proofs.known.reply_worth.Given as goal
+
+-- the joint move at the cursor is the first that can leave the least value
+abbrev pub invariant-turns : goal.invariant-turns
+invariant-turns g l =
+    let rules = g.G.Game.rules l.game in
+    let state = g.G.Game.state l.game l.from in
+    let lists = choices rules state l.asked.role l.own in
+    let worth : Turn → ℕ = λ j. value rules l.asked.role l.asked.depth l.asked.at (rules.after state j) in
+    record {
+      level : IsLevelOf (g.G.Game.fits l.game) (g.G.Game.fits_many l.game) rules.roles l.level;
+      rest : All (IsLevelOf (g.G.Game.fits l.game) (g.G.Game.fits_many l.game) rules.roles) l.rest;
+      wide : g.G.Game.fits_wide l.game l.wide;
+      capacities : level_capacities (g.G.Game.capacities l.game) (g.G.Game.many_capacities l.game) l.level
+          ≡ level_capacities (g.G.Game.capacities l.game) (g.G.Game.many_capacities l.game) l.initial.level;
+      rest_capacities : all_capacities (g.G.Game.capacities l.game) (g.G.Game.many_capacities l.game) l.rest
+          ≡ all_capacities (g.G.Game.capacities l.game) (g.G.Game.many_capacities l.game) l.initial.rest;
+      wide_capacities : g.G.Game.wide_capacities l.game l.wide ≡ g.G.Game.wide_capacities l.game l.fn.wide;
+      deep : l.asked.depth ≤ length l.rest;
+      capacity : l.out.capacity ≡ l.fn.out.capacity;
+      stands : StandsAt lists l.level.cursor.places.items l.level.cursor.joint.items;
+      is_ahead : IsAhead worth (turns_with rules state l.asked.role l.own) (worst rules l.asked.role l.asked.depth l.asked.at state l.own)
+          (l.level.cursor.joint.items ∷ later lists l.level.cursor.places.items);
+    }
+
+abbrev pub decreases-turns : goal.decreases-turns
+decreases-turns g l =
+    let rules = g.G.Game.rules l.game in
+    length (later (choices rules (g.G.Game.state l.game l.from) l.asked.role l.own) l.level.cursor.places.items)

@@ -1,0 +1,45 @@
+use Rattle.std.proofs.Common.{◌≡◌, ◌∙◌, ap, w16, rules as facts}
+use Rattle.std.proofs.lemmas.Int.{to_z-of_z}
+use mir.Val.{SFits, of_z, to_z}
+use Rattle.std.specs.Prelude.{pos}
+use Rattle.std.specs.Int.{int_min, int_max}
+use Rattle.game.specs.Value.{value}
+use Rattle.maximin.proofs.Bounds.{value_at_most}
+use Rattle.maximin.proofs.Windows.{le_z_true}
+use Rattle.maximin.proofs.Beside.{within_goals, outside_goals}
+use Rattle.maximin.proofs.search.value_within.Goals as goal
+
+pub returns-then-low-high-clause-answers : goal.returns-then-low-high-clause-answers
+returns-then-low-high-clause-answers g c =
+    let rules = g.G.Game.rules c.args.game.now in
+    let state = g.G.Game.state c.args.game.now c.args.from.now in
+    let law = g.met.G.Game g.world.𝓛 g.world.𝓜 g.world.𝓡 ((λ _ x. x), (λ x. x), (λ x. x), λ x. x) in
+    let worth = value rules c.args.asked.role c.args.asked.depth c.args.asked.at state in
+    let few = value_at_most rules c.args.asked.role (λ s r. law.goal_within c.args.game.now s r) c.args.asked.depth c.args.asked.at state in
+    let low = to_z w16 (of_z w16 c.max-low.result) in
+    let high = to_z w16 (of_z w16 c.min-high.result) in
+    let fits_low : SFits w16 c.max-low.result = search facts in
+    let fits_high : SFits w16 c.min-high.result = search facts in
+    let low_is : low ≡ int_max c.args.a (pos 0) =
+    to_z-of_z w16 c.max-low.result fits_low ∙ c.max-low.ensures.value ∙ ap (λ z. int_max z (pos 0)) (to_z-of_z w16 c.args.a c.ranges.a) in
+    let high_is : high ≡ int_min c.args.b (pos 100) =
+    to_z-of_z w16 c.min-high.result fits_high ∙ c.min-high.ensures.value ∙ ap (λ z. int_min z (pos 100)) (to_z-of_z w16 c.args.b c.ranges.b) in
+    outside_goals worth c.args.a c.args.b low high few low_is high_is (le_z_true high low c.if-low-high.true)
+
+pub returns-clause-answers : goal.returns-clause-answers
+returns-clause-answers g c =
+    let rules = g.G.Game.rules c.args.game.now in
+    let state = g.G.Game.state c.args.game.now c.args.from.now in
+    let law = g.met.G.Game g.world.𝓛 g.world.𝓜 g.world.𝓡 ((λ _ x. x), (λ x. x), (λ x. x), λ x. x) in
+    let worth = value rules c.args.asked.role c.args.asked.depth c.args.asked.at state in
+    let few = value_at_most rules c.args.asked.role (λ s r. law.goal_within c.args.game.now s r) c.args.asked.depth c.args.asked.at state in
+    let low = to_z w16 (of_z w16 c.max-low.result) in
+    let high = to_z w16 (of_z w16 c.min-high.result) in
+    let fits_low : SFits w16 c.max-low.result = search facts in
+    let fits_high : SFits w16 c.min-high.result = search facts in
+    let fits_r : SFits w16 c.value_at.result = search facts in
+    let low_is : low ≡ int_max c.args.a (pos 0) =
+    to_z-of_z w16 c.max-low.result fits_low ∙ c.max-low.ensures.value ∙ ap (λ z. int_max z (pos 0)) (to_z-of_z w16 c.args.a c.ranges.a) in
+    let high_is : high ≡ int_min c.args.b (pos 100) =
+    to_z-of_z w16 c.min-high.result fits_high ∙ c.min-high.ensures.value ∙ ap (λ z. int_min z (pos 100)) (to_z-of_z w16 c.args.b c.ranges.b) in
+    rw (to_z-of_z w16 c.value_at.result fits_r) (within_goals worth c.args.a c.args.b low high c.value_at.result few low_is high_is c.value_at.ensures.answers)

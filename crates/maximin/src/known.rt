@@ -1,0 +1,100 @@
+// The choice and the reply where it is known what they are worth.
+ghost use Rattle.std.specs.Prelude.{◌≡◌, ◌<◌, ◌≤◌, pos, false, Some, All, length};
+ghost use Rattle.game.specs.Rules.{is_stuck as stuck};
+ghost use Rattle.game.specs.Value.{choice_of, reply_of, value, worst};
+ghost use Rattle.maximin.specs.Level.{IsLevelOf, all_capacities};
+
+use crate::cursor::{next_turn, start_turns, write_joint};
+use crate::level::Level;
+use crate::search::{Asked, value_within, worst_at};
+use game::{Game, Joint, is_stuck};
+
+/// The first move of the role that attains the value of the state, which is `worth`. A move that has no other behind it attains it
+/// where none before it does.
+pub fn choice_worth<G: Game>(
+    game: &G,
+    from: &G::Pos,
+    asked: Asked,
+    worth: i16,
+    wide: &mut G::Wide,
+    levels: &mut [Level<G::Pos, G::Many>],
+) -> Option<u32>
+    requires fits { G.fits game.now from.now }
+    requires role { asked.role < (G.rules game.now).roles }
+    requires deep { asked.depth ≤ length levels.old }
+    requires worth { worth ≡ pos (value (G.rules game.now) asked.role asked.depth asked.at (G.state game.now from.now)) }
+    requires wide { G.fits_wide game.now wide.old }
+    requires levels { All (IsLevelOf (G.fits game.now) (G.fits_many game.now) (G.rules game.now).roles) levels.old }
+    ensures choice { result ≡ choice_of (G.rules game.now) asked.role asked.depth asked.at (G.state game.now from.now) }
+    ensures wide { G.fits_wide game.now wide.new }
+    ensures wide_capacities { G.wide_capacities game.now wide.new ≡ G.wide_capacities game.now wide.old }
+    ensures levels { All (IsLevelOf (G.fits game.now) (G.fits_many game.now) (G.rules game.now).roles) levels.new }
+    ensures capacities { all_capacities (G.capacities game.now) (G.many_capacities game.now) levels.new
+        ≡ all_capacities (G.capacities game.now) (G.many_capacities game.now) levels.old }
+{
+    if asked.depth == 0 || game.ended(from) || is_stuck(game, from) {
+        return None;
+    }
+    let first = game.legal(from, asked.role, 0);
+    if worth == 0 {
+        return first;
+    }
+    let next = Asked {
+        depth: asked.depth - 1,
+        ..asked
+    };
+    let mut own = first?;
+    let mut place = 0;
+    while let Some(further) = game.legal(from, asked.role, place + 1) {
+        if worst_at(game, from, next, own, worth - 1, worth, wide, levels) >= worth {
+            return Some(own);
+        }
+        own = further;
+        place += 1;
+    }
+    Some(own)
+}
+
+/// Writes the first joint move that leaves the least value where the role plays `own`, which is `worth`. A joint move that has no
+/// other behind it leaves it where none before it does.
+pub fn reply_worth<G: Game>(
+    game: &G,
+    from: &G::Pos,
+    asked: Asked,
+    own: u32,
+    worth: i16,
+    wide: &mut G::Wide,
+    levels: &mut [Level<G::Pos, G::Many>],
+    out: &mut Joint,
+)
+    requires fits { G.fits game.now from.now }
+    requires role { asked.role < (G.rules game.now).roles }
+    requires own { own < (G.rules game.now).moves asked.role }
+    requires open { stuck (G.rules game.now) (G.state game.now from.now) ≡ false }
+    requires deep { asked.depth < length levels.old }
+    requires worth { worth ≡ pos (worst (G.rules game.now) asked.role asked.depth asked.at (G.state game.now from.now) own) }
+    requires wide { G.fits_wide game.now wide.old }
+    requires levels { All (IsLevelOf (G.fits game.now) (G.fits_many game.now) (G.rules game.now).roles) levels.old }
+    requires out { (G.rules game.now).roles ≤ out.old.capacity }
+    ensures reply { reply_of (G.rules game.now) asked.role asked.depth asked.at (G.state game.now from.now) own ≡ Some out.new.items }
+    ensures out { out.new.capacity ≡ out.old.capacity }
+    ensures wide { G.fits_wide game.now wide.new }
+    ensures wide_capacities { G.wide_capacities game.now wide.new ≡ G.wide_capacities game.now wide.old }
+    ensures levels { All (IsLevelOf (G.fits game.now) (G.fits_many game.now) (G.rules game.now).roles) levels.new }
+    ensures capacities { all_capacities (G.capacities game.now) (G.many_capacities game.now) levels.new
+        ≡ all_capacities (G.capacities game.now) (G.many_capacities game.now) levels.old }
+{
+    let (first, rest) = levels.split_at_mut(1);
+    let level = &mut first[0];
+    start_turns(game, from, asked.role, own, &mut level.cursor);
+    'turns: loop {
+        write_joint(&level.cursor.joint, out);
+        if !next_turn(game, from, asked.role, own, &mut level.cursor) {
+            return;
+        }
+        game.step(from, out, &mut level.position);
+        if value_within(game, &level.position, asked, worth, worth + 1, wide, rest) <= worth {
+            return;
+        }
+    }
+}

@@ -1,0 +1,82 @@
+// One state out of up to 64.
+ghost use Rattle.std.specs.Prelude.{◌≡◌, ◌<◌, ℕ, [], length, get_or, vec_capacity};
+ghost use Rattle.ground.specs.Grounds.{texts_at};
+ghost use Rattle.ground.specs.GroundView.{inputs_of, kinds_of};
+ghost use Rattle.propnet.specs.Values.{lane};
+ghost use Rattle.position.specs.RuleState.{HasRoleRoom, IsRoleRead, HaveRoom, AreRead, role_capacities, all_capacities};
+ghost use Rattle.position.specs.NetState.{lane_state, kept_state, AreSpread, HasNetRoom, IsNetState, net_capacities};
+ghost use Rattle.position.specs.NetLanes.{holds_lane, lane_states, IsNetMany};
+
+use crate::net_game::NetGame;
+use crate::net_listing::list_lane;
+use crate::net_many::NetMany;
+use crate::net_pos::NetPos;
+use crate::net_words::{all_alike, lane_bit};
+use crate::rule_pos::RoleState;
+
+/// Writes the bit of each word in one lane to all lanes.
+fn put_taken(states: &[u64], k: usize, lanes: &mut [u64])
+    requires lane { k < 64 }
+    requires room { length lanes.old ≡ length states.now }
+    ensures { (p j : ℕ) → p < length states.now → j < 64 → lane lanes.new j p ≡ lane states.now k p }
+{
+    for p in 0..lanes.len() {
+        lanes[p] = all_alike(lane_bit(states[p], k));
+    }
+}
+
+/// Writes the state of one lane to all lanes.
+fn take_lane(states: &[u64], k: usize, lanes: &mut Vec<u64>)
+    requires lane { k < 64 }
+    requires room { length lanes.old.items ≡ length states.now }
+    ensures spread { AreSpread lanes.new.items }
+    ensures told { lane_state lanes.new.items (length states.now) 0 ≡ lane_state states.now (length states.now) k }
+    ensures size { length lanes.new.items ≡ length lanes.old.items }
+    ensures capacity { vec_capacity lanes.new ≡ vec_capacity lanes.old }
+{
+    put_taken(states, k, lanes);
+}
+
+/// Writes what is told of a role in one of many states.
+fn take_role(game: &NetGame, many: &NetMany, k: usize, role: usize, out: &mut RoleState)
+    requires role { role < length (inputs_of game.now.played) }
+    requires many { IsNetMany game.now.played many.now }
+    requires lane { k < many.now.count }
+    requires room { HasRoleRoom (length (texts_at (inputs_of game.now.played) role)) out.old }
+    ensures read { IsRoleRead (kinds_of game.now.played) (holds_lane game.now.played many.now.states.items k) role (length (texts_at (inputs_of game.now.played) role)) out.new }
+    ensures room { HasRoleRoom (length (texts_at (inputs_of game.now.played) role)) out.new }
+    ensures capacities { role_capacities out.new ≡ role_capacities out.old }
+{
+    let from = &many.roles[role];
+    out.count = list_lane(&from.legals, k, &from.used, from.used_count, &mut out.moves);
+    out.goal = from.goals[k];
+}
+
+/// Writes what is told of each role in one of many states.
+fn take_roles(game: &NetGame, many: &NetMany, k: usize, roles: &mut Vec<RoleState>)
+    requires many { IsNetMany game.now.played many.now }
+    requires lane { k < many.now.count }
+    requires room { HaveRoom (inputs_of game.now.played) roles.old.items }
+    ensures read { AreRead (kinds_of game.now.played) (holds_lane game.now.played many.now.states.items k) (inputs_of game.now.played) roles.new.items }
+    ensures room { HaveRoom (inputs_of game.now.played) roles.new.items }
+    ensures capacities { all_capacities roles.new.items ≡ all_capacities roles.old.items }
+    ensures capacity { vec_capacity roles.new ≡ vec_capacity roles.old }
+{
+    for role in 0..roles.len() {
+        take_role(game, many, k, role, &mut roles[role]);
+    }
+}
+
+/// Writes one of many states, and what is told of it.
+pub(crate) fn net_take(game: &NetGame, many: &NetMany, k: usize, q: &mut NetPos)
+    requires many { IsNetMany game.now.played many.now }
+    requires lane { k < length (lane_states game.now.played many.now) }
+    requires to { HasNetRoom game.now.played game.now.net q.old }
+    ensures state { IsNetState game.now.played game.now.net q.new }
+    ensures taken { kept_state game.now.played q.new ≡ get_or (lane_states game.now.played many.now) k [] }
+    ensures capacities { net_capacities q.new ≡ net_capacities q.old }
+{
+    take_lane(&many.states, k, &mut q.lanes);
+    q.ended = lane_bit(many.ended, k) == 1;
+    take_roles(game, many, k, &mut q.roles);
+}

@@ -1,0 +1,23 @@
+mod Equality
+mod Walks
+mod Rows
+mod Games
+mod Tests
+mod Closure
+mod Accepted
+mod WellFormed
+mod FormTests
+mod Sizes
+mod FormLemmas
+mod Results
+mod Standings
+mod NameSets
+mod RoleLists
+mod Lawfulness
+mod FirstFaults
+mod RelationOrder
+mod ListLaws
+mod ItemsPassed
+mod Counts
+mod Firsts
+pub mod Facts

@@ -1,0 +1,81 @@
+-- The game of a description, and the limit that it passes.
+use Rattle.std.proofs.Common.{◌≡◌, ◌≢◌, ℕ, inr, List, refl, sym, ◌∙◌, ap, subst}
+use Rattle.std.specs.Prelude.{Result, Ok, Err, IfOk}
+use Rattle.kif.specs.Tree.{Tree}
+use Rattle.kif.specs.Refusal.{refusal_line}
+use Rattle.profile.specs.Clause.{Alternative}
+use Rattle.profile.specs.Items.{alternatives}
+use Rattle.profile.specs.Profile.{HasNoFault}
+use Rattle.ground.specs.declared.fault.GroundFault.{GroundFault}
+use Rattle.ground.specs.declared.fault.GroundFault.TheVariants.{TooMany, NoMemory}
+use Rattle.ground.specs.declared.ground.Ground.{Ground}
+use Rattle.ground.specs.GroundView.{IsGround}
+use Rattle.ground.specs.Limits.{excess_in}
+use Rattle.ground.specs.Progress.{IsFaultOf}
+use Rattle.ground.specs.Refusal.{fault_text}
+use Rattle.position.specs.declared.net_game.NetGame.{NetGame}
+use Rattle.position.specs.declared.rule_game.RuleGame.{RuleGame}
+use Rattle.game.specs.NamedRules.{NamedRules}
+use Rattle.position.specs.RuleState.{named_rules_of}
+use Rattle.position.proofs.GameRules.{game_of_ground}
+use Rattle.replies.specs.declared.command.Status.{Status}
+use Rattle.replies.specs.declared.command.Status.TheVariants.{Refused}
+use Rattle.replies.specs.declared.games.Described.{Described}
+use Rattle.replies.specs.declared.games.Described.TheVariants.{Network, Rules, Refusal}
+use Rattle.replies.specs.declared.grounding.Instantiated.{Instantiated}
+use Rattle.replies.specs.declared.grounding.Instantiated.TheVariants.{Fits}
+use Rattle.replies.specs.declared.reply.Reply as shown
+use Rattle.replies.specs.Answers.{Reply, refusal}
+use Rattle.replies.specs.Games.{HasNoGame, IsItsGame, IsItsGround, IsInstantiated, Plays, IsDescribed, IsPlayReply}
+
+-- the ground that was made is that of the items
+pub its_ground : (items : List Tree) (rules : List Alternative) (g : Ground) → HasNoFault items → rules ≡ alternatives items
+    → IsGround rules g → IsItsGround items g
+its_ground items rules g lawful are ground =
+    record { lawful = lawful; ground = subst (λ (rs : List Alternative). IsGround rs g) are ground }
+
+-- the game of the ground of the items is the game of the items
+its_game : (items : List Tree) (g h : Ground) → IsItsGround items g → h ≡ g → IsItsGame items (named_rules_of h)
+its_game items g h its same =
+    let grounded : IsGround (alternatives items) h = subst (λ (k : Ground). IsGround (alternatives items) k) (sym same) its.ground in
+    record { lawful = its.lawful; within = grounded.within; same = game_of_ground (alternatives items) h grounded }
+
+-- what plays the ground of the items is their game
+described : (items : List Tree) (g : Ground) (d : Described) → IsItsGround items g → Plays g d → IsDescribed items d
+described items g (Network game) its same = its_game items g game.played its same
+described items g (Rules game) its same = its_game items g game.played its same
+described items g (Refusal reply) its same = absurd same
+
+pub plays_its_game : {E : Type 0} (items : List Tree) (g : Ground) (i : Instantiated) (r : Result Described E)
+    → IsInstantiated items i → i ≡ Fits g → IfOk r (Plays g) → IfOk r (IsDescribed items)
+plays_its_game items g i (Ok d) is same h = described items g d (subst (λ (j : Instantiated). IsInstantiated items j) same is) h
+plays_its_game items g i (Err e) is same h = tt
+
+-- a fault of the instantiation names the limit that the items pass
+pub passes_limit : (items : List Tree) (rules : List Alternative) (fault : GroundFault) (output : List ℕ) (status : Status)
+    → HasNoFault items → rules ≡ alternatives items → IsFaultOf (excess_in rules) fault → fault ≢ NoMemory
+    → output ≡ refusal_line (fault_text fault) → status ≡ Refused → HasNoGame items (record { output = output; status = status })
+passes_limit items rules (TooMany excess) output status lawful are passed other line is_status =
+    let same : record { output = output; status = status } ≡ refusal (fault_text (TooMany excess)) = cc (line, is_status) in
+    inr (lawful, excess, sym (ap excess_in are) ∙ passed, same)
+passes_limit items rules NoMemory output status lawful are passed other line is_status = absurd (other refl)
+
+-- what is told of the game of the items is the reply to the items
+pub its_reply : (items : List Tree) (told : NamedRules → Reply → Type 0) (g : NamedRules) → IsItsGame items g → (reply : Reply) → told g reply
+    → IsPlayReply items told reply
+its_reply items told g its reply h = inr (g, its, h)
+
+pub tells_game : {E : Type 0} (items : List Tree) (told : NamedRules → Reply → Type 0) (g : NamedRules) (r : Result shown.Reply E)
+    → IsItsGame items g → IfOk r (λ reply. told g (record { output = reply.output.items; status = reply.status }))
+    → IfOk r (λ reply. IsPlayReply items told (record { output = reply.output.items; status = reply.status }))
+tells_game items told g (Ok reply) its h = inr (g, its, h)
+tells_game items told g (Err e) its h = h
+
+pub over_network : (items : List Tree) (d : Described) (game : NetGame) → IsDescribed items d → d ≡ Network game → IsItsGame items (named_rules_of game.played)
+over_network items d game is same = subst (λ (e : Described). IsDescribed items e) same is
+
+pub over_rules : (items : List Tree) (d : Described) (game : RuleGame) → IsDescribed items d → d ≡ Rules game → IsItsGame items (named_rules_of game.played)
+over_rules items d game is same = subst (λ (e : Described). IsDescribed items e) same is
+
+pub over_ground : (items : List Tree) (i : Instantiated) (g : Ground) → IsInstantiated items i → i ≡ Fits g → IsItsGround items g
+over_ground items i g is same = subst (λ (j : Instantiated). IsInstantiated items j) same is

@@ -1,0 +1,120 @@
+-- How large an instantiation and its network are.
+use Rattle.std.proofs.Common.{ℕ, zero, suc, ◌≡◌, ◌+◌, ◌≤◌, ◌<◌, ◌^◌, inr, List, [], ◌∷◌, ◌++◌, length, map, take, refl, sym, ◌∙◌, ap, arith, codes}
+use Rattle.std.proofs.lemmas.List.{length-map, take_all}
+use Rattle.kif.specs.Tree.{Tree, text}
+use Rattle.profile.specs.Clause.{Alternative}
+use Rattle.profile.specs.Items.{alternatives}
+use Rattle.profile.specs.Profile.{HasNoFault}
+use Rattle.ground.specs.declared.ground.Ground.{Ground}
+use Rattle.ground.specs.declared.kind.Kind.{Kind}
+use Rattle.ground.specs.Fits.{count_all}
+use Rattle.ground.specs.Grounds.{Kept, texts_at, numbered}
+use Rattle.ground.specs.GroundView.{IsGround, roles_of, base_of, inputs_of, kinds_of, instances_of}
+use Rattle.ground.specs.Kinds.{kind_of}
+use Rattle.ground.specs.Limits.{count_inputs}
+use Rattle.ground.specs.Most.{limits}
+use Rattle.ground.specs.Listing.{listing, role_list, base_list, input_list}
+use Rattle.ground.specs.Play.{dropped}
+use Rattle.position.specs.GroundFacts.{fits}
+use Rattle.propnet.specs.declared.net.Net.{Net}
+use Rattle.propnet.specs.declared.node.Name.{Name}
+use Rattle.propnet.specs.Builders.{IsNetOf, input_counts}
+use Rattle.propnet.specs.Names.{node_names}
+use Rattle.propnet.specs.Network.{Gate}
+use Rattle.propnet.specs.Nets.{gates_of}
+use Rattle.replies.specs.declared.command.Status.{Status}
+use Rattle.replies.specs.declared.command.Status.TheVariants.{Answer}
+use Rattle.replies.specs.Answers.{Reply, answer}
+use Rattle.replies.specs.Games.{IsItsGround}
+use Rattle.replies.specs.Networks.{nodes_of, net_lines, measures, IsNetReply}
+
+-- one more role
+pub count_more : (lists : List (List (List ℕ))) (r : ℕ) → r < length lists
+    → count_all (take (suc r) lists) ≡ count_all (take r lists) + length (texts_at lists r)
+count_more [] r lt = absurd (omega arith)
+count_more (ts ∷ rest) zero lt = omega arith
+count_more (ts ∷ rest) (suc r) lt = let more = count_more rest r (omega arith) in omega arith
+
+pub count_within : (lists : List (List (List ℕ))) (r : ℕ) → r < length lists → count_all (take r lists) + length (texts_at lists r) ≤ count_all lists
+count_within [] r lt = absurd (omega arith)
+count_within (ts ∷ rest) zero lt = omega arith
+count_within (ts ∷ rest) (suc r) lt = let within = count_within rest r (omega arith) in omega arith
+
+at_most : (n m : ℕ) → n ≤ m → m ≤ 2 ^ 32 → n ≤ 2 ^ 32
+at_most n m h few = omega arith
+
+most_inputs : limits.inputs ≤ 2 ^ 32
+most_inputs = omega arith
+
+pub few_inputs : (g : Ground) → count_all (inputs_of g) ≤ 2 ^ 32
+few_inputs g = at_most _ _ (fits g).few_inputs most_inputs
+
+-- the sum of the inputs of the roles so far, with those of one more role
+pub sum_fits : (g : Ground) (r n x : ℕ) → r < length (roles_of g) → n ≡ count_all (take r (inputs_of g)) → x ≡ length (texts_at (inputs_of g) r)
+    → n + x ≤ 2 ^ 32
+sum_fits g r n x lt sum is =
+    let same : length (inputs_of g) ≡ length (roles_of g) = (fits g).inputs_fit in
+    let within = count_within (inputs_of g) r (omega arith) in
+    let few = few_inputs g in
+    omega arith
+
+pub sum_more : (g : Ground) (r n x m : ℕ) → r < length (roles_of g) → n ≡ count_all (take r (inputs_of g)) → x ≡ length (texts_at (inputs_of g) r)
+    → m ≡ r + 1 → n + x ≡ count_all (take m (inputs_of g))
+sum_more g r n x m lt sum is next =
+    let same : length (inputs_of g) ≡ length (roles_of g) = (fits g).inputs_fit in
+    let more = count_more (inputs_of g) r (omega arith) in
+    let here : m ≡ suc r = omega arith in
+    let all : n + x ≡ count_all (take (suc r) (inputs_of g)) = omega arith in
+    all ∙ ap (λ (k : ℕ). count_all (take k (inputs_of g))) (sym here)
+
+pub sum_all : (g : Ground) (r n : ℕ) → r ≡ length (roles_of g) → n ≡ count_all (take r (inputs_of g)) → n ≡ count_all (inputs_of g)
+sum_all g r n all sum =
+    let same : length (inputs_of g) ≡ length (roles_of g) = (fits g).inputs_fit in
+    sum ∙ ap count_all (take_all r (inputs_of g) (omega arith))
+
+counts_all : (rules : List Alternative) (rs : List Tree) → count_all (map (λ r. map text (input_list rules r)) rs) ≡ count_inputs rules rs
+counts_all rules [] = refl
+counts_all rules (r ∷ rs) =
+    let here = length-map (input_list rules r) text in
+    let rest = counts_all rules rs in
+    omega arith
+
+counts_each : (rules : List Alternative) (rs : List Tree)
+    → map (λ (ts : List (List ℕ)). length ts) (map (λ r. map text (input_list rules r)) rs) ≡ map (λ r. length (input_list rules r)) rs
+counts_each rules [] = refl
+counts_each rules (r ∷ rs) =
+    let here : length (map text (input_list rules r)) ≡ length (input_list rules r) = length-map (input_list rules r) text in
+    let rest = counts_each rules rs in
+    cc
+
+nodes_are : (rules : List Alternative) (g : Ground) (net : Net) → IsGround rules g → IsNetOf g net → length (gates_of net) ≡ length (nodes_of rules)
+nodes_are rules g net are of =
+    sym (length-map (gates_of net) (λ (gate : Gate). gate.name))
+    ∙ ap (λ (xs : List Name). length xs) of.names
+    ∙ ap (λ (n : ℕ). length (node_names n (input_counts g) (kinds_of g) (instances_of g))) (ap (λ (ts : List (List ℕ)). length ts) are.base_are ∙ length-map (base_list rules) text)
+    ∙ ap (λ (ns : List ℕ). length (node_names (length (base_list rules)) ns (kinds_of g) (instances_of g)))
+    (ap (λ (lists : List (List (List ℕ))). map (λ (ts : List (List ℕ)). length ts) lists) are.inputs_are ∙ counts_each rules (role_list rules))
+    ∙ ap (λ (kinds : List Kind). length (node_names (length (base_list rules)) (map (λ r. length (input_list rules r)) (role_list rules)) kinds (instances_of g))) are.kinds_are
+    ∙ ap (λ (kept : List Kept). length (node_names (length (base_list rules)) (map (λ r. length (input_list rules r)) (role_list rules)) (map (kind_of rules) (listing rules).atoms) kept)) are.kept_are
+
+measures_are : (rules : List Alternative) (g : Ground) (net : Net) → IsGround rules g → IsNetOf g net
+    → net_lines (length (base_of g)) (count_all (inputs_of g)) (length (instances_of g)) g.dropped (length (gates_of net)) ≡ measures rules
+measures_are rules g net are of =
+    let base : length (base_of g) ≡ length (base_list rules) = ap (λ (ts : List (List ℕ)). length ts) are.base_are ∙ length-map (base_list rules) text in
+    let inputs : count_all (inputs_of g) ≡ count_inputs rules (role_list rules) = ap count_all are.inputs_are ∙ counts_all rules (role_list rules) in
+    let kept : length (instances_of g) ≡ length (listing rules).kept = ap (λ (ks : List Kept). length ks) are.kept_are ∙ length-map (listing rules).kept (numbered rules) in
+    let heads : g.dropped ≡ dropped rules = are.dropped_is in
+    let nodes = nodes_are rules g net are of in
+    ap (λ (n : ℕ). net_lines n (count_all (inputs_of g)) (length (instances_of g)) g.dropped (length (gates_of net))) base
+    ∙ ap (λ (n : ℕ). net_lines (length (base_list rules)) n (length (instances_of g)) g.dropped (length (gates_of net))) inputs
+    ∙ ap (λ (n : ℕ). net_lines (length (base_list rules)) (count_inputs rules (role_list rules)) n g.dropped (length (gates_of net))) kept
+    ∙ ap (λ (n : ℕ). net_lines (length (base_list rules)) (count_inputs rules (role_list rules)) (length (listing rules).kept) n (length (gates_of net))) heads
+    ∙ ap (λ (n : ℕ). net_lines (length (base_list rules)) (count_inputs rules (role_list rules)) (length (listing rules).kept) (dropped rules) n) nodes
+
+-- the numbers that were written are those of the items
+pub items_measured : (items : List Tree) (g : Ground) (net : Net) (made output : List ℕ) (status : Status) → IsItsGround items g → IsNetOf g net
+    → made ≡ net_lines (length (base_of g)) (count_all (inputs_of g)) (length (instances_of g)) g.dropped (length (gates_of net))
+    → output ≡ made → status ≡ Answer → IsNetReply items (record { output = output; status = status })
+items_measured items g net made output status its of lines is_output is_status =
+    let all : output ≡ measures (alternatives items) = is_output ∙ lines ∙ measures_are (alternatives items) g net its.ground of in
+    inr (its.lawful, its.ground.within, cc (all, is_status))

@@ -1,0 +1,27 @@
+-- A text that names no role is refused, and one that names a role asks for its search.
+use Rattle.std.proofs.Common.{ℕ, ◌≡◌, inl, inr, List, Option, Some, None, codes}
+use Rattle.std.specs.Prelude.{Result, Ok, Err, IfOk}
+use Rattle.kif.specs.Refusal.{refusal_line}
+use Rattle.game.specs.declared.at_bound.AtBound.{AtBound}
+use Rattle.game.specs.declared.fault.HistoryFault.{HistoryFault}
+use Rattle.game.specs.NamedRules.{NamedRules}
+use Rattle.game.specs.Rules.{State}
+use Rattle.replies.specs.declared.command.Status.TheVariants.{Refused}
+use Rattle.replies.specs.declared.reply.Reply as shown
+use Rattle.replies.specs.Answers.{Reply, refusal}
+use Rattle.replies.specs.Histories.{IsHistoryOf}
+use Rattle.replies.specs.Moving.{history_reply}
+use Rattle.replies.specs.Solving.{IsRoleNamed, IsSolveReply, solve_lines}
+
+pub no_role : {E : Type 0} (g : NamedRules) (role : List ℕ) (depth : ℕ) (at : AtBound) (after : List ℕ) (r : Result shown.Reply E) → IsRoleNamed g role None
+    → IfOk r (λ reply. reply.output.items ≡ refusal_line (codes "S1 NoSuchRole")) → IfOk r (λ reply. reply.status ≡ Refused)
+    → IfOk r (λ reply. IsSolveReply g role depth at after (record { output = reply.output.items; status = reply.status }))
+no_role g role depth at after (Ok reply) none line status =
+    let same : record { output = reply.output.items; status = reply.status } ≡ refusal (codes "S1 NoSuchRole") = cc (line, status) in
+    inl (none, same)
+no_role g role depth at after (Err e) none line status = tt
+
+pub some_role : (g : NamedRules) (role : List ℕ) (depth : ℕ) (at : AtBound) (after : List ℕ) (r : ℕ) → IsRoleNamed g role (Some r) → (reply : Reply)
+    → ((ended : Result State HistoryFault) × IsHistoryOf g after ended × (reply ≡ history_reply g (solve_lines g r depth at) ended))
+    → IsSolveReply g role depth at after reply
+some_role g role depth at after r named reply h = inr (r, (named, h.0, h.1, h.2))

@@ -1,0 +1,44 @@
+-- Each list of items has one reply to `net`.
+use Rattle.std.proofs.Common.{◌≡◌, inl, inr, List, refl, sym, ◌∙◌}
+use Rattle.std.specs.Prelude.{Option, Some, None}
+use Rattle.kif.specs.Tree.{Tree}
+use Rattle.profile.specs.Items.{alternatives}
+use Rattle.profile.specs.Profile.{HasNoFault}
+use Rattle.ground.specs.declared.excess.Excess.{Excess}
+use Rattle.ground.specs.declared.fault.GroundFault.TheVariants.{TooMany}
+use Rattle.ground.specs.Limits.{excess_in}
+use Rattle.ground.specs.Refusal.{fault_text}
+use Rattle.replies.proofs.OneCheck.{some_verdict, one_refusal, refused_or_lawful}
+use Rattle.replies.proofs.OnePlay.{one_limit}
+use Rattle.replies.specs.Answers.{Reply, answer, refusal}
+use Rattle.replies.specs.Games.{PassesLimit}
+use Rattle.replies.specs.Networks.{measures, MeasuresItems, IsNetReply}
+
+-- items without a fault pass a limit, or are measured
+some_net_of : (items : List Tree) → HasNoFault items → (found : Option Excess) → excess_in (alternatives items) ≡ found → (reply : Reply) × IsNetReply items reply
+some_net_of items lawful (Some excess) e = (refusal (fault_text (TooMany excess)), inl (inr (lawful, excess, e, refl)))
+some_net_of items lawful None e = (answer (measures (alternatives items)), inr (lawful, e, refl))
+
+pub some_net : (items : List Tree) → (reply : Reply) × IsNetReply items reply
+some_net items =
+    elim (some_verdict items) [
+      | inl refused ↦ (refused.0, inl (inl refused.1))
+      | inr lawful ↦ some_net_of items lawful (excess_in (alternatives items)) refl
+    ]
+
+limit_or_measures : (items : List Tree) (reply other : Reply) → PassesLimit items reply → MeasuresItems items other → ⊥
+limit_or_measures items reply other p q =
+    let passed = p.2 in
+    let within = q.1 in
+    cc
+
+pub one_net : (items : List Tree) (reply other : Reply) → IsNetReply items reply → IsNetReply items other → reply ≡ other
+one_net items reply other (inl (inl p)) (inl (inl q)) = one_refusal items reply other p q
+one_net items reply other (inl (inl p)) (inl (inr q)) = absurd (refused_or_lawful items reply p q.0)
+one_net items reply other (inl (inl p)) (inr q) = absurd (refused_or_lawful items reply p q.0)
+one_net items reply other (inl (inr p)) (inl (inl q)) = absurd (refused_or_lawful items other q p.0)
+one_net items reply other (inl (inr p)) (inl (inr q)) = one_limit items reply other p q
+one_net items reply other (inl (inr p)) (inr q) = absurd (limit_or_measures items reply other p q)
+one_net items reply other (inr p) (inl (inl q)) = absurd (refused_or_lawful items other q p.0)
+one_net items reply other (inr p) (inl (inr q)) = absurd (limit_or_measures items other reply q p)
+one_net items reply other (inr p) (inr q) = p.2 ∙ sym q.2

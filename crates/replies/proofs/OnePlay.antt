@@ -1,0 +1,63 @@
+-- Each list of items has one reply that is told of its game.
+use Rattle.std.proofs.Common.{◌≡◌, inl, inr, List, refl, sym, ◌∙◌, ap}
+use Rattle.std.specs.Prelude.{Option, Some, None}
+use Rattle.kif.specs.Tree.{Tree}
+use Rattle.profile.specs.Items.{alternatives}
+use Rattle.profile.specs.Profile.{HasNoFault}
+use Rattle.ground.proofs.Accepted.{accepted_well_formed}
+use Rattle.ground.specs.declared.excess.Excess.{Excess}
+use Rattle.ground.specs.declared.fault.GroundFault.TheVariants.{TooMany}
+use Rattle.ground.specs.Limits.{excess_in}
+use Rattle.ground.specs.Refusal.{fault_text}
+use Rattle.position.proofs.GameRules.{has_game}
+use Rattle.position.proofs.OneGame.{one_game}
+use Rattle.game.specs.NamedRules.{NamedRules}
+use Rattle.game.specs.SamePlay.{SamePlay}
+use Rattle.replies.proofs.OneCheck.{some_verdict, one_refusal, refused_or_lawful}
+use Rattle.replies.specs.Answers.{Reply, refusal}
+use Rattle.replies.specs.Games.{PassesLimit, TellsGame, IsPlayReply}
+
+-- items without a fault pass a limit, or have a game
+some_play_of : (items : List Tree) (told : NamedRules → Reply → Type 0) → ((g : NamedRules) → (reply : Reply) × told g reply)
+    → HasNoFault items → (found : Option Excess) → excess_in (alternatives items) ≡ found → (reply : Reply) × IsPlayReply items told reply
+some_play_of items told each lawful (Some excess) e =
+    (refusal (fault_text (TooMany excess)), inl (inr (lawful, excess, e, refl)))
+some_play_of items told each lawful None e =
+    let game = has_game (alternatives items) (accepted_well_formed items lawful) in
+    let reply = each game.0 in
+    (reply.0, inr (game.0, record { lawful = lawful; within = e; same = game.1 }, reply.1))
+
+pub some_play : (items : List Tree) (told : NamedRules → Reply → Type 0) → ((g : NamedRules) → (reply : Reply) × told g reply)
+    → (reply : Reply) × IsPlayReply items told reply
+some_play items told each =
+    elim (some_verdict items) [
+      | inl refused ↦ (refused.0, inl (inl refused.1))
+      | inr lawful ↦ some_play_of items told each lawful (excess_in (alternatives items)) refl
+    ]
+
+pub one_limit : (items : List Tree) (reply other : Reply) → PassesLimit items reply → PassesLimit items other → reply ≡ other
+one_limit items reply other p q =
+    let same : Some p.1 ≡ Some q.1 = sym p.2 ∙ q.2 in
+    let one : p.1 ≡ q.1 = cc in
+    p.3 ∙ ap (λ (excess : Excess). refusal (fault_text (TooMany excess))) one ∙ sym q.3
+
+limit_or_game : (items : List Tree) (told : NamedRules → Reply → Type 0) (reply other : Reply) → PassesLimit items reply → TellsGame items told other → ⊥
+limit_or_game items told reply other p q =
+    let passed = p.2 in
+    let within = q.1.within in
+    cc
+
+pub one_play : (items : List Tree) (told : NamedRules → Reply → Type 0)
+    → ((g h : NamedRules) → SamePlay g h → (reply other : Reply) → told g reply → told h other → reply ≡ other)
+    → (reply other : Reply) → IsPlayReply items told reply → IsPlayReply items told other → reply ≡ other
+one_play items told alike reply other (inl (inl p)) (inl (inl q)) = one_refusal items reply other p q
+one_play items told alike reply other (inl (inl p)) (inl (inr q)) = absurd (refused_or_lawful items reply p q.0)
+one_play items told alike reply other (inl (inl p)) (inr q) = absurd (refused_or_lawful items reply p q.1.lawful)
+one_play items told alike reply other (inl (inr p)) (inl (inl q)) = absurd (refused_or_lawful items other q p.0)
+one_play items told alike reply other (inl (inr p)) (inl (inr q)) = one_limit items reply other p q
+one_play items told alike reply other (inl (inr p)) (inr q) = absurd (limit_or_game items told reply other p q)
+one_play items told alike reply other (inr p) (inl (inl q)) = absurd (refused_or_lawful items other q p.1.lawful)
+one_play items told alike reply other (inr p) (inl (inr q)) = absurd (limit_or_game items told other reply q p)
+one_play items told alike reply other (inr p) (inr q) =
+    let formed = accepted_well_formed items p.1.lawful in
+    alike p.0 q.0 (one_game (alternatives items) formed p.0 q.0 p.1.same q.1.same) reply other p.2 q.2

@@ -1,0 +1,11 @@
+use Rattle.std.proofs.Common.{◌≡◌, ◌++◌}
+use Rattle.std.specs.List.{flat_map, range_with_len}
+use Rattle.replies.specs.Histories.{named}
+use Rattle.replies.specs.Moving.{goal_line}
+use Rattle.replies.proofs.moving.add_goals.Given as goal
+
+-- the lines of the roles before this one stand
+abbrev pub invariant-loop-role : goal.invariant-loop-role
+invariant-loop-role g l =
+    let game = g.G.Game in
+    l.output.items ≡ l.fn.output.items ++ flat_map (goal_line (named (game.rules l.g) (game.role_name l.g) (game.move_name l.g)) (game.state l.g l.p)) (range_with_len 0 l.role)

@@ -1,0 +1,18 @@
+use Rattle.std.proofs.Common.{◌≡◌, ◌++◌, ◌≤◌, ◌-◌, length, take}
+use Rattle.std.specs.List.{flat_map}
+use Rattle.replies.specs.Histories.{named}
+use Rattle.replies.specs.Moving.{legal_line}
+use Rattle.replies.proofs.moving.add_moves_of.Given as goal
+
+-- the lines of the moves before this place stand
+abbrev pub invariant-loop-number : goal.invariant-loop-number
+invariant-loop-number g l =
+    let game = g.G.Game in
+    let legal = (game.rules l.g).legal (game.state l.g l.p) l.role in
+    record {
+      within : l.place ≤ length legal;
+      lines : l.output.items ≡ l.fn.output.items ++ flat_map (legal_line (named (game.rules l.g) (game.role_name l.g) (game.move_name l.g)) l.role) (take l.place legal);
+    }
+
+abbrev pub decreases-loop-number : goal.decreases-loop-number
+decreases-loop-number g l = length ((g.G.Game.rules l.g).legal (g.G.Game.state l.g l.p) l.role) - l.place

@@ -1,0 +1,27 @@
+use Rattle.std.proofs.Common.{◌≡◌, ℕ, ◌+◌, ◌-◌, ◌≤◌, ◌++◌}
+use Rattle.std.specs.Prelude.{pos}
+use Rattle.maximin.specs.Room.{room_depth}
+use Rattle.game.specs.Value.{value, choice_of, line_of}
+use Rattle.replies.specs.Histories.{named}
+use Rattle.replies.specs.Play.{IsPlayOf}
+use Rattle.replies.specs.Solving.{turn_lines}
+use Rattle.replies.proofs.solving.add_turns.Given as goal
+
+-- what is added and the lines of the turns that are left are the lines of all turns
+abbrev pub invariant-loop-chosen : goal.invariant-loop-chosen
+invariant-loop-chosen g l =
+    let rules = g.G.Game.rules l.g in
+    let state = g.G.Game.state l.g in
+    let game = named rules (g.G.Game.role_name l.g) (g.G.Game.move_name l.g) in
+    record {
+      play : IsPlayOf (g.G.Game.fits l.g) (g.G.Game.fits_wide l.g) (g.G.Game.fits_many l.g) rules.roles l.play;
+      deep : l.left ≤ room_depth l.play.room;
+      within : l.left ≤ l.depth;
+      worth : l.worth ≡ pos (value rules l.role l.left l.at (state l.play.here));
+      chosen : l.chosen ≡ choice_of rules l.role l.left l.at (state l.play.here);
+      lines : l.output.items ++ turn_lines game (l.depth - l.left + 1) (line_of rules l.role l.left l.at (state l.play.here))
+          ≡ l.fn.output.items ++ turn_lines game 1 (line_of rules l.role l.depth l.at (state l.fn.play.here));
+    }
+
+abbrev pub decreases-loop-chosen : goal.decreases-loop-chosen
+decreases-loop-chosen g l = l.left

@@ -1,0 +1,16 @@
+-- All that is written, and the status.
+use Rattle.std.specs.Prelude.{ℕ, List}
+use Rattle.kif.specs.Refusal.{refusal_line}
+use Rattle.replies.specs.declared.command.Status.{Status}
+use Rattle.replies.specs.declared.command.Status.TheVariants.{Answer, Refused}
+
+-- all that is written, and the status
+pub record Reply : Type 0 where
+  pub output : List ℕ
+  pub status : Status
+
+abbrev pub answer : List ℕ → Reply
+answer output = record { output = output; status = Answer }
+
+abbrev pub refusal : List ℕ → Reply
+refusal fault = record { output = refusal_line fault; status = Refused }

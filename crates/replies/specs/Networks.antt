@@ -1,0 +1,41 @@
+-- The reply to `net`: how large the instantiation of a description and its network are.
+use Rattle.std.specs.Prelude.{ℕ, ◌≡◌, ◌⊎◌, List, ◌++◌, codes, length, map, None}
+use Rattle.kif.specs.Tree.{Tree}
+use Rattle.profile.specs.Clause.{Alternative}
+use Rattle.profile.specs.Items.{alternatives}
+use Rattle.profile.specs.Profile.{HasNoFault}
+use Rattle.ground.specs.Grounds.{numbered}
+use Rattle.ground.specs.Kinds.{kind_of}
+use Rattle.ground.specs.Limits.{count_inputs, excess_in}
+use Rattle.ground.specs.Listing.{listing, role_list, base_list, input_list}
+use Rattle.ground.specs.Play.{dropped}
+use Rattle.propnet.specs.declared.node.Name.{Name}
+use Rattle.propnet.specs.Names.{node_names}
+use Rattle.replies.specs.Answers.{Reply, answer}
+use Rattle.replies.specs.Checking.{count_line}
+use Rattle.replies.specs.Games.{HasNoGame}
+
+-- what the nodes of the network of the rules stand for, each once
+abbrev pub nodes_of : List Alternative → List Name
+nodes_of rules =
+    node_names (length (base_list rules)) (map (λ r. length (input_list rules r)) (role_list rules))
+    (map (kind_of rules) (listing rules).atoms) (map (numbered rules) (listing rules).kept)
+
+-- the numbers of base propositions, of inputs, of kept instances, of heads without effect on play, and of nodes
+abbrev pub net_lines : ℕ → ℕ → ℕ → ℕ → ℕ → List ℕ
+net_lines base inputs instances heads nodes =
+    count_line (codes "base") base ++ count_line (codes "inputs") inputs ++ count_line (codes "instances") instances
+    ++ count_line (codes "dropped") heads ++ count_line (codes "nodes") nodes
+
+-- the same of the rules
+abbrev pub measures : List Alternative → List ℕ
+measures rules =
+    net_lines (length (base_list rules)) (count_inputs rules (role_list rules)) (length (listing rules).kept) (dropped rules) (length (nodes_of rules))
+
+-- the items are a description within all limits, and the reply says how large it is
+abbrev pub MeasuresItems : List Tree → Reply → Type 0
+MeasuresItems items reply =
+    HasNoFault items × (excess_in (alternatives items) ≡ None) × (reply ≡ answer (measures (alternatives items)))
+
+abbrev pub IsNetReply : List Tree → Reply → Type 0
+IsNetReply items reply = HasNoGame items reply ⊎ MeasuresItems items reply

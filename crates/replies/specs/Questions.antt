@@ -1,0 +1,80 @@
+-- What a command comes to: its reply, or a search after which there is one.
+use Rattle.std.specs.Prelude.{ℕ, ◌<◌, Result, Ok, Err}
+use Rattle.game.specs.NamedRules.{NamedRules}
+use Rattle.game.specs.Rules.{State}
+use Rattle.position.specs.NetState.{IsNetState, kept_state}
+use Rattle.position.specs.RulePlay.{marked}
+use Rattle.position.specs.RuleState.{IsStateOf, named_rules_of}
+use Rattle.position.specs.declared.net_game.NetGame.{NetGame}
+use Rattle.position.specs.declared.net_many.NetMany.{NetMany}
+use Rattle.position.specs.declared.net_many.NetWide.{NetWide}
+use Rattle.position.specs.declared.net_pos.NetPos.{NetPos}
+use Rattle.position.specs.declared.rule_game.RuleGame.{RuleGame}
+use Rattle.position.specs.declared.rule_many.RuleMany.{RuleMany}
+use Rattle.position.specs.declared.rule_many.RuleWide.{RuleWide}
+use Rattle.position.specs.declared.rule_pos.RulePos.{RulePos}
+use Rattle.replies.specs.declared.asking.Asked.{Asked}
+use Rattle.replies.specs.declared.asking.Asked.TheVariants as asked
+use Rattle.replies.specs.declared.question.Question.{Question}
+use Rattle.replies.specs.declared.question.Question.TheVariants.{Told, Network, Rules}
+use Rattle.replies.specs.declared.reply.Reply as made
+use Rattle.replies.specs.declared.search.Search.{Search}
+use Rattle.replies.specs.Answers.{Reply, answer}
+use Rattle.replies.specs.Solving.{solve_lines}
+
+-- a reply that was made
+abbrev pub reply_of : made.Reply → Reply
+reply_of reply = record { output = reply.output.items; status = reply.status }
+
+-- A search of a state that was made for its game, for one of the game's roles. What tells its value, its first best move and its line
+-- is the reply.
+pub record IsSearchOf {G P W M : Type 0} (made_for : G → P → Type 0) (game_of : G → NamedRules) (state_of : G → P → State) (is : Reply → Type 0)
+    (s : Search G P W M) : Type 0 where
+  pub fits : made_for s.game s.here
+  pub role : s.role < (game_of s.game).rules.roles
+  pub reply : is (answer (solve_lines (game_of s.game) s.role s.depth s.at (state_of s.game s.here)))
+
+-- the reply, or the search after which there is one
+abbrev pub IsAskedOf : {G P W M : Type 0} → (G → P → Type 0) → (G → NamedRules) → (G → P → State) → (Reply → Type 0) → Asked G P W M → Type 0
+IsAskedOf made_for game_of state_of is (asked.Told reply) = is (reply_of reply)
+IsAskedOf made_for game_of state_of is (asked.Open s) = IsSearchOf made_for game_of state_of is s
+
+-- when a position was made for a game, and the state that it keeps
+abbrev pub net_fits : NetGame → NetPos → Type 0
+net_fits g p = IsNetState g.played g.net p
+
+abbrev pub net_state : NetGame → NetPos → State
+net_state g p = kept_state g.played p
+
+abbrev pub rule_fits : RuleGame → RulePos → Type 0
+rule_fits g p = IsStateOf g.played p
+
+abbrev pub rule_state : RuleGame → RulePos → State
+rule_state g p = marked p.base.items
+
+-- what was asked of either player, as a question
+abbrev pub network_question : Asked NetGame NetPos NetWide NetMany → Question
+network_question (asked.Told reply) = Told reply
+network_question (asked.Open s) = Network s
+
+abbrev pub rules_question : Asked RuleGame RulePos RuleWide RuleMany → Question
+rules_question (asked.Told reply) = Told reply
+rules_question (asked.Open s) = Rules s
+
+-- a reply as a question
+abbrev pub told_question : {E : Type 0} → Result made.Reply E → Result Question E
+told_question (Ok reply) = Ok (Told reply)
+told_question (Err e) = Err e
+
+-- a search over the network, or over the kept instances
+abbrev pub IsNetSearch : (Reply → Type 0) → Search NetGame NetPos NetWide NetMany → Type 0
+IsNetSearch is s = IsSearchOf net_fits (λ g. named_rules_of g.played) net_state is s
+
+abbrev pub IsRuleSearch : (Reply → Type 0) → Search RuleGame RulePos RuleWide RuleMany → Type 0
+IsRuleSearch is s = IsSearchOf rule_fits (λ g. named_rules_of g.played) rule_state is s
+
+-- a reply, or a search after which there is one
+abbrev pub IsQuestionOf : (Reply → Type 0) → Question → Type 0
+IsQuestionOf is (Told reply) = is (reply_of reply)
+IsQuestionOf is (Network s) = IsNetSearch is s
+IsQuestionOf is (Rules s) = IsRuleSearch is s

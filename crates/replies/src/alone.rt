@@ -1,0 +1,76 @@
+// The reply to a command, with its search done by the calling thread.
+ghost use Rattle.std.specs.Prelude.{◌≡◌, ◌<◌, pos, IfOk};
+ghost use Rattle.game.specs.Value.{value, choice_of};
+ghost use Rattle.replies.specs.Answers.{answer};
+ghost use Rattle.replies.specs.Histories.{named};
+ghost use Rattle.replies.specs.Questions.{reply_of};
+ghost use Rattle.replies.specs.Replies.{IsReply};
+ghost use Rattle.replies.specs.Solving.{solve_lines};
+
+use crate::answering::ask;
+use crate::command::Command;
+use crate::games::Player;
+use crate::question::Question;
+use crate::reply::Reply;
+use crate::search::Search;
+use game::Game;
+use maximin::{Room, choice, value_in};
+use share::Answer;
+use std::alloc::{AllocError, Global};
+
+/// The value and the first best move of a search.
+fn found_alone<G: Game + Drop>(alloc: Global, search: &Search<G>) -> Result<Answer, AllocError>
+    requires fits { G.fits search.now.game search.now.here }
+    requires role { search.now.role < (G.rules search.now.game).roles }
+    ensures value { IfOk result (λ found. found.value
+        ≡ pos (value (G.rules search.now.game) search.now.role search.now.depth search.now.at (G.state search.now.game search.now.here))) }
+    ensures choice { IfOk result (λ found. found.choice
+        ≡ choice_of (G.rules search.now.game) search.now.role search.now.depth search.now.at (G.state search.now.game search.now.here)) }
+{
+    let game = &search.game;
+    let here = &search.here;
+    let mut room = Room::new(alloc, game, search.depth)?;
+    Ok(Answer {
+        value: value_in(
+            game,
+            here,
+            search.role,
+            search.depth,
+            search.at,
+            -1,
+            101,
+            &mut room,
+        ),
+        choice: choice(game, here, search.role, search.depth, search.at, &mut room),
+    })
+}
+
+/// The reply after a search, which the calling thread does.
+pub(crate) fn told_alone<G: Game + Drop>(
+    alloc: Global,
+    search: Search<G>,
+) -> Result<Reply, AllocError>
+    requires fits { G.fits search.game search.here }
+    requires role { search.role < (G.rules search.game).roles }
+    ensures { IfOk result (λ reply. reply_of reply ≡ answer (solve_lines (named (G.rules search.game) (G.role_name search.game) (G.move_name search.game))
+        search.role search.depth search.at (G.state search.game search.here))) }
+{
+    let found = found_alone(alloc, &search)?;
+    search.told(alloc, found)
+}
+
+/// The reply to a command over the bytes of the input, by the calling thread alone. It fails only for want of memory.
+pub fn reply_alone<T: AllocGlobal>(
+    rt: &T,
+    player: Player,
+    command: &Command,
+    bytes: &[u8],
+) -> Result<Reply, AllocError>
+    ensures { IfOk result (λ reply. IsReply command.now bytes.now (reply_of reply)) }
+{
+    match ask(rt, player, command, bytes)? {
+        Question::Told(reply) => Ok(reply),
+        Question::Network(search) => told_alone(rt.alloc(), search),
+        Question::Rules(search) => told_alone(rt.alloc(), search),
+    }
+}

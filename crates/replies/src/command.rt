@@ -1,0 +1,42 @@
+// What is asked of rules, and what kind of reply there is.
+use game::AtBound;
+use share::Cut;
+
+/// What the program does with the rules that it reads.
+#[derive(Clone, Copy, Debug, PartialEq, Eq)]
+pub enum Command<'a> {
+    /// Writes the canonical text of each tree, one a line.
+    Show,
+    /// Names the first fault of the description, or counts what it has.
+    Check,
+    /// Counts the base propositions, the inputs, the kept instances, the heads without effect on play, and the nodes of the network.
+    Net,
+    /// Tells how play stands after a history: the goal of each role where the game has ended, else the
+    /// legal moves of each role.
+    Moves {
+        /// The text of the history, whose trees are its turns. It is empty for the start of the game.
+        after: &'a str,
+    },
+    /// Tells what a role can be sure of after a history, the move that makes sure of it, and the line of play.
+    Solve {
+        /// The text of the role.
+        role: &'a str,
+        /// How many turns are looked ahead.
+        depth: u32,
+        /// What a state in which play goes on is worth where these turns are over.
+        at_bound: AtBound,
+        /// How many threads search, and the parts of what.
+        cut: Cut,
+        /// The text of the history, as of `Moves`.
+        after: &'a str,
+    },
+}
+
+/// What kind of reply it is.
+#[derive(Clone, Copy, Debug, PartialEq, Eq)]
+pub enum Status {
+    /// The output answers the command.
+    Answer,
+    /// The output is the one line that names the fault of the input.
+    Refused,
+}

@@ -1,0 +1,200 @@
+// The words of the command line: the commands and their options, and the texts of their help.
+use crate::command::Command;
+use clap::error::ErrorKind;
+use game::AtBound;
+use share::Cut;
+use std::alloc::{AllocError, Global};
+
+/// The version that `--version` tells.
+const VERSION: &str = "0.1.0";
+
+/// What stands below the help of the program.
+const CLOSING: &str = "Exit status:
+  0  an answer, or help
+  1  words that are no command
+  2  a refusal: one line that names the fault
+  3  no memory
+  4  the input or the output failed
+
+Examples:
+  gdlsolve check < game.kif
+  gdlsolve moves --after \"((mark 1 1) noop)\" < game.kif
+  gdlsolve solve --role xplayer --depth 9 < game.kif";
+
+/// What stands below the help of `moves`.
+const MOVES_EXAMPLE: &str = "Example:
+  gdlsolve moves --after \"((mark 1 1) noop)\" < game.kif";
+
+/// What stands below the help of `solve`.
+const SOLVE_EXAMPLE: &str = "Example:
+  gdlsolve solve --role oplayer --depth 8 --after \"((mark 1 1) noop)\" < game.kif";
+
+/// What the words ask for.
+#[derive(Drop)]
+pub enum Request<'a> {
+    /// A command to run.
+    Run(Command<'a>),
+    /// A text for the output: help, or the version.
+    Help(clap::Error),
+    /// A text for the errors, since the words are no command.
+    Misuse(clap::Error),
+    /// A line for the errors, since the text of an option is none of those that it takes.
+    Misread(&'static str),
+}
+
+/// The option for the text of a history.
+fn history<'a>(alloc: Global) -> clap::Arg<'a> {
+    clap::Arg::new(alloc, "after")
+        .long("after")
+        .value_name("TEXT")
+        .allow_hyphen_values(true)
+        .help("The turns that were played, each a list of a move for each role")
+}
+
+/// The option for the text of a role.
+fn role<'a>(alloc: Global) -> clap::Arg<'a> {
+    clap::Arg::new(alloc, "role")
+        .long("role")
+        .value_name("ROLE")
+        .required(true)
+        .allow_hyphen_values(true)
+        .help("The role to find a move for")
+}
+
+/// The option for how far to look ahead.
+fn depth<'a>(alloc: Global) -> clap::Arg<'a> {
+    clap::Arg::new(alloc, "depth")
+        .long("depth")
+        .value_name("TURNS")
+        .required(true)
+        .value_parser(clap::value_parser!(u32).range(0..=64))
+        .help("How many turns to look ahead, from 0 to 64")
+}
+
+/// The option for what a state is worth where no turn is left to look ahead.
+fn at_bound<'a>(alloc: Global) -> clap::Arg<'a> {
+    clap::Arg::new(alloc, "at-bound")
+        .long("at-bound")
+        .value_name("WORTH")
+        .default_value("zero")
+        .allow_hyphen_values(true)
+        .help(
+            "What a state is worth where these turns are over and play goes on: zero, or its goal",
+        )
+}
+
+/// The option for how many threads search.
+fn cut<'a>(alloc: Global) -> clap::Arg<'a> {
+    clap::Arg::new(alloc, "cut")
+        .long("cut")
+        .value_name("LEVELS")
+        .default_value("1")
+        .allow_hyphen_values(true)
+        .help("How many threads search, and those behind each of their moves, as 4 or 4x2")
+}
+
+/// The command `show`.
+fn show<'a>(alloc: Global) -> clap::Command<'a> {
+    clap::Command::new(alloc, "show").about("Write the canonical text of each tree, one a line")
+}
+
+/// The command `check`.
+fn check<'a>(alloc: Global) -> clap::Command<'a> {
+    clap::Command::new(alloc, "check").about(
+        "Name the first fault of the rules, or count what they have",
+    )
+}
+
+/// The command `net`.
+fn net<'a>(alloc: Global) -> clap::Command<'a> {
+    clap::Command::new(alloc, "net").about(
+        "Count what the rules come to: propositions, inputs, instances, and nodes of their network",
+    )
+}
+
+/// The command `moves` with its options.
+fn moves<'a>(alloc: Global) -> Result<clap::Command<'a>, AllocError> {
+    clap::Command::new(alloc, "moves")
+        .about(
+            "Tell how play stands after a history, with the goals of an ended game or the legal moves",
+        )
+        .after_help(MOVES_EXAMPLE)
+        .arg(history(alloc))
+}
+
+/// The command `solve` with its options.
+fn solve<'a>(alloc: Global) -> Result<clap::Command<'a>, AllocError> {
+    clap::Command::new(alloc, "solve")
+        .about(
+            "Tell what a role can be sure of after a history, the move that makes sure of it, and the line of play",
+        )
+        .after_help(SOLVE_EXAMPLE)
+        .arg(role(alloc))?
+        .arg(depth(alloc))?
+        .arg(at_bound(alloc))?
+        .arg(cut(alloc))?
+        .arg(history(alloc))
+}
+
+/// The commands and their options.
+fn grammar<'a>(alloc: Global) -> Result<clap::Command<'a>, AllocError> {
+    clap::Command::new(alloc, "gdlsolve")
+        .about("Read the rules of a game on standard input, and answer on standard output")
+        .bin_name("gdlsolve")?
+        .version(VERSION)
+        .after_help(CLOSING)
+        .no_binary_name(true)
+        .subcommand_required(true)
+        .subcommand(show(alloc))?
+        .subcommand(check(alloc))?
+        .subcommand(net(alloc))?
+        .subcommand(moves(alloc)?)?
+        .subcommand(solve(alloc)?)
+}
+
+/// The request that the options of `solve` make.
+fn solve_request<'a>(options: &clap::ArgMatches<'a>) -> Option<Request<'a>> {
+    let Some(cut) = Cut::parse(options.get_str("cut")?.as_bytes()) else {
+        return Some(Request::Misread("bad cut"));
+    };
+    let Some(at_bound) = AtBound::parse(options.get_str("at-bound")?.as_bytes()) else {
+        return Some(Request::Misread("bad bound"));
+    };
+    Some(Request::Run(Command::Solve {
+        role: options.get_str("role")?,
+        depth: options.get_one("depth")?,
+        at_bound,
+        cut,
+        after: options.get_str("after").unwrap_or(""),
+    }))
+}
+
+/// The request that was matched.
+fn matched<'a>(matches: &clap::ArgMatches<'a>) -> Option<Request<'a>> {
+    match matches.subcommand()? {
+        ("show", _) => Some(Request::Run(Command::Show)),
+        ("check", _) => Some(Request::Run(Command::Check)),
+        ("net", _) => Some(Request::Run(Command::Net)),
+        ("moves", options) => Some(Request::Run(Command::Moves {
+            after: options.get_str("after").unwrap_or(""),
+        })),
+        ("solve", options) => solve_request(options),
+        _ => None,
+    }
+}
+
+/// The request that the words make.
+pub fn request_of<'a>(alloc: Global, words: &'a [&'a str]) -> Result<Request<'a>, clap::Error> {
+    let mut grammar = grammar(alloc)?;
+    match grammar.try_get_matches_from_mut(words) {
+        Ok(matches) => match matched(&matches) {
+            Some(request) => Ok(request),
+            None => Ok(Request::Misuse(grammar.error(ErrorKind::MissingSubcommand, "no command")?)),
+        },
+        Err(error) => match error.kind() {
+            ErrorKind::OutOfMemory => Err(error),
+            ErrorKind::DisplayHelp | ErrorKind::DisplayVersion => Ok(Request::Help(error)),
+            _ => Ok(Request::Misuse(error)),
+        },
+    }
+}

@@ -1,0 +1,31 @@
+//! The reply to each command over rules as bytes, up to the search that it may ask for, and that search by the calling thread.
+#![tactic(auto)]
+
+mod alone;
+mod answering;
+mod asking;
+mod command;
+mod games;
+mod grammar;
+mod grounding;
+mod history;
+mod laws;
+mod moving;
+mod play;
+mod question;
+mod reply;
+mod roles;
+mod search;
+mod solving;
+#[cfg(test)]
+mod tests;
+
+pub use alone::reply_alone;
+pub use answering::ask;
+pub use command::{Command, Status};
+pub use games::Player;
+pub use grammar::{Request, request_of};
+pub use laws::each_input_has_one_reply;
+pub use question::Question;
+pub use reply::Reply;
+pub use search::Search;

@@ -1,0 +1,71 @@
+// The memory of a search, and of the line of play that it finds.
+ghost use Rattle.std.specs.Prelude.{◌≡◌, ◌<◌, ◌≤◌, ◌-◌, pos, IfOk, Some};
+ghost use Rattle.smallvec.specs.SmallVec.{small_vec_len};
+ghost use Rattle.game.specs.Rules.{IsTurn};
+ghost use Rattle.game.specs.Value.{value, choice_of, reply_of};
+ghost use Rattle.maximin.specs.Room.{room_depth};
+ghost use Rattle.replies.specs.Play.{IsPlayOf};
+
+use game::{AtBound, Game, Joint, new_joint};
+use maximin::{Room, reply_by_value};
+use std::alloc::{AllocError, Global};
+use std::mem;
+
+/// The state of play, the last joint move, and all memory to go on.
+#[derive(Drop)]
+pub(crate) struct Play<G: Game> {
+    pub(crate) here: G::Pos,
+    next: G::Pos,
+    pub(crate) joint: Joint,
+    pub(crate) room: Room<G>,
+}
+
+impl<G: Game> Play<G> {
+    /// Play that stands at a state, with memory for searches to this depth. Nothing else here takes memory.
+    pub(crate) fn new(alloc: Global, g: &G, depth: u32, here: G::Pos) -> Result<Play<G>, AllocError>
+        requires { G.fits g.now here }
+        ensures here { IfOk result (λ play. play.here ≡ here) }
+        ensures play { IfOk result (λ play. IsPlayOf (G.fits g.now) (G.fits_wide g.now) (G.fits_many g.now) (G.rules g.now).roles play) }
+        ensures deep { IfOk result (λ play. room_depth play.room ≡ depth) }
+    {
+        let room = Room::new(alloc, g, depth)?;
+        let next = g.fresh()?;
+        let joint = new_joint(alloc, g.roles())?;
+        Ok(Play {
+            here,
+            next,
+            joint,
+            room,
+        })
+    }
+
+    /// Plays one turn, in which the role plays its choice and all others the first reply that leaves the least value. The value of
+    /// the state, which is `worth`, stays.
+    pub(crate) fn turn(&mut self, g: &G, role: usize, own: u32, depth: u32, at: AtBound, worth: i16)
+        requires role { role < (G.rules g.now).roles }
+        requires play { IsPlayOf (G.fits g.now) (G.fits_wide g.now) (G.fits_many g.now) (G.rules g.now).roles self.old }
+        requires deep { depth ≤ room_depth self.old.room }
+        requires own { choice_of (G.rules g.now) role depth at (G.state g.now self.old.here) ≡ Some own }
+        requires worth { worth ≡ pos (value (G.rules g.now) role depth at (G.state g.now self.old.here)) }
+        ensures reply { reply_of (G.rules g.now) role (depth - 1) at (G.state g.now self.old.here) own ≡ Some self.new.joint.items }
+        ensures turn { IsTurn (G.rules g.now) self.new.joint.items }
+        ensures after { G.state g.now self.new.here ≡ (G.rules g.now).after (G.state g.now self.old.here) self.new.joint.items }
+        ensures worth { worth ≡ pos (value (G.rules g.now) role (depth - 1) at (G.state g.now self.new.here)) }
+        ensures play { IsPlayOf (G.fits g.now) (G.fits_wide g.now) (G.fits_many g.now) (G.rules g.now).roles self.new }
+        ensures deep { room_depth self.new.room ≡ room_depth self.old.room }
+    {
+        reply_by_value(
+            g,
+            &self.here,
+            role,
+            own,
+            depth,
+            at,
+            worth,
+            &mut self.room,
+            &mut self.joint,
+        );
+        g.step(&self.here, &self.joint, &mut self.next);
+        mem::swap(&mut self.here, &mut self.next);
+    }
+}

@@ -1,0 +1,54 @@
+// A search that is left to do.
+ghost use Rattle.std.specs.Prelude.{◌≡◌, ◌<◌, pos, IfOk};
+ghost use Rattle.game.specs.Value.{value, choice_of};
+ghost use Rattle.replies.specs.Answers.{answer};
+ghost use Rattle.replies.specs.Histories.{named};
+ghost use Rattle.replies.specs.Questions.{reply_of};
+ghost use Rattle.replies.specs.Solving.{solve_lines};
+
+use crate::reply::{Reply, answered};
+use crate::solving::value_lines;
+use game::{AtBound, Game};
+use share::{Answer, Cut};
+use std::alloc::{AllocError, Global};
+
+/// A search for what a role can be sure of: from a state of a game, within so many turns. Who has found the value and the first best
+/// move has the reply by `told`.
+#[derive(Drop)]
+pub struct Search<G: Game + Drop> {
+    /// The game.
+    pub game: G,
+    /// The state that is searched.
+    pub here: G::Pos,
+    /// The role, by its number.
+    pub role: usize,
+    /// How many turns are looked ahead.
+    pub depth: u32,
+    /// What a state in which play goes on is worth where these turns are over.
+    pub at: AtBound,
+    /// How many workers are to search, and the parts of what. The reply does not depend on it.
+    pub cut: Cut,
+}
+
+impl<G: Game + Drop> Search<G> {
+    /// The reply that tells the value, the first best move and the line of play behind it, from the first two. The line is found by the
+    /// calling thread. It fails only for want of memory.
+    pub fn told(self, alloc: Global, found: Answer) -> Result<Reply, AllocError>
+        requires fits { G.fits self.game self.here }
+        requires role { self.role < (G.rules self.game).roles }
+        requires value { found.value ≡ pos (value (G.rules self.game) self.role self.depth self.at (G.state self.game self.here)) }
+        requires choice { found.choice ≡ choice_of (G.rules self.game) self.role self.depth self.at (G.state self.game self.here) }
+        ensures { IfOk result (λ reply. reply_of reply ≡ answer (solve_lines (named (G.rules self.game) (G.role_name self.game) (G.move_name self.game))
+            self.role self.depth self.at (G.state self.game self.here))) }
+    {
+        let Search {
+            game,
+            here,
+            role,
+            depth,
+            at,
+            cut: _,
+        } = self;
+        Ok(answered(value_lines(alloc, &game, role, depth, at, found, here)?))
+    }
+}

@@ -1,0 +1,142 @@
+// The value of a state, the move that makes sure of it, and the line of play, as lines.
+ghost use Rattle.std.specs.Prelude.{◌≡◌, ◌≤◌, ◌<◌, ◌++◌, nat_abs, pos, IfOk, IfSome, OnOk};
+ghost use Rattle.game.specs.Rules.{IsTurn};
+ghost use Rattle.game.specs.Value.{value, choice_of, line_of};
+ghost use Rattle.maximin.specs.Room.{room_depth};
+ghost use Rattle.replies.specs.Checking.{spaced};
+ghost use Rattle.replies.specs.Histories.{named};
+ghost use Rattle.replies.specs.Play.{IsPlayOf};
+ghost use Rattle.replies.specs.Solving.{move_line, choice_text, move_texts, turn_line, turn_lines, solve_lines};
+
+use crate::play::Play;
+use crate::reply::add_count;
+use game::{AtBound, Game, Joint};
+use maximin::choice_by_value;
+use share::Answer;
+use std::alloc::{AllocError, Global};
+use std::io::Write;
+
+/// Adds each move of a joint move with a space before it. After an error the output may have a beginning of them.
+fn add_moves<G: Game>(g: &G, joint: &Joint, output: &mut Vec<u8>) -> Result<(), AllocError>
+    requires { IsTurn (G.rules g.now) joint.now.items }
+    ensures { OnOk result (output.new.items ≡ output.old.items
+        ++ spaced (move_texts (named (G.rules g.now) (G.role_name g.now) (G.move_name g.now)) joint.now.items)) }
+{
+    for role in 0..g.roles() {
+        output.push(b' ')?;
+        output.extend_from_slice(g.move_text(role, joint[role]))?;
+    }
+    Ok(())
+}
+
+/// Adds the line of a turn. After an error the output may have a beginning of it.
+fn add_turn<G: Game>(
+    g: &G,
+    number: usize,
+    joint: &Joint,
+    output: &mut Vec<u8>,
+) -> Result<(), AllocError>
+    requires { IsTurn (G.rules g.now) joint.now.items }
+    ensures { OnOk result (output.new.items ≡ output.old.items
+        ++ turn_line (named (G.rules g.now) (G.role_name g.now) (G.move_name g.now)) number joint.now.items) }
+{
+    write!(output, "line {number}").map_err(|_| AllocError)?;
+    add_moves(g, joint, output)?;
+    output.push(b'\n')?;
+    Ok(())
+}
+
+/// Adds the line of the move that a role should play. After an error the output may have a beginning of it.
+fn add_choice<G: Game>(
+    g: &G,
+    role: usize,
+    chosen: Option<u32>,
+    output: &mut Vec<u8>,
+) -> Result<(), AllocError>
+    requires role { role < (G.rules g.now).roles }
+    requires chosen { IfSome chosen (λ own. own < (G.rules g.now).moves role) }
+    ensures { OnOk result (output.new.items ≡ output.old.items
+        ++ move_line (choice_text (named (G.rules g.now) (G.role_name g.now) (G.move_name g.now)) role chosen)) }
+{
+    let text = match chosen {
+        Some(own) => g.move_text(role, own),
+        None => b"none",
+    };
+    output.extend_from_slice(b"move ")?;
+    output.extend_from_slice(text)?;
+    output.push(b'\n')?;
+    Ok(())
+}
+
+/// Adds the lines of the turns that follow a state whose value is `worth` and whose first move is `chosen`, the first with this number.
+/// Each state of the line has the same value. After an error the output may have a beginning of them.
+fn add_turns<G: Game>(
+    g: &G,
+    role: usize,
+    depth: u32,
+    at: AtBound,
+    worth: i16,
+    first: Option<u32>,
+    play: &mut Play<G>,
+    output: &mut Vec<u8>,
+) -> Result<(), AllocError>
+    requires role { role < (G.rules g.now).roles }
+    requires play { IsPlayOf (G.fits g.now) (G.fits_wide g.now) (G.fits_many g.now) (G.rules g.now).roles play.old }
+    requires deep { depth ≤ room_depth play.old.room }
+    requires worth { worth ≡ pos (value (G.rules g.now) role depth at (G.state g.now play.old.here)) }
+    requires first { first ≡ choice_of (G.rules g.now) role depth at (G.state g.now play.old.here) }
+    ensures { OnOk result (output.new.items ≡ output.old.items
+        ++ turn_lines (named (G.rules g.now) (G.role_name g.now) (G.move_name g.now)) 1 (line_of (G.rules g.now) role depth at (G.state g.now play.old.here))) }
+{
+    let mut chosen = first;
+    let mut left = depth;
+    while let Some(own) = chosen {
+        play.turn(g, role, own, left, at, worth);
+        add_turn(g, (depth - left) as usize + 1, &play.joint, output)?;
+        left -= 1;
+        chosen = choice_by_value(g, &play.here, role, left, at, worth, &mut play.room);
+    }
+    Ok(())
+}
+
+/// A value without its sign.
+fn unsigned(value: i16) -> usize
+    ensures { result ≡ nat_abs value }
+{
+    value.unsigned_abs() as usize
+}
+
+/// The value of a state for a role, the move that makes sure of it, and the line of play, as lines, from the value and the first best
+/// move.
+pub(crate) fn value_lines<G: Game>(
+    alloc: Global,
+    g: &G,
+    role: usize,
+    depth: u32,
+    at: AtBound,
+    found: Answer,
+    here: G::Pos,
+) -> Result<Vec<u8>, AllocError>
+    requires fits { G.fits g.now here }
+    requires role { role < (G.rules g.now).roles }
+    requires value { found.value ≡ pos (value (G.rules g.now) role depth at (G.state g.now here)) }
+    requires choice { found.choice ≡ choice_of (G.rules g.now) role depth at (G.state g.now here) }
+    ensures { IfOk result (λ output. output.items
+        ≡ solve_lines (named (G.rules g.now) (G.role_name g.now) (G.move_name g.now)) role depth at (G.state g.now here)) }
+{
+    let mut play = Play::new(alloc, g, depth, here)?;
+    let mut output = Vec::new(alloc);
+    add_count("value", unsigned(found.value), &mut output)?;
+    add_choice(g, role, found.choice, &mut output)?;
+    add_turns(
+        g,
+        role,
+        depth,
+        at,
+        found.value,
+        found.choice,
+        &mut play,
+        &mut output,
+    )?;
+    Ok(output)
+}

@@ -1,5 +1,0 @@
-use Rattle.rules.proofs.AnswerLemmas.{are_items}
-use Rattle.rules.proofs.check.first_tests.Goals as goal
-
-pub first_misused_word-requires : goal.first_misused_word-requires
-first_misused_word-requires g c = are_items _ c.in_default.ensures

@@ -1,6 +1,0 @@
-use Rattle.rules.specs.Profile.{bad_keyword, misuses_word}
-use Rattle.rules.proofs.Firsts.{IsBehind}
-use Rattle.rules.proofs.places.first_misused_word.Given as goal
-
-abbrev pub invariant-loop-index : goal.invariant-loop-index
-invariant-loop-index g l = IsBehind bad_keyword misuses_word l.items l.index

@@ -1,9 +1,0 @@
-use Rattle.std.proofs.Common.{◌≡◌, length, []}
-use Rattle.rules.specs.Walk.{Walking}
-use Rattle.rules.proofs.ranks.order_of.Given as goal
-
-abbrev pub invariant-loop-root : goal.invariant-loop-root
-invariant-loop-root l = record {
-  walking : Walking l.graph.arrows.items (length l.graph.ends.items) l.root l.walk.seen.items l.walk.done.items l.walk.ends.items [] l.walk.order.items;
-  idle : l.walk.pending.items ≡ [];
-}

@@ -1,9 +1,0 @@
-use Rattle.std.proofs.Common.{◌∙◌, refl, ap, List}
-use Rattle.rules.specs.declared.signatures.Signature.{Signature}
-use Rattle.rules.specs.Signatures.{with_signature}
-use Rattle.rules.proofs.SignatureLemmas.{kept}
-use Rattle.rules.proofs.signatures.Signatures.intern.Goals as goal
-
-pub returns-clause-kept : goal.returns-clause-kept
-returns-clause-kept c =
-    c.in_ok-number.ensures.keys ∙ kept _ (λ s t. refl) c.self.inside.known.keys c.args.signature ∙ ap (λ (ss : List Signature). with_signature ss c.args.signature) c.self.view_is

@@ -1,0 +1,5 @@
+use Rattle.tape.specs.Translating.{IsTranslated}
+use Rattle.tape.proofs.translating.translate.Given as goal
+
+abbrev pub invariant-loop-n : goal.invariant-loop-n
+invariant-loop-n l = IsTranslated l.net l.marks l.sources.words.items l.n l.builder l.literals.items

@@ -1,0 +1,39 @@
+-- From the nodes of a network to literals.
+use Rattle.std.specs.Global.{Vec}
+use Rattle.std.specs.Prelude.{ℕ, Bool, true, List, map, length, Some, slice_get, slice_index_or, ◌≡◌, ◌+◌, ◌*◌, ◌<◌, ◌==◌, slice_index, All}
+use Rattle.propnet.specs.declared.net.Net.{Net}
+use Rattle.propnet.specs.Network.{Gate, value as node_value}
+use Rattle.propnet.specs.Nets.{gates_of}
+use Rattle.tape.specs.declared.builder.Builder.{Builder}
+use Rattle.tape.specs.Building.{slots_of, value_of, IsBuilt}
+use Rattle.tape.specs.Marks.{is_and_gate, is_marked, term_nodes}
+use Rattle.tape.specs.Tapes.{AreSources}
+
+-- what an or takes for node n: the and of what it reads if it is an and gate, else its literal
+abbrev pub IsTermOf : List Gate → List ℕ → ℕ → List ℕ → Type 0
+IsTermOf gates literals n term = (gate : Gate) → slice_get gates n ≡ Some gate → term ≡ map (λ m. slice_index literals m) (term_nodes (is_and_gate gate.name) n gate.reads)
+
+-- a term for each of some nodes
+pub record AreTermsOf (gates : List Gate) (literals numbers : List ℕ) (terms : List (Vec ℕ)) : Type 0 where
+  pub size : length terms ≡ length numbers
+  pub each : (k : ℕ) (d : Vec ℕ) → k < length numbers → IsTermOf gates literals (slice_index numbers k) (slice_index_or terms k d).items
+
+-- the literal has the value of node n, where the words that stand in front of the gates are those of a state and a joint move
+pub record IsMeant (net : Net) (words : List ℕ) (b : Builder) (l n : ℕ) : Type 0 where
+  pub slot : l < slots_of b
+  pub value : (state : ℕ → ℕ) (joint : List ℕ) (w : ℕ → Bool) → AreSources net state joint w
+      → value_of b (λ i. w (slice_index words i)) l ≡ (node_value (gates_of net) state joint n == 1)
+
+-- the literals of the marked nodes below n
+pub record IsTranslated (net : Net) (marks : List Bool) (words : List ℕ) (n : ℕ) (b : Builder) (literals : List ℕ) : Type 0 where
+  pub built : IsBuilt b
+  pub first : b.first ≡ 2 + 2 * length words
+  pub count : length literals ≡ n
+  pub values : (m : ℕ) → m < n → is_marked marks m ≡ true → IsMeant net words b (slice_index literals m) m
+
+-- each kept node has its literal, and there is one for each node
+pub record AreKept (net : Net) (words kept : List ℕ) (b : Builder) (literals : List ℕ) : Type 0 where
+  pub built : IsBuilt b
+  pub first : b.first ≡ 2 + 2 * length words
+  pub count : length literals ≡ length (gates_of net)
+  pub meant : All (λ n. IsMeant net words b (slice_index literals n) n) kept

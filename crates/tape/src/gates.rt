@@ -1,0 +1,62 @@
+//! And gates over literals, and the pass over them.
+ghost use Rattle.std.specs.Prelude.{ℕ, Bool, not, ◌≡◌, ◌+◌, ◌*◌, ◌<◌, ◌≤◌, length, All, slice_index};
+ghost use Rattle.tape.specs.Values.{pass, is_bit_on, is_lane_on, slots, start};
+
+/// Slot 2k has the value of node k of a tape, and slot 2k + 1 its negation. Node 0 is false.
+pub(crate) type Literal = u32;
+
+/// The and of two literals.
+#[derive(Clone, Copy)]
+#[repr(C)]
+pub struct Gate {
+    pub(crate) a: u32,
+    pub(crate) b: u32,
+}
+
+/// The other bits.
+#[inline(always)]
+fn complement(word: u64) -> u64
+    ensures { (k : ℕ) → k < 64 → is_bit_on result k ≡ not (is_bit_on word k) }
+{
+    !word
+}
+
+/// Writes the value of each gate and its negation, in 64 lanes at once.
+pub(crate) fn run_gates(gates: &[Gate], first: usize, room: &mut [u64])
+    requires room { slots first gates.now ≡ length room.old }
+    requires operands { All (λ g. (g.a < length room.old) × (g.b < length room.old)) gates.now }
+    ensures values { (k l : ℕ) → k < 64 → is_lane_on room.new k l ≡ pass first gates.now (is_lane_on room.old k) l }
+{
+    for i in 0..gates.len() {
+        let gate = gates[i];
+        let value = room[gate.a as usize] & room[gate.b as usize];
+        room[first + 2 * i] = value;
+        room[first + 2 * i + 1] = complement(value);
+    }
+}
+
+/// A word by its number, or 0.
+#[inline(always)]
+fn word_at(words: &[u64], n: usize) -> u64
+    ensures { result ≡ slice_index words.now n }
+{
+    if n < words.len() {
+        return words[n];
+    }
+    0
+}
+
+/// Writes the slots of the constants and of the words that are given.
+pub(crate) fn fill_sources(sources: &[u32], words: &[u64], room: &mut [u64])
+    requires { 2 + 2 * length sources.now ≤ length room.old }
+    ensures values { (k l : ℕ) → k < 64 → l < 2 + 2 * length sources.now
+        → is_lane_on room.new k l ≡ start (λ i. is_lane_on words.now k (slice_index sources.now i)) l }
+{
+    room[0] = 0;
+    room[1] = complement(0);
+    for i in 0..sources.len() {
+        let word = word_at(words, sources[i] as usize);
+        room[2 + 2 * i] = word;
+        room[2 + 2 * i + 1] = complement(word);
+    }
+}

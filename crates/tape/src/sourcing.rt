@@ -1,0 +1,99 @@
+//! The given words of a tape.
+ghost use Rattle.std.specs.Prelude.{◌≡◌, ◌+◌, ◌^◌, ◌<◌, length, IfOk, OnOk};
+ghost use Rattle.propnet.specs.Nets.{gates_of};
+ghost use Rattle.tape.specs.Sources.{is_source as is_source_name, source_word, AreSourcesOf};
+
+use crate::builder::given;
+use crate::gates::Literal;
+use propnet::{Name, Net};
+use std::alloc::{AllocError, Global};
+
+/// Which of the words that a pass is given stand in front of the gates, and by node the literal of its word, where it has one.
+#[derive(Drop)]
+pub(crate) struct Sources {
+    pub(crate) words: Vec<u32>,
+    pub(crate) literals: Vec<Literal>,
+}
+
+/// Whether a node is given.
+pub(crate) fn is_source(name: Name) -> bool
+    ensures { result ≡ is_source_name name }
+{
+    match name {
+        Name::Base(_) => true,
+        Name::Input(_, _) => true,
+        Name::Not(_) => false,
+        Name::And(_) => false,
+        Name::View(_) => false,
+        Name::Transition(_) => false,
+    }
+}
+
+/// The number of the word that a node is given, if it is.
+fn word_of(name: Name, n: usize) -> Result<Option<u32>, AllocError>
+    ensures { IfOk result (λ word. word ≡ source_word name n) }
+{
+    match name {
+        Name::Base(p) => Ok(Some(p)),
+        Name::Input(_, _) => {
+            let Ok(word) = u32::try_from(n) else {
+                return Err(AllocError);
+            };
+            Ok(Some(word))
+        }
+        Name::Not(_) => Ok(None),
+        Name::And(_) => Ok(None),
+        Name::View(_) => Ok(None),
+        Name::Transition(_) => Ok(None),
+    }
+}
+
+/// A count, if its literals can be numbered.
+pub(crate) fn few(count: usize) -> Result<u32, AllocError>
+    ensures same { IfOk result (λ n. n ≡ count) }
+    ensures small { IfOk result (λ n. n < 2 ^ 30) }
+{
+    if count >= 1 << 30 {
+        return Err(AllocError);
+    }
+    Ok(count as u32)
+}
+
+impl Sources {
+    /// Adds a node, with its word if it is marked and given.
+    fn add(&mut self, net: &Net, n: usize, marks: &[bool]) -> Result<(), AllocError>
+        requires node { n < length (gates_of net.now) }
+        requires count { length marks.now ≡ length (gates_of net.now) }
+        requires so_far { AreSourcesOf (gates_of net.now) marks.now n self.old.words.items self.old.literals.items }
+        ensures { OnOk result (AreSourcesOf (gates_of net.now) marks.now (n + 1) self.new.words.items self.new.literals.items) }
+    {
+        if !marks[n] {
+            self.literals.push(0)?;
+            return Ok(());
+        }
+        let (name, _reads) = net.gate(n);
+        let Some(word) = word_of(name, n)? else {
+            self.literals.push(0)?;
+            return Ok(());
+        };
+        let index = few(self.words.len())?;
+        self.words.push(word)?;
+        self.literals.push(given(index))?;
+        Ok(())
+    }
+}
+
+/// The words of the marked nodes that are given.
+pub(crate) fn sources_of(alloc: Global, net: &Net, marks: &[bool]) -> Result<Sources, AllocError>
+    requires { length marks.now ≡ length (gates_of net.now) }
+    ensures { IfOk result (λ s. AreSourcesOf (gates_of net.now) marks.now (length (gates_of net.now)) s.words.items s.literals.items) }
+{
+    let mut sources = Sources {
+        words: Vec::new(alloc),
+        literals: Vec::new(alloc),
+    };
+    for n in 0..net.nodes() {
+        sources.add(net, n, marks)?;
+    }
+    Ok(sources)
+}

@@ -1,0 +1,127 @@
+//! From the kept nodes of a network to a tape.
+ghost use Rattle.std.specs.Prelude.{true, ◌≡◌, ◌+◌, ◌*◌, ◌<◌, length, All, IfOk};
+ghost use Rattle.propnet.specs.Nets.{gates_of};
+ghost use Rattle.tape.specs.Building.{IsBuilt, IsStep};
+ghost use Rattle.tape.specs.Marks.{is_marked, AllMarked, IsClosedFrom};
+ghost use Rattle.tape.specs.Sources.{AreSourcesOf};
+ghost use Rattle.tape.specs.Tapes.{IsTapeOf};
+ghost use Rattle.tape.specs.Translating.{AreKept, IsMeant, IsTranslated};
+
+use crate::builder::{Builder, negation};
+use crate::cones::{cones, is_and, is_or};
+use crate::gates::Literal;
+use crate::gathering::{gather, terms_of};
+use crate::sourcing::{Sources, few, is_source, sources_of};
+use crate::tape::Tape;
+use propnet::Net;
+use std::alloc::{AllocError, Global};
+
+/// How many shared literals are taken out of an or of ands, one after the other, at most.
+const MOST_TAKEN: usize = 16;
+
+/// Room for the work on a node.
+#[derive(Drop)]
+struct Work {
+    alloc: Global,
+    queue: Vec<Literal>,
+    /// A 0 for each literal, and so between the works on two nodes.
+    counts: Vec<u32>,
+}
+
+/// Makes room for so many counts.
+fn make_room(counts: &mut Vec<u32>, literals: usize) -> Result<(), AllocError> {
+    for _literal in counts.len()..literals {
+        counts.push(0)?;
+    }
+    Ok(())
+}
+
+/// The literal of a node, or that of none where the node is not marked.
+fn literal_for(
+    net: &Net,
+    n: usize,
+    marks: &[bool],
+    sources: &Sources,
+    builder: &mut Builder,
+    literals: &[Literal],
+    work: &mut Work,
+) -> Result<Literal, AllocError>
+    requires node { n < length (gates_of net.now) }
+    requires closed { IsClosedFrom (gates_of net.now) 0 marks.now }
+    requires sources { AreSourcesOf (gates_of net.now) marks.now (length (gates_of net.now)) sources.now.words.items sources.now.literals.items }
+    requires so_far { IsTranslated net.now marks.now sources.now.words.items n builder.old literals.now }
+    ensures step { IsStep builder.old builder.new }
+    ensures value { IfOk result (λ l. is_marked marks.now n ≡ true → IsMeant net.now sources.now.words.items builder.new l n) }
+{
+    if !marks[n] {
+        return Ok(0);
+    }
+    let (name, reads) = net.gate(n);
+    if is_source(name) {
+        return Ok(sources.literals[n]);
+    }
+    if is_or(name) {
+        let terms = terms_of(work.alloc, net, reads, literals)?;
+        make_room(&mut work.counts, builder.slots())?;
+        return builder.any_of_all(work.alloc, &mut work.counts, MOST_TAKEN, terms);
+    }
+    gather(&mut work.queue, reads, literals)?;
+    if is_and(name) {
+        return builder.all(&mut work.queue);
+    }
+    let any = builder.any(&mut work.queue)?;
+    Ok(negation(any))
+}
+
+/// Adds the gates that the kept nodes come to. The literals of all nodes are right for those that are kept.
+fn translate(
+    alloc: Global,
+    net: &Net,
+    kept: &[u32],
+    marks: &[bool],
+    sources: &Sources,
+    builder: &mut Builder,
+) -> Result<Vec<Literal>, AllocError>
+    requires kept { All (λ n. n < length (gates_of net.now)) kept.now }
+    requires marked { AllMarked marks.now kept.now }
+    requires closed { IsClosedFrom (gates_of net.now) 0 marks.now }
+    requires sources { AreSourcesOf (gates_of net.now) marks.now (length (gates_of net.now)) sources.now.words.items sources.now.literals.items }
+    requires built { IsBuilt builder.old }
+    requires first { builder.old.first ≡ 2 + 2 * length sources.now.words.items }
+    ensures { IfOk result (λ literals. AreKept net.now sources.now.words.items kept.now builder.new literals.items) }
+{
+    let mut literals = Vec::new(alloc);
+    let mut work = Work {
+        alloc,
+        queue: Vec::new(alloc),
+        counts: Vec::new(alloc),
+    };
+    for n in 0..net.nodes() {
+        let literal = literal_for(net, n, marks, sources, builder, &literals, &mut work)?;
+        literals.push(literal)?;
+    }
+    Ok(literals)
+}
+
+impl Tape {
+    /// The tape of some nodes of a network: it has no gate that these do not stand on, and is given no word that none of them
+    /// reads. Memory is also refused where literals would pass 32 bits.
+    pub fn new(alloc: Global, net: &Net, kept: &[u32]) -> Result<Tape, AllocError>
+        requires { All (λ n. n < length (gates_of net.now)) kept.now }
+        ensures { IfOk result (IsTapeOf net.now kept.now) }
+    {
+        let cones = cones(alloc, net, kept)?;
+        let marks = cones.as_slice();
+        let sources = sources_of(alloc, net, marks)?;
+        let mut builder = Builder::new(alloc, few(sources.words.len())?)?;
+        let literals = translate(alloc, net, kept, marks, &sources, &mut builder)?;
+        let mut slots = Vec::new(alloc);
+        gather(&mut slots, kept, &literals)?;
+        Ok(Tape {
+            first: builder.first,
+            sources: sources.words,
+            gates: builder.gates,
+            kept: slots,
+        })
+    }
+}
