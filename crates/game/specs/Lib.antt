@@ -8,5 +8,6 @@ pub mod Refusal
 pub mod Table
 pub mod TableLaws
 pub mod TableMany
+pub mod Told
 pub mod NamedRules
 pub mod SamePlay

@@ -5,8 +5,10 @@ ghost use Rattle.std.specs.Cmp.Lexicographic.{slice_cmp};
 ghost use Rattle.std.specs.List.Sorted.{IsStrictlyIncreasing};
 ghost use Rattle.std.specs.declared.cmp.Ordering.TheVariants.{Less};
 ghost use Rattle.game.specs.Rules.{Rules, IsTurn};
+ghost use Rattle.game.specs.Told.{IsTold};
 
 use crate::joint::Joint;
+use crate::told::Told;
 use std::alloc::AllocError;
 
 /// A game for some number of roles, all of which move at once. A role is a number from 0, in the order of the roles, and a move of
@@ -143,6 +145,13 @@ pub trait Game: Sync {
         ensures fits { fits self.now q.new }
         ensures taken { state self.now q.new ≡ get_or (states self.now many.now) place [] }
         ensures capacities { capacities self.now q.new ≡ capacities self.now q.old };
+
+    /// What is told of one of many states before it is taken, and of the goal value of a role in it.
+    fn told(&self, many: &Self::Many, place: usize, role: usize) -> Told
+        requires many { fits_many self.now many.now }
+        requires place { place < length (states self.now many.now) }
+        requires role { role < (rules self.now).roles }
+        ensures { IsTold (rules self.now) (get_or (states self.now many.now) place []) role result };
 
     ghost goal_within: { (g : Self) (s : List ℕ) (r : ℕ) → (rules g).goal s r ≤ 100 };
 

@@ -11,6 +11,7 @@ mod refusal;
 mod replaying;
 mod stuck;
 pub mod table;
+mod told;
 #[cfg(test)]
 mod tests;
 
@@ -25,3 +26,4 @@ pub use play_laws::{
 pub use refusal::add_history_refusal;
 pub use replaying::replay;
 pub use stuck::is_stuck;
+pub use told::Told;

@@ -6,6 +6,7 @@ ghost use Rattle.game.specs.Table.{table_rules, side_name, choice_name};
 
 use crate::game::Game;
 use crate::joint::Joint;
+use crate::told::Told;
 use std::alloc::AllocError;
 
 /// Three roles, the row, the column and the layer, choose a side of a cube at once, and so one of its eight cells. The row gets the
@@ -157,6 +158,16 @@ impl Game for Table {
 
     fn take(&self, many: &Cells, place: usize, q: &mut Chosen) {
         q.cell = many.cells[place];
+    }
+
+    fn told(&self, many: &Cells, place: usize, role: usize) -> Told {
+        let p = Chosen {
+            cell: many.cells[place],
+        };
+        if self.ended(&p) {
+            return Told::Ended(self.goal(&p, role));
+        }
+        Told::Open
     }
 
     ghost goal_within = { λ g s r. goal_at_most g.worth g.ends s r g.at_most_100 };

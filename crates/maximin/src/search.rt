@@ -1,5 +1,5 @@
 // The search, level by level.
-ghost use Rattle.std.specs.Prelude.{◌≡◌, ◌<◌, ◌≤◌, ◌<ℤ◌, ◌≤ℤ◌, pos, negsuc, false, Some, All, length, map, if◌then◌else◌};
+ghost use Rattle.std.specs.Prelude.{◌≡◌, ◌<◌, ◌≤◌, ◌<ℤ◌, ◌≤ℤ◌, pos, negsuc, false, Some, [], All, length, map, get_or, if◌then◌else◌};
 ghost use Rattle.game.specs.AtBound.{bound_worth};
 ghost use Rattle.game.specs.Rules.{is_stuck as stuck};
 ghost use Rattle.game.specs.Value.{Answers, choice_of, greatest, least, reply_of, value, worst};
@@ -10,6 +10,7 @@ use crate::alone::{gather_own, is_alone};
 use crate::cursor::{next_turn, start_turns, write_joint};
 use crate::level::Level;
 use crate::run::{LONGEST_RUN, gather};
+use crate::told::{greatest_told, least_told, told_worth};
 use game::{AtBound, Game, Joint, is_stuck};
 
 /// What is asked of a state: what a role can be sure of within some turns.
@@ -152,6 +153,45 @@ pub fn worst_at<G: Game>(
     }
 }
 
+/// The value of one of many states, within a window.
+#[cycle(search)]
+fn child_at<G: Game>(
+    game: &G,
+    many: &G::Many,
+    place: usize,
+    asked: Asked,
+    a: i16,
+    b: i16,
+    wide: &mut G::Wide,
+    position: &mut G::Pos,
+    levels: &mut [Level<G::Pos, G::Many>],
+) -> i16
+    requires many { G.fits_many game.now many.now }
+    requires place { place < length (G.states game.now many.now) }
+    requires role { asked.role < (G.rules game.now).roles }
+    requires deep { asked.depth ≤ length levels.old }
+    requires wide { G.fits_wide game.now wide.old }
+    requires position { G.fits game.now position.old }
+    requires levels { All (IsLevelOf (G.fits game.now) (G.fits_many game.now) (G.rules game.now).roles) levels.old }
+    requires low { negsuc 1 ≤ℤ a }
+    requires order { a <ℤ b }
+    requires high { b ≤ℤ pos 101 }
+    ensures answers { Answers (value (G.rules game.now) asked.role asked.depth asked.at (get_or (G.states game.now many.now) place [])) a b result }
+    ensures wide { G.fits_wide game.now wide.new }
+    ensures wide_capacities { G.wide_capacities game.now wide.new ≡ G.wide_capacities game.now wide.old }
+    ensures position { G.fits game.now position.new }
+    ensures position_capacities { G.capacities game.now position.new ≡ G.capacities game.now position.old }
+    ensures levels { All (IsLevelOf (G.fits game.now) (G.fits_many game.now) (G.rules game.now).roles) levels.new }
+    ensures capacities { all_capacities (G.capacities game.now) (G.many_capacities game.now) levels.new
+        ≡ all_capacities (G.capacities game.now) (G.many_capacities game.now) levels.old }
+{
+    if let Some(worth) = told_worth(game, many, place, asked) {
+        return worth;
+    }
+    game.take(many, place, position);
+    value_at(game, position, asked, a, b, wide, levels)
+}
+
 /// The least value of some states, within a window.
 #[cycle(search)]
 fn least_at<G: Game>(
@@ -185,10 +225,13 @@ fn least_at<G: Game>(
     ensures capacities { all_capacities (G.capacities game.now) (G.many_capacities game.now) levels.new
         ≡ all_capacities (G.capacities game.now) (G.many_capacities game.now) levels.old }
 {
-    let mut upper = b;
+    let mut upper = least_told(game, many, count, asked, b);
+    if upper <= a {
+        return upper;
+    }
     for place in 0..count {
-        game.take(many, place, position);
-        upper = upper.min(value_at(game, position, asked, a, upper, wide, levels));
+        let worth = child_at(game, many, place, asked, a, upper, wide, position, levels);
+        upper = upper.min(worth);
         if upper <= a {
             return upper;
         }
@@ -299,10 +342,13 @@ fn greatest_at<G: Game>(
     ensures capacities { all_capacities (G.capacities game.now) (G.many_capacities game.now) levels.new
         ≡ all_capacities (G.capacities game.now) (G.many_capacities game.now) levels.old }
 {
-    let mut lower = a;
+    let mut lower = greatest_told(game, many, count, asked, a);
+    if lower >= b {
+        return lower;
+    }
     for child in 0..count {
-        game.take(many, child, position);
-        lower = lower.max(value_at(game, position, asked, lower, b, wide, levels));
+        let worth = child_at(game, many, child, asked, lower, b, wide, position, levels);
+        lower = lower.max(worth);
         if lower >= b {
             return lower;
         }

@@ -4,7 +4,7 @@ ghost use Rattle.std.specs.Prelude.{◌<◌, ◌<ℤ◌, ◌≤ℤ◌, pos, negs
 use crate::{Room, choice, choice_by_value, first_reply, reply_by_value, value_in};
 use game::AtBound::{Goal, Zero};
 use game::table::{Chosen, Table};
-use game::{Game, Joint};
+use game::{Game, Joint, Told};
 use smallvec::SmallVec;
 use std::alloc::{AllocError, Global};
 use std::sync::atomic::{AtomicUsize, Ordering};
@@ -101,6 +101,11 @@ impl<G: Game> Game for Counted<G> {
     fn take(&self, many: &G::Many, place: usize, q: &mut G::Pos) {
         self.steps.fetch_add(1, Ordering::SeqCst);
         self.inner.take(many, place, q);
+    }
+
+    /// Nothing, so that each state that is looked at is taken and counted.
+    fn told(&self, _many: &G::Many, _place: usize, _role: usize) -> Told {
+        Told::Nothing
     }
 
     ghost goal_within = { λ g. G.goal_within g.inner };

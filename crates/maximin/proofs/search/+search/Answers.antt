@@ -149,23 +149,23 @@ least_at-loop-place-preserved g t c =
     let here = worth (get_or states c.loop-place.place []) in
     let a = to_z w16 (of_z w16 c.args.a) in
     let b = to_z w16 (of_z w16 c.args.b) in
-    let r = c.value_at.result in
+    let r = c.child_at-worth.result in
     let upper = to_z w16 c.loop-place.upper-bits in
     let fits_r : SFits w16 r = search facts in
     let fits_m : SFits w16 c.min-upper.result = search facts in
     let lowered : to_z w16 (of_z w16 c.min-upper.result) ≡ int_min upper r =
     to_z-of_z w16 c.min-upper.result fits_m ∙ c.min-upper.ensures.value ∙ ap (λ z. int_min upper z) (to_z-of_z w16 r fits_r) in
-    let answers : Answers here a upper r = rw c.take.ensures.taken at c.value_at.ensures.answers in
+    let answers : Answers here a upper r = c.child_at-worth.ensures.answers in
     let part : all ≤ here = least_worth_below worth states c.loop-place.place (omega (arith, c.requires.count, c.loop-place-test.true)) in
     record {
-      position = c.take.ensures.fits;
-      levels = c.value_at.ensures.levels;
-      wide = c.value_at.ensures.wide;
-      position_capacities = c.take.ensures.capacities ∙ c.loop-place.invariant.position_capacities;
-      capacities = c.value_at.ensures.capacities ∙ c.loop-place.invariant.capacities;
-      wide_capacities = c.value_at.ensures.wide_capacities ∙ c.loop-place.invariant.wide_capacities;
+      position = c.child_at-worth.ensures.position;
+      levels = c.child_at-worth.ensures.levels;
+      wide = c.child_at-worth.ensures.wide;
+      position_capacities = c.child_at-worth.ensures.position_capacities ∙ c.loop-place.invariant.position_capacities;
+      capacities = c.child_at-worth.ensures.capacities ∙ c.loop-place.invariant.capacities;
+      wide_capacities = c.child_at-worth.ensures.wide_capacities ∙ c.loop-place.invariant.wide_capacities;
       deep = omega arith;
-      above = le_z_false _ a c.if-upper-a.false;
+      above = le_z_false _ a c.if-upper-a-2.false;
       below = rw lowered (lowered_below b upper r c.loop-place.invariant.below);
       at_least = rw lowered (lowered_least all here a b upper r part c.loop-place.invariant.at_least c.loop-place.invariant.below answers);
       seen = below_more _ _
@@ -178,22 +178,36 @@ least_at-returns-then-upper-a-clause-answers g t c =
     let rules = g.G.Game.rules c.args.game.now in
     let states = g.G.Game.states c.args.game.now c.args.many.now in
     let worth : List ℕ → ℕ = λ s. value rules c.args.asked.role c.args.asked.depth c.args.asked.at s in
+    let a = to_z w16 (of_z w16 c.args.a) in
+    let b = to_z w16 (of_z w16 c.args.b) in
+    let upper = c.least_told-upper.result in
+    let fits : SFits w16 upper = search facts in
+    let eu : to_z w16 (of_z w16 upper) ≡ upper = to_z-of_z w16 upper fits in
+    let ea : a ≡ c.args.a = to_z-of_z w16 c.args.a c.ranges.a in
+    let eb : b ≡ c.args.b = to_z-of_z w16 c.args.b c.ranges.b in
+    rw (← ea, ← eb, eu) (cut_below (least (map worth states)) a b upper (rw eu at (le_z_true _ a c.if-upper-a.true)) c.least_told-upper.ensures.at_least)
+
+pub least_at-returns-then-upper-a-2-clause-answers : goal.least_at-returns-then-upper-a-2-clause-answers
+least_at-returns-then-upper-a-2-clause-answers g t c =
+    let rules = g.G.Game.rules c.args.game.now in
+    let states = g.G.Game.states c.args.game.now c.args.many.now in
+    let worth : List ℕ → ℕ = λ s. value rules c.args.asked.role c.args.asked.depth c.args.asked.at s in
     let all = least (map worth states) in
     let here = worth (get_or states c.loop-place.place []) in
     let a = to_z w16 (of_z w16 c.args.a) in
     let b = to_z w16 (of_z w16 c.args.b) in
-    let r = c.value_at.result in
+    let r = c.child_at-worth.result in
     let upper = to_z w16 c.loop-place.upper-bits in
     let fits_r : SFits w16 r = search facts in
     let fits_m : SFits w16 c.min-upper.result = search facts in
     let lowered : to_z w16 (of_z w16 c.min-upper.result) ≡ int_min upper r =
     to_z-of_z w16 c.min-upper.result fits_m ∙ c.min-upper.ensures.value ∙ ap (λ z. int_min upper z) (to_z-of_z w16 r fits_r) in
-    let answers : Answers here a upper r = rw c.take.ensures.taken at c.value_at.ensures.answers in
+    let answers : Answers here a upper r = c.child_at-worth.ensures.answers in
     let part : all ≤ here = least_worth_below worth states c.loop-place.place (omega (arith, c.requires.count, c.loop-place-test.true)) in
     let low : int_min (pos all) b ≤ℤ int_min upper r = lowered_least all here a b upper r part c.loop-place.invariant.at_least c.loop-place.invariant.below answers in
     let ea : a ≡ c.args.a = to_z-of_z w16 c.args.a c.ranges.a in
     let eb : b ≡ c.args.b = to_z-of_z w16 c.args.b c.ranges.b in
-    rw (← ea, ← eb, lowered) (cut_below all a b (int_min upper r) (rw lowered at (le_z_true _ a c.if-upper-a.true)) low)
+    rw (← ea, ← eb, lowered) (cut_below all a b (int_min upper r) (rw lowered at (le_z_true _ a c.if-upper-a-2.true)) low)
 
 pub least_at-returns-clause-answers : goal.least_at-returns-clause-answers
 least_at-returns-clause-answers g t c =
@@ -399,24 +413,24 @@ greatest_at-loop-child-preserved g t c =
     let here = worth (get_or states c.loop-child.child []) in
     let a = to_z w16 (of_z w16 c.args.a) in
     let b = to_z w16 (of_z w16 c.args.b) in
-    let r = c.value_at.result in
+    let r = c.child_at-worth.result in
     let lower = to_z w16 c.loop-child.lower-bits in
     let fits_r : SFits w16 r = search facts in
     let fits_m : SFits w16 c.max-lower.result = search facts in
     let raised : to_z w16 (of_z w16 c.max-lower.result) ≡ int_max lower r =
     to_z-of_z w16 c.max-lower.result fits_m ∙ c.max-lower.ensures.value ∙ ap (λ z. int_max lower z) (to_z-of_z w16 r fits_r) in
-    let answers : Answers here lower b r = rw c.take.ensures.taken at c.value_at.ensures.answers in
+    let answers : Answers here lower b r = c.child_at-worth.ensures.answers in
     let part : here ≤ all = greatest_worth_above worth states c.loop-child.child (omega (arith, c.requires.count, c.loop-child-test.true)) in
     record {
-      position = c.take.ensures.fits;
-      levels = c.value_at.ensures.levels;
-      wide = c.value_at.ensures.wide;
-      position_capacities = c.take.ensures.capacities ∙ c.loop-child.invariant.position_capacities;
-      capacities = c.value_at.ensures.capacities ∙ c.loop-child.invariant.capacities;
-      wide_capacities = c.value_at.ensures.wide_capacities ∙ c.loop-child.invariant.wide_capacities;
+      position = c.child_at-worth.ensures.position;
+      levels = c.child_at-worth.ensures.levels;
+      wide = c.child_at-worth.ensures.wide;
+      position_capacities = c.child_at-worth.ensures.position_capacities ∙ c.loop-child.invariant.position_capacities;
+      capacities = c.child_at-worth.ensures.capacities ∙ c.loop-child.invariant.capacities;
+      wide_capacities = c.child_at-worth.ensures.wide_capacities ∙ c.loop-child.invariant.wide_capacities;
       deep = omega arith;
       above = rw raised (raised_above a lower r c.loop-child.invariant.above);
-      below = le_z_false b _ c.if-lower-b.false;
+      below = le_z_false b _ c.if-lower-b-2.false;
       at_most = rw raised (raised_most all here a b lower r part c.loop-child.invariant.at_most answers);
       seen = below_more _ _
           (λ k lt. rw raised (raised_seen (worth (get_or states k [])) b lower r (c.loop-child.invariant.seen k lt)))
@@ -428,22 +442,36 @@ greatest_at-returns-then-lower-b-clause-answers g t c =
     let rules = g.G.Game.rules c.args.game.now in
     let states = g.G.Game.states c.args.game.now c.args.many.now in
     let worth : List ℕ → ℕ = λ s. value rules c.args.asked.role c.args.asked.depth c.args.asked.at s in
+    let a = to_z w16 (of_z w16 c.args.a) in
+    let b = to_z w16 (of_z w16 c.args.b) in
+    let lower = c.greatest_told-lower.result in
+    let fits : SFits w16 lower = search facts in
+    let el : to_z w16 (of_z w16 lower) ≡ lower = to_z-of_z w16 lower fits in
+    let ea : a ≡ c.args.a = to_z-of_z w16 c.args.a c.ranges.a in
+    let eb : b ≡ c.args.b = to_z-of_z w16 c.args.b c.ranges.b in
+    rw (← ea, ← eb, el) (cut_above (greatest (map worth states)) a b lower (rw el at (le_z_true b _ c.if-lower-b.true)) c.greatest_told-lower.ensures.at_most)
+
+pub greatest_at-returns-then-lower-b-2-clause-answers : goal.greatest_at-returns-then-lower-b-2-clause-answers
+greatest_at-returns-then-lower-b-2-clause-answers g t c =
+    let rules = g.G.Game.rules c.args.game.now in
+    let states = g.G.Game.states c.args.game.now c.args.many.now in
+    let worth : List ℕ → ℕ = λ s. value rules c.args.asked.role c.args.asked.depth c.args.asked.at s in
     let all = greatest (map worth states) in
     let here = worth (get_or states c.loop-child.child []) in
     let a = to_z w16 (of_z w16 c.args.a) in
     let b = to_z w16 (of_z w16 c.args.b) in
-    let r = c.value_at.result in
+    let r = c.child_at-worth.result in
     let lower = to_z w16 c.loop-child.lower-bits in
     let fits_r : SFits w16 r = search facts in
     let fits_m : SFits w16 c.max-lower.result = search facts in
     let raised : to_z w16 (of_z w16 c.max-lower.result) ≡ int_max lower r =
     to_z-of_z w16 c.max-lower.result fits_m ∙ c.max-lower.ensures.value ∙ ap (λ z. int_max lower z) (to_z-of_z w16 r fits_r) in
-    let answers : Answers here lower b r = rw c.take.ensures.taken at c.value_at.ensures.answers in
+    let answers : Answers here lower b r = c.child_at-worth.ensures.answers in
     let part : here ≤ all = greatest_worth_above worth states c.loop-child.child (omega (arith, c.requires.count, c.loop-child-test.true)) in
     let most : int_max lower r ≤ℤ int_max (pos all) a = raised_most all here a b lower r part c.loop-child.invariant.at_most answers in
     let ea : a ≡ c.args.a = to_z-of_z w16 c.args.a c.ranges.a in
     let eb : b ≡ c.args.b = to_z-of_z w16 c.args.b c.ranges.b in
-    rw (← ea, ← eb, raised) (cut_above all a b (int_max lower r) (rw raised at (le_z_true b _ c.if-lower-b.true)) most)
+    rw (← ea, ← eb, raised) (cut_above all a b (int_max lower r) (rw raised at (le_z_true b _ c.if-lower-b-2.true)) most)
 
 pub greatest_at-returns-clause-answers : goal.greatest_at-returns-clause-answers
 greatest_at-returns-clause-answers g t c =

@@ -1,0 +1,11 @@
+-- What is told of a state before it is taken.
+use Rattle.std.specs.Prelude.{ℕ, ◌≡◌, ⊤, true, false}
+use Rattle.game.specs.declared.told.Told.{Told}
+use Rattle.game.specs.declared.told.Told.TheVariants.{Ended, Open, Nothing}
+use Rattle.game.specs.Rules.{Rules, State}
+
+-- what is told of the state, and of the role's goal value in it, is so
+abbrev pub IsTold : Rules → State → ℕ → Told → Type 0
+IsTold g s role (Ended v) = (g.ended s ≡ true) × (v ≡ g.goal s role)
+IsTold g s role Open = g.ended s ≡ false
+IsTold g s role Nothing = ⊤
