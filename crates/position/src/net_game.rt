@@ -12,9 +12,9 @@ use crate::net_plan::NetPlan;
 use crate::net_planning::make_net_plan;
 use crate::net_playing::{start_net_state, step_net_state};
 use crate::net_pos::NetPos;
-use crate::net_taking::net_take;
+use crate::net_taking::{net_take, net_told};
 use crate::rule_pos::{copy_roles, legal_at};
-use game::{Game, Joint};
+use game::{Game, Joint, Told};
 use ground::Ground;
 use propnet::Net;
 use std::alloc::{AllocError, Global};
@@ -142,6 +142,10 @@ impl Game for NetGame {
 
     fn take(&self, many: &NetMany, place: usize, q: &mut NetPos) {
         net_take(self, many, place, q);
+    }
+
+    fn told(&self, many: &NetMany, place: usize, role: usize) -> Told {
+        net_told(self, many, place, role)
     }
 
     ghost goal_within = { λ g s r. goal_at_most g.played s r };

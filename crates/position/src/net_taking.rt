@@ -3,9 +3,10 @@ ghost use Rattle.std.specs.Prelude.{◌≡◌, ◌<◌, ℕ, [], length, get_or,
 ghost use Rattle.ground.specs.Grounds.{texts_at};
 ghost use Rattle.ground.specs.GroundView.{inputs_of, kinds_of};
 ghost use Rattle.propnet.specs.Values.{lane};
-ghost use Rattle.position.specs.RuleState.{HasRoleRoom, IsRoleRead, HaveRoom, AreRead, role_capacities, all_capacities};
+ghost use Rattle.position.specs.RuleState.{HasRoleRoom, IsRoleRead, HaveRoom, AreRead, role_capacities, all_capacities, rules_of};
 ghost use Rattle.position.specs.NetState.{lane_state, kept_state, AreSpread, HasNetRoom, IsNetState, net_capacities};
 ghost use Rattle.position.specs.NetLanes.{holds_lane, lane_states, IsNetMany};
+ghost use Rattle.game.specs.Told.{IsTold};
 
 use crate::net_game::NetGame;
 use crate::net_listing::list_lane;
@@ -13,6 +14,7 @@ use crate::net_many::NetMany;
 use crate::net_pos::NetPos;
 use crate::net_words::{all_alike, lane_bit};
 use crate::rule_pos::RoleState;
+use game::Told;
 
 /// Writes the bit of each word in one lane to all lanes.
 fn put_taken(states: &[u64], k: usize, lanes: &mut [u64])
@@ -79,4 +81,17 @@ pub(crate) fn net_take(game: &NetGame, many: &NetMany, k: usize, q: &mut NetPos)
     take_lane(&many.states, k, &mut q.lanes);
     q.ended = lane_bit(many.ended, k) == 1;
     take_roles(game, many, k, &mut q.roles);
+}
+
+/// What is told of one of many states.
+pub(crate) fn net_told(game: &NetGame, many: &NetMany, k: usize, role: usize) -> Told
+    requires many { IsNetMany game.now.played many.now }
+    requires lane { k < length (lane_states game.now.played many.now) }
+    requires role { role < length (inputs_of game.now.played) }
+    ensures { IsTold (rules_of game.now.played) (get_or (lane_states game.now.played many.now) k []) role result }
+{
+    if lane_bit(many.ended, k) == 1 {
+        return Told::Ended(many.roles[role].goals[k]);
+    }
+    Told::Open
 }

@@ -6,7 +6,7 @@ use crate::plan::Plan;
 use crate::planning::make_plan;
 use crate::rule_many::{RuleMany, RuleWide, new_bases, step_each};
 use crate::rule_pos::{RulePos, copy_roles, legal_at, read_state, start_state, step_state};
-use game::{Game, Joint};
+use game::{Game, Joint, Told};
 use ground::Ground;
 use std::alloc::{AllocError, Global};
 
@@ -132,6 +132,11 @@ impl Game for RuleGame {
     fn take(&self, many: &RuleMany, place: usize, q: &mut RulePos) {
         q.base.copy_from_slice(&many.states[place].marks);
         read_state(self, q);
+    }
+
+    /// Nothing: what holds in a state is found when it is taken.
+    fn told(&self, _many: &RuleMany, _place: usize, _role: usize) -> Told {
+        Told::Nothing
     }
 
     ghost goal_within = { λ g s r. goal_at_most g.played s r };
