@@ -1,5 +1,5 @@
 // A game for tests, whose steps are watched.
-use game::{Game, Joint};
+use game::{Game, Joint, Told};
 use std::alloc::AllocError;
 
 /// What is told of each step before it is made.
@@ -101,6 +101,10 @@ impl<G: Game, W: Watch> Game for Watched<G, W> {
 
     fn take(&self, many: &G::Many, place: usize, q: &mut G::Pos) {
         self.inner.take(many, place, q);
+    }
+
+    fn told(&self, many: &G::Many, place: usize, role: usize) -> Told {
+        self.inner.told(many, place, role)
     }
 
     ghost goal_within = { λ g. G.goal_within g.inner };

@@ -2,7 +2,7 @@
 ghost use Rattle.std.specs.Prelude.{◌<ℤ◌, ◌≤ℤ◌, pos, negsuc, IfOk};
 
 use super::games::{FOUR, LIVE};
-use game::{AtBound, Game, Joint, replay};
+use game::{AtBound, Game, Joint, Told, replay};
 use ground::instantiate;
 use kif::read;
 use maximin::{Room, value_in};
@@ -104,6 +104,11 @@ impl<G: Game> Game for Counted<G> {
     fn take(&self, many: &G::Many, place: usize, q: &mut G::Pos) {
         self.steps.fetch_add(1, Ordering::SeqCst);
         self.inner.take(many, place, q);
+    }
+
+    /// Nothing, so that each state that is looked at is taken and counted.
+    fn told(&self, _many: &G::Many, _place: usize, _role: usize) -> Told {
+        Told::Nothing
     }
 
     ghost goal_within = { λ g. G.goal_within g.inner };
