@@ -137,6 +137,12 @@ pub trait Game: Sync {
         ensures wide_capacities { wide_capacities self.now w.new ≡ wide_capacities self.now w.old }
         ensures many_capacities { many_capacities self.now out.new ≡ many_capacities self.now out.old };
 
+    /// How many joint moves `steps` plays at about the cost of one. A search plays so many at a time before it knows whether it
+    /// needs them all.
+    fn abreast(&self) -> usize
+        ensures some { 0 < result }
+        ensures few { result ≤ 64 };
+
     /// Writes the state at a place of many to `q`.
     fn take(&self, many: &Self::Many, place: usize, q: &mut Self::Pos)
         requires many { fits_many self.now many.now }

@@ -156,6 +156,10 @@ impl Game for Table {
         out.count = joints.len();
     }
 
+    fn abreast(&self) -> usize {
+        1
+    }
+
     fn take(&self, many: &Cells, place: usize, q: &mut Chosen) {
         q.cell = many.cells[place];
     }

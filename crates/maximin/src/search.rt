@@ -121,7 +121,7 @@ pub fn worst_at<G: Game>(
     let level = &mut first[0];
     start_turns(game, from, asked.role, own, &mut level.cursor);
     let mut upper = b;
-    let mut most = 1;
+    let mut most = game.abreast();
     'runs: loop {
         let more = gather(
             game,
@@ -273,7 +273,7 @@ fn best_at<G: Game>(
     start_turns(game, from, asked.role, 0, &mut level.cursor);
     let mut best = a;
     let mut place = 0;
-    let mut most = 1;
+    let mut most = game.abreast();
     'runs: loop {
         gather_own(
             game,

@@ -98,6 +98,10 @@ impl<G: Game> Game for Counted<G> {
         self.inner.steps(p, joints, w, out);
     }
 
+    fn abreast(&self) -> usize {
+        self.inner.abreast()
+    }
+
     fn take(&self, many: &G::Many, place: usize, q: &mut G::Pos) {
         self.steps.fetch_add(1, Ordering::SeqCst);
         self.inner.take(many, place, q);

@@ -140,6 +140,11 @@ impl Game for NetGame {
         net_steps(self, p, joints, w, out);
     }
 
+    /// As many as there may be: a pass over a tape costs the same for one as for all.
+    fn abreast(&self) -> usize {
+        64
+    }
+
     fn take(&self, many: &NetMany, place: usize, q: &mut NetPos) {
         net_take(self, many, place, q);
     }

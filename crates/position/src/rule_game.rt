@@ -129,6 +129,11 @@ impl Game for RuleGame {
         out.count = joints.len();
     }
 
+    /// One: each joint move is played for itself.
+    fn abreast(&self) -> usize {
+        1
+    }
+
     fn take(&self, many: &RuleMany, place: usize, q: &mut RulePos) {
         q.base.copy_from_slice(&many.states[place].marks);
         read_state(self, q);

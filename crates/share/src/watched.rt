@@ -99,6 +99,10 @@ impl<G: Game, W: Watch> Game for Watched<G, W> {
         self.inner.steps(p, joints, w, out);
     }
 
+    fn abreast(&self) -> usize {
+        self.inner.abreast()
+    }
+
     fn take(&self, many: &G::Many, place: usize, q: &mut G::Pos) {
         self.inner.take(many, place, q);
     }

@@ -28,8 +28,7 @@ pub(crate) fn run_gates(gates: &[Gate], first: usize, room: &mut [u64])
     ensures values { (k l : ℕ) → k < 64 → is_lane_on room.new k l ≡ pass first gates.now (is_lane_on room.old k) l }
 {
     for i in 0..gates.len() {
-        let gate = gates[i];
-        let value = room[gate.a as usize] & room[gate.b as usize];
+        let value = room[gates[i].a as usize] & room[gates[i].b as usize];
         room[first + 2 * i] = value;
         room[first + 2 * i + 1] = complement(value);
     }
