@@ -1,6 +1,5 @@
 -- What each network of a ground has.
-use Rattle.std.proofs.Common.{◌≡◌, ℕ, ◌<◌, ◌≤◌, ◌*◌, length, get_or, List, [], ap, sym, ◌∙◌, arith}
-use Rattle.std.specs.Prelude.{◌==◌}
+use Rattle.std.proofs.Common.{◌≡◌, ℕ, ◌<◌, ◌≤◌, length, get_or, [], sym, ◌∙◌, arith}
 use Rattle.std.proofs.Math.Logic.{∥∥₁_elim}
 use Rattle.std.proofs.Props.{props}
 use Rattle.std.proofs.lemmas.Nat.Bits.{bit_at-lt}
@@ -8,16 +7,12 @@ use Rattle.ground.specs.declared.ground.Ground.{Ground}
 use Rattle.ground.specs.GroundView.{kinds_of}
 use Rattle.propnet.specs.declared.net.Net.{Net}
 use Rattle.propnet.specs.Builders.{IsNetOf}
-use Rattle.propnet.specs.Network.{HasValues}
 use Rattle.propnet.specs.Nets.{gates_of}
 use Rattle.propnet.specs.Values.{bit}
 use Rattle.propnet.proofs.BuildLemmas.{stands_below}
-use Rattle.game.specs.Rules.{Turn, IsTurn}
-use Rattle.position.specs.RulePlay.{no_turn}
-use Rattle.position.specs.RuleState.{rules_of}
-use Rattle.position.specs.NetState.{view_of, words_for, AreViewsBelow, TellNow, TellNext}
+use Rattle.position.specs.NetState.{AreViewsBelow}
 use Rattle.position.specs.GroundFacts.{fits}
-use Rattle.position.proofs.NetReads.{view_told, transition_told}
+use Rattle.position.proofs.NetReads.{view_told}
 
 module _ (g : Ground) (net : Net) (made : ∥ IsNetOf g net ∥₁) where
   pub base_count : net.base ≡ length g.starts.items
@@ -31,16 +26,3 @@ module _ (g : Ground) (net : Net) (made : ∥ IsNetOf g net ∥₁) where
 
   pub views_below : (n : ℕ) → length (gates_of net) ≤ n → AreViewsBelow (kinds_of g) net.views.items n
   views_below n few a lt shown = let below = (view_told g net made (bit []) (λ n. bit_at-lt _ _) a lt shown).below in omega arith
-
-  pub tells_now : (words bits : List ℕ) → HasValues (gates_of net) (bit words) no_turn (bit bits) → TellNow g net words bits
-  tells_now words bits values a lt shown =
-      let told = view_told g net made (bit words) (λ n. bit_at-lt _ _) a lt shown in
-      ap (λ (v : ℕ). v == 1) (values.values (view_of net.views.items a) told.below) ∙ told.told
-
-  pub tells_next : (words bits : List ℕ) (j : Turn) → IsTurn (rules_of g) j → HasValues (gates_of net) (bit words) j (bit bits) → TellNext g net words j bits
-  tells_next words bits j turn values p lt =
-      let told = transition_told g net made (bit words) (λ n. bit_at-lt _ _) j turn p lt in
-      ap (λ (v : ℕ). v == 1) (values.values (get_or net.transitions.items p 0) told.below) ∙ told.told
-
-pub room_enough : (n m : ℕ) → m ≡ words_for n → n ≤ 64 * m
-room_enough n m e = omega arith

@@ -1,5 +1,5 @@
 -- Many states of a game over a network, a word for each base proposition, and what is told of each.
-use Rattle.std.specs.Prelude.{ℕ, ◌≡◌, ◌<◌, ◌≤◌, ◌+◌, ◌==◌, Bool, List, [], ◌∷◌, length, map, filter, take, not, All, sum, get_or, slice_index, flat_map, vec_capacity}
+use Rattle.std.specs.Prelude.{ℕ, ◌≡◌, ◌<◌, ◌≤◌, ◌+◌, ◌++◌, ◌==◌, Bool, List, [], ◌∷◌, length, map, filter, take, not, All, sum, get_or, slice_index, flat_map, vec_capacity}
 use Rattle.std.specs.Int.{bit_at}
 use Rattle.std.specs.List.{range_with_len}
 use Rattle.smallvec.specs.SmallVec.{SmallVec}
@@ -13,11 +13,12 @@ use Rattle.tape.specs.Tapes.{slots_in}
 use Rattle.position.specs.declared.lane_plan.LanePlan.{LanePlan}
 use Rattle.position.specs.declared.net_many.NetWide.{NetWide}
 use Rattle.position.specs.declared.net_many.NetMany.{NetMany}
+use Rattle.position.specs.declared.net_pos.NetPos.{NetPos}
 use Rattle.position.specs.declared.net_many.RoleLanes.{RoleLanes}
 use Rattle.game.specs.Rules.{State}
 use Rattle.position.specs.RulePlay.{is_named, ends, best_goal}
-use Rattle.position.specs.RuleState.{holds_in, rules_of}
-use Rattle.position.specs.NetState.{is_lane_on, lane_state, view_of, Alike}
+use Rattle.position.specs.RuleState.{holds_in, rules_of, HaveRoom, AreRead, all_capacities}
+use Rattle.position.specs.NetState.{is_lane_on, lane_state, kept_state, view_of, Alike, AreSpread}
 use Rattle.position.specs.LanePlans.{places_of}
 
 -- the states that the words keep
@@ -94,3 +95,22 @@ all_lanes_capacities fs = flat_map lanes_capacities fs
 
 abbrev pub many_capacities : NetMany → List ℕ
 many_capacities m = vec_capacity m.states ∷ vec_capacity m.roles ∷ all_lanes_capacities m.roles.items
+
+-- there is room for a state of the game, and for the passes that lead to it
+pub record HasNetRoom (g : Ground) (net : Net) (plan : LanePlan) (p : NetPos) : Type 0 where
+  pub lanes : length p.lanes.items ≡ length g.starts.items
+  pub roles : HaveRoom (inputs_of g) p.roles.items
+  pub wide : HasWideRoom net plan p.wide
+  pub many : IsNetMany g p.many
+
+-- what is told of the state is so
+pub record IsNetState (g : Ground) (net : Net) (plan : LanePlan) (p : NetPos) : Type 0 where
+  pub room : HasNetRoom g net plan p
+  pub spread : AreSpread p.lanes.items
+  pub ended : p.ended ≡ ends (kinds_of g) (holds_in g (kept_state g p))
+  pub roles : AreRead (kinds_of g) (holds_in g (kept_state g p)) (inputs_of g) p.roles.items
+
+-- the capacities of what the state keeps
+abbrev pub net_capacities : NetPos → List ℕ
+net_capacities p =
+    vec_capacity p.lanes ∷ vec_capacity p.roles ∷ all_capacities p.roles.items ++ (wide_capacities p.wide ++ many_capacities p.many)

@@ -1,27 +1,20 @@
 -- What a state of a game over a network keeps.
-use Rattle.std.specs.Prelude.{ℕ, ◌≡◌, ◌<◌, ◌+◌, ◌/◌, ◌==◌, Bool, true, false, List, ◌∷◌, length, map, filter, get_or, unwrap_or, Option, None, vec_capacity}
+use Rattle.std.specs.Prelude.{ℕ, ◌≡◌, ◌<◌, ◌==◌, Bool, true, false, List, length, map, filter, get_or, unwrap_or, Option, None}
 use Rattle.std.specs.List.{range_with_len}
 use Rattle.ground.specs.declared.kind.Kind.{Kind}
 use Rattle.ground.specs.declared.kind.Kind.TheVariants.{Fixed, Now, Does, Next, Legal, Goal, Terminal, Other}
 use Rattle.ground.specs.declared.ground.Ground.{Ground}
-use Rattle.ground.specs.GroundView.{inputs_of, kinds_of, instances_of}
-use Rattle.propnet.specs.declared.net.Net.{Net}
-use Rattle.propnet.specs.Values.{bit, lane}
-use Rattle.propnet.specs.Nets.{gates_of}
-use Rattle.position.specs.declared.naming.Naming.TheVariants.{ByNext, ByLegal}
+use Rattle.ground.specs.GroundView.{inputs_of, kinds_of}
+use Rattle.propnet.specs.Values.{lane}
+use Rattle.position.specs.declared.naming.Naming.TheVariants.{ByLegal}
 use Rattle.position.specs.declared.plan.Sought.TheVariants.{Named, Goals, Ends}
 use Rattle.position.specs.declared.plan.Standing.{Standing}
 use Rattle.position.specs.declared.plan.RolePlan.{RolePlan}
 use Rattle.position.specs.declared.net_plan.NetPlan.{NetPlan}
 use Rattle.position.specs.declared.net_pos.NetPos.{NetPos}
-use Rattle.game.specs.Rules.{State, Turn}
-use Rattle.position.specs.RulePlay.{kind_at, holds, is_named, ends}
+use Rattle.game.specs.Rules.{State}
+use Rattle.position.specs.RulePlay.{kind_at}
 use Rattle.position.specs.Plans.{all_standing}
-use Rattle.position.specs.RuleState.{holds_in, HaveRoom, AreRead, all_capacities}
-
--- the bit with this number is 1
-abbrev pub is_on : List ℕ → ℕ → Bool
-is_on words n = bit words n == 1
 
 -- bit k of word n is 1
 abbrev pub is_lane_on : List ℕ → ℕ → ℕ → Bool
@@ -30,10 +23,6 @@ is_lane_on words k n = lane words k n == 1
 -- the state whose base propositions below n are 1
 abbrev pub told_state : (ℕ → ℕ) → ℕ → State
 told_state state n = filter (λ p. state p == 1) (range_with_len 0 n)
-
--- the state whose base propositions below n have bits
-abbrev pub state_bits : List ℕ → ℕ → State
-state_bits words n = told_state (bit words) n
 
 -- the state whose base propositions below n have bits in lane k
 abbrev pub lane_state : List ℕ → ℕ → ℕ → State
@@ -81,37 +70,6 @@ pub record IsNetPlanOf (g : Ground) (views : List (Option ℕ)) (plan : NetPlan)
   pub size : length plan.roles.items ≡ length (inputs_of g)
   pub roles : (r : ℕ) (d : RolePlan) → r < length (inputs_of g) → IsRoleNetPlanOf views (kinds_of g) r (get_or plan.roles.items r d)
 
--- as many words as hold so many bits, or one more
-abbrev pub words_for : ℕ → ℕ
-words_for n = n / 64 + 1
-
--- the bits of the nodes tell what is asked of the state that the words keep
-abbrev pub TellNow : Ground → Net → List ℕ → List ℕ → Type 0
-TellNow g net words bits = Alike (kinds_of g) (λ a. is_on bits (view_of net.views.items a)) (holds_in g (state_bits words (length g.starts.items)))
-
--- the bits of the transitions tell the state after the one that the words keep
-abbrev pub TellNext : Ground → Net → List ℕ → Turn → List ℕ → Type 0
-TellNext g net words j bits = (p : ℕ) → p < length g.starts.items
-    → is_on bits (get_or net.transitions.items p 0) ≡ is_named (kinds_of g) (holds (kinds_of g) (instances_of g) (state_bits words (length g.starts.items)) j) ByNext p
-
--- there is room for a state of the game
-pub record HasNetRoom (g : Ground) (net : Net) (p : NetPos) : Type 0 where
-  pub lanes : length p.lanes.items ≡ length g.starts.items
-  pub words : length p.words.items ≡ words_for (length g.starts.items)
-  pub bits : length p.bits.items ≡ words_for (length (gates_of net))
-  pub roles : HaveRoom (inputs_of g) p.roles.items
-
 -- the state that is kept
 abbrev pub kept_state : Ground → NetPos → State
 kept_state g p = lane_state p.lanes.items (length g.starts.items) 0
-
--- what is told of the state is so
-pub record IsNetState (g : Ground) (net : Net) (p : NetPos) : Type 0 where
-  pub room : HasNetRoom g net p
-  pub spread : AreSpread p.lanes.items
-  pub ended : p.ended ≡ ends (kinds_of g) (holds_in g (kept_state g p))
-  pub roles : AreRead (kinds_of g) (holds_in g (kept_state g p)) (inputs_of g) p.roles.items
-
--- the capacities of what the state keeps
-abbrev pub net_capacities : NetPos → List ℕ
-net_capacities p = vec_capacity p.lanes ∷ vec_capacity p.words ∷ vec_capacity p.bits ∷ vec_capacity p.roles ∷ all_capacities p.roles.items

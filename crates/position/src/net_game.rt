@@ -1,15 +1,12 @@
 // The game of a network.
 ghost use Rattle.std.specs.Prelude.{◌≡◌, IfOk};
 ghost use Rattle.propnet.specs.Builders.{IsNetOf};
-ghost use Rattle.position.specs.NetState.{IsNetPlanOf};
 ghost use Rattle.position.specs.LanePlans.{IsLanePlanOf};
 
 use crate::lane_plan::LanePlan;
 use crate::lane_planning::make_lane_plan;
 use crate::net_lanes::{net_steps, new_net_many, new_net_wide};
 use crate::net_many::{NetMany, NetWide};
-use crate::net_plan::NetPlan;
-use crate::net_planning::make_net_plan;
 use crate::net_playing::{start_net_state, step_net_state};
 use crate::net_pos::NetPos;
 use crate::net_taking::{net_take, net_told};
@@ -25,10 +22,8 @@ pub struct NetGame {
     pub(crate) alloc: Global,
     pub(crate) played: Ground,
     pub(crate) net: Net,
-    pub(crate) plan: NetPlan,
     pub(crate) lane_plan: LanePlan,
     pub ghost compiled: { ∥ IsNetOf played net ∥₁ },
-    pub ghost planned: { IsNetPlanOf played net.views.items plan },
     pub ghost laned: { IsLanePlanOf played net lane_plan },
 }
 
@@ -38,13 +33,11 @@ impl NetGame {
         requires { IsNetOf g n }
         ensures { IfOk result (λ game. game.played ≡ g) }
     {
-        let plan = make_net_plan(alloc, &g, &n)?;
         let lane_plan = make_lane_plan(alloc, &g, &n)?;
         Ok(NetGame {
             alloc,
             played: g,
             net: n,
-            plan,
             lane_plan,
         })
     }
@@ -54,8 +47,8 @@ impl Game for NetGame {
     ghost use Rattle.ground.specs.Grounds.{text_at, texts_at};
     ghost use Rattle.ground.specs.GroundView.{roles_of, inputs_of};
     ghost use Rattle.position.specs.RuleState.{rules_of};
-    ghost use Rattle.position.specs.NetState.{IsNetState, kept_state, net_capacities};
-    ghost use Rattle.position.specs.NetLanes.{HasWideRoom, IsNetMany, lane_states, wide_capacities as capacities_wide, many_capacities as capacities_many};
+    ghost use Rattle.position.specs.NetState.{kept_state};
+    ghost use Rattle.position.specs.NetLanes.{HasWideRoom, IsNetMany, IsNetState, net_capacities, lane_states, wide_capacities as capacities_wide, many_capacities as capacities_many};
     ghost use Rattle.position.specs.RuleLaws.{goal_at_most, few_moves_of, legal_below, legal_in_order, moves_in_order, roles_once};
 
     type Pos = NetPos;
@@ -70,7 +63,7 @@ impl Game for NetGame {
 
     ghost move_name = { λ g r m. text_at (texts_at (inputs_of g.played) r) m };
 
-    ghost fits = { λ g p. IsNetState g.played g.net p };
+    ghost fits = { λ g p. IsNetState g.played g.net g.lane_plan p };
 
     ghost state = { λ g p. kept_state g.played p };
 

@@ -3,8 +3,8 @@ ghost use Rattle.std.specs.Prelude.{◌≡◌, ◌<◌, ◌≤◌, All, length, 
 ghost use Rattle.ground.specs.GroundView.{inputs_of};
 ghost use Rattle.game.specs.Rules.{IsTurn};
 ghost use Rattle.position.specs.RuleState.{rules_of};
-ghost use Rattle.position.specs.NetState.{kept_state, AreSpread, IsNetState};
-ghost use Rattle.position.specs.NetLanes.{lane_states, AreAfter, HasLanesRoom, HaveLanesRoom, IsNetMany, HasWideRoom, wide_capacities, many_capacities};
+ghost use Rattle.position.specs.NetState.{kept_state, AreSpread};
+ghost use Rattle.position.specs.NetLanes.{lane_states, AreAfter, HasLanesRoom, HaveLanesRoom, IsNetMany, IsNetState, HasWideRoom, wide_capacities, many_capacities};
 
 use crate::net_game::NetGame;
 use crate::net_many::{NetMany, NetWide, RoleLanes};
@@ -40,7 +40,7 @@ fn step_lanes(
 }
 
 /// Writes what is told of so many states that the words keep.
-fn tell_lanes(game: &NetGame, count: usize, w: &mut NetWide, out: &mut NetMany)
+pub(crate) fn tell_lanes(game: &NetGame, count: usize, w: &mut NetWide, out: &mut NetMany)
     requires few { count ≤ 64 }
     requires wide { HasWideRoom game.now.net game.now.lane_plan w.old }
     requires states { length out.old.states.items ≡ length game.now.played.starts.items }
@@ -117,7 +117,7 @@ pub(crate) fn net_steps(
     w: &mut NetWide,
     out: &mut NetMany,
 )
-    requires from { IsNetState game.now.played game.now.net p.now }
+    requires from { IsNetState game.now.played game.now.net game.now.lane_plan p.now }
     requires some { 0 < length joints.now }
     requires few { length joints.now ≤ 64 }
     requires joints { All (λ j. IsTurn (rules_of game.now.played) j.items) joints.now }

@@ -1,5 +1,6 @@
 // A state of a game over a network, with what is told of it.
 
+use crate::net_many::{NetMany, NetWide};
 use crate::rule_pos::RoleState;
 
 /// A state, and what is told of it.
@@ -7,10 +8,10 @@ use crate::rule_pos::RoleState;
 pub struct NetPos {
     /// Word p: whether base proposition p holds, the same in all bits.
     pub(crate) lanes: Vec<u64>,
-    /// A bit for each base proposition, to be written over.
-    pub(crate) words: Vec<u64>,
-    /// A bit for each node, to be written over.
-    pub(crate) bits: Vec<u64>,
     pub(crate) roles: Vec<RoleState>,
     pub(crate) ended: bool,
+    /// Room for the passes that lead to the state, to be written over.
+    pub(crate) wide: NetWide,
+    /// Room for what they tell, to be written over.
+    pub(crate) many: NetMany,
 }

@@ -4,8 +4,9 @@ ghost use Rattle.ground.specs.Grounds.{texts_at};
 ghost use Rattle.ground.specs.GroundView.{inputs_of, kinds_of};
 ghost use Rattle.propnet.specs.Values.{lane};
 ghost use Rattle.position.specs.RuleState.{HasRoleRoom, IsRoleRead, HaveRoom, AreRead, role_capacities, all_capacities, rules_of};
-ghost use Rattle.position.specs.NetState.{lane_state, kept_state, AreSpread, HasNetRoom, IsNetState, net_capacities};
-ghost use Rattle.position.specs.NetLanes.{holds_lane, lane_states, IsNetMany};
+ghost use Rattle.position.specs.NetState.{lane_state, kept_state, AreSpread};
+ghost use Rattle.position.specs.NetLanes.{holds_lane, lane_states, IsNetMany, HasNetRoom, IsNetState, net_capacities};
+ghost use Rattle.position.specs.RulePlay.{ends};
 ghost use Rattle.game.specs.Told.{IsTold};
 
 use crate::net_game::NetGame;
@@ -69,18 +70,43 @@ fn take_roles(game: &NetGame, many: &NetMany, k: usize, roles: &mut Vec<RoleStat
     }
 }
 
+/// Writes one of many states and what is told of each role in it, and answers whether the game has ended there.
+pub(crate) fn take_told(
+    game: &NetGame,
+    many: &NetMany,
+    k: usize,
+    lanes: &mut Vec<u64>,
+    roles: &mut Vec<RoleState>,
+) -> bool
+    requires many { IsNetMany game.now.played many.now }
+    requires lane { k < length (lane_states game.now.played many.now) }
+    requires lanes { length lanes.old.items ≡ length game.now.played.starts.items }
+    requires roles { HaveRoom (inputs_of game.now.played) roles.old.items }
+    ensures spread { AreSpread lanes.new.items }
+    ensures taken { lane_state lanes.new.items (length game.now.played.starts.items) 0 ≡ get_or (lane_states game.now.played many.now) k [] }
+    ensures size { length lanes.new.items ≡ length lanes.old.items }
+    ensures capacity { vec_capacity lanes.new ≡ vec_capacity lanes.old }
+    ensures ended { result ≡ ends (kinds_of game.now.played) (holds_lane game.now.played lanes.new.items 0) }
+    ensures read { AreRead (kinds_of game.now.played) (holds_lane game.now.played lanes.new.items 0) (inputs_of game.now.played) roles.new.items }
+    ensures room { HaveRoom (inputs_of game.now.played) roles.new.items }
+    ensures roles_capacities { all_capacities roles.new.items ≡ all_capacities roles.old.items }
+    ensures roles_capacity { vec_capacity roles.new ≡ vec_capacity roles.old }
+{
+    take_lane(&many.states, k, lanes);
+    take_roles(game, many, k, roles);
+    lane_bit(many.ended, k) == 1
+}
+
 /// Writes one of many states, and what is told of it.
 pub(crate) fn net_take(game: &NetGame, many: &NetMany, k: usize, q: &mut NetPos)
     requires many { IsNetMany game.now.played many.now }
     requires lane { k < length (lane_states game.now.played many.now) }
-    requires to { HasNetRoom game.now.played game.now.net q.old }
-    ensures state { IsNetState game.now.played game.now.net q.new }
+    requires to { HasNetRoom game.now.played game.now.net game.now.lane_plan q.old }
+    ensures state { IsNetState game.now.played game.now.net game.now.lane_plan q.new }
     ensures taken { kept_state game.now.played q.new ≡ get_or (lane_states game.now.played many.now) k [] }
     ensures capacities { net_capacities q.new ≡ net_capacities q.old }
 {
-    take_lane(&many.states, k, &mut q.lanes);
-    q.ended = lane_bit(many.ended, k) == 1;
-    take_roles(game, many, k, &mut q.roles);
+    q.ended = take_told(game, many, k, &mut q.lanes, &mut q.roles);
 }
 
 /// What is told of one of many states.

@@ -1,16 +1,14 @@
-// What is told of a state by the kinds of the atoms that hold, or whose nodes are 1.
+// What is told of a state by the kinds of the atoms that hold.
 ghost use Rattle.std.specs.Prelude.{◌≡◌, ◌<◌, ◌≤◌, ◌+◌, ◌*◌, ◌^◌, ◌&&◌, ◌||◌, ◌++◌, [], ◌∷◌, ℕ, Bool, All, false, length, max, take, slice_index_or, vec_capacity, if◌then◌else◌};
 ghost use Rattle.position.specs.RulePlay.{AreMarks, marked, number_named, names, goal_value, is_terminal};
 ghost use Rattle.position.specs.Plans.{names_among, goal_among, ends_among};
-ghost use Rattle.position.specs.NetState.{is_on};
 
 use crate::evaluation::put_mark;
 use crate::naming::Naming;
 use crate::plan::Standing;
 use ground::Kind;
-use propnet::get_bit;
 
-/// What holds, by the numbers of atoms or of the nodes that tell of them.
+/// What holds, by the numbers of atoms.
 pub(crate) trait Marks {
     /// The numbers below this one have a mark.
     ghost bound: { Self → ℕ };
@@ -32,17 +30,6 @@ impl Marks for Vec<bool> {
 
     fn is_marked(&self, number: u32) -> bool {
         self[number as usize]
-    }
-}
-
-/// A bit for each number: bit `n % 64` of word `n / 64`.
-impl Marks for Vec<u64> {
-    ghost bound = { λ bits. 64 * length bits.items };
-
-    ghost marks = { λ bits n. is_on bits.items n };
-
-    fn is_marked(&self, number: u32) -> bool {
-        get_bit(self, number as usize) == 1
     }
 }
 

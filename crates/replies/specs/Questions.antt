@@ -2,7 +2,8 @@
 use Rattle.std.specs.Prelude.{ℕ, ◌<◌, Result, Ok, Err}
 use Rattle.game.specs.NamedRules.{NamedRules}
 use Rattle.game.specs.Rules.{State}
-use Rattle.position.specs.NetState.{IsNetState, kept_state}
+use Rattle.position.specs.NetState.{kept_state}
+use Rattle.position.specs.NetLanes.{IsNetState}
 use Rattle.position.specs.RulePlay.{marked}
 use Rattle.position.specs.RuleState.{IsStateOf, named_rules_of}
 use Rattle.position.specs.declared.net_game.NetGame.{NetGame}
@@ -41,7 +42,7 @@ IsAskedOf made_for game_of state_of is (asked.Open s) = IsSearchOf made_for game
 
 -- when a position was made for a game, and the state that it keeps
 abbrev pub net_fits : NetGame → NetPos → Type 0
-net_fits g p = IsNetState g.played g.net p
+net_fits g p = IsNetState g.played g.net g.lane_plan p
 
 abbrev pub net_state : NetGame → NetPos → State
 net_state g p = kept_state g.played p

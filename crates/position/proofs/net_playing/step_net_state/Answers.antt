@@ -1,33 +1,20 @@
-use Rattle.std.proofs.Common.{◌≡◌, ◌<◌, ℕ, List, length, get_or, ap, subst, ◌∙◌, arith}
-use Rattle.ground.specs.GroundView.{kinds_of, instances_of}
-use Rattle.position.specs.declared.naming.Naming.TheVariants.{ByNext}
+use Rattle.std.proofs.Common.{◌≡◌, ℕ, List, [], ◌∷◌, length, get_or, ap, sym, ◌∙◌, arith}
+use Rattle.std.specs.Prelude.{map}
+use Rattle.smallvec.specs.SmallVec.{SmallVec}
 use Rattle.game.specs.Rules.{State}
-use Rattle.position.specs.RulePlay.{holds, is_named}
 use Rattle.position.specs.RuleState.{rules_of}
-use Rattle.position.specs.NetState.{is_on, state_bits, lane_state, kept_state, TellNext}
-use Rattle.position.proofs.Marks.{filters_agree}
+use Rattle.position.specs.NetState.{lane_state, kept_state}
+use Rattle.position.specs.NetLanes.{lane_states}
+use Rattle.position.proofs.Lanes.{states_count, state_at}
 use Rattle.position.proofs.net_playing.step_net_state.Goals as goal
 
 pub returns-clause-after : goal.returns-clause-after
 returns-clause-after c =
-    let game = c.args.game.now in
-    let g = game.played in
+    let g = c.args.game.now.played in
     let n = length g.starts.items in
-    let j = c.args.joint.now.items in
-    let words = c.write_first.new.words.items in
-    let from = c.args.p.now.lanes.items in
-    let then = holds (kinds_of g) (instances_of g) (state_bits words n) j in
-    let size : length c.deref.result.now ≡ n = ap length c.deref.ensures.value ∙ c.requires.from.lanes in
-    let written : state_bits words n ≡ lane_state c.deref.result.now n 0 =
-    subst (λ (m : ℕ). state_bits words m ≡ lane_state c.deref.result.now m 0) size c.write_first.ensures.told in
-    let kept : state_bits words n ≡ kept_state g c.args.p.now = written ∙ ap (λ (ws : List ℕ). lane_state ws n 0) c.deref.ensures.value in
-    let told : TellNext g game.net words j c.eval_after.new.bits.items =
-    subst (λ (ws : List ℕ). TellNext g game.net ws j c.eval_after.new.bits.items) c.deref-2.ensures.value c.eval_after.ensures.told in
-    c.read_net_state.ensures.kept
-    ∙ filters_agree (is_on c.write_next.new.words.items) (is_named (kinds_of g) then ByNext) 0 n
-    (λ p from to.
-    let lt : p < n = omega arith in
-    c.write_next.ensures.told p lt
-    ∙ ap (λ (bs : List ℕ). is_on bs (get_or game.net.transitions.items p 0)) c.deref-3.ensures.value
-    ∙ told p lt)
-    ∙ ap (λ (s : State). (rules_of g).after s j) kept
+    let m = c.net_steps.new.out in
+    let after : SmallVec ℕ → State = λ j. (rules_of g).after (kept_state g c.args.p.now) j.items in
+    let one : lane_states g m ≡ after c.args.joint.now ∷ [] = c.net_steps.ensures.after ∙ ap (map after) c.from_ref.ensures.value in
+    let size : length (lane_states g m) ≡ m.count = states_count (lane_state m.states.items n) m.count in
+    let count : m.count ≡ 1 = sym size ∙ ap (λ (ss : List State). length ss) one in
+    c.take_first.ensures.taken ∙ sym (state_at (lane_state m.states.items n) m.count 0 (omega (arith, count))) ∙ ap (λ (ss : List State). get_or ss 0 []) one

@@ -19,8 +19,8 @@ returns-clause-fits c =
     record {
       room = record {
         lanes = ap length same ∙ c.requires.from.room.lanes;
-        words = c.requires.to.room.words;
-        bits = c.requires.to.room.bits;
+        wide = c.requires.to.room.wide;
+        many = c.requires.to.room.many;
         roles = copied_room (inputs_of g) from old new c.requires.from.room.roles c.requires.to.room.roles c.copy_roles.ensures.size copied;
       };
       spread = subst AreSpread (sym same) c.requires.from.spread;
