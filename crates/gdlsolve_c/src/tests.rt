@@ -3,8 +3,16 @@ use crate::gdlsolve_reply;
 use std::alloc::{AllocError, Global};
 
 /// Two roles choose at once. The first wins where they choose the same, and the second where they do not.
-const MATCH: &[u8] =
-    b"(role a)(role b)(base done)(base same)(input a h)(input a t)(input b h)(input b t)(<= (legal ?r ?m) (input ?r ?m) (not (true done)))(<= (next done) (does a ?m))(<= (next same) (does a ?m) (does b ?m))(<= terminal (true done))(<= (goal a 100) (true same))(<= (goal a 0) (not (true same)))(<= (goal b 0) (true same))(<= (goal b 100) (not (true same)))";
+const MATCH: &[u8] = b"(role a)(role b)(base done)(base same)
+(input a h)(input a t)(input b h)(input b t)
+(<= (legal ?r ?m) (input ?r ?m) (not (true done)))
+(<= (next done) (does a ?m))
+(<= (next same) (does a ?m) (does b ?m))
+(<= terminal (true done))
+(<= (goal a 100) (true same))
+(<= (goal a 0) (not (true same)))
+(<= (goal b 0) (true same))
+(<= (goal b 100) (not (true same)))";
 
 /// The words of a command, the rules, the bytes that are told, and the status.
 type Row<'a> = (&'a [u8], &'a [u8], &'a [u8], u32);
