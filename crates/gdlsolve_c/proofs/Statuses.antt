@@ -1,0 +1,36 @@
+-- What each status says of what was told.
+use Rattle.std.proofs.Common.{ℕ, ◌≡◌, List, refl, arith, subst}
+use Rattle.replies.specs.declared.command.Command.{Command}
+use Rattle.replies.specs.declared.command.Status.{Status}
+use Rattle.replies.specs.declared.command.Status.TheVariants.{Answer, Refused}
+use Rattle.replies.specs.Replies.{IsReply}
+use Rattle.gdlsolve_c.specs.declared.told.Told.{Told}
+use Rattle.gdlsolve_c.specs.declared.told.Told.TheVariants.{Reply, Words}
+use Rattle.gdlsolve_c.specs.Calls.{Fills, Replied}
+use Rattle.gdlsolve_c.specs.Telling.{bytes_of, reply_status, status_of, IsTold}
+
+is_answer : (s : Status) → reply_status s ≡ 0 → s ≡ Answer
+is_answer Answer e = refl
+is_answer Refused e = absurd (omega arith)
+
+is_refusal : (s : Status) → reply_status s ≡ 2 → s ≡ Refused
+is_refusal Answer e = absurd (omega arith)
+is_refusal Refused e = refl
+
+replied : (s t : Status) (command : Command) (rules bytes old new : List ℕ) (size : ℕ) → s ≡ t
+    → IsReply command rules (record { output = bytes; status = s }) → Fills old new size bytes → Replied t rules old new size
+replied s t command rules bytes old new size e h f =
+    let P : Status → Type 0 = λ x. IsReply command rules (record { output = bytes; status = x }) in
+    (command, bytes, subst P e h, f)
+
+pub answer_told : (told : Told) (rules old new : List ℕ) (size : ℕ) → IsTold rules told → Fills old new size (bytes_of told)
+    → status_of told ≡ 0 → Replied Answer rules old new size
+answer_told (Reply reply) rules old new size h f e =
+    replied reply.status Answer h.0 rules reply.output.items old new size (is_answer reply.status e) h.1 f
+answer_told (Words text) rules old new size h f e = absurd (omega arith)
+
+pub refusal_told : (told : Told) (rules old new : List ℕ) (size : ℕ) → IsTold rules told → Fills old new size (bytes_of told)
+    → status_of told ≡ 2 → Replied Refused rules old new size
+refusal_told (Reply reply) rules old new size h f e =
+    replied reply.status Refused h.0 rules reply.output.items old new size (is_refusal reply.status e) h.1 f
+refusal_told (Words text) rules old new size h f e = absurd (omega arith)

@@ -1,0 +1,18 @@
+-- What a call leaves in the caller's memory.
+use Rattle.std.specs.Prelude.{ℕ, ◌≡◌, List, ◌++◌, length, take, drop}
+use Rattle.replies.specs.declared.command.Command.{Command}
+use Rattle.replies.specs.declared.command.Status.{Status}
+use Rattle.replies.specs.Replies.{IsReply}
+
+-- a room with the bytes at its front, as many as it has place for, and behind them what stood there
+abbrev pub filled : List ℕ → List ℕ → List ℕ
+filled room bytes = take (length room) bytes ++ drop (length bytes) room
+
+-- the room is filled with the bytes, and the size is theirs
+abbrev pub Fills : List ℕ → List ℕ → ℕ → List ℕ → Type 0
+Fills old new size bytes = (new ≡ filled old bytes) × (size ≡ length bytes)
+
+-- some command has the reply of this status over the rules, and the room is filled with it
+abbrev pub Replied : Status → List ℕ → List ℕ → List ℕ → ℕ → Type 0
+Replied status rules old new size =
+    (command : Command) × (bytes : List ℕ) × IsReply command rules (record { output = bytes; status = status }) × Fills old new size bytes

@@ -1,0 +1,42 @@
+-- What a caller is told of a request, and by which status.
+use Rattle.std.specs.Prelude.{ℕ, List}
+use Rattle.replies.specs.declared.command.Command.{Command}
+use Rattle.replies.specs.declared.command.Status.{Status}
+use Rattle.replies.specs.declared.command.Status.TheVariants.{Answer, Refused}
+use Rattle.replies.specs.declared.grammar.Request.{Request}
+use Rattle.replies.specs.declared.grammar.Request.TheVariants.{Run, Help, Misuse, Misread}
+use Rattle.replies.specs.Questions.{reply_of}
+use Rattle.replies.specs.Replies.{IsReply}
+use Rattle.gdlsolve_c.specs.declared.told.Told.{Told}
+use Rattle.gdlsolve_c.specs.declared.told.Told.TheVariants.{Reply, Words}
+
+-- the bytes that are told
+abbrev pub bytes_of : Told → List ℕ
+bytes_of (Reply reply) = reply.output.items
+bytes_of (Words text) = text.items
+
+-- 0 for an answer, 2 for a refusal
+abbrev pub reply_status : Status → ℕ
+reply_status Answer = 0
+reply_status Refused = 2
+
+-- the status of a reply, and 1 where there is none
+abbrev pub status_of : Told → ℕ
+status_of (Reply reply) = reply_status reply.status
+status_of (Words text) = 1
+
+-- a reply is that to some command over the rules
+abbrev pub IsTold : List ℕ → Told → Type 0
+IsTold rules (Reply reply) = (command : Command) × IsReply command rules (reply_of reply)
+IsTold rules (Words text) = Unit
+
+-- of a command its reply is told, and of any other request a text
+abbrev pub IsToldOf : Request → List ℕ → Told → Type 0
+IsToldOf (Run command) rules (Reply reply) = IsReply command rules (reply_of reply)
+IsToldOf (Run command) rules (Words text) = ⊥
+IsToldOf (Help help) rules (Reply reply) = ⊥
+IsToldOf (Help help) rules (Words text) = Unit
+IsToldOf (Misuse fault) rules (Reply reply) = ⊥
+IsToldOf (Misuse fault) rules (Words text) = Unit
+IsToldOf (Misread line) rules (Reply reply) = ⊥
+IsToldOf (Misread line) rules (Words text) = Unit

@@ -1,0 +1,89 @@
+// What a caller is told: the reply to a command, or what is said of words that make none.
+ghost use Rattle.std.specs.Prelude.{◌≡◌, IfOk};
+ghost use Rattle.gdlsolve_c.specs.Telling.{IsToldOf, IsTold, bytes_of, status_of};
+
+use replies::{Player, Reply, Request, Status, reply_alone, request_of};
+use std::alloc::{AllocError, Global};
+
+/// The status of a reply that answers a command.
+const ANSWERED: u32 = 0;
+
+/// The status of words that make no command.
+const MISUSED: u32 = 1;
+
+/// The status of a reply that is a refusal.
+const REFUSED: u32 = 2;
+
+/// What a caller is told.
+#[derive(Drop)]
+pub(crate) enum Told {
+    /// The reply to a command.
+    Reply(Reply),
+    /// A text for people, since the words make no command: what is wrong with them, or the help or the version that they ask for.
+    Words(Vec<u8>),
+}
+
+impl Told {
+    /// All the bytes that are told.
+    pub(crate) fn bytes(&self) -> &[u8]
+        ensures { result.now ≡ bytes_of self.now }
+    {
+        match self {
+            Told::Reply(reply) => &reply.output,
+            Told::Words(text) => text,
+        }
+    }
+
+    /// The status that stands for its kind.
+    pub(crate) fn status(&self) -> u32
+        ensures { result ≡ status_of self.now }
+    {
+        match self {
+            Told::Reply(reply) => match reply.status {
+                Status::Answer => ANSWERED,
+                Status::Refused => REFUSED,
+            },
+            Told::Words(_) => MISUSED,
+        }
+    }
+}
+
+/// What is told where a request stands for the words: of a command its reply over the rules.
+fn tell_of(alloc: Global, request: &Request, rules: &[u8]) -> Result<Told, AllocError>
+    ensures { IfOk result (IsToldOf request.now rules.now) }
+{
+    match request {
+        Request::Run(command) => {
+            let reply = reply_alone(&((), alloc), Player::Network, command, rules)?;
+            Ok(Told::Reply(reply))
+        }
+        Request::Help(text) | Request::Misuse(text) => {
+            let text = format!(in alloc; "{text}")?;
+            Ok(Told::Words(text.into_bytes()))
+        }
+        Request::Misread(line) => {
+            let text = format!(in alloc; "{line}\n")?;
+            Ok(Told::Words(text.into_bytes()))
+        }
+    }
+}
+
+/// The words of a text in which a byte 0 stands behind each. Behind the last it may be missing.
+fn words_of<'a>(alloc: Global, text: &'a str) -> Result<Vec<&'a str>, AllocError> {
+    text.split_terminator('\0').collect(alloc)
+}
+
+/// What is told of words and rules. It fails only for want of memory.
+pub(crate) fn tell(alloc: Global, words: &[u8], rules: &[u8]) -> Result<Told, AllocError>
+    ensures { IfOk result (IsTold rules.now) }
+{
+    let Ok(text) = str::from_utf8(words) else {
+        let text = format!(in alloc; "a word is no UTF-8\n")?;
+        return Ok(Told::Words(text.into_bytes()));
+    };
+    let list = words_of(alloc, text)?;
+    let Ok(request) = request_of(alloc, &list) else {
+        return Err(AllocError);
+    };
+    tell_of(alloc, &request, rules)
+}

@@ -1,0 +1,50 @@
+/* The library of gdlsolve for C and for what calls C: one call, which answers a command over the rules of a game.
+ *
+ * docs/EMBEDDING.md says how the library is built and what is proved of the call; docs/USAGE.md tells the commands and their replies.
+ */
+#ifndef GDLSOLVE_H
+#define GDLSOLVE_H
+
+#include <stddef.h>
+#include <stdint.h>
+
+#ifdef __cplusplus
+extern "C" {
+#endif
+
+/* What a call answers. */
+enum gdlsolve_status {
+    /* The reply is the answer to the command, as the program writes it. */
+    GDLSOLVE_ANSWER = 0,
+    /* The words make no command. The reply is a text for people: what is wrong with them, or the help or the version that they ask
+     * for. The rules were not looked at. */
+    GDLSOLVE_MISUSE = 1,
+    /* The reply is the one line of a refusal, as the program writes it: the first fault of the rules, the role or the history. */
+    GDLSOLVE_REFUSED = 2,
+    /* Want of memory. There is no reply, and its size is 0. */
+    GDLSOLVE_NO_MEMORY = 3
+};
+
+/* Answers the command that the words make, over the rules, and gives a gdlsolve_status.
+ *
+ * words, words_size: the words of the program behind its name, in UTF-8, each with a byte 0 behind it; so the words of
+ *     "gdlsolve moves --after '(h t)'" are "moves\0--after\0(h t)\0", which are 20 bytes.
+ * rules, rules_size: the bytes that the program would read.
+ * room, room_size: where the reply goes. It gets as many bytes of the reply as it has place for, with no byte 0 behind them; what is
+ *     behind them stays as it was.
+ * size: where the size of the whole reply goes, in bytes. Where it is more than room_size, the same call with that much room gives
+ *     all of it.
+ *
+ * No pointer may be null, also where its size is 0, and neither the room nor the size may lie over anything else that is passed.
+ *
+ * The calling thread does all the work, however many threads the word behind --cut names; the reply does not depend on them. Nothing
+ * is kept from one call to the next, and several threads may call at once. Memory is taken by malloc and given back before the call
+ * returns. Do not call it from a signal handler, nor in the child of a fork of a process with threads. */
+uint32_t gdlsolve_reply(const char *words, size_t words_size, const char *rules, size_t rules_size, char *room, size_t room_size,
+                        size_t *size);
+
+#ifdef __cplusplus
+}
+#endif
+
+#endif

@@ -1,0 +1,35 @@
+"""Games in the Game Description Language: reads their rules, refuses broken ones by name, lists legal moves and computes best play.
+
+Each function is one call of the proved library of gdlsolve, which the calling thread does. Rules are bytes, or a text that is taken in
+UTF-8. A history is the text of its turns, or a sequence of turns, each of which is a sequence of one move for each role.
+
+A refusal of the rules, the role or the history is raised as `Refusal`, arguments that make no command as `Misuse`, and want of memory
+as `MemoryError`.
+
+>>> position = gdlsolve.moves(Path("games/matching_pennies.kif").read_bytes(), after=[("h", "t")])
+>>> position.goals
+{'a': 0, 'b': 100}
+"""
+from gdlsolve.calls import Misuse, Refusal, Reply, Status, reply
+from gdlsolve.commands import Bound, History, check, moves, net, show, solve
+from gdlsolve.replies import Description, Network, Position, Solution, State
+
+__all__ = [
+    "Bound",
+    "Description",
+    "History",
+    "Misuse",
+    "Network",
+    "Position",
+    "Refusal",
+    "Reply",
+    "Solution",
+    "State",
+    "Status",
+    "check",
+    "moves",
+    "net",
+    "reply",
+    "show",
+    "solve",
+]

@@ -1,0 +1,82 @@
+"""What answers say, as values."""
+from dataclasses import dataclass
+from enum import Enum
+
+from gdlsolve.terms import terms
+
+
+@dataclass(frozen=True)
+class Description:
+    """What rules have: how many items, alternatives and relations, and their roles in the order of a turn."""
+
+    items: int
+    alternatives: int
+    relations: int
+    roles: tuple[str, ...]
+
+    @classmethod
+    def of(cls, lines: list[str]) -> "Description":
+        """The description that the lines of `check` tell."""
+        told = {word: rest for word, *rest in map(terms, lines)}
+        return cls(int(told["items"][0]), int(told["alternatives"][0]), int(told["relations"][0]), tuple(told["roles"]))
+
+
+@dataclass(frozen=True)
+class Network:
+    """How large the network is that play goes over: base propositions, inputs, kept instances, heads without effect, and nodes."""
+
+    base: int
+    inputs: int
+    instances: int
+    dropped: int
+    nodes: int
+
+    @classmethod
+    def of(cls, lines: list[str]) -> "Network":
+        """The network that the lines of `net` tell."""
+        return cls(**{word: int(count) for word, count in map(terms, lines)})
+
+
+class State(Enum):
+    """How play stands: it goes on, it has ended, or it goes on and some role has no legal move."""
+
+    OPEN = "open"
+    ENDED = "ended"
+    STUCK = "stuck"
+
+
+@dataclass(frozen=True)
+class Position:
+    """How play stands after a history, with the goal of each role where it has ended, and else the legal moves of each role that has
+    any, in printed order. The roles stand in the order of a turn."""
+
+    state: State
+    goals: dict[str, int]
+    legal: dict[str, tuple[str, ...]]
+
+    @classmethod
+    def of(cls, lines: list[str]) -> "Position":
+        """The position that the lines of `moves` tell."""
+        (_, state), *rest = map(terms, lines)
+        goals = {role: int(goal) for word, role, goal in rest if word == "goal"}
+        legal: dict[str, tuple[str, ...]] = {}
+        for word, role, move in rest:
+            if word == "legal":
+                legal[role] = legal.get(role, ()) + (move,)
+        return cls(State(state), goals, legal)
+
+
+@dataclass(frozen=True)
+class Solution:
+    """What a role can be sure of, from 0 to 100; the first move in printed order that makes sure of it, or `None` where play is over,
+    stuck or not looked at; and the turns of best play, each with a move of each role."""
+
+    value: int
+    move: str | None
+    line: tuple[tuple[str, ...], ...]
+
+    @classmethod
+    def of(cls, lines: list[str]) -> "Solution":
+        """The solution that the lines of `solve` tell. A move may have the name `none`: there is none where there is no turn."""
+        (_, value), (_, move), *turns = map(terms, lines)
+        return cls(int(value), move if turns else None, tuple(tuple(moves) for _, _, *moves in turns))

@@ -1,0 +1,123 @@
+"""Single calls: values, refusals, words that are none, rooms and threads."""
+import ctypes
+import unittest
+from concurrent.futures import ThreadPoolExecutor
+
+import gdlsolve
+from gdlsolve import Misuse, Refusal, State, Status, calls, reply
+from tests import TOP, ran
+
+PENNIES = (TOP / "games/matching_pennies.kif").read_bytes()
+MARKS = (TOP / "games/tic_tac_toe.kif").read_bytes()
+
+# Words, rules, and the code, the name and the values of the refusal.
+REFUSED = [
+    (["show"], " " * 1_048_577, "K1", "TooLong", ()),
+    (["show"], 'a "', "K2", "BadByte", (2,)),
+    (["check"], "(role a", "K4", "Unclosed", (0,)),
+    (["check"], "(role a)(<= (p ?x) (not (q ?x)))", "G3", "Unsafe", (2,)),
+    (["check"], "(role a)(<= p q)(<= r p)(<= q p)", "G4", "Recursive", (2,)),
+    (["check"], "", "G6", "NoRole", ()),
+    (["check"], "".join(f"(role r{number})" for number in range(17)), "G7", "TooMany", (17, "roles")),
+    (["solve", "--role", "c", "--depth", "1"], PENNIES, "S1", "NoSuchRole", ()),
+    (["moves", "--after", "(h h) (h h)"], PENNIES, "H3", "Over", (2,)),
+    (["moves", "--after", "(h x)"], PENNIES, "H2", "NotLegal", (1, "b")),
+    (["moves", "--after", "(go)"], "(role (p 2))(input (p 2) stay)(legal (p 2) stay)", "H2", "NotLegal", (1, "(p 2)")),
+]
+
+# Words that make no command.
+MISUSED = [
+    [],
+    [""],
+    ["list"],
+    ["show", "it"],
+    ["show it"],
+    ["solve", "--role", "a"],
+    ["solve", "--role", "a", "--depth", "65"],
+    ["solve", "--role", "a", "--depth", "1", "--cut", "17"],
+    ["solve", "--role", "a", "--depth", "1", "--at-bound", "one"],
+]
+
+
+class Values(unittest.TestCase):
+    def test_check(self):
+        self.assertEqual(gdlsolve.check(PENNIES), gdlsolve.Description(16, 16, 7, ("a", "b")))
+
+    def test_net(self):
+        self.assertEqual(gdlsolve.net(PENNIES), gdlsolve.Network(base=2, inputs=4, instances=21, dropped=0, nodes=34))
+
+    def test_moves(self):
+        both = ("h", "t")
+        self.assertEqual(gdlsolve.moves(PENNIES), gdlsolve.Position(State.OPEN, {}, {"a": both, "b": both}))
+        for after in ("(h t)", [both], [["h", "t"]]):
+            self.assertEqual(gdlsolve.moves(PENNIES, after), gdlsolve.Position(State.ENDED, {"a": 0, "b": 100}, {}))
+
+    def test_lists_are_roles_and_moves(self):
+        rules = "(role (p 2))(role q)(base on)(input (p 2) (m 10))(legal (p 2) (m 10))(input (p 2) (m 2))(legal (p 2) (m 2))"
+        self.assertEqual(gdlsolve.moves(rules), gdlsolve.Position(State.STUCK, {}, {"(p 2)": ("(m 10)", "(m 2)")}))
+
+    def test_solve(self):
+        self.assertEqual(gdlsolve.solve(PENNIES, "a", 1), gdlsolve.Solution(0, "h", (("h", "t"),)))
+        self.assertEqual(gdlsolve.solve(PENNIES, "b", 0, at_bound="goal"), gdlsolve.Solution(100, None, ()))
+
+    def test_a_move_may_be_named_none(self):
+        rules = "(role a)(base on)(input a none)(legal a none)(<= (next on) (does a none))(<= terminal (true on))(<= (goal a 70) (true on))"
+        self.assertEqual(gdlsolve.solve(rules, "a", 1), gdlsolve.Solution(70, "none", (("none",),)))
+        self.assertEqual(gdlsolve.solve(rules, "a", 1, after="(none)"), gdlsolve.Solution(70, None, ()))
+
+    def test_show(self):
+        self.assertEqual(gdlsolve.show("(ROLE A) ; one é\nb(c())"), ("(role a)", "b", "(c ())"))
+
+
+class Faults(unittest.TestCase):
+    def test_refusals_have_code_name_and_values(self):
+        for words, rules, code, name, values in REFUSED:
+            with self.subTest(words=words, code=code):
+                with self.assertRaises(Refusal) as caught:
+                    calls.answer(words, rules)
+                self.assertEqual((caught.exception.code, caught.exception.name, caught.exception.values), (code, name, values))
+                told = reply(words, rules)
+                self.assertEqual((told.status, told.output.decode()), (Status.REFUSED, f"{caught.exception}\n"))
+                text = rules if isinstance(rules, bytes) else rules.encode()
+                self.assertEqual((told.status, told.output), ran(words, text)[:2])
+
+    def test_misuses_say_what_the_program_says(self):
+        for words in MISUSED:
+            with self.subTest(words=words):
+                told = reply(words, PENNIES)
+                self.assertEqual(told.status, Status.MISUSE)
+                self.assertEqual((1, b"", told.output), ran(words, PENNIES))
+                with self.assertRaises(Misuse):
+                    calls.answer(words, PENNIES)
+
+    def test_help_is_the_text_of_the_program(self):
+        for words in (["--help"], ["--version"], ["help", "solve"], ["net", "-h"]):
+            with self.subTest(words=words):
+                told = reply(words, b"(")
+                self.assertEqual(told.status, Status.MISUSE)
+                self.assertEqual((0, told.output, b""), ran(words, b"("))
+
+    def test_a_word_has_no_character_0(self):
+        with self.assertRaises(Misuse):
+            gdlsolve.moves(PENNIES, "(h t)\0--after\0")
+
+
+class Rooms(unittest.TestCase):
+    def test_a_room_gets_what_it_has_place_for(self):
+        words, whole = b"moves\0", reply(["moves"], MARKS).output
+        for place in [*range(8), len(whole) - 1, len(whole), len(whole) + 1]:
+            room, size = ctypes.create_string_buffer(b"~" * (len(whole) + 2)), ctypes.c_size_t()
+            status = calls._call()(words, len(words), MARKS, len(MARKS), room, place, ctypes.byref(size))
+            self.assertEqual((status, size.value), (0, len(whole)))
+            front = whole[:place]
+            self.assertEqual(room.raw[: len(whole) + 2], front + b"~" * (len(whole) + 2 - len(front)))
+
+    def test_long_replies_come_whole(self):
+        text = "(p q)" * 10_000
+        self.assertEqual(reply(["show"], text).output, b"(p q)\n" * 10_000)
+
+    def test_threads_may_call_at_once(self):
+        with ThreadPoolExecutor(8) as threads:
+            found = list(threads.map(lambda turn: gdlsolve.solve(MARKS, "xplayer", 9), range(16)))
+        self.assertEqual({solution.value for solution in found}, {50})
+        self.assertEqual(len(set(found)), 1)
