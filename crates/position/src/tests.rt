@@ -2,6 +2,8 @@
 ghost use Rattle.std.specs.Prelude.{◌≡◌, ◌<◌, ◌≤◌, All, length, IfOk, IfSome};
 ghost use Rattle.game.specs.Rules.{IsTurn};
 
+mod refused;
+
 use crate::{NetGame, RuleGame};
 use game::{Game, Joint, is_stuck, new_joint, put_move};
 use ground::instantiate;
