@@ -9,6 +9,7 @@ use std::io::Write;
 use std::thread::Threads;
 
 /// What a beginning of a text without comments ends in, and how many whole trees it has.
+#[derive(Drop)]
 struct Cutting {
     /// The place of the first bracket that nothing closes, if there is one.
     open: Option<usize>,

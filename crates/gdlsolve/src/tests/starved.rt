@@ -12,6 +12,9 @@ const ROOM: usize = 1 << 22;
 /// Less than this is not enough for any text, since room for the longest is taken first.
 const LEAST: usize = 1 << 20;
 
+/// How many bytes are set aside for what is written, and to spare.
+const SPARE: usize = 1 << 14;
+
 /// Adds blocks of a size until there is no more memory for one.
 fn fill(alloc: Global, size: usize, blocks: &mut Vec<Vec<u8>>) -> Result<(), AllocError> {
     for _ in 0..1_000_000u32 {
@@ -37,38 +40,42 @@ fn filled(alloc: Global) -> Result<Vec<Vec<u8>>, AllocError> {
     Ok(blocks)
 }
 
-/// The greatest block that can be had of the room, less so many bytes.
-fn held(alloc: Global, free: usize) -> Result<Vec<u8>, AllocError> {
+/// The size of the greatest block that can be had of the room, in steps of 1,024 bytes.
+fn greatest(alloc: Global) -> usize {
     let mut size = ROOM;
-    for _ in 0..10_000u32 {
+    for _ in 0..4096u32 {
         let block: Result<Vec<u8>, AllocError> = Vec::with_capacity(alloc, size);
         if block.is_ok() {
             break;
         }
-        size = size.saturating_sub(16);
+        size = size.saturating_sub(1024);
     }
-    Vec::with_capacity(alloc, size.saturating_sub(free))
+    size
 }
 
 /// What a command comes to.
+#[derive(Drop)]
 enum Ended {
     Answered,
     Starved,
     Wrong,
 }
 
-/// What comes of a command with so many bytes to take. Where that is not enough, it says so and writes nothing.
+/// What comes of a command where of the room's greatest block so many bytes, and few more, may be taken. Where that is not enough,
+/// it says so and writes nothing.
 fn ended_within<T: Threads + Sync + AllocGlobal>(
     rt: &T,
     words: &[&str],
     text: &[u8],
     want: &[u8],
+    most: usize,
     free: usize,
 ) -> Result<Ended, AllocError> {
     let mut input = text;
     let mut output = Vec::with_capacity(rt.alloc(), 4096)?;
     let mut errors = Vec::with_capacity(rt.alloc(), 4096)?;
-    let taken = held(rt.alloc(), free)?;
+    let size = most.saturating_sub(SPARE).saturating_sub(free);
+    let taken: Vec<u8> = Vec::with_capacity(rt.alloc(), size)?;
     let status = main_with(rt, words, &mut input, &mut output, &mut errors);
     drop(taken);
     let starved = status == 3
@@ -92,9 +99,10 @@ fn starved_times<T: Threads + Sync + AllocGlobal>(
     text: &[u8],
     want: &[u8],
 ) -> Result<Option<usize>, AllocError> {
-    for times in 0..100_000usize {
-        let free = LEAST.saturating_add(times.saturating_mul(64));
-        match ended_within(rt, words, text, want, free)? {
+    let most = greatest(rt.alloc());
+    for times in 0..10_000usize {
+        let free = LEAST.saturating_add(times.saturating_mul(256));
+        match ended_within(rt, words, text, want, most, free)? {
             Ended::Answered => return Ok(Some(times)),
             Ended::Starved => {}
             Ended::Wrong => return Ok(None),
@@ -111,8 +119,9 @@ fn starved_beside<T: Threads + Sync + AllocGlobal>(
 ) -> Result<Option<usize>, AllocError> {
     let (_, want, _) = told(rt, words, text);
     // A large block that was given back lets the next ones come from the heap.
-    drop(held(rt.alloc(), 0)?);
-    let room = held(rt.alloc(), 0)?;
+    let large: Vec<u8> = Vec::with_capacity(rt.alloc(), ROOM)?;
+    drop(large);
+    let room: Vec<u8> = Vec::with_capacity(rt.alloc(), ROOM)?;
     let _blocks = filled(rt.alloc())?;
     drop(room);
     starved_times(rt, words, text, &want)
@@ -141,7 +150,7 @@ fn nothing_is_written_without_memory(rt: HostRuntime) -> Result<(), Fail> {
         let Some(times) = starved_beside(&rt, words, text)? else {
             panic!(rt; "at {words:?}")
         };
-        assert!(rt; times > 10, "{times} times at {words:?}");
+        assert!(rt; times > 0, "{times} times at {words:?}");
     }
     Ok(())
 }

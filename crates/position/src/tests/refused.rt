@@ -1,13 +1,9 @@
 // Calls whose growths are refused: where all memory is taken, and one by one by bench/refuse, which counts those between two marks.
-ghost use Rattle.std.specs.Prelude.{IfOk};
-
-use super::{MATCH, add_state, net_game, rule_game};
+use super::{MATCH, add_state, ground_of, net_game, rule_game};
 use crate::{NetGame, RuleGame};
 use game::{Game, HistoryFault, replay};
-use ground::{Ground, instantiate};
 use kif::{Expr, read};
 use propnet::Net;
-use rules::RuleSet;
 use std::alloc::{AllocError, AllocGlobal, Global};
 use std::process::Abort;
 use std::test::Fail;
@@ -144,13 +140,6 @@ fn history_is_played_over_rules(rt: HostRuntime) -> Result<(), Fail> {
 fn history_is_played_over_a_network(rt: HostRuntime) -> Result<(), Fail> {
     let game = net_game(&rt, MATCH)?;
     plays(&rt, &game)
-}
-
-/// The instances of a description.
-fn ground_of<R: AllocGlobal>(rt: &R, text: &[u8]) -> Result<Ground, Fail> {
-    let items = read(rt.alloc(), text)?;
-    let rules = RuleSet::check(rt.alloc(), &items)?;
-    Ok(instantiate(rt, &rules)?)
 }
 
 #[test]
