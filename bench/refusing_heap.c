@@ -1,6 +1,8 @@
 // The heap of a built program that counts its growths and refuses some of them, and counts and refuses threads in the
 // same way. bench/refuse links it in the place of the heap that the program stands on.
 //   REFUSE=N, REFUSE_THREAD=N    the Nth is refused; N+: the Nth and all behind it
+//   REFUSE_MARKED=1              only what is asked for between two marks is counted and refused; a mark is a growth of
+//                                MARK bytes, which tests of single calls ask for and give back
 //   REFUSE_TELL=FILE             at the end, "growths threads refused left" is written there: how many of each were
 //                                asked for, how many were refused, and how many blocks were never given back
 #include <errno.h>
@@ -24,8 +26,12 @@ struct counted {
   bool and_all_behind;
 };
 
+enum { MARK = 4242421 };
+
 static struct counted growths, threads;
 static atomic_long refused, left;
+static atomic_bool counts = true;
+static bool is_marked;
 static char nothing;
 
 static void plan(struct counted *what, const char *name) {
@@ -39,6 +45,8 @@ static void plan(struct counted *what, const char *name) {
 __attribute__((constructor)) static void begin(void) {
   plan(&growths, "REFUSE");
   plan(&threads, "REFUSE_THREAD");
+  is_marked = getenv("REFUSE_MARKED") != NULL;
+  counts = !is_marked;
 }
 
 __attribute__((destructor)) static void tell(void) {
@@ -52,6 +60,7 @@ __attribute__((destructor)) static void tell(void) {
 
 // Counts one more, and answers whether it is refused.
 static bool refuses(struct counted *what) {
+  if (!counts) return false;
   long number = atomic_fetch_add(&what->asked, 1) + 1;
   bool no = what->first > 0 && (number == what->first || (what->and_all_behind && number > what->first));
   if (no) atomic_fetch_add(&refused, 1);
@@ -59,7 +68,9 @@ static bool refuses(struct counted *what) {
 }
 
 struct tried rattle_alloc(size_t size, size_t align) {
-  void *block = refuses(&growths) ? NULL : malloc(size ? size : align);
+  bool is_mark = is_marked && size == MARK;
+  if (is_mark) counts = !counts;
+  void *block = !is_mark && refuses(&growths) ? NULL : malloc(size ? size : align);
   if (block) atomic_fetch_add(&left, 1);
   return (struct tried){block != NULL, block ? block : &nothing};
 }

@@ -1,5 +1,7 @@
 // Worked texts, through a run and through the command line, over readers and writers in memory.
+mod beginnings;
 mod bounds;
+mod broken;
 mod checks;
 mod counting;
 mod cuts;
@@ -9,6 +11,7 @@ mod helps;
 mod lines;
 mod moves;
 mod nets;
+mod starved;
 
 use crate::{Command, RunFault, Status, main_with, run, run_rules};
 use devices::{Full, Silent, Slow, Torn};
@@ -197,7 +200,7 @@ fn a_reader_of_single_bytes_gives_the_same(rt: HostRuntime) {
 fn a_writer_that_fails_is_told(rt: HostRuntime) {
     let line = b"(a)\n(b c)\n";
     for room in 0..10 {
-        let mut output = Full::new(rt.alloc(), room);
+        let mut output = Full::new(rt.alloc(), room, false);
         let mut input = b"(a) (b c)".as_slice();
         let mut errors = Vec::new(rt.alloc());
         let status = main_with(&rt, &["show"], &mut input, &mut output, &mut errors);
@@ -210,7 +213,7 @@ fn a_writer_that_fails_is_told(rt: HostRuntime) {
             "a beginning is written, at {room}"
         );
     }
-    let mut output = Full::new(rt.alloc(), 10);
+    let mut output = Full::new(rt.alloc(), 10, false);
     let mut input = b"(a) (b c)".as_slice();
     assert!(rt; run(&rt, &Command::Show, &mut input, &mut output) == Ok(Status::Answer));
     assert!(rt; output.taken() == line.as_slice());

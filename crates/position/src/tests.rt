@@ -2,13 +2,15 @@
 ghost use Rattle.std.specs.Prelude.{◌≡◌, ◌<◌, ◌≤◌, All, length, IfOk, IfSome};
 ghost use Rattle.game.specs.Rules.{IsTurn};
 
+mod refused;
+
 use crate::{NetGame, RuleGame};
 use game::{Game, Joint, is_stuck, new_joint, put_move};
-use ground::instantiate;
+use ground::{Ground, instantiate};
 use kif::read;
 use propnet::Net;
 use rules::RuleSet;
-use std::alloc::Global;
+use std::alloc::{AllocGlobal, Global};
 use std::io::Write;
 use std::test::Fail;
 
@@ -59,18 +61,27 @@ const PICK: &[u8] = b"(role a)(role b)(t 0)(t 1)(t 2)(t 3)(t 4)(t 5)(t 6)(t 7)
     (<= (base (at ?x ?y)) (t ?x) (t ?y))(<= (next (at ?x ?y)) (does b (m ?x ?y)))
     (<= terminal (true (at ?x 7)))(<= (goal a ?v) (true (at ?x ?y)) (v ?x ?v))";
 
+/// The rules of a description.
+fn rules_of(alloc: Global, text: &[u8]) -> Result<RuleSet, Fail> {
+    let items = read(alloc, text)?;
+    Ok(RuleSet::check(alloc, &items)?)
+}
+
+/// The kept instances of a description.
+fn ground_of<R: AllocGlobal>(rt: &R, text: &[u8]) -> Result<Ground, Fail> {
+    let rules = rules_of(rt.alloc(), text)?;
+    Ok(instantiate(rt, &rules)?)
+}
+
 /// The game of a description, over its kept instances.
-fn rule_game(rt: &HostRuntime, text: &[u8]) -> Result<RuleGame, Fail> {
-    let items = read(rt.alloc(), text)?;
-    let rules = RuleSet::check(rt.alloc(), &items)?;
-    Ok(RuleGame::new(rt.alloc(), instantiate(rt, &rules)?)?)
+fn rule_game<R: AllocGlobal>(rt: &R, text: &[u8]) -> Result<RuleGame, Fail> {
+    let ground = ground_of(rt, text)?;
+    Ok(RuleGame::new(rt.alloc(), ground)?)
 }
 
 /// The game of a description, over its network.
-fn net_game(rt: &HostRuntime, text: &[u8]) -> Result<NetGame, Fail> {
-    let items = read(rt.alloc(), text)?;
-    let rules = RuleSet::check(rt.alloc(), &items)?;
-    let ground = instantiate(rt, &rules)?;
+fn net_game<R: AllocGlobal>(rt: &R, text: &[u8]) -> Result<NetGame, Fail> {
+    let ground = ground_of(rt, text)?;
     let net = Net::compile(rt.alloc(), &ground)?;
     Ok(NetGame::new(rt.alloc(), ground, net)?)
 }

@@ -8,7 +8,7 @@ use ground::instantiate;
 use kif::read;
 use position::RuleGame;
 use rules::RuleSet;
-use std::alloc::AllocGlobal;
+use std::alloc::{AllocError, AllocGlobal, Global};
 use std::hint::spin_loop;
 use std::process::Abort;
 use std::sync::atomic::{AtomicBool, AtomicUsize, Ordering};
@@ -79,6 +79,14 @@ fn game_of<R: Abort + AllocGlobal>(rt: &R, text: &[u8]) -> Result<RuleGame, Fail
     Ok(RuleGame::new(rt.alloc(), ground)?)
 }
 
+/// A growth of so many bytes is a mark for bench/refuse, which refuses what is asked for between two marks.
+const MARK: usize = 4_242_421;
+
+/// Marks where a search begins, or where it has ended.
+fn mark(alloc: Global) {
+    let _: Result<Vec<u8>, AllocError> = Vec::with_capacity(alloc, MARK);
+}
+
 // What the first role can be sure of from the start.
 fn solved<R: Threads + Abort + Sync + AllocGlobal, G: Game, K: Gate>(
     rt: &R,
@@ -94,7 +102,10 @@ fn solved<R: Threads + Abort + Sync + AllocGlobal, G: Game, K: Gate>(
     let Some(cut) = Cut::parse(cut) else {
         panic!(rt; "no cut")
     };
-    Ok(solve(rt, game, &start, 0, depth, AtBound::Zero, &cut, gate)?)
+    mark(rt.alloc());
+    let found = solve(rt, game, &start, 0, depth, AtBound::Zero, &cut, gate);
+    mark(rt.alloc());
+    Ok(found?)
 }
 
 /// Searches a game from its start for the first role, and asserts its value and choice.
@@ -415,6 +426,13 @@ fn finds_by_each_cut<R: Threads + Abort + Sync + AllocGlobal, G: Game>(
 fn each_cut_has_the_same_answer(rt: HostRuntime) -> Result<(), Fail> {
     let game = game_of(&rt, LIVE)?;
     finds_by_each_cut(&rt, &game)
+}
+
+// Whatever of the other workers' memory is refused, there is an answer: no gate counts here, since without a board none is passed.
+#[test]
+fn search_of_two_turns_is_shared(rt: HostRuntime) -> Result<(), Fail> {
+    let game = game_of(&rt, LIVE)?;
+    finds(&rt, &game, 2, b"2x2", &new_tally(), 90, 1)
 }
 
 /// Searches a game of one turn, all of whose moves are worth 30, by one worker and by four.

@@ -8,9 +8,9 @@ use kif::read;
 use maximin::{Room, value_in};
 use position::RuleGame;
 use rules::RuleSet;
-use std::alloc::{AllocError, Global};
+use std::alloc::{AllocError, AllocGlobal, Global};
+use std::process::Abort;
 use std::sync::atomic::{AtomicUsize, Ordering};
-use std::test::Fail;
 
 /// A game that counts its steps.
 #[derive(Drop)]
@@ -128,62 +128,94 @@ impl<G: Game> Game for Counted<G> {
     ghost role_names_differ = { λ g. G.role_names_differ g.inner };
 }
 
-/// The game that a text describes, before its first step.
-fn game_of(rt: &HostRuntime, text: &[u8]) -> Result<Counted<RuleGame>, Fail> {
-    let alloc = rt.alloc();
-    let items = read(alloc, text)?;
-    let rules = RuleSet::check(alloc, &items)?;
-    let inner = RuleGame::new(alloc, instantiate(rt, &rules)?)?;
+/// The rules of a text. Any fault is told as want of memory.
+fn rules_of(alloc: Global, text: &[u8]) -> Result<RuleSet, AllocError> {
+    let Ok(items) = read(alloc, text) else {
+        return Err(AllocError);
+    };
+    RuleSet::check(alloc, &items).map_err(|_| AllocError)
+}
+
+/// The game that a text describes, before its first step. Any fault is told as want of memory.
+fn game_of<R: AllocGlobal>(rt: &R, text: &[u8]) -> Result<Counted<RuleGame>, AllocError> {
+    let rules = rules_of(rt.alloc(), text)?;
+    let Ok(ground) = instantiate(rt, &rules) else {
+        return Err(AllocError);
+    };
+    let inner = RuleGame::new(rt.alloc(), ground)?;
     Ok(Counted {
         inner,
         steps: AtomicUsize::new(0),
     })
 }
 
-/// The state after a history.
-fn state_after<G: Game>(alloc: Global, g: &G, history: &[u8]) -> Result<G::Pos, Fail>
+/// The state after a history. Any fault is told as want of memory.
+fn state_after<G: Game>(alloc: Global, g: &G, history: &[u8]) -> Result<G::Pos, AllocError>
     ensures { IfOk result (λ p. G.fits g.now p) }
 {
     let mut p = g.fresh()?;
-    replay(alloc, g, &read(alloc, history)?, &mut p)?;
+    let Ok(turns) = read(alloc, history) else {
+        return Err(AllocError);
+    };
+    if replay(alloc, g, &turns, &mut p).is_err() {
+        return Err(AllocError);
+    }
     Ok(p)
 }
 
-/// The value of a state for the first role within one turn, found in a window.
-fn value_of<G: Game>(alloc: Global, g: &G, p: &G::Pos, window: (i16, i16)) -> Result<i16, Fail>
+/// The value of a state for the first role within one turn, found in a window. A game without roles is told as want of memory.
+fn value_of<G: Game>(
+    alloc: Global,
+    g: &G,
+    p: &G::Pos,
+    window: (i16, i16),
+) -> Result<i16, AllocError>
     requires fits { G.fits g.now p.now }
     requires low { negsuc 1 ≤ℤ window.0 }
     requires order { window.0 <ℤ window.1 }
     requires high { window.1 ≤ℤ pos 101 }
 {
     if g.roles() == 0 {
-        return Err(Fail::new("a game without roles"));
+        return Err(AllocError);
     }
     let mut room = Room::new(alloc, g, 1)?;
     Ok(value_in(g, p, 0, 1, AtBound::Zero, window.0, window.1, &mut room))
 }
 
-#[test]
-fn one_reply_of_ten_is_enough_below_the_window(rt: HostRuntime) -> Result<(), Fail> {
-    let game = game_of(&rt, LIVE)?;
-    let here = state_after(rt.alloc(), &game, b"(y noop)")?;
+/// Searches after a turn, once for the value and once below a window, and asserts how many steps each made.
+fn counts_steps<R: Abort + AllocGlobal, G: Game>(
+    rt: &R,
+    game: &Counted<G>,
+) -> Result<(), AllocError> {
+    let here = state_after(rt.alloc(), game, b"(y noop)")?;
     game.steps.store(0, Ordering::SeqCst);
-    assert_eq!(rt; value_of(rt.alloc(), &game, &here, (-1, 101))?, 10);
+    assert_eq!(rt; value_of(rt.alloc(), game, &here, (-1, 101))?, 10);
     assert_eq!(rt; game.steps.swap(0, Ordering::SeqCst), 10);
-    let low = value_of(rt.alloc(), &game, &here, (89, 101))?;
+    let low = value_of(rt.alloc(), game, &here, (89, 101))?;
     assert!(rt; 10 <= low && low <= 89);
     assert_eq!(rt; game.steps.load(Ordering::SeqCst), 1);
     Ok(())
 }
 
 #[test]
-fn answer_stands_on_the_side_of_the_value(rt: HostRuntime) -> Result<(), Fail> {
-    let game = game_of(&rt, FOUR)?;
-    let start = state_after(rt.alloc(), &game, b"")?;
-    let high = value_of(rt.alloc(), &game, &start, (10, 60))?;
+fn one_reply_of_ten_is_enough_below_the_window(rt: HostRuntime) -> Result<(), AllocError> {
+    let game = game_of(&rt, LIVE)?;
+    counts_steps(&rt, &game)
+}
+
+/// Searches the start in windows below, above and around its value, and asserts on which side the answers stand.
+fn stands_on_the_side<R: Abort + AllocGlobal, G: Game>(rt: &R, game: &G) -> Result<(), AllocError> {
+    let start = state_after(rt.alloc(), game, b"")?;
+    let high = value_of(rt.alloc(), game, &start, (10, 60))?;
     assert!(rt; 60 <= high && high <= 70);
-    let low = value_of(rt.alloc(), &game, &start, (80, 90))?;
+    let low = value_of(rt.alloc(), game, &start, (80, 90))?;
     assert!(rt; 70 <= low && low <= 80);
-    assert_eq!(rt; value_of(rt.alloc(), &game, &start, (-1, 101))?, 70);
+    assert_eq!(rt; value_of(rt.alloc(), game, &start, (-1, 101))?, 70);
     Ok(())
+}
+
+#[test]
+fn answer_stands_on_the_side_of_the_value(rt: HostRuntime) -> Result<(), AllocError> {
+    let game = game_of(&rt, FOUR)?;
+    stands_on_the_side(&rt, &game)
 }

@@ -37,17 +37,22 @@ impl<'a> Read for Slow<'a> {
     }
 }
 
-/// A writer that takes one byte at a time, and none once it is full.
+/// A writer that takes one byte at a time. Once it is full it takes none, or fails.
 #[derive(Drop)]
 pub struct Full {
     taken: Vec<u8>,
     room: usize,
+    breaks: bool,
 }
 
 impl Full {
-    pub fn new(alloc: Global, room: usize) -> Full {
+    pub fn new(alloc: Global, room: usize, breaks: bool) -> Full {
         let taken = Vec::new(alloc);
-        Full { taken, room }
+        Full {
+            taken,
+            room,
+            breaks,
+        }
     }
 
     pub fn taken(&self) -> &[u8] {
@@ -62,6 +67,7 @@ impl Write for Full {
                 self.taken.push(*byte)?;
                 Ok(1)
             }
+            _ if self.breaks => Err(Error::from(ErrorKind::Other)),
             _ => Ok(0),
         }
     }
