@@ -11,9 +11,9 @@ mod refusal;
 mod replaying;
 mod stuck;
 pub mod table;
-mod told;
 #[cfg(test)]
 mod tests;
+mod told;
 
 pub use at_bound::AtBound;
 pub use fault::HistoryFault;

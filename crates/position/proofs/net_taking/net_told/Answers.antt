@@ -58,10 +58,9 @@ returns-then-lane_bit-eq1 c =
     let ended : ends kinds (holds_in g (lane_state states n k)) ≡ true =
     sym (c.requires.many.ended k lane) ∙ ap (λ (v : ℕ). v == 1) (sym c.lane_bit.ensures.value ∙ c.if-lane_bit-eq1.true) in
     let goal : c.index-then-lane_bit-eq1.result.now ≡ best_goal kinds (holds_in g (lane_state states n k)) role =
-    c.index-then-lane_bit-eq1.ensures ∙ get_or_any from.goals.items k c.index-then-lane_bit-eq1.result.now 0 (omega arith) ∙ told.goal k lane in
-    (
+    c.index-then-lane_bit-eq1.ensures ∙ get_or_any from.goals.items k c.index-then-lane_bit-eq1.result.now 0 (omega arith) ∙ told.goal k lane in (
       subst (λ (s : State). ends kinds (holds_in g s) ≡ true) (sym kept) ended,
-      subst (λ (s : State). c.index-then-lane_bit-eq1.result.now ≡ best_goal kinds (holds_in g s) role) (sym kept) goal
+      subst (λ (s : State). c.index-then-lane_bit-eq1.result.now ≡ best_goal kinds (holds_in g s) role) (sym kept) goal,
     )
 
 pub returns : goal.returns
