@@ -107,8 +107,9 @@ impl<G: Game, W: Watch> Game for Watched<G, W> {
         self.inner.take(many, place, q);
     }
 
-    fn told(&self, many: &G::Many, place: usize, role: usize) -> Told {
-        self.inner.told(many, place, role)
+    /// Nothing, so that each state that is looked at is taken.
+    fn told(&self, _many: &G::Many, _place: usize, _role: usize) -> Told {
+        Told::Nothing
     }
 
     ghost goal_within = { λ g. G.goal_within g.inner };
