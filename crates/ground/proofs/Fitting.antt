@@ -16,30 +16,21 @@ use Rattle.profile.specs.Clause.{Atom, Alternative, Relation, relation_of, is_wo
 use Rattle.profile.specs.Dependence.{IsAmong, is_fixed}
 use Rattle.profile.specs.Order.{relations_in_order}
 use Rattle.profile.specs.Words.{w_role, w_true, w_does}
-use Rattle.ground.specs.declared.kind.Kind.{Kind}
-use Rattle.ground.specs.declared.kind.Kind.TheVariants.{Fixed, Now, Does, Next, Legal, Goal, Terminal, Other}
-use Rattle.ground.specs.Meaning.{source_of, ordinary, atom1, atom2}
-use Rattle.ground.specs.InOrder.{AreInOrder}
-use Rattle.ground.specs.Kinds.{place_in, kind_of}
-use Rattle.ground.specs.Effects.{IsWithin}
-use Rattle.ground.specs.Limits.{count_inputs}
-use Rattle.ground.specs.Most.{limits}
-use Rattle.ground.specs.Listed.{IsWellFormed}
-use Rattle.ground.specs.Listing.{Instance, is_atom_in, with_atoms, Listing, heads, list_relation, list_relations, kept_of_relation, one_term, terms_of, context_atoms, moves_of, fixed_listing, listing, role_list, base_list, input_list}
-use Rattle.ground.specs.Gates.{gate}
-use Rattle.ground.specs.Play as play
+use Rattle.meaning.specs.declared.kind.Kind.{Kind}
+use Rattle.meaning.specs.declared.kind.Kind.TheVariants.{Fixed, Now, Does, Next, Legal, Goal, Terminal, Other}
+use Rattle.meaning.specs.Meaning.{source_of, ordinary, atom1, atom2}
+use Rattle.meaning.specs.InOrder.{AreInOrder}
+use Rattle.meaning.specs.Kinds.{place_in, kind_of}
+use Rattle.meaning.specs.Effects.{IsWithin}
+use Rattle.meaning.specs.Limits.{count_inputs}
+use Rattle.meaning.specs.Most.{limits}
+use Rattle.meaning.specs.Listed.{IsWellFormed}
+use Rattle.meaning.specs.Listing.{Instance, is_atom_in, with_atoms, Listing, heads, list_relation, list_relations, kept_of_relation, one_term, terms_of, context_atoms, moves_of, fixed_listing, listing, role_list, base_list, input_list}
+use Rattle.meaning.specs.Gates.{gate}
+use Rattle.meaning.specs.Play as play
 use Rattle.ground.specs.Grounds.{Kept, numbered, texts_at, IsGroundOf, IsSomeGround}
 use Rattle.ground.specs.Fits.{Rise, Differ, count_all, IsInputWithin, IsKindWithin, IsKeptWithin, FitTogether}
-use Rattle.ground.proofs.Ordered.{among_map_out, place_below, order_other, order_map}
-use Rattle.ground.proofs.AtomKinds.{kind_sound}
-use Rattle.ground.proofs.Context.{roles_once, bases_in_order, inputs_in_order}
-use Rattle.ground.proofs.Exact.{heads_exact}
-use Rattle.ground.proofs.Fold.{roles_exact, listing_exact, atoms_exact}
-use Rattle.ground.proofs.Gates.{gate_numbered}
-use Rattle.ground.proofs.Lawful.{role_lawful, term_named}
-use Rattle.ground.proofs.ListedLaw.{source_under}
-use Rattle.ground.proofs.Rising.{with_front, steps_front, atom_test}
-use Rattle.ground.proofs.Within.{excess_exact}
+use Rattle.meaning.proofs.Facts.{among_map_out, place_below, order_other, order_map, kind_sound, roles_once, bases_in_order, inputs_in_order, heads_exact, roles_exact, listing_exact, atoms_exact, gate_numbered, role_lawful, term_named, source_under, with_front, steps_front, atom_test, excess_exact}
 
 -- Lists by place.
 

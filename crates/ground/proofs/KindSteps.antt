@@ -4,10 +4,10 @@ use Rattle.std.proofs.lemmas.List.{append-nil}
 use Rattle.kif.specs.Tree.{Tree}
 use Rattle.profile.specs.Clause.{Atom, Alternative, relation_of, tree_of}
 use Rattle.profile.specs.Dependence.{is_fixed}
-use Rattle.ground.specs.declared.kind.Kind.{Kind}
-use Rattle.ground.specs.Keys.{term_at}
-use Rattle.ground.specs.Kinds.{kind_of}
-use Rattle.ground.specs.Marked.{AreMarked}
+use Rattle.meaning.specs.declared.kind.Kind.{Kind}
+use Rattle.terms.specs.Keys.{term_at}
+use Rattle.meaning.specs.Kinds.{kind_of}
+use Rattle.meaning.specs.Marked.{AreMarked}
 
 -- the kinds of the atoms before a place are known, and some atoms are left
 pub record KindsTo (rules : List Alternative) (terms : List Tree) (n : ℕ) (kinds : List Kind) (place : ℕ) (rest : List ℕ) (xs : List Atom) : Type 0 where

@@ -5,10 +5,10 @@ use Rattle.std.proofs.lemmas.List.{append-nil}
 use Rattle.kif.specs.Tree.{Tree}
 use Rattle.profile.specs.Dependence.{IsAmong}
 use Rattle.profile.proofs.Facts.{IsAmong-append}
-use Rattle.ground.specs.Founds.{with_numbers}
-use Rattle.ground.specs.InOrder.{AreDistinct}
-use Rattle.ground.specs.Keys.{term_at}
-use Rattle.ground.proofs.Ordered.{among_map_in}
+use Rattle.terms.specs.Atoms.{with_numbers}
+use Rattle.meaning.specs.InOrder.{AreDistinct}
+use Rattle.terms.specs.Keys.{term_at}
+use Rattle.meaning.proofs.Facts.{among_map_in}
 
 any_none : (n : ℕ) (xs : List ℕ) → (IsAmong n xs → ⊥) → list_any (nat_eq n) xs ≡ false
 any_none n [] h = refl

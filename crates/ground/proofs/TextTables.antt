@@ -4,12 +4,13 @@ use Rattle.std.specs.Prelude.{◌&&◌, ◌==◌, slice_index}
 use Rattle.std.proofs.Math.Seq.{drop-cons}
 use Rattle.std.proofs.lemmas.List.{take_all, take_more, length-map, get_or-map, map-append}
 use Rattle.kif.specs.Tree.{name_eq}
-use Rattle.ground.specs.Arena.{Held, cut}
-use Rattle.ground.specs.AtomTexts.{term_text, atom_texts, IsAtomTable}
-use Rattle.ground.specs.Grounds.{text_at, texts_of}
-use Rattle.ground.specs.Keys.{word_at, AreBelow}
-use Rattle.ground.specs.Most.{limits}
-use Rattle.ground.proofs.Lengths.{here_below}
+use Rattle.terms.specs.Arena.{Held, cut}
+use Rattle.terms.specs.AtomTexts.{term_text, atom_texts, IsAtomTable}
+use Rattle.ground.specs.Grounds.{text_at}
+use Rattle.terms.specs.Vectors.{texts_of}
+use Rattle.terms.specs.Keys.{word_at, AreBelow}
+use Rattle.meaning.specs.Most.{limits}
+use Rattle.terms.proofs.Facts.{here_below}
 
 -- Texts of different lengths are different.
 

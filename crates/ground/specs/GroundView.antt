@@ -1,11 +1,12 @@
 -- What a ground tells.
 use Rattle.std.specs.Prelude.{ℕ, ◌≡◌, Bool, List, map}
 use Rattle.profile.specs.Clause.{Alternative}
-use Rattle.ground.specs.declared.kind.Kind.{Kind}
+use Rattle.meaning.specs.declared.kind.Kind.{Kind}
 use Rattle.ground.specs.declared.ground.Ground.{Ground}
 use Rattle.ground.specs.declared.ground.Instance.{Instance}
-use Rattle.ground.specs.AtomTexts.{listed_texts}
-use Rattle.ground.specs.Grounds.{Kept, kept_of, texts_of, IsGroundOf}
+use Rattle.terms.specs.AtomTexts.{listed_texts}
+use Rattle.ground.specs.Grounds.{Kept, kept_of, IsGroundOf}
+use Rattle.terms.specs.Vectors.{texts_of}
 
 abbrev pub roles_of : Ground → List (List ℕ)
 roles_of g = texts_of g.roles.items

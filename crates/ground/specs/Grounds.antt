@@ -1,16 +1,16 @@
 -- What an instantiation gives, in numbers and texts.
-use Rattle.std.specs.Prelude.{ℕ, ◌≡◌, Bool, List, [], Vec, map, slice_index_or, None}
+use Rattle.std.specs.Prelude.{ℕ, ◌≡◌, Bool, List, [], map, slice_index_or, None}
 use Rattle.kif.specs.Tree.{text}
 use Rattle.profile.specs.Clause.{Alternative}
-use Rattle.ground.specs.declared.kind.Kind.{Kind}
+use Rattle.meaning.specs.declared.kind.Kind.{Kind}
 use Rattle.ground.specs.declared.ground.Instance as shown
-use Rattle.ground.specs.Gates.{gate}
-use Rattle.ground.specs.Kinds.{kind_of}
-use Rattle.ground.specs.Limits.{excess_in}
-use Rattle.ground.specs.Listed.{IsWellFormed}
-use Rattle.ground.specs.Listing.{Instance, listing, role_list, base_list, input_list}
-use Rattle.ground.specs.Numbers.{number_of}
-use Rattle.ground.specs.Play as play
+use Rattle.meaning.specs.Gates.{gate}
+use Rattle.meaning.specs.Kinds.{kind_of}
+use Rattle.meaning.specs.Limits.{excess_in}
+use Rattle.meaning.specs.Listed.{IsWellFormed}
+use Rattle.meaning.specs.Listing.{Instance, listing, role_list, base_list, input_list}
+use Rattle.meaning.specs.Numbers.{number_of}
+use Rattle.meaning.specs.Play as play
 
 -- a kept instance by the numbers of its atoms
 pub record Kept : Type 0 where
@@ -41,10 +41,6 @@ pub record IsGroundOf (rules : List Alternative) (roles base : List (List ℕ)) 
 abbrev pub IsSomeGround : List (List ℕ) → List (List ℕ) → List (List (List ℕ)) → List Bool → List Kind → List Kept → ℕ → Type 0
 IsSomeGround roles base inputs starts kinds kept dropped =
     (rules : List Alternative) × IsGroundOf rules roles base inputs starts kinds kept dropped
-
--- the bytes of texts
-abbrev pub texts_of : {G : Type 0} → List (Vec ℕ G) → List (List ℕ)
-texts_of vs = map (λ v. v.items) vs
 
 abbrev pub text_at : List (List ℕ) → ℕ → List ℕ
 text_at texts n = slice_index_or texts n []

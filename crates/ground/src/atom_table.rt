@@ -1,19 +1,19 @@
 // The texts of atoms, by the terms that they are.
 ghost use Rattle.std.specs.Prelude.{◌≡◌, ◌<◌, ◌≤◌, length, IfOk};
 ghost use Rattle.kif.specs.Tree.{name_eq};
-ghost use Rattle.ground.specs.Arena.{sizes_of};
-ghost use Rattle.ground.specs.AtomTexts.{atom_texts, term_text, IsAtomTable};
-ghost use Rattle.ground.specs.Grounds.{text_at, texts_of};
-ghost use Rattle.ground.specs.Most.{limits};
+ghost use Rattle.terms.specs.Arena.{sizes_of};
+ghost use Rattle.terms.specs.AtomTexts.{atom_texts, term_text, IsAtomTable};
+ghost use Rattle.ground.specs.Grounds.{text_at};
+ghost use Rattle.terms.specs.Vectors.{texts_of};
+ghost use Rattle.meaning.specs.Most.{limits};
 ghost use Rattle.ground.specs.SetWords.{words_of};
 
-use crate::arena::Arena;
 use crate::tables::copy_of;
-use crate::text_bytes::byte_at;
 use indexmap::IndexSet;
 use rules::RuleSet;
 use std::alloc::{AllocError, Global};
 use std::marker::Model;
+use terms::{Arena, byte_at};
 
 /// The texts of atoms by number, in memory for each different term of them. No text is longer than 4,096 bytes.
 #[derive(Drop)]
@@ -25,8 +25,8 @@ pub struct AtomTable {
 
 impl Model for AtomTable {
     ghost use Rattle.std.specs.Prelude.{ℕ, List};
-    ghost use Rattle.ground.specs.AtomTexts.{atom_texts, IsAtomTable};
-    ghost use Rattle.ground.specs.Grounds.{texts_of};
+    ghost use Rattle.terms.specs.AtomTexts.{atom_texts, IsAtomTable};
+    ghost use Rattle.terms.specs.Vectors.{texts_of};
 
     ghost Value = { List (List ℕ) };
 

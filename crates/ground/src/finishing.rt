@@ -3,7 +3,7 @@ ghost use Rattle.std.specs.Prelude.{◌≡◌, ◌<◌, ◌++◌, [], ◌∷◌,
 ghost use Rattle.ground.specs.Finishing.{is_read_in, readings_in, numbered_in, HavePlacesBelow};
 ghost use Rattle.ground.specs.Founds.{numbers_of};
 ghost use Rattle.ground.specs.Grounds.{kept_of};
-ghost use Rattle.ground.specs.InOrder.{first_place};
+ghost use Rattle.meaning.specs.InOrder.{first_place};
 
 use crate::found::Found;
 use crate::ground::Instance;

@@ -4,16 +4,16 @@ ghost use Rattle.profile.specs.Clause.{Alternative};
 ghost use Rattle.rules.specs.RuleSets.{IsNumberOf, AreKeywords};
 ghost use Rattle.rules.specs.declared.rule_set.Keywords.{Keywords};
 ghost use Rattle.profile.specs.Words.{w_init};
-ghost use Rattle.ground.specs.Arena.{Held};
-ghost use Rattle.ground.specs.Dropping.{AreShown, dropped_in};
+ghost use Rattle.terms.specs.Arena.{Held};
+ghost use Rattle.terms.specs.Dropping.{AreShown, dropped_in};
 ghost use Rattle.ground.specs.Finishing.{numbered_in};
 ghost use Rattle.ground.specs.Grounds.{Kept, numbered};
-ghost use Rattle.ground.specs.Keys.{AreBelow, AreDifferentWords, term_at, trees};
-ghost use Rattle.ground.specs.Listed.{IsWellFormed};
-ghost use Rattle.ground.specs.Listing.{listing, base_list};
-ghost use Rattle.ground.specs.Play.{starts, dropped};
+ghost use Rattle.terms.specs.Keys.{AreBelow, AreDifferentWords, term_at, trees};
+ghost use Rattle.meaning.specs.Listed.{IsWellFormed};
+ghost use Rattle.meaning.specs.Listing.{listing, base_list};
+ghost use Rattle.meaning.specs.Play.{starts, dropped};
 ghost use Rattle.ground.specs.Progress.{IsListed};
-ghost use Rattle.ground.specs.Starting.{starts_in};
+ghost use Rattle.terms.specs.Starting.{starts_in};
 
 /// What the last pass makes of the numbers of terms is what the definitions make of the listing.
 pub fn the_last_pass_is_the_definition()

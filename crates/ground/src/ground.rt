@@ -1,9 +1,10 @@
 // What an instantiation gives: the kept instances, and where their atoms stand in play.
 ghost use Rattle.std.specs.Prelude.{◌≡◌, length, map};
-ghost use Rattle.ground.specs.Grounds.{IsSomeGround, kept_of, texts_of};
+ghost use Rattle.ground.specs.Grounds.{IsSomeGround, kept_of};
+ghost use Rattle.terms.specs.Vectors.{texts_of};
 
 use crate::atom_table::AtomTable;
-use crate::kind::Kind;
+use meaning::Kind;
 
 /// A kept instance, by the numbers of its atoms.
 #[derive(Drop)]

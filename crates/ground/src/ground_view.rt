@@ -3,10 +3,10 @@ ghost use Rattle.std.specs.Prelude.{◌≡◌, ◌<◌, length, slice_index_or, 
 ghost use Rattle.kif.specs.Tree.{name_eq};
 ghost use Rattle.ground.specs.Grounds.{text_at, texts_at};
 ghost use Rattle.ground.specs.GroundView.{atoms_of, base_of, dropped_of, inputs_of, kept_in, kinds_of, roles_of, starts_of};
-ghost use Rattle.ground.specs.declared.kind.Kind.TheVariants.{Other};
+ghost use Rattle.meaning.specs.declared.kind.Kind.TheVariants.{Other};
 
 use crate::ground::{Ground, Instance};
-use crate::kind::Kind;
+use meaning::Kind;
 
 impl Ground {
     /// How many roles there are.

@@ -2,16 +2,16 @@
 ghost use Rattle.std.specs.Prelude.{List, ◌≡◌, length, map, IfOk};
 ghost use Rattle.profile.specs.Clause.{Atom, tree_of};
 ghost use Rattle.rules.specs.RuleSetView.{lists_of_set, rules_in};
-ghost use Rattle.ground.specs.Keys.{AreBelow, term_at, trees};
-ghost use Rattle.ground.specs.Kinds.{kind_of};
-ghost use Rattle.ground.specs.Marked.{AreMarked};
-ghost use Rattle.ground.specs.Tables.{AreTables};
+ghost use Rattle.terms.specs.Keys.{AreBelow, term_at, trees};
+ghost use Rattle.meaning.specs.Kinds.{kind_of};
+ghost use Rattle.meaning.specs.Marked.{AreMarked};
+ghost use Rattle.terms.specs.Tables.{AreTables};
 
-use crate::arena::Arena;
-use crate::kind::Kind;
 use crate::tables::Tables;
+use meaning::Kind;
 use rules::RuleSet;
 use std::alloc::{AllocError, Global};
+use terms::Arena;
 
 /// Where the atoms stand in play, of which the first are those of fixed relations.
 pub fn kinds_of_atoms(

@@ -2,22 +2,22 @@
 ghost use Rattle.std.specs.Prelude.{◌≡◌, map, None, IfOk};
 ghost use Rattle.rules.specs.RuleSetView.{rules_in};
 ghost use Rattle.ground.specs.AllListed.{IsAllListed, ArePartsOf};
-ghost use Rattle.ground.specs.Contexts.{items_of, terms_named};
+ghost use Rattle.terms.specs.Vectors.{items_of};
+ghost use Rattle.ground.specs.Contexts.{terms_named};
 ghost use Rattle.ground.specs.Founds.{numbers_of};
 ghost use Rattle.ground.specs.Grounds.{kept_of};
-ghost use Rattle.ground.specs.Limits.{excess_in};
+ghost use Rattle.meaning.specs.Limits.{excess_in};
 ghost use Rattle.ground.specs.SetWords.{words_of};
 
 use crate::all_listed::Listed;
-use crate::dropping::count_dropped;
 use crate::finishing::instances_of;
 use crate::ground::Instance;
-use crate::kind::Kind;
 use crate::kinds_of_atoms::kinds_of_atoms;
-use crate::starting::starts_of;
 use crate::tables::Tables;
+use meaning::Kind;
 use rules::RuleSet;
 use std::alloc::{AllocError, Global};
+use terms::{count_dropped, starts_of};
 
 /// Which base propositions hold at the start, where the atoms stand in play, the kept instances, and how many
 /// atoms have no effect on play.

@@ -1,13 +1,13 @@
 // The roles, base propositions and inputs as sets of terms, and their texts.
 ghost use Rattle.std.specs.Prelude.{◌≡◌, [], map, IfOk};
-ghost use Rattle.ground.specs.Contexts.{items_of, terms_named, texts_named};
-ghost use Rattle.ground.specs.Founds.{with_numbers};
-ghost use Rattle.ground.specs.Grounds.{texts_of};
+ghost use Rattle.terms.specs.Vectors.{items_of, texts_of};
+ghost use Rattle.ground.specs.Contexts.{terms_named, texts_named};
+ghost use Rattle.terms.specs.Atoms.{with_numbers};
 
 use crate::context_step::ContextTerms;
-use crate::naming::Named;
 use indexmap::IndexSet;
 use std::alloc::{AllocError, Global};
+use terms::Named;
 
 /// The roles, the base propositions and the inputs of each role, as terms that have the place that they stand
 /// in as their number.

@@ -8,22 +8,16 @@ use Rattle.profile.specs.Words.{w_next}
 use Rattle.profile.specs.Clause.{Atom, Alternative, relation_of}
 use Rattle.profile.specs.Dependence.{IsAmong}
 use Rattle.profile.proofs.Facts.{fixed_tested}
-use Rattle.ground.specs.declared.kind.Kind.{Kind}
-use Rattle.ground.specs.declared.kind.Kind.TheVariants.{Fixed, Now, Does, Next, Legal, Goal, Terminal, Other}
-use Rattle.ground.specs.Meaning.{Source, now, does, distinct, ordinary, source_of, RightAs, Holds, IsRole, IsInput, IsWithinInput, atom1}
-use Rattle.ground.specs.Listing.{listing, is_atom_in, role_list, base_list, input_list}
-use Rattle.ground.specs.Listed.{IsWellFormed}
-use Rattle.ground.specs.Evaluation.{holding, after_list}
-use Rattle.ground.specs.Kinds.{place_in, kind_of}
+use Rattle.meaning.specs.declared.kind.Kind.{Kind}
+use Rattle.meaning.specs.declared.kind.Kind.TheVariants.{Fixed, Now, Does, Next, Legal, Goal, Terminal, Other}
+use Rattle.meaning.specs.Meaning.{Source, now, does, distinct, ordinary, source_of, RightAs, Holds, IsRole, IsInput, IsWithinInput, atom1}
+use Rattle.meaning.specs.Listing.{listing, is_atom_in, role_list, base_list, input_list}
+use Rattle.meaning.specs.Listed.{IsWellFormed}
+use Rattle.meaning.specs.Evaluation.{holding, after_list}
+use Rattle.meaning.specs.Kinds.{place_in, kind_of}
 use Rattle.ground.specs.Grounds.{numbered}
-use Rattle.ground.specs.Play.{AreAfter}
-use Rattle.ground.proofs.AtomKinds.{kind_sound, kind_complete}
-use Rattle.ground.proofs.Context.{bases_in_order, inputs_in_order}
-use Rattle.ground.proofs.Evaluation.{holding_exact, after_listed}
-use Rattle.ground.proofs.Fold.{roles_exact, inputs_exact}
-use Rattle.ground.proofs.Gates.{distinct_fixed}
-use Rattle.ground.proofs.ListedLaw.{is_atom_yes, is_atom_in_yes}
-use Rattle.ground.proofs.Possible.{now_is, does_is}
+use Rattle.meaning.specs.Play.{AreAfter}
+use Rattle.meaning.proofs.Facts.{kind_sound, kind_complete, bases_in_order, inputs_in_order, holding_exact, after_listed, roles_exact, inputs_exact, distinct_fixed, is_atom_yes, is_atom_in_yes, now_is, does_is}
 use Rattle.position.specs.declared.naming.Naming.TheVariants.{ByNext}
 use Rattle.game.specs.Played.{tree_at}
 use Rattle.game.specs.Rules.{Turn}

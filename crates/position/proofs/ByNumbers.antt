@@ -5,22 +5,16 @@ use Rattle.kif.proofs.Facts.{both, true_and}
 use Rattle.profile.specs.Clause.{Atom, Literal, positive, negative, Alternative, relation_of, atom_eq, atom_of}
 use Rattle.profile.specs.Dependence.{IsAmong, is_fixed}
 use Rattle.profile.proofs.Facts.{not_true, not_false, IsAmong-append, IsAmong-append_right, or_cases, or_left, or_right}
-use Rattle.ground.specs.declared.kind.Kind.{Kind}
-use Rattle.ground.specs.Meaning.{State, Joint, Source, now, does, distinct, ordinary, source_of, RightAs, IsRight, Holds, IsWithinBase, IsWithinInput}
-use Rattle.ground.specs.Numbers.{number_of}
-use Rattle.ground.specs.InOrder.{first_place}
-use Rattle.ground.specs.Listing.{Instance, is_atom_in, listing}
-use Rattle.ground.specs.Listed.{IsWellFormed, HasRightListed}
-use Rattle.ground.specs.Gates.{is_read, reading, gate, atom_at, literal_at, IsBodyRight}
-use Rattle.ground.specs.Kinds.{kind_of}
+use Rattle.meaning.specs.declared.kind.Kind.{Kind}
+use Rattle.meaning.specs.Meaning.{State, Joint, Source, now, does, distinct, ordinary, source_of, RightAs, IsRight, Holds, IsWithinBase, IsWithinInput}
+use Rattle.meaning.specs.Numbers.{number_of}
+use Rattle.meaning.specs.InOrder.{first_place}
+use Rattle.meaning.specs.Listing.{Instance, is_atom_in, listing}
+use Rattle.meaning.specs.Listed.{IsWellFormed, HasRightListed}
+use Rattle.meaning.specs.Gates.{is_read, reading, gate, atom_at, literal_at, IsBodyRight}
+use Rattle.meaning.specs.Kinds.{kind_of}
 use Rattle.ground.specs.Grounds.{numbered}
-use Rattle.ground.proofs.Evaluation.{before}
-use Rattle.ground.proofs.Exact.{listed_suffice, heads_exact}
-use Rattle.ground.proofs.Fold.{listing_exact, atoms_exact}
-use Rattle.ground.proofs.Gates.{atom_found, gate_right, gate_numbered}
-use Rattle.ground.proofs.ListedLaw.{source_under}
-use Rattle.ground.proofs.Ordered.{among_map_out, among_filter}
-use Rattle.ground.proofs.Rising.{atom_test}
+use Rattle.meaning.proofs.Facts.{before, listed_suffice, heads_exact, listing_exact, atoms_exact, atom_found, gate_right, gate_numbered, source_under, among_map_out, among_filter, atom_test}
 use Rattle.game.specs.Rules.{Turn}
 use Rattle.position.specs.RuleMeaning.{Agree}
 use Rattle.position.specs.RulePlay.{stands_in, kind_at, is_given, is_right, all_right, found_by, holds}

@@ -9,31 +9,24 @@ use Rattle.profile.specs.Words.{w_true, w_does, w_distinct, w_terminal}
 use Rattle.profile.specs.Clause.{Atom, Alternative, relation_of, atom_eq}
 use Rattle.profile.specs.Dependence.{IsAmong, is_fixed}
 use Rattle.profile.proofs.Facts.{fixed_tested, or_cases, or_left, or_right}
-use Rattle.ground.specs.declared.kind.Kind.{Kind}
-use Rattle.ground.specs.declared.kind.Kind.TheVariants.{Fixed, Now, Does, Next, Legal, Goal, Terminal, Other}
-use Rattle.ground.specs.Meaning.{State, Joint, Source, now, does, distinct, ordinary, source_at, source_of, RightAs, Holds, nobody, IsEnded, IsBase, IsWithinBase, IsWithinInput, atom0, atom1}
-use Rattle.ground.specs.InOrder.{AreDistinct, first_place}
-use Rattle.ground.specs.Numbers.{number_of}
-use Rattle.ground.specs.Listing.{listing, base_list}
-use Rattle.ground.specs.Listed.{IsWellFormed}
-use Rattle.ground.specs.Gates.{atom_at}
-use Rattle.ground.specs.Kinds.{place_in, kind_of, MeansKind}
+use Rattle.meaning.specs.declared.kind.Kind.{Kind}
+use Rattle.meaning.specs.declared.kind.Kind.TheVariants.{Fixed, Now, Does, Next, Legal, Goal, Terminal, Other}
+use Rattle.meaning.specs.Meaning.{State, Joint, Source, now, does, distinct, ordinary, source_at, source_of, RightAs, Holds, nobody, IsEnded, IsBase, IsWithinBase, IsWithinInput, atom0, atom1}
+use Rattle.meaning.specs.InOrder.{AreDistinct, first_place}
+use Rattle.meaning.specs.Numbers.{number_of}
+use Rattle.meaning.specs.Listing.{listing, base_list}
+use Rattle.meaning.specs.Listed.{IsWellFormed}
+use Rattle.meaning.specs.Gates.{atom_at}
+use Rattle.meaning.specs.Kinds.{place_in, kind_of, MeansKind}
 use Rattle.ground.specs.Grounds.{Kept, numbered}
-use Rattle.ground.proofs.AtomKinds.{kind_sound, kind_complete}
-use Rattle.ground.proofs.Exact.{listed_suffice}
-use Rattle.ground.proofs.Fold.{bases_exact}
-use Rattle.ground.proofs.Gates.{distinct_fixed}
-use Rattle.ground.proofs.Numbered.{one_number}
-use Rattle.ground.proofs.Ordered.{place_below}
-use Rattle.ground.proofs.Rising.{atom_test}
+use Rattle.meaning.proofs.Facts.{kind_sound, kind_complete, listed_suffice, bases_exact, distinct_fixed, one_number, place_below, atom_test, start_listed}
 use Rattle.game.specs.Rules.{Turn}
 use Rattle.position.specs.RulePlay.{marked, no_turn, kind_at, is_given, holds, some_below, is_terminal, ends}
 use Rattle.position.specs.RuleMeaning.{Agree, stands_at, state_of, trees_at}
 use Rattle.game.specs.Played.{tree_at}
 use Rattle.position.proofs.Trees.{trees_picked, picked_filter}
-use Rattle.ground.specs.Play as play
-use Rattle.ground.specs.Play.{AreStart}
-use Rattle.ground.proofs.Context.{start_listed}
+use Rattle.meaning.specs.Play as play
+use Rattle.meaning.specs.Play.{AreStart}
 use Rattle.std.specs.List.{range_with_len}
 use Rattle.position.proofs.ByNumbers.{numbers_exact, kind_listed, head_listed, right_there}
 

@@ -6,16 +6,16 @@ use Rattle.std.proofs.lemmas.List.{length-map, get_or-map}
 use Rattle.std.proofs.lemmas.List.Elements.{All-filter}
 use Rattle.kif.specs.Tree.{Tree, text}
 use Rattle.profile.specs.Clause.{Alternative}
-use Rattle.ground.specs.declared.kind.Kind.{Kind}
+use Rattle.meaning.specs.declared.kind.Kind.{Kind}
 use Rattle.ground.specs.declared.ground.Ground.{Ground}
-use Rattle.ground.specs.Meaning.{IsInAfter, IsLegal, IsEnded}
-use Rattle.ground.specs.Listing.{listing, role_list, base_list, input_list}
-use Rattle.ground.specs.Listed.{IsWellFormed}
-use Rattle.ground.specs.Kinds.{kind_of}
+use Rattle.meaning.specs.Meaning.{IsInAfter, IsLegal, IsEnded}
+use Rattle.meaning.specs.Listing.{listing, role_list, base_list, input_list}
+use Rattle.meaning.specs.Listed.{IsWellFormed}
+use Rattle.meaning.specs.Kinds.{kind_of}
 use Rattle.ground.specs.Grounds.{Kept, numbered, text_at, texts_at, IsGroundOf}
 use Rattle.ground.specs.GroundView.{roles_of, base_of, inputs_of, kinds_of, instances_of, IsGround}
-use Rattle.ground.specs.Play as play
-use Rattle.ground.specs.Play.{AreStart, AreAfter, AreLegal, IsGoal}
+use Rattle.meaning.specs.Play as play
+use Rattle.meaning.specs.Play.{AreStart, AreAfter, AreLegal, IsGoal}
 use Rattle.position.specs.declared.naming.Naming.TheVariants.{ByNext, ByLegal}
 use Rattle.game.specs.NamedRules.{NamedRules}
 use Rattle.game.specs.Played.{tree_at}

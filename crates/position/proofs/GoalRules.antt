@@ -8,17 +8,16 @@ use Rattle.kif.specs.Tree.{Tree, name}
 use Rattle.kif.proofs.Facts.{both, true_and}
 use Rattle.profile.specs.Words.{w_goal}
 use Rattle.profile.specs.Clause.{Atom, Alternative}
-use Rattle.ground.specs.declared.kind.Kind.{Kind}
-use Rattle.ground.specs.declared.kind.Kind.TheVariants.{Fixed, Now, Does, Next, Legal, Goal, Terminal, Other}
-use Rattle.ground.specs.Meaning.{nobody, atom2}
-use Rattle.ground.specs.Listing.{listing, role_list}
-use Rattle.ground.specs.Listed.{IsWellFormed}
-use Rattle.ground.specs.Gates.{atom_at}
-use Rattle.ground.specs.Kinds.{kind_of, MeansKind}
+use Rattle.meaning.specs.declared.kind.Kind.{Kind}
+use Rattle.meaning.specs.declared.kind.Kind.TheVariants.{Fixed, Now, Does, Next, Legal, Goal, Terminal, Other}
+use Rattle.meaning.specs.Meaning.{nobody, atom2}
+use Rattle.meaning.specs.Listing.{listing, role_list}
+use Rattle.meaning.specs.Listed.{IsWellFormed}
+use Rattle.meaning.specs.Gates.{atom_at}
+use Rattle.meaning.specs.Kinds.{kind_of, MeansKind}
 use Rattle.ground.specs.Grounds.{numbered}
-use Rattle.ground.specs.Play.{HasGoal, IsGoal}
-use Rattle.ground.proofs.AtomKinds.{kind_sound}
-use Rattle.ground.proofs.Context.{roles_once}
+use Rattle.meaning.specs.Play.{HasGoal, IsGoal}
+use Rattle.meaning.proofs.Facts.{kind_sound, roles_once}
 use Rattle.game.specs.Played.{tree_at}
 use Rattle.position.specs.RulePlay.{no_turn, kind_at, holds, some_below, greatest_below, goal_value, best_goal}
 use Rattle.position.specs.RuleMeaning.{state_of}

@@ -8,7 +8,7 @@ use Rattle.std.proofs.lemmas.Bool.{cases_eq}
 use Rattle.std.proofs.lemmas.List.{append-nil, take-set, take_more, take_more_set}
 use Rattle.std.proofs.lemmas.List.Elements.{filter-append}
 use Rattle.std.proofs.lemmas.Nat.Bits.{bit_at_or, bit_at-lt, bit_at-zero}
-use Rattle.ground.specs.declared.kind.Kind.{Kind}
+use Rattle.meaning.specs.declared.kind.Kind.{Kind}
 use Rattle.ground.specs.Grounds.{texts_at}
 use Rattle.position.specs.declared.net_many.RoleLanes.{RoleLanes}
 use Rattle.position.specs.NetState.{is_lane_on, Alike}

@@ -5,22 +5,17 @@ use Rattle.std.specs.declared.cmp.Ordering.TheVariants.{Less}
 use Rattle.kif.specs.Tree.{Tree, printed_cmp}
 use Rattle.profile.specs.Words.{w_legal}
 use Rattle.profile.specs.Clause.{Atom, Alternative}
-use Rattle.ground.specs.declared.kind.Kind.{Kind}
-use Rattle.ground.specs.declared.kind.Kind.TheVariants.{Fixed, Now, Does, Next, Legal, Goal, Terminal, Other}
-use Rattle.ground.specs.Meaning.{Holds, nobody, atom2, IsRole}
-use Rattle.ground.specs.InOrder.{AreDistinct}
-use Rattle.ground.specs.Listing.{listing, is_atom_in, role_list, input_list}
-use Rattle.ground.specs.Listed.{IsWellFormed}
-use Rattle.ground.specs.Evaluation.{holding, legal_list}
-use Rattle.ground.specs.Kinds.{kind_of, MeansKind}
+use Rattle.meaning.specs.declared.kind.Kind.{Kind}
+use Rattle.meaning.specs.declared.kind.Kind.TheVariants.{Fixed, Now, Does, Next, Legal, Goal, Terminal, Other}
+use Rattle.meaning.specs.Meaning.{Holds, nobody, atom2, IsRole}
+use Rattle.meaning.specs.InOrder.{AreDistinct}
+use Rattle.meaning.specs.Listing.{listing, is_atom_in, role_list, input_list}
+use Rattle.meaning.specs.Listed.{IsWellFormed}
+use Rattle.meaning.specs.Evaluation.{holding, legal_list}
+use Rattle.meaning.specs.Kinds.{kind_of, MeansKind}
 use Rattle.ground.specs.Grounds.{numbered}
-use Rattle.ground.specs.Play.{AreInPrintedOrder, AreLegal}
-use Rattle.ground.proofs.Context.{roles_once, inputs_in_order}
-use Rattle.ground.proofs.Evaluation.{holding_exact, legal_listed}
-use Rattle.ground.proofs.Fold.{roles_exact}
-use Rattle.ground.proofs.ListedLaw.{is_atom_yes, is_atom_in_yes}
-use Rattle.ground.proofs.Ordered.{order_other}
-use Rattle.ground.proofs.Printed.{printed_never}
+use Rattle.meaning.specs.Play.{AreInPrintedOrder, AreLegal}
+use Rattle.meaning.proofs.Facts.{roles_once, inputs_in_order, holding_exact, legal_listed, roles_exact, is_atom_yes, is_atom_in_yes, order_other, printed_never}
 use Rattle.position.specs.declared.naming.Naming.TheVariants.{ByLegal}
 use Rattle.game.specs.Played.{tree_at}
 use Rattle.position.specs.RulePlay.{no_turn, holds, names, is_number, is_named, named_below}

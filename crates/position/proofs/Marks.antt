@@ -6,7 +6,7 @@ use Rattle.std.proofs.Math.ListN.{set, length-set}
 use Rattle.std.proofs.Math.Seq.{drop-cons}
 use Rattle.std.proofs.lemmas.Bool.{cases_eq, cases_lt}
 use Rattle.std.proofs.lemmas.List.{get_or_past, get_or-map, length-map}
-use Rattle.ground.specs.declared.kind.Kind.{Kind}
+use Rattle.meaning.specs.declared.kind.Kind.{Kind}
 use Rattle.std.proofs.Math.Bool.{or-false}
 use Rattle.ground.specs.declared.ground.Instance as shown
 use Rattle.ground.specs.Grounds.{Kept, kept_of}

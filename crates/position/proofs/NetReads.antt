@@ -7,23 +7,20 @@ use Rattle.std.proofs.lemmas.List.{length-map}
 use Rattle.kif.specs.Tree.{Tree, text}
 use Rattle.profile.specs.Clause.{Atom, Alternative, relation_of}
 use Rattle.profile.specs.Dependence.{IsAmong, is_fixed}
-use Rattle.ground.specs.declared.kind.Kind.{Kind}
-use Rattle.ground.specs.declared.kind.Kind.TheVariants.{Fixed, Now, Does, Next, Legal, Goal, Terminal, Other}
+use Rattle.meaning.specs.declared.kind.Kind.{Kind}
+use Rattle.meaning.specs.declared.kind.Kind.TheVariants.{Fixed, Now, Does, Next, Legal, Goal, Terminal, Other}
 use Rattle.ground.specs.declared.ground.Ground.{Ground}
-use Rattle.ground.specs.Gates.{atom_at}
+use Rattle.meaning.specs.Gates.{atom_at}
 use Rattle.ground.specs.Grounds.{Kept, numbered}
 use Rattle.ground.specs.GroundView.{base_of, kinds_of, instances_of, IsGround}
-use Rattle.ground.specs.Kinds.{kind_of, place_in}
-use Rattle.ground.specs.Listing.{listing, role_list, base_list, input_list}
-use Rattle.ground.specs.Listed.{IsWellFormed}
-use Rattle.ground.specs.Meaning as meaning
-use Rattle.ground.specs.Meaning.{ordinary, source_of, Holds, nobody, IsRole, RightAs, atom1}
-use Rattle.ground.specs.Numbers.{number_of}
-use Rattle.ground.specs.Play as play
-use Rattle.ground.proofs.AtomKinds.{kind_sound}
-use Rattle.ground.proofs.Context.{bases_in_order, inputs_in_order}
-use Rattle.ground.proofs.Fold.{roles_exact, bases_exact}
-use Rattle.ground.proofs.Numbered.{one_number}
+use Rattle.meaning.specs.Kinds.{kind_of, place_in}
+use Rattle.meaning.specs.Listing.{listing, role_list, base_list, input_list}
+use Rattle.meaning.specs.Listed.{IsWellFormed}
+use Rattle.meaning.specs.Meaning as meaning
+use Rattle.meaning.specs.Meaning.{ordinary, source_of, Holds, nobody, IsRole, RightAs, atom1}
+use Rattle.meaning.specs.Numbers.{number_of}
+use Rattle.meaning.specs.Play as play
+use Rattle.meaning.proofs.Facts.{kind_sound, bases_in_order, inputs_in_order, roles_exact, bases_exact, one_number}
 use Rattle.propnet.specs.declared.net.Net.{Net}
 use Rattle.propnet.specs.Agreement as agreement
 use Rattle.propnet.specs.Bodies.{needs_view}

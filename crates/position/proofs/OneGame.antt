@@ -4,13 +4,12 @@ use Rattle.std.specs.Prelude.{All, slice_index}
 use Rattle.std.proofs.lemmas.List.Elements.{All-head, All-tail}
 use Rattle.kif.specs.Tree.{Tree}
 use Rattle.profile.specs.Clause.{Alternative}
-use Rattle.ground.specs.InOrder.{AreDistinct}
-use Rattle.ground.specs.Kinds.{place_in}
-use Rattle.ground.specs.Listing.{role_list, base_list}
-use Rattle.ground.specs.Listed.{IsWellFormed}
-use Rattle.ground.specs.Meaning.{IsEnded, IsRole}
-use Rattle.ground.proofs.Context.{bases_in_order, inputs_in_order, one_list_of, one_goal}
-use Rattle.ground.proofs.Fold.{roles_exact}
+use Rattle.meaning.specs.InOrder.{AreDistinct}
+use Rattle.meaning.specs.Kinds.{place_in}
+use Rattle.meaning.specs.Listing.{role_list, base_list}
+use Rattle.meaning.specs.Listed.{IsWellFormed}
+use Rattle.meaning.specs.Meaning.{IsEnded, IsRole}
+use Rattle.meaning.proofs.Facts.{bases_in_order, inputs_in_order, one_list_of, one_goal, roles_exact}
 use Rattle.game.specs.NamedRules.{NamedRules}
 use Rattle.game.specs.Played.{tree_at}
 use Rattle.game.specs.Rules.{Turn, IsTurn}

@@ -6,7 +6,7 @@ use Rattle.std.proofs.Math.ListN.{get_or-append}
 use Rattle.std.proofs.lemmas.Bool.{cases_eq}
 use Rattle.std.proofs.lemmas.List.{length-map, get_or-map, map-append}
 use Rattle.std.proofs.lemmas.List.FromFn.{get_or-map-range_with_len}
-use Rattle.ground.specs.declared.kind.Kind.{Kind}
+use Rattle.meaning.specs.declared.kind.Kind.{Kind}
 use Rattle.position.specs.RulePlay.{kind_at}
 use Rattle.position.specs.NetState.{is_shown, view_of, AreViewsBelow}
 use Rattle.position.specs.LanePlans.{shown_below, asked_below, asked_nodes, places_of}

@@ -8,10 +8,10 @@ use Rattle.profile.specs.Clause.{Alternative}
 use Rattle.profile.specs.Dependence.{IsAmong}
 use Rattle.profile.proofs.Facts.{or_cases}
 use Rattle.ground.specs.declared.ground.Ground.{Ground}
-use Rattle.ground.specs.Meaning.{IsLegal, IsEnded, IsStuck}
-use Rattle.ground.specs.Listing.{role_list, input_list}
+use Rattle.meaning.specs.Meaning.{IsLegal, IsEnded, IsStuck}
+use Rattle.meaning.specs.Listing.{role_list, input_list}
 use Rattle.ground.specs.GroundView.{inputs_of, IsGround}
-use Rattle.ground.proofs.Fold.{roles_exact}
+use Rattle.meaning.proofs.Facts.{roles_exact}
 use Rattle.game.specs.Played.{tree_at}
 use Rattle.game.specs.Rules.{is_stuck}
 use Rattle.position.specs.RuleMeaning.{state_of, trees_at}

@@ -6,8 +6,8 @@ use Rattle.std.specs.Option.{option_map}
 use Rattle.kif.specs.Tree.{Tree, tree_eq}
 use Rattle.kif.proofs.Facts.{tree_eq_yes, tree_eq_self}
 use Rattle.profile.specs.Dependence.{IsAmong}
-use Rattle.ground.specs.InOrder.{AreDistinct}
-use Rattle.ground.specs.Kinds.{place_in}
+use Rattle.meaning.specs.InOrder.{AreDistinct}
+use Rattle.meaning.specs.Kinds.{place_in}
 use Rattle.game.specs.Played.{tree_at}
 use Rattle.position.specs.RuleMeaning.{trees_at}
 

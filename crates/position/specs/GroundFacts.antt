@@ -4,9 +4,9 @@ use Rattle.std.proofs.lemmas.List.{get_or_past}
 use Rattle.ground.specs.declared.ground.Ground.{Ground}
 use Rattle.ground.specs.Grounds.{texts_at}
 use Rattle.ground.specs.Fits.{FitTogether, count_all}
-use Rattle.ground.specs.Most.{limits}
+use Rattle.meaning.specs.Most.{limits}
 use Rattle.ground.specs.GroundView.{roles_of, base_of, inputs_of, kinds_of, instances_of}
-use Rattle.ground.proofs.Fitting.{fit_together}
+use Rattle.ground.proofs.Facts.{fit_together}
 
 pub fits : (g : Ground) → FitTogether (roles_of g) (base_of g) (inputs_of g) g.starts.items (kinds_of g) (instances_of g)
 fits g = fit_together _ _ _ _ _ _ _ g.sound

@@ -1,7 +1,7 @@
 -- The tapes of play, and where they keep what is asked of a state.
 use Rattle.std.specs.Prelude.{ℕ, ◌≡◌, List, length, map, filter, get_or, Option, Some}
 use Rattle.std.specs.List.{range_with_len}
-use Rattle.ground.specs.declared.kind.Kind.{Kind}
+use Rattle.meaning.specs.declared.kind.Kind.{Kind}
 use Rattle.ground.specs.declared.ground.Ground.{Ground}
 use Rattle.ground.specs.GroundView.{kinds_of}
 use Rattle.propnet.specs.declared.net.Net.{Net}

@@ -1,8 +1,8 @@
 -- What a plan of play keeps of an instantiation: its instances in flat lists, and the atoms that are asked for in play by kind.
 use Rattle.std.specs.Prelude.{ℕ, ◌≡◌, ◌<◌, Bool, true, false, max, ◌==◌, ◌&&◌, List, [], ◌∷◌, length, map, filter, get_or, is_some, if◌then◌else◌}
 use Rattle.std.specs.List.{list_any, range_with_len}
-use Rattle.ground.specs.declared.kind.Kind.{Kind}
-use Rattle.ground.specs.declared.kind.Kind.TheVariants.{Fixed, Now, Does, Next, Legal, Goal, Terminal, Other}
+use Rattle.meaning.specs.declared.kind.Kind.{Kind}
+use Rattle.meaning.specs.declared.kind.Kind.TheVariants.{Fixed, Now, Does, Next, Legal, Goal, Terminal, Other}
 use Rattle.ground.specs.declared.ground.Ground.{Ground}
 use Rattle.ground.specs.GroundView.{inputs_of, instances_of, kinds_of}
 use Rattle.position.specs.declared.naming.Naming.{Naming}

@@ -9,8 +9,8 @@ use Rattle.std.specs.declared.cmp.Ordering.TheVariants.{Less}
 use Rattle.std.proofs.lemmas.List.FromFn.{length-range_with_len, get_or-range_with_len}
 use Rattle.std.proofs.lemmas.List.Kept.{IsStrictlyIncreasing-filter}
 use Rattle.std.proofs.lemmas.List.Elements.{All-filter}
-use Rattle.ground.specs.declared.kind.Kind.{Kind}
-use Rattle.ground.specs.declared.kind.Kind.TheVariants.{Fixed, Now, Does, Next, Legal, Goal, Terminal, Other}
+use Rattle.meaning.specs.declared.kind.Kind.{Kind}
+use Rattle.meaning.specs.declared.kind.Kind.TheVariants.{Fixed, Now, Does, Next, Legal, Goal, Terminal, Other}
 use Rattle.ground.specs.declared.ground.Ground.{Ground}
 use Rattle.ground.specs.Fits.{IsKindWithin}
 use Rattle.ground.specs.Grounds.{text_at, texts_at}

@@ -4,9 +4,9 @@ use Rattle.kif.specs.Tree.{Tree}
 use Rattle.game.specs.Played.{tree_at}
 use Rattle.profile.specs.Clause.{Atom, Alternative, relation_of}
 use Rattle.profile.specs.Dependence.{IsAmong, is_fixed}
-use Rattle.ground.specs.Meaning.{State, Joint, source_of, RightAs}
-use Rattle.ground.specs.Kinds.{kind_of, place_in}
-use Rattle.ground.specs.Listing.{listing, role_list, base_list, input_list}
+use Rattle.meaning.specs.Meaning.{State, Joint, source_of, RightAs}
+use Rattle.meaning.specs.Kinds.{kind_of, place_in}
+use Rattle.meaning.specs.Listing.{listing, role_list, base_list, input_list}
 use Rattle.game.specs.Rules.{Turn}
 use Rattle.position.specs.RulePlay.{is_given, stands_in}
 

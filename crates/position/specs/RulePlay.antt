@@ -2,8 +2,8 @@
 -- what holds tell the rest.
 use Rattle.std.specs.Prelude.{ℕ, zero, suc, Bool, true, false, not, nat_lt, max, ◌≡◌, ◌<◌, slice_set, ◌==◌, ◌&&◌, ◌||◌, List, [], ◌∷◌, length, filter, slice_index, slice_index_or, Option, Some, None, if◌then◌else◌}
 use Rattle.std.specs.List.{list_any, range_with_len}
-use Rattle.ground.specs.declared.kind.Kind.{Kind}
-use Rattle.ground.specs.declared.kind.Kind.TheVariants.{Fixed, Now, Does, Next, Legal, Goal, Terminal, Other}
+use Rattle.meaning.specs.declared.kind.Kind.{Kind}
+use Rattle.meaning.specs.declared.kind.Kind.TheVariants.{Fixed, Now, Does, Next, Legal, Goal, Terminal, Other}
 use Rattle.ground.specs.Grounds.{Kept, texts_at}
 use Rattle.position.specs.declared.naming.Naming.{Naming}
 use Rattle.position.specs.declared.naming.Naming.TheVariants.{ByNext, ByLegal}

@@ -1,6 +1,6 @@
 -- What a state of a game of rules keeps.
 use Rattle.std.specs.Prelude.{ℕ, ◌≡◌, ◌<◌, ◌≤◌, Bool, List, [], ◌∷◌, length, take, get_or, flat_map, vec_capacity}
-use Rattle.ground.specs.declared.kind.Kind.{Kind}
+use Rattle.meaning.specs.declared.kind.Kind.{Kind}
 use Rattle.ground.specs.declared.ground.Ground.{Ground}
 use Rattle.ground.specs.Grounds.{text_at, texts_at}
 use Rattle.ground.specs.GroundView.{roles_of, inputs_of, kinds_of, instances_of}

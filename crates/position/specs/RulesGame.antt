@@ -4,9 +4,9 @@ use Rattle.std.specs.Prelude.{ℕ, ◌≡◌, ◌<◌, true, ◌↔◌, List, le
 use Rattle.std.specs.List.{All}
 use Rattle.kif.specs.Tree.{Tree, text}
 use Rattle.profile.specs.Clause.{Alternative}
-use Rattle.ground.specs.Meaning.{IsInStart, IsInAfter, IsLegal, IsEnded}
-use Rattle.ground.specs.Listing.{role_list, base_list, input_list}
-use Rattle.ground.specs.Play.{IsListOf, IsGoal}
+use Rattle.meaning.specs.Meaning.{IsInStart, IsInAfter, IsLegal, IsEnded}
+use Rattle.meaning.specs.Listing.{role_list, base_list, input_list}
+use Rattle.meaning.specs.Play.{IsListOf, IsGoal}
 use Rattle.game.specs.NamedRules.{NamedRules}
 use Rattle.game.specs.Played.{tree_at}
 use Rattle.position.specs.RuleMeaning.{state_of, joint_of, trees_at}

@@ -2,11 +2,11 @@
 ghost use Rattle.std.specs.Prelude.{ℕ, Bool, true, false, ◌≡◌, ◌↔◌, ◌<◌, List, length, map};
 ghost use Rattle.profile.specs.Clause.{Atom, Alternative, relation_of};
 ghost use Rattle.profile.specs.Dependence.{IsAmong, is_fixed};
-ghost use Rattle.ground.specs.Meaning.{State, Joint, Holds, IsEnded, IsStuck, RightAs, source_of, IsWithinBase, IsWithinInput};
-ghost use Rattle.ground.specs.Listing.{listing, base_list, role_list, input_list};
-ghost use Rattle.ground.specs.Listed.{IsWellFormed};
-ghost use Rattle.ground.specs.Numbers.{number_of};
-ghost use Rattle.ground.specs.Kinds.{kind_of};
+ghost use Rattle.meaning.specs.Meaning.{State, Joint, Holds, IsEnded, IsStuck, RightAs, source_of, IsWithinBase, IsWithinInput};
+ghost use Rattle.meaning.specs.Listing.{listing, base_list, role_list, input_list};
+ghost use Rattle.meaning.specs.Listed.{IsWellFormed};
+ghost use Rattle.meaning.specs.Numbers.{number_of};
+ghost use Rattle.meaning.specs.Kinds.{kind_of};
 ghost use Rattle.ground.specs.Grounds.{numbered};
 ghost use Rattle.game.specs.Rules.{Turn, IsTurn, is_stuck};
 ghost use Rattle.game.specs.Played.{tree_at};
@@ -18,7 +18,7 @@ ghost use Rattle.game.specs.NamedRules.{NamedRules};
 ghost use Rattle.position.specs.RulesGame.{IsGameOf};
 ghost use Rattle.game.specs.SamePlay.{SamePlay};
 ghost use Rattle.position.specs.RuleMeaning.{Agree, state_of, joint_of, trees_at};
-ghost use Rattle.ground.specs.Play.{AreStart, AreAfter, AreLegal, IsGoal};
+ghost use Rattle.meaning.specs.Play.{AreStart, AreAfter, AreLegal, IsGoal};
 
 /// Going through the kept instances by numbers finds exactly the numbers of what holds, for a state within `Base` and a joint
 /// move within `Input`, where the numbers of the state and the moves make right what these make right. It says nothing of

@@ -6,11 +6,11 @@ use Rattle.std.proofs.lemmas.Bool.{cases_eq}
 use Rattle.std.proofs.lemmas.List.{length-map}
 use Rattle.std.proofs.lemmas.List.Sums.{sum_by-cons}
 use Rattle.std.proofs.lemmas.List.FromFn.{length-range_with_len}
-use Rattle.ground.specs.declared.kind.Kind.{Kind}
+use Rattle.meaning.specs.declared.kind.Kind.{Kind}
 use Rattle.ground.specs.declared.ground.Ground.{Ground}
 use Rattle.ground.specs.Grounds.{Kept}
 use Rattle.ground.specs.Fits.{count_all}
-use Rattle.ground.specs.Most.{limits}
+use Rattle.meaning.specs.Most.{limits}
 use Rattle.ground.specs.GroundView.{base_of, inputs_of, kinds_of, instances_of}
 use Rattle.propnet.specs.declared.node.Name.{Name}
 use Rattle.propnet.specs.declared.node.Name.TheVariants.{Base, Input, Not, And, View, Transition}

@@ -10,7 +10,7 @@ use Rattle.ground.specs.declared.fault.GroundFault.{GroundFault}
 use Rattle.ground.specs.declared.fault.GroundFault.TheVariants.{TooMany, NoMemory}
 use Rattle.ground.specs.declared.ground.Ground.{Ground}
 use Rattle.ground.specs.GroundView.{IsGround}
-use Rattle.ground.specs.Limits.{excess_in}
+use Rattle.meaning.specs.Limits.{excess_in}
 use Rattle.ground.specs.Progress.{IsFaultOf}
 use Rattle.ground.specs.Refusal.{fault_text}
 use Rattle.position.specs.declared.net_game.NetGame.{NetGame}

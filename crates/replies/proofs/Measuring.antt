@@ -6,15 +6,15 @@ use Rattle.profile.specs.Clause.{Alternative}
 use Rattle.profile.specs.Items.{alternatives}
 use Rattle.profile.specs.Profile.{HasNoFault}
 use Rattle.ground.specs.declared.ground.Ground.{Ground}
-use Rattle.ground.specs.declared.kind.Kind.{Kind}
+use Rattle.meaning.specs.declared.kind.Kind.{Kind}
 use Rattle.ground.specs.Fits.{count_all}
 use Rattle.ground.specs.Grounds.{Kept, texts_at, numbered}
 use Rattle.ground.specs.GroundView.{IsGround, roles_of, base_of, inputs_of, kinds_of, instances_of}
-use Rattle.ground.specs.Kinds.{kind_of}
-use Rattle.ground.specs.Limits.{count_inputs}
-use Rattle.ground.specs.Most.{limits}
-use Rattle.ground.specs.Listing.{listing, role_list, base_list, input_list}
-use Rattle.ground.specs.Play.{dropped}
+use Rattle.meaning.specs.Kinds.{kind_of}
+use Rattle.meaning.specs.Limits.{count_inputs}
+use Rattle.meaning.specs.Most.{limits}
+use Rattle.meaning.specs.Listing.{listing, role_list, base_list, input_list}
+use Rattle.meaning.specs.Play.{dropped}
 use Rattle.position.specs.GroundFacts.{fits}
 use Rattle.propnet.specs.declared.net.Net.{Net}
 use Rattle.propnet.specs.declared.node.Name.{Name}

@@ -4,9 +4,9 @@ use Rattle.std.specs.Prelude.{Option, Some, None}
 use Rattle.kif.specs.Tree.{Tree}
 use Rattle.profile.specs.Items.{alternatives}
 use Rattle.profile.specs.Profile.{HasNoFault}
-use Rattle.ground.specs.declared.excess.Excess.{Excess}
+use Rattle.meaning.specs.declared.excess.Excess.{Excess}
 use Rattle.ground.specs.declared.fault.GroundFault.TheVariants.{TooMany}
-use Rattle.ground.specs.Limits.{excess_in}
+use Rattle.meaning.specs.Limits.{excess_in}
 use Rattle.ground.specs.Refusal.{fault_text}
 use Rattle.replies.proofs.OneCheck.{some_verdict, one_refusal, refused_or_lawful}
 use Rattle.replies.proofs.OnePlay.{one_limit}

@@ -4,10 +4,10 @@ use Rattle.std.specs.Prelude.{Option, Some, None}
 use Rattle.kif.specs.Tree.{Tree}
 use Rattle.profile.specs.Items.{alternatives}
 use Rattle.profile.specs.Profile.{HasNoFault}
-use Rattle.ground.proofs.Accepted.{accepted_well_formed}
-use Rattle.ground.specs.declared.excess.Excess.{Excess}
+use Rattle.meaning.proofs.Facts.{accepted_well_formed}
+use Rattle.meaning.specs.declared.excess.Excess.{Excess}
 use Rattle.ground.specs.declared.fault.GroundFault.TheVariants.{TooMany}
-use Rattle.ground.specs.Limits.{excess_in}
+use Rattle.meaning.specs.Limits.{excess_in}
 use Rattle.ground.specs.Refusal.{fault_text}
 use Rattle.position.proofs.GameRules.{has_game}
 use Rattle.position.proofs.OneGame.{one_game}

@@ -3,11 +3,11 @@ use Rattle.std.specs.Prelude.{◌≡◌, ◌⊎◌, List, Some, None}
 use Rattle.kif.specs.Tree.{Tree}
 use Rattle.profile.specs.Items.{alternatives}
 use Rattle.profile.specs.Profile.{HasNoFault}
-use Rattle.ground.specs.declared.excess.Excess.{Excess}
+use Rattle.meaning.specs.declared.excess.Excess.{Excess}
 use Rattle.ground.specs.declared.fault.GroundFault.TheVariants.{TooMany}
 use Rattle.ground.specs.declared.ground.Ground.{Ground}
 use Rattle.ground.specs.GroundView.{IsGround}
-use Rattle.ground.specs.Limits.{excess_in}
+use Rattle.meaning.specs.Limits.{excess_in}
 use Rattle.ground.specs.Refusal.{fault_text}
 use Rattle.game.specs.NamedRules.{NamedRules}
 use Rattle.position.specs.RulesGame.{IsGameOf}

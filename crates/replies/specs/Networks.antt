@@ -5,10 +5,10 @@ use Rattle.profile.specs.Clause.{Alternative}
 use Rattle.profile.specs.Items.{alternatives}
 use Rattle.profile.specs.Profile.{HasNoFault}
 use Rattle.ground.specs.Grounds.{numbered}
-use Rattle.ground.specs.Kinds.{kind_of}
-use Rattle.ground.specs.Limits.{count_inputs, excess_in}
-use Rattle.ground.specs.Listing.{listing, role_list, base_list, input_list}
-use Rattle.ground.specs.Play.{dropped}
+use Rattle.meaning.specs.Kinds.{kind_of}
+use Rattle.meaning.specs.Limits.{count_inputs, excess_in}
+use Rattle.meaning.specs.Listing.{listing, role_list, base_list, input_list}
+use Rattle.meaning.specs.Play.{dropped}
 use Rattle.propnet.specs.declared.node.Name.{Name}
 use Rattle.propnet.specs.Names.{node_names}
 use Rattle.replies.specs.Answers.{Reply, answer}

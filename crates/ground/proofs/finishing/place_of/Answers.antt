@@ -1,5 +1,5 @@
 use Rattle.std.proofs.Common.{nat_eq, ◌∙◌}
-use Rattle.ground.proofs.FinishLemmas.{some_place, no_place}
+use Rattle.terms.proofs.Facts.{some_place, no_place}
 use Rattle.ground.proofs.finishing.place_of.Goals as goal
 
 pub returns-in-Some : goal.returns-in-Some

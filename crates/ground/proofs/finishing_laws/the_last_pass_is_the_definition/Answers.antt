@@ -1,9 +1,7 @@
-use Rattle.ground.specs.Keys.{trees}
-use Rattle.ground.specs.Listing.{listing, base_list}
-use Rattle.ground.proofs.DropLemmas.{dropped_same}
+use Rattle.terms.specs.Keys.{trees}
+use Rattle.meaning.specs.Listing.{listing, base_list}
+use Rattle.terms.proofs.Facts.{dropped_same, different, starts_same}
 use Rattle.ground.proofs.FinishLemmas.{found_numbered}
-use Rattle.ground.proofs.KeyTrees.{different}
-use Rattle.ground.proofs.StartLemmas.{starts_same}
 use Rattle.ground.proofs.finishing_laws.the_last_pass_is_the_definition.Goals as goal
 
 pub returns-clause-instances : goal.returns-clause-instances

@@ -1,10 +1,9 @@
 use Rattle.std.proofs.Common.{◌+◌, ℕ, List, drop, get_or, refl, subst}
 use Rattle.rules.specs.RuleSetView.{lists_of_set, rules_in}
-use Rattle.ground.specs.Keys.{trees}
-use Rattle.ground.proofs.AddingAtoms.{number_next}
-use Rattle.ground.proofs.CellLemmas.{below_at}
+use Rattle.terms.specs.Keys.{trees}
+use Rattle.terms.proofs.Facts.{number_next, at_end}
+use Rattle.matching.proofs.Facts.{below_at}
 use Rattle.ground.proofs.KindSteps.{Kinding, kinding_next, kinding_ends}
-use Rattle.ground.proofs.ListingSteps.{at_end}
 use Rattle.ground.proofs.kinds_of_atoms.kinds_of_atoms.Goals as goal
 
 pub kind_of-kind-requires-clause-number : goal.kind_of-kind-requires-clause-number

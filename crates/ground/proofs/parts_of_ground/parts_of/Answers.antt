@@ -3,7 +3,7 @@ use Rattle.std.proofs.lemmas.List.{length-map}
 use Rattle.rules.specs.RuleSets.{AreKeywords}
 use Rattle.rules.specs.declared.rule_set.Keywords.{Keywords}
 use Rattle.rules.specs.RuleSetView.{rules_in, roles_in}
-use Rattle.ground.specs.Contexts.{items_of}
+use Rattle.terms.specs.Vectors.{items_of}
 use Rattle.ground.specs.declared.found.Found.{Found}
 use Rattle.ground.specs.Finishing.{HavePlacesBelow}
 use Rattle.ground.specs.Founds.{numbers_of}

@@ -1,6 +1,6 @@
 use Rattle.std.proofs.Common.{◌≡◌, [], drop}
 use Rattle.ground.specs.Contexts.{terms_named}
-use Rattle.ground.specs.Founds.{with_numbers}
+use Rattle.terms.specs.Atoms.{with_numbers}
 use Rattle.ground.proofs.tables.set_of.Given as goal
 
 abbrev pub invariant-loop-one : goal.invariant-loop-one

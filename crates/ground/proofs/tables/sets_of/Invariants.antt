@@ -1,6 +1,7 @@
 use Rattle.std.proofs.Common.{◌≡◌, [], ◌++◌, map, drop}
-use Rattle.ground.specs.Contexts.{items_of, terms_named}
-use Rattle.ground.specs.Founds.{with_numbers}
+use Rattle.terms.specs.Vectors.{items_of}
+use Rattle.ground.specs.Contexts.{terms_named}
+use Rattle.terms.specs.Atoms.{with_numbers}
 use Rattle.ground.proofs.tables.sets_of.Given as goal
 
 abbrev pub invariant-loop-list : goal.invariant-loop-list

@@ -1,6 +1,6 @@
 use Rattle.std.proofs.Common.{◌≡◌, ◌++◌, map, drop}
-use Rattle.ground.specs.Contexts.{items_of, texts_named}
-use Rattle.ground.specs.Grounds.{texts_of}
+use Rattle.terms.specs.Vectors.{items_of, texts_of}
+use Rattle.ground.specs.Contexts.{texts_named}
 use Rattle.ground.proofs.tables.texts_of_lists.Given as goal
 
 abbrev pub invariant-loop-list : goal.invariant-loop-list

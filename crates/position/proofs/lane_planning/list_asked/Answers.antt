@@ -1,7 +1,7 @@
 use Rattle.std.proofs.Common.{◌≡◌, ◌+◌, ℕ, List, [], ◌∷◌, ◌++◌, cond, length, sym, ap, ◌∙◌, arith, Option, Some}
 use Rattle.std.proofs.lemmas.List.{length-map}
 use Rattle.std.proofs.lemmas.List.FromFn.{map-range_with_len_more}
-use Rattle.ground.specs.declared.kind.Kind.{Kind}
+use Rattle.meaning.specs.declared.kind.Kind.{Kind}
 use Rattle.ground.specs.GroundView.{kinds_of}
 use Rattle.position.specs.GroundFacts.{few_atoms}
 use Rattle.position.specs.NetState.{is_shown, view_of}

@@ -1,5 +1,5 @@
 use Rattle.std.proofs.Common.{Bool, cond, get_or, ap, ◌∙◌}
-use Rattle.ground.specs.declared.kind.Kind.TheVariants.{Fixed}
+use Rattle.meaning.specs.declared.kind.Kind.TheVariants.{Fixed}
 use Rattle.position.specs.declared.plan.Standing.{Standing}
 use Rattle.position.specs.RulePlay.{goal_value}
 use Rattle.position.proofs.PlanLemmas.{greatest_more}

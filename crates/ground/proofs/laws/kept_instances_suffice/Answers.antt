@@ -1,5 +1,0 @@
-use Rattle.ground.proofs.KeptLaw.{kept_suffice}
-use Rattle.ground.proofs.laws.kept_instances_suffice.Goals as goal
-
-pub returns : goal.returns
-returns c = λ rules acyclic S J base input x. kept_suffice rules acyclic S J base input x

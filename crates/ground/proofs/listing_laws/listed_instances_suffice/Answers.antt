@@ -1,5 +1,0 @@
-use Rattle.ground.proofs.Exact.{listed_suffice}
-use Rattle.ground.proofs.listing_laws.listed_instances_suffice.Goals as goal
-
-pub returns : goal.returns
-returns c = listed_suffice

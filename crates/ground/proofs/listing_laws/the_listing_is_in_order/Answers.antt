@@ -1,6 +1,0 @@
-use Rattle.ground.proofs.Exact.{instances_once, one_listing}
-use Rattle.ground.proofs.Rising.{kept_in_order}
-use Rattle.ground.proofs.listing_laws.the_listing_is_in_order.Goals as goal
-
-pub returns : goal.returns
-returns c = record { order = kept_in_order; once = instances_once; determined = one_listing }

@@ -1,5 +1,0 @@
-use Rattle.ground.proofs.Within.{excess_exact}
-use Rattle.ground.proofs.play_laws.a_limit_is_named_if_passed.Goals as goal
-
-pub returns : goal.returns
-returns c = excess_exact

@@ -1,5 +1,0 @@
-use Rattle.ground.proofs.Effects.{dropped_exact}
-use Rattle.ground.proofs.play_laws.dropped_heads_have_no_effect.Goals as goal
-
-pub returns : goal.returns
-returns c = dropped_exact

@@ -1,5 +1,0 @@
-use Rattle.ground.proofs.Context.{start_exact, start_listed}
-use Rattle.ground.proofs.play_laws.the_start_is_listed.Goals as goal
-
-pub returns : goal.returns
-returns c = record { starts = start_exact; list = start_listed }

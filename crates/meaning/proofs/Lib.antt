@@ -1,0 +1,26 @@
+mod Ordered
+mod Derivations
+mod KeptLaw
+mod Games
+mod Matches
+mod ListedLaw
+mod Possible
+mod Steps
+mod Fold
+mod Accepted
+mod Roles
+mod Evaluation
+mod Effects
+mod Within
+mod Limits
+mod PlayRows
+mod Context
+mod Exact
+mod Gates
+mod AtomKinds
+mod Lawful
+mod Printed
+mod Numbered
+mod Rising
+mod FixedFirst
+pub mod Facts

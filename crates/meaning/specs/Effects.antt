@@ -1,0 +1,23 @@
+-- Heads that have no effect on play, and what keeps within the limits.
+use Rattle.std.specs.Prelude.{◌≡◌, ◌≤◌, ◌⊎◌, List, length}
+use Rattle.kif.specs.Tree.{Tree, text}
+use Rattle.profile.specs.Words.{w_init, w_next, w_legal}
+use Rattle.profile.specs.Clause.{Atom, Alternative, tree_of}
+use Rattle.profile.specs.Dependence.{IsAmong}
+use Rattle.meaning.specs.Meaning.{atom1, atom2, IsBase, IsInput}
+use Rattle.meaning.specs.Listing.{Instance, listing, role_list, base_list}
+use Rattle.meaning.specs.Limits.{count_inputs}
+use Rattle.meaning.specs.Most.{Limits}
+
+-- `init` or `next` outside `Base`, or `legal` of what is no input of a role
+abbrev pub HasNoEffect : List Alternative → Atom → Type 0
+HasNoEffect rules x =
+    ((p : Tree) × ((x ≡ atom1 w_init p) ⊎ (x ≡ atom1 w_next p)) × (IsBase rules p → ⊥))
+    ⊎ ((r : Tree) × (m : Tree) × (x ≡ atom2 w_legal r m) × (IsInput rules r m → ⊥))
+
+-- no limit is passed
+pub record IsWithin (most : Limits) (rules : List Alternative) : Type 0 where
+  pub instances : length (listing rules).kept ≤ most.instances
+  pub heads : (i : Instance) → IsAmong i (listing rules).kept → length (text (tree_of i.head)) ≤ most.text
+  pub base : length (base_list rules) ≤ most.base
+  pub inputs : count_inputs rules (role_list rules) ≤ most.inputs

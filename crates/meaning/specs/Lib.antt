@@ -1,0 +1,17 @@
+pub mod Most
+pub mod Substitution
+pub mod Meaning
+pub mod Kept
+pub mod Matching
+pub mod Listing
+pub mod Listed
+pub mod InOrder
+pub mod Numbers
+pub mod Gates
+pub mod Kinds
+pub mod Play
+pub mod Evaluation
+pub mod Limits
+pub mod Effects
+pub mod Marked
+pub mod PassedLimits

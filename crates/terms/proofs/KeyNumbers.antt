@@ -1,0 +1,134 @@
+-- Keys by number: finding one, and adding one.
+use Rattle.std.proofs.Common.{ℕ, suc, zero, ◌≡◌, ◌+◌, ◌<◌, ◌⊎◌, inl, inr, Bool, true, false, cond, List, [], ◌∷◌, ◌++◌, length, map, refl, sym, ◌∙◌, ap, subst, arith, Option, Some, None, ◌&&◌, ◌||◌, get_or}
+use Rattle.std.specs.Prelude.{MatchOption, ◌≢◌, nat_eq, position}
+use Rattle.std.specs.Cmp.Lexicographic.{pointwise, same_text, other_text}
+use Rattle.std.specs.List.{position_from, list_any}
+use Rattle.std.proofs.lemmas.Iterator.Adapters.{position_from-zero}
+use Rattle.std.proofs.lemmas.List.Quantifiers.{position-Some}
+use Rattle.std.proofs.lemmas.List.{map-append, length-map}
+use Rattle.kif.specs.Tree.{name_eq}
+use Rattle.kif.proofs.Facts.{name_eq_yes, name_eq_self}
+use Rattle.profile.specs.Safety.{is_name_in}
+use Rattle.terms.specs.Keys.{key_at, with_key}
+use Rattle.profile.proofs.Facts.{or_left, or_right}
+
+not_here : (b : Bool) (i : ℕ) (o : Option ℕ) → cond b (Some i) o ≡ None → (b ≡ false) × (o ≡ None)
+not_here true i o e = absurd cc
+not_here false i o e = (refl, e)
+
+never : (test : List ℕ → Bool) (i : ℕ) (ws : List (List ℕ)) → position_from test i ws ≡ None → (k : ℕ) → k < length ws → test (key_at ws k) ≡ false
+never test i [] e k h = absurd (let bad : ⊥ = omega (arith, h) in bad)
+never test i (w ∷ ws) e zero h = (not_here (test w) i (position_from test (i + 1) ws) e).0
+never test i (w ∷ ws) e (suc k) h = never test (i + 1) ws (not_here (test w) i (position_from test (i + 1) ws) e).1 k (omega (arith, h))
+
+from-map : {K : Type 0} (items : K → List ℕ) (test : List ℕ → Bool) (i : ℕ) (ks : List K) → position_from (λ k. test (items k)) i ks ≡ position_from test i (map items ks)
+from-map items test i [] = refl
+from-map items test i (k ∷ ks) = ap (λ (o : Option ℕ). cond (test (items k)) (Some i) o) (from-map items test (i + 1) ks)
+
+position-map : {K : Type 0} (items : K → List ℕ) (test : List ℕ → Bool) (ks : List K) → position (λ k. test (items k)) ks ≡ position test (map items ks)
+position-map items test ks = position_from-zero (λ k. test (items k)) ks ∙ from-map items test 0 ks ∙ sym (position_from-zero test (map items ks))
+
+seen_word : (ws : List (List ℕ)) (w : List ℕ) (r : Option ℕ) → r ≡ position (λ x. pointwise nat_eq w x) ws
+    → MatchOption r ((k : ℕ) → k < length ws → key_at ws k ≢ w) (λ k. (k < length ws) × (key_at ws k ≡ w))
+seen_word ws w None e =
+    λ k h same. other_text w (key_at ws k) (sym (never (λ x. pointwise nat_eq w x) 0 ws (sym (position_from-zero (λ x. pointwise nat_eq w x) ws) ∙ sym e) k h)) (sym same)
+seen_word ws w (Some k) e =
+    let f = position-Some (λ x. pointwise nat_eq w x) ws k [] (sym e) in
+    (f.0, sym (same_text w (key_at ws k) (sym f.1)))
+
+-- what a search for a key has told
+pub seen : {K : Type 0} (items : K → List ℕ) (ks : List K) (ws : List (List ℕ)) (w : List ℕ) (r : Option ℕ) → map items ks ≡ ws → r ≡ position (λ k. pointwise nat_eq w (items k)) ks
+    → MatchOption r ((k : ℕ) → k < length ws → key_at ws k ≢ w) (λ k. (k < length ws) × (key_at ws k ≡ w))
+seen items ks ws w r v e = seen_word ws w r (e ∙ position-map items (λ x. pointwise nat_eq w x) ks ∙ ap (λ (xs : List (List ℕ)). position (λ x. pointwise nat_eq w x) xs) v)
+
+pub is_in : (ws : List (List ℕ)) (w : List ℕ) (k : ℕ) → k < length ws → key_at ws k ≡ w → is_name_in w ws ≡ true
+is_in [] w k h e = absurd (let bad : ⊥ = omega (arith, h) in bad)
+is_in (x ∷ ws) w zero h e = or_left (name_eq w x) (is_name_in w ws) (subst (λ (y : List ℕ). name_eq w y ≡ true) (sym e) (name_eq_self w))
+is_in (x ∷ ws) w (suc k) h e = or_right (name_eq w x) (is_name_in w ws) (is_in ws w k (omega (arith, h)) e)
+
+other_name : (w x : List ℕ) → (x ≡ w → ⊥) → name_eq w x ≡ false
+other_name w x other = go (name_eq w x) refl
+  where
+    go : (b : Bool) → name_eq w x ≡ b → name_eq w x ≡ false
+    go true e = absurd (other (sym (name_eq_yes w x e)))
+    go false e = e
+
+or_none : (a b : Bool) → a ≡ false → b ≡ false → (a || b) ≡ false
+or_none true b h k = h
+or_none false b h k = k
+
+pub not_in : (ws : List (List ℕ)) (w : List ℕ) → ((k : ℕ) → k < length ws → key_at ws k ≡ w → ⊥) → is_name_in w ws ≡ false
+not_in [] w none = refl
+not_in (x ∷ ws) w none =
+    or_none (name_eq w x) (is_name_in w ws) (other_name w x (none 0 (omega arith))) (not_in ws w (λ k h e. none (suc k) (omega (arith, h)) e))
+
+pub with_known : (ws : List (List ℕ)) (w : List ℕ) (k : ℕ) → k < length ws → key_at ws k ≡ w → ws ≡ with_key ws w
+with_known ws w k h e = ap (λ (b : Bool). cond b ws (ws ++ w ∷ [])) (sym (is_in ws w k h e))
+
+pointwise-name_eq : (x y : List ℕ) → pointwise nat_eq x y ≡ name_eq x y
+pointwise-name_eq [] [] = refl
+pointwise-name_eq [] (c ∷ cs) = refl
+pointwise-name_eq (b ∷ bs) [] = refl
+pointwise-name_eq (b ∷ bs) (c ∷ cs) = ap (λ (r : Bool). nat_eq b c && r) (pointwise-name_eq bs cs)
+
+any-is_name_in : {K : Type 0} (items : K → List ℕ) (w : List ℕ) (ks : List K) → list_any (λ y. pointwise nat_eq w (items y)) ks ≡ is_name_in w (map items ks)
+any-is_name_in items w [] = refl
+any-is_name_in items w (k ∷ ks) = cc (pointwise-name_eq w (items k), any-is_name_in items w ks)
+
+map-cond : {K : Type 0} (items : K → List ℕ) (b : Bool) (ks : List K) (v : K) → map items (cond b ks (ks ++ v ∷ [])) ≡ cond b (map items ks) (map items ks ++ items v ∷ [])
+map-cond items true ks v = refl
+map-cond items false ks v = map-append items ks (v ∷ [])
+
+-- the keys once one was inserted
+pub inserted : {K : Type 0} (items : K → List ℕ) (ks more : List K) (v : K) (ws : List (List ℕ)) (w : List ℕ) → map items ks ≡ ws → items v ≡ w
+    → more ≡ cond (list_any (λ y. pointwise nat_eq (items v) (items y)) ks) ks (ks ++ v ∷ []) → map items more ≡ with_key ws w
+inserted {K} items ks more v ws w e f g =
+    ap (λ (xs : List K). map items xs) g ∙ map-cond items _ ks v
+    ∙ ap (λ (b : Bool). cond b (map items ks) (map items ks ++ items v ∷ [])) (any-is_name_in items (items v) ks)
+    ∙ ap (λ (x : List ℕ). with_key (map items ks) x) f ∙ ap (λ (xs : List (List ℕ)). with_key xs w) e
+
+last_word : (ws : List (List ℕ)) (w : List ℕ) → (length ws < length (ws ++ w ∷ [])) × (key_at (ws ++ w ∷ []) (length ws) ≡ w)
+last_word [] w = (omega arith, refl)
+last_word (x ∷ ws) w = (let h = (last_word ws w).0 in omega (arith, h), (last_word ws w).1)
+
+-- a new key has the number that comes next
+pub with_new : (ws new : List (List ℕ)) (w : List ℕ) (n : ℕ) → ((k : ℕ) → k < length ws → key_at ws k ≡ w → ⊥) → new ≡ with_key ws w → n ≡ length ws
+    → (n < length new) × (key_at new n ≡ w)
+with_new ws new w n none e f =
+    let g : new ≡ ws ++ w ∷ [] = e ∙ ap (λ (b : Bool). cond b ws (ws ++ w ∷ [])) (not_in ws w none) in
+    subst (λ (xs : List (List ℕ)). (n < length xs) × (key_at xs n ≡ w)) (sym g)
+    (subst (λ (k : ℕ). (k < length (ws ++ w ∷ [])) × (key_at (ws ++ w ∷ []) k ≡ w)) (sym f) (last_word ws w))
+
+at_end : (k n : ℕ) → k < suc n → (k < n) ⊎ (k ≡ n)
+at_end k n h = grind arith
+
+-- what a list with one more at its end has at a number
+pub last_or_before : {A : Type 0} (xs : List A) (x d : A) (k : ℕ) → k < length (xs ++ x ∷ []) → ((k < length xs) × (get_or (xs ++ x ∷ []) k d ≡ get_or xs k d)) ⊎ ((k ≡ length xs) × (get_or (xs ++ x ∷ []) k d ≡ x))
+last_or_before [] x d zero h = inr (refl, refl)
+last_or_before [] x d (suc k) h = absurd (let bad : ⊥ = omega (arith, h) in bad)
+last_or_before (y ∷ ys) x d zero h = inl (omega arith, refl)
+last_or_before (y ∷ ys) x d (suc k) h = go (last_or_before ys x d k (omega (arith, h)))
+  where
+    go : ((k < length ys) × (get_or (ys ++ x ∷ []) k d ≡ get_or ys k d)) ⊎ ((k ≡ length ys) × (get_or (ys ++ x ∷ []) k d ≡ x))
+        → ((suc k < length (y ∷ ys)) × (get_or ((y ∷ ys) ++ x ∷ []) (suc k) d ≡ get_or (y ∷ ys) (suc k) d)) ⊎ ((suc k ≡ length (y ∷ ys)) × (get_or ((y ∷ ys) ++ x ∷ []) (suc k) d ≡ x))
+    go (inl e) = inl (let f = e.0 in omega (arith, f), e.1)
+    go (inr e) = inr (ap (λ (n : ℕ). suc n) e.0, e.1)
+
+-- a list of different things, with one more at its end
+pub more_different : {A : Type 0} (xs : List A) (x d : A) → ((k : ℕ) → k < length xs → get_or xs k d ≡ x → ⊥)
+    → ((i j : ℕ) → i < length xs → j < length xs → get_or xs i d ≡ get_or xs j d → i ≡ j)
+    → (i j : ℕ) → i < length (xs ++ x ∷ []) → j < length (xs ++ x ∷ []) → get_or (xs ++ x ∷ []) i d ≡ get_or (xs ++ x ∷ []) j d → i ≡ j
+more_different xs x d none old i j h k e = go (last_or_before xs x d i h) (last_or_before xs x d j k)
+  where
+    go : ((i < length xs) × (get_or (xs ++ x ∷ []) i d ≡ get_or xs i d)) ⊎ ((i ≡ length xs) × (get_or (xs ++ x ∷ []) i d ≡ x))
+        → ((j < length xs) × (get_or (xs ++ x ∷ []) j d ≡ get_or xs j d)) ⊎ ((j ≡ length xs) × (get_or (xs ++ x ∷ []) j d ≡ x)) → i ≡ j
+    go (inl a) (inl b) = old i j a.0 b.0 (sym a.1 ∙ e ∙ b.1)
+    go (inl a) (inr b) = absurd (none i a.0 (sym a.1 ∙ e ∙ b.1))
+    go (inr a) (inl b) = absurd (none j b.0 (sym b.1 ∙ sym e ∙ a.1))
+    go (inr a) (inr b) = a.0 ∙ sym b.0
+
+pub true_or_false : (b : Bool) → b ≡ true → b ≡ false → ⊥
+true_or_false b e f = let g = sym e ∙ f in absurd cc
+
+pub counted : {K : Type 0} (items : K → List ℕ) (ks : List K) (ws : List (List ℕ)) → map items ks ≡ ws → length ks ≡ length ws
+counted items ks ws e = sym (length-map ks items) ∙ ap length e

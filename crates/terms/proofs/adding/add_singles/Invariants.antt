@@ -1,0 +1,9 @@
+use Rattle.std.proofs.Common.{ℕ, List, drop}
+use Rattle.kif.specs.Tree.{Tree}
+use Rattle.terms.specs.Keys.{term_at, trees, word_at}
+use Rattle.meaning.specs.Meaning.{atom1, atom2}
+use Rattle.terms.proofs.AddingAtoms.{AddingEach}
+use Rattle.terms.proofs.adding.add_singles.Given as goal
+
+abbrev pub invariant-loop-term : goal.invariant-loop-term
+invariant-loop-term l = AddingEach l.fn.arena l.arena l.fn.atoms.keys l.atoms.keys (λ words t. atom1 (word_at words l.word) t) l.fn.terms (drop l.term-index l.terms)

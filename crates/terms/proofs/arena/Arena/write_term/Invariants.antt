@@ -1,0 +1,14 @@
+use Rattle.std.proofs.Common.{◌++◌, length, reverse}
+use Rattle.kif.specs.Tree.{text}
+use Rattle.rules.specs.RuleSetView.{lists_of_set}
+use Rattle.terms.specs.Keys.{term_at, trees}
+use Rattle.terms.specs.Writing.{pending_text}
+use Rattle.terms.proofs.Written.{Left}
+use Rattle.terms.proofs.arena.Arena.write_term.Given as goal
+
+abbrev pub invariant-loop-next : goal.invariant-loop-next
+invariant-loop-next l =
+    Left (length l.self.keys) (trees (lists_of_set l.rules).words l.self.keys) (l.fn.out.items ++ text (term_at (trees (lists_of_set l.rules).words l.self.keys) l.number)) l.out.items l.pending.items
+
+abbrev pub decreases-loop-next : goal.decreases-loop-next
+decreases-loop-next l = length (pending_text (trees (lists_of_set l.rules).words l.self.keys) (reverse l.pending.items))

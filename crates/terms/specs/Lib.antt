@@ -1,0 +1,12 @@
+pub mod Keys
+pub mod Arena
+pub mod Building
+pub mod Writing
+pub mod Naming
+pub mod Tables
+pub mod Stated
+pub mod Starting
+pub mod Dropping
+pub mod AtomTexts
+pub mod Atoms
+pub mod Vectors

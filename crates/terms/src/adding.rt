@@ -1,0 +1,66 @@
+// Further atoms by number.
+ghost use Rattle.std.specs.Prelude.{ℕ, List, [], ◌∷◌, ◌≡◌, ◌<◌, length, map, OnOk};
+ghost use Rattle.profile.specs.Clause.{Atom, tree_of};
+ghost use Rattle.terms.specs.Atoms.{IsFrontOf, AreTermsOf, AddsAtoms};
+ghost use Rattle.terms.specs.Keys.{AreBelow, IsKey, term_at, tree_of_key, trees, word_at};
+ghost use Rattle.meaning.specs.Meaning.{atom1, atom2};
+
+use crate::arena::Arena;
+use indexmap::IndexSet;
+use std::alloc::AllocError;
+
+/// Numbers the atom of a key, if it has no number yet.
+fn add_atom(arena: &mut Arena, atoms: &mut IndexSet<usize>, key: &[usize]) -> Result<(), AllocError>
+    requires { IsKey (length arena.old.sizes) (length arena.old.keys) key.now }
+    ensures front { OnOk result (IsFrontOf arena.old.keys arena.new.keys) }
+    ensures sizes { OnOk result (arena.new.sizes ≡ arena.old.sizes) }
+    ensures added { OnOk result ((words : List (List ℕ)) → AreTermsOf words arena.old → (x : Atom) → tree_of x ≡ tree_of_key words (trees words arena.old.keys) key.now
+        → AddsAtoms words arena.old arena.new atoms.old.keys atoms.new.keys (x ∷ [])) }
+{
+    let number = arena.intern(key)?;
+    atoms.insert(number)?;
+    Ok(())
+}
+
+/// Numbers the atoms `(w t)` of a word and terms, in their order.
+pub fn add_singles(
+    arena: &mut Arena,
+    atoms: &mut IndexSet<usize>,
+    word: usize,
+    terms: &[usize],
+) -> Result<(), AllocError>
+    requires word { word < length arena.old.sizes }
+    requires terms { AreBelow (length arena.old.keys) terms.now }
+    ensures front { OnOk result (IsFrontOf arena.old.keys arena.new.keys) }
+    ensures sizes { OnOk result (arena.new.sizes ≡ arena.old.sizes) }
+    ensures added { OnOk result ((words : List (List ℕ)) → AreTermsOf words arena.old
+        → AddsAtoms words arena.old arena.new atoms.old.keys atoms.new.keys (map (λ t. atom1 (word_at words word) t) (map (term_at (trees words arena.old.keys)) terms.now))) }
+{
+    for term in terms {
+        add_atom(arena, atoms, &[word, *term])?;
+    }
+    Ok(())
+}
+
+/// Numbers the atoms `(w r t)` of a word, a first term and further terms, in their order.
+pub fn add_pairs(
+    arena: &mut Arena,
+    atoms: &mut IndexSet<usize>,
+    word: usize,
+    first: usize,
+    terms: &[usize],
+) -> Result<(), AllocError>
+    requires word { word < length arena.old.sizes }
+    requires first { first < length arena.old.keys }
+    requires terms { AreBelow (length arena.old.keys) terms.now }
+    ensures front { OnOk result (IsFrontOf arena.old.keys arena.new.keys) }
+    ensures sizes { OnOk result (arena.new.sizes ≡ arena.old.sizes) }
+    ensures added { OnOk result ((words : List (List ℕ)) → AreTermsOf words arena.old
+        → AddsAtoms words arena.old arena.new atoms.old.keys atoms.new.keys
+        (map (λ t. atom2 (word_at words word) (term_at (trees words arena.old.keys) first) t) (map (term_at (trees words arena.old.keys)) terms.now))) }
+{
+    for term in terms {
+        add_atom(arena, atoms, &[word, first, *term])?;
+    }
+    Ok(())
+}

@@ -1,0 +1,30 @@
+// Ground terms and atoms by number: their keys, the lengths and bytes of their texts, their printed order, and what they say
+// as atoms of play.
+#![tactic(auto)]
+
+mod adding;
+mod arena;
+mod building;
+mod decimals;
+mod dropping;
+mod keyed;
+mod kind_of_term;
+mod naming;
+mod starting;
+mod stating;
+mod stating_laws;
+#[cfg(test)]
+mod tests;
+mod text_bytes;
+mod writing;
+
+pub use adding::{add_pairs, add_singles};
+pub use arena::{Arena, TEXT_LIMIT};
+pub use dropping::count_dropped;
+pub use keyed::{Terms, numbers_are_trees};
+pub use naming::Named;
+pub use starting::starts_of;
+pub use stating::{add_only_parts, add_second_parts};
+pub use stating_laws::stated_terms_are_listed;
+pub use text_bytes::byte_at;
+pub use writing::Pending;
