@@ -19,7 +19,7 @@ const MANY: u64 = 1 << 48;
 
 impl Count {
     /// The count after one more search, with this many turns behind the move.
-    fn and(self, turns: u64, cut: bool) -> Count {
+    fn noted(self, turns: u64, cut: bool) -> Count {
         let tries = self.tries.saturating_add(turns);
         let cuts = if cut {
             self.cuts.saturating_add(turns)
@@ -110,7 +110,7 @@ impl History {
     {
         let place = self.place(role, number);
         if movers.has(role) && place < self.counts.len() {
-            self.counts[place] = self.counts[place].and(turns as u64, cut);
+            self.counts[place] = self.counts[place].noted(turns as u64, cut);
         }
     }
 
