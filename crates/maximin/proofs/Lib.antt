@@ -11,3 +11,4 @@ pub mod Beside
 pub mod Stays
 pub mod OwnTurns
 pub mod Runs
+pub mod Orders

@@ -5,12 +5,17 @@ ghost use Rattle.game.specs.Rules.{is_stuck as stuck};
 ghost use Rattle.game.specs.Value.{Answers, choice_of, greatest, least, reply_of, value, worst};
 ghost use Rattle.maximin.specs.Alone.{IsAlone};
 ghost use Rattle.maximin.specs.Level.{IsLevelOf, all_capacities};
+ghost use Rattle.maximin.specs.Run.{IsRunOf};
+ghost use Rattle.maximin.specs.Tools.{tools_capacities};
 
 use crate::alone::{gather_own, is_alone};
 use crate::cursor::{next_turn, start_turns, write_joint};
+use crate::history::Movers;
 use crate::level::Level;
-use crate::run::{LONGEST_RUN, gather};
+use crate::order::put_in_order;
+use crate::run::{LONGEST_RUN, Run, gather};
 use crate::told::{greatest_told, least_told, told_worth};
+use crate::tools::Tools;
 use game::{AtBound, Game, Joint, is_stuck};
 
 /// What is asked of a state: what a role can be sure of within some turns.
@@ -42,20 +47,20 @@ fn value_at<G: Game>(
     asked: Asked,
     a: i16,
     b: i16,
-    wide: &mut G::Wide,
+    tools: &mut Tools<G::Wide>,
     levels: &mut [Level<G::Pos, G::Many>],
 ) -> i16
     requires fits { G.fits game.now from.now }
     requires role { asked.role < (G.rules game.now).roles }
     requires deep { asked.depth ≤ length levels.old }
-    requires wide { G.fits_wide game.now wide.old }
+    requires wide { G.fits_wide game.now tools.old.wide }
     requires levels { All (IsLevelOf (G.fits game.now) (G.fits_many game.now) (G.rules game.now).roles) levels.old }
     requires low { negsuc 1 ≤ℤ a }
     requires order { a <ℤ b }
     requires high { b ≤ℤ pos 101 }
     ensures answers { Answers (value (G.rules game.now) asked.role asked.depth asked.at (G.state game.now from.now)) a b result }
-    ensures wide { G.fits_wide game.now wide.new }
-    ensures wide_capacities { G.wide_capacities game.now wide.new ≡ G.wide_capacities game.now wide.old }
+    ensures wide { G.fits_wide game.now tools.new.wide }
+    ensures tools_capacities { tools_capacities (G.wide_capacities game.now) tools.new ≡ tools_capacities (G.wide_capacities game.now) tools.old }
     ensures levels { All (IsLevelOf (G.fits game.now) (G.fits_many game.now) (G.rules game.now).roles) levels.new }
     ensures capacities { all_capacities (G.capacities game.now) (G.many_capacities game.now) levels.new
         ≡ all_capacities (G.capacities game.now) (G.many_capacities game.now) levels.old }
@@ -74,12 +79,12 @@ fn value_at<G: Game>(
         ..asked
     };
     if is_alone(game, from, asked.role) {
-        return best_at(game, from, next, a, b, wide, levels);
+        return best_at(game, from, next, a, b, tools, levels);
     }
     let mut best = a;
     let mut place = 0;
     while let Some(own) = game.legal(from, asked.role, place) {
-        best = best.max(worst_at(game, from, next, own, best, b, wide, levels));
+        best = best.max(worst_at(game, from, next, own, best, b, tools, levels));
         if best >= b {
             return best;
         }
@@ -97,7 +102,7 @@ pub fn worst_at<G: Game>(
     own: u32,
     a: i16,
     b: i16,
-    wide: &mut G::Wide,
+    tools: &mut Tools<G::Wide>,
     levels: &mut [Level<G::Pos, G::Many>],
 ) -> i16
     requires fits { G.fits game.now from.now }
@@ -105,14 +110,14 @@ pub fn worst_at<G: Game>(
     requires own { own < (G.rules game.now).moves asked.role }
     requires open { stuck (G.rules game.now) (G.state game.now from.now) ≡ false }
     requires deep { asked.depth < length levels.old }
-    requires wide { G.fits_wide game.now wide.old }
+    requires wide { G.fits_wide game.now tools.old.wide }
     requires levels { All (IsLevelOf (G.fits game.now) (G.fits_many game.now) (G.rules game.now).roles) levels.old }
     requires low { negsuc 1 ≤ℤ a }
     requires order { a <ℤ b }
     requires high { b ≤ℤ pos 101 }
     ensures answers { Answers (worst (G.rules game.now) asked.role asked.depth asked.at (G.state game.now from.now) own) a b result }
-    ensures wide { G.fits_wide game.now wide.new }
-    ensures wide_capacities { G.wide_capacities game.now wide.new ≡ G.wide_capacities game.now wide.old }
+    ensures wide { G.fits_wide game.now tools.new.wide }
+    ensures tools_capacities { tools_capacities (G.wide_capacities game.now) tools.new ≡ tools_capacities (G.wide_capacities game.now) tools.old }
     ensures levels { All (IsLevelOf (G.fits game.now) (G.fits_many game.now) (G.rules game.now).roles) levels.new }
     ensures capacities { all_capacities (G.capacities game.now) (G.many_capacities game.now) levels.new
         ≡ all_capacities (G.capacities game.now) (G.many_capacities game.now) levels.old }
@@ -132,16 +137,23 @@ pub fn worst_at<G: Game>(
             most,
             &mut level.run,
         );
+        let movers = Movers::Others(asked.role);
+        put_in_order(&tools.history, movers, asked.depth, &mut level.run);
         let count = level.run.count;
-        game.steps(from, &level.run.joints[..count], wide, &mut level.many);
+        game.steps(
+            from,
+            &level.run.joints[..count],
+            &mut tools.wide,
+            &mut level.many,
+        );
         let least = least_at(
             game,
             &level.many,
-            count,
+            &level.run,
             asked,
             a,
             upper,
-            wide,
+            tools,
             &mut level.position,
             rest,
         );
@@ -162,7 +174,7 @@ fn child_at<G: Game>(
     asked: Asked,
     a: i16,
     b: i16,
-    wide: &mut G::Wide,
+    tools: &mut Tools<G::Wide>,
     position: &mut G::Pos,
     levels: &mut [Level<G::Pos, G::Many>],
 ) -> i16
@@ -170,15 +182,15 @@ fn child_at<G: Game>(
     requires place { place < length (G.states game.now many.now) }
     requires role { asked.role < (G.rules game.now).roles }
     requires deep { asked.depth ≤ length levels.old }
-    requires wide { G.fits_wide game.now wide.old }
+    requires wide { G.fits_wide game.now tools.old.wide }
     requires position { G.fits game.now position.old }
     requires levels { All (IsLevelOf (G.fits game.now) (G.fits_many game.now) (G.rules game.now).roles) levels.old }
     requires low { negsuc 1 ≤ℤ a }
     requires order { a <ℤ b }
     requires high { b ≤ℤ pos 101 }
     ensures answers { Answers (value (G.rules game.now) asked.role asked.depth asked.at (get_or (G.states game.now many.now) place [])) a b result }
-    ensures wide { G.fits_wide game.now wide.new }
-    ensures wide_capacities { G.wide_capacities game.now wide.new ≡ G.wide_capacities game.now wide.old }
+    ensures wide { G.fits_wide game.now tools.new.wide }
+    ensures tools_capacities { tools_capacities (G.wide_capacities game.now) tools.new ≡ tools_capacities (G.wide_capacities game.now) tools.old }
     ensures position { G.fits game.now position.new }
     ensures position_capacities { G.capacities game.now position.new ≡ G.capacities game.now position.old }
     ensures levels { All (IsLevelOf (G.fits game.now) (G.fits_many game.now) (G.rules game.now).roles) levels.new }
@@ -189,7 +201,7 @@ fn child_at<G: Game>(
         return worth;
     }
     game.take(many, place, position);
-    value_at(game, position, asked, a, b, wide, levels)
+    value_at(game, position, asked, a, b, tools, levels)
 }
 
 /// The least value of some states, within a window.
@@ -197,41 +209,46 @@ fn child_at<G: Game>(
 fn least_at<G: Game>(
     game: &G,
     many: &G::Many,
-    count: usize,
+    run: &Run,
     asked: Asked,
     a: i16,
     b: i16,
-    wide: &mut G::Wide,
+    tools: &mut Tools<G::Wide>,
     position: &mut G::Pos,
     levels: &mut [Level<G::Pos, G::Many>],
 ) -> i16
     requires many { G.fits_many game.now many.now }
-    requires count { count ≡ length (G.states game.now many.now) }
-    requires some { 0 < count }
+    requires run { IsRunOf (G.rules game.now).roles run.now }
+    requires count { run.now.count ≡ length (G.states game.now many.now) }
+    requires some { 0 < run.now.count }
     requires role { asked.role < (G.rules game.now).roles }
     requires deep { asked.depth ≤ length levels.old }
-    requires wide { G.fits_wide game.now wide.old }
+    requires wide { G.fits_wide game.now tools.old.wide }
     requires position { G.fits game.now position.old }
     requires levels { All (IsLevelOf (G.fits game.now) (G.fits_many game.now) (G.rules game.now).roles) levels.old }
     requires low { negsuc 1 ≤ℤ a }
     requires order { a <ℤ b }
     requires high { b ≤ℤ pos 101 }
     ensures answers { Answers (least (map (value (G.rules game.now) asked.role asked.depth asked.at) (G.states game.now many.now))) a b result }
-    ensures wide { G.fits_wide game.now wide.new }
-    ensures wide_capacities { G.wide_capacities game.now wide.new ≡ G.wide_capacities game.now wide.old }
+    ensures wide { G.fits_wide game.now tools.new.wide }
+    ensures tools_capacities { tools_capacities (G.wide_capacities game.now) tools.new ≡ tools_capacities (G.wide_capacities game.now) tools.old }
     ensures position { G.fits game.now position.new }
     ensures position_capacities { G.capacities game.now position.new ≡ G.capacities game.now position.old }
     ensures levels { All (IsLevelOf (G.fits game.now) (G.fits_many game.now) (G.rules game.now).roles) levels.new }
     ensures capacities { all_capacities (G.capacities game.now) (G.many_capacities game.now) levels.new
         ≡ all_capacities (G.capacities game.now) (G.many_capacities game.now) levels.old }
 {
-    let mut upper = least_told(game, many, count, asked, b);
+    let mut upper = least_told(game, many, run.count, asked, b);
     if upper <= a {
         return upper;
     }
-    for place in 0..count {
-        let worth = child_at(game, many, place, asked, a, upper, wide, position, levels);
+    for place in 0..run.count {
+        let worth = child_at(game, many, place, asked, a, upper, tools, position, levels);
         upper = upper.min(worth);
+        let movers = Movers::Others(asked.role);
+        tools
+            .history
+            .note_turn(&run.joints[place], movers, asked.depth, upper <= a);
         if upper <= a {
             return upper;
         }
@@ -247,7 +264,7 @@ fn best_at<G: Game>(
     asked: Asked,
     a: i16,
     b: i16,
-    wide: &mut G::Wide,
+    tools: &mut Tools<G::Wide>,
     levels: &mut [Level<G::Pos, G::Many>],
 ) -> i16
     requires fits { G.fits game.now from.now }
@@ -255,15 +272,15 @@ fn best_at<G: Game>(
     requires open { stuck (G.rules game.now) (G.state game.now from.now) ≡ false }
     requires alone { IsAlone (G.rules game.now) (G.state game.now from.now) asked.role }
     requires deep { asked.depth < length levels.old }
-    requires wide { G.fits_wide game.now wide.old }
+    requires wide { G.fits_wide game.now tools.old.wide }
     requires levels { All (IsLevelOf (G.fits game.now) (G.fits_many game.now) (G.rules game.now).roles) levels.old }
     requires low { negsuc 1 ≤ℤ a }
     requires order { a <ℤ b }
     requires high { b ≤ℤ pos 101 }
     ensures answers { Answers (greatest (map (worst (G.rules game.now) asked.role asked.depth asked.at (G.state game.now from.now))
         ((G.rules game.now).legal (G.state game.now from.now) asked.role))) a b result }
-    ensures wide { G.fits_wide game.now wide.new }
-    ensures wide_capacities { G.wide_capacities game.now wide.new ≡ G.wide_capacities game.now wide.old }
+    ensures wide { G.fits_wide game.now tools.new.wide }
+    ensures tools_capacities { tools_capacities (G.wide_capacities game.now) tools.new ≡ tools_capacities (G.wide_capacities game.now) tools.old }
     ensures levels { All (IsLevelOf (G.fits game.now) (G.fits_many game.now) (G.rules game.now).roles) levels.new }
     ensures capacities { all_capacities (G.capacities game.now) (G.many_capacities game.now) levels.new
         ≡ all_capacities (G.capacities game.now) (G.many_capacities game.now) levels.old }
@@ -284,19 +301,26 @@ fn best_at<G: Game>(
             most,
             &mut level.run,
         );
-        let count = level.run.count;
-        if count == 0 {
+        if level.run.count == 0 {
             return best;
         }
-        game.steps(from, &level.run.joints[..count], wide, &mut level.many);
+        let movers = Movers::Role(asked.role);
+        put_in_order(&tools.history, movers, asked.depth, &mut level.run);
+        let count = level.run.count;
+        game.steps(
+            from,
+            &level.run.joints[..count],
+            &mut tools.wide,
+            &mut level.many,
+        );
         let greatest = greatest_at(
             game,
             &level.many,
-            count,
+            &level.run,
             asked,
             best,
             b,
-            wide,
+            tools,
             &mut level.position,
             rest,
         );
@@ -314,41 +338,46 @@ fn best_at<G: Game>(
 fn greatest_at<G: Game>(
     game: &G,
     many: &G::Many,
-    count: usize,
+    run: &Run,
     asked: Asked,
     a: i16,
     b: i16,
-    wide: &mut G::Wide,
+    tools: &mut Tools<G::Wide>,
     position: &mut G::Pos,
     levels: &mut [Level<G::Pos, G::Many>],
 ) -> i16
     requires many { G.fits_many game.now many.now }
-    requires count { count ≡ length (G.states game.now many.now) }
-    requires some { 0 < count }
+    requires run { IsRunOf (G.rules game.now).roles run.now }
+    requires count { run.now.count ≡ length (G.states game.now many.now) }
+    requires some { 0 < run.now.count }
     requires role { asked.role < (G.rules game.now).roles }
     requires deep { asked.depth ≤ length levels.old }
     requires position { G.fits game.now position.old }
-    requires wide { G.fits_wide game.now wide.old }
+    requires wide { G.fits_wide game.now tools.old.wide }
     requires levels { All (IsLevelOf (G.fits game.now) (G.fits_many game.now) (G.rules game.now).roles) levels.old }
     requires low { negsuc 1 ≤ℤ a }
     requires order { a <ℤ b }
     requires high { b ≤ℤ pos 101 }
     ensures answers { Answers (greatest (map (value (G.rules game.now) asked.role asked.depth asked.at) (G.states game.now many.now))) a b result }
-    ensures wide { G.fits_wide game.now wide.new }
-    ensures wide_capacities { G.wide_capacities game.now wide.new ≡ G.wide_capacities game.now wide.old }
+    ensures wide { G.fits_wide game.now tools.new.wide }
+    ensures tools_capacities { tools_capacities (G.wide_capacities game.now) tools.new ≡ tools_capacities (G.wide_capacities game.now) tools.old }
     ensures position { G.fits game.now position.new }
     ensures position_capacities { G.capacities game.now position.new ≡ G.capacities game.now position.old }
     ensures levels { All (IsLevelOf (G.fits game.now) (G.fits_many game.now) (G.rules game.now).roles) levels.new }
     ensures capacities { all_capacities (G.capacities game.now) (G.many_capacities game.now) levels.new
         ≡ all_capacities (G.capacities game.now) (G.many_capacities game.now) levels.old }
 {
-    let mut lower = greatest_told(game, many, count, asked, a);
+    let mut lower = greatest_told(game, many, run.count, asked, a);
     if lower >= b {
         return lower;
     }
-    for child in 0..count {
-        let worth = child_at(game, many, child, asked, lower, b, wide, position, levels);
+    for child in 0..run.count {
+        let worth = child_at(game, many, child, asked, lower, b, tools, position, levels);
         lower = lower.max(worth);
+        let movers = Movers::Role(asked.role);
+        tools
+            .history
+            .note_turn(&run.joints[child], movers, asked.depth, lower >= b);
         if lower >= b {
             return lower;
         }
@@ -368,18 +397,18 @@ pub fn value_within<G: Game>(
     asked: Asked,
     a: i16,
     b: i16,
-    wide: &mut G::Wide,
+    tools: &mut Tools<G::Wide>,
     levels: &mut [Level<G::Pos, G::Many>],
 ) -> i16
     requires fits { G.fits game.now from.now }
     requires role { asked.role < (G.rules game.now).roles }
     requires deep { asked.depth ≤ length levels.old }
-    requires wide { G.fits_wide game.now wide.old }
+    requires wide { G.fits_wide game.now tools.old.wide }
     requires levels { All (IsLevelOf (G.fits game.now) (G.fits_many game.now) (G.rules game.now).roles) levels.old }
     requires order { a <ℤ b }
     ensures answers { Answers (value (G.rules game.now) asked.role asked.depth asked.at (G.state game.now from.now)) a b result }
-    ensures wide { G.fits_wide game.now wide.new }
-    ensures wide_capacities { G.wide_capacities game.now wide.new ≡ G.wide_capacities game.now wide.old }
+    ensures wide { G.fits_wide game.now tools.new.wide }
+    ensures tools_capacities { tools_capacities (G.wide_capacities game.now) tools.new ≡ tools_capacities (G.wide_capacities game.now) tools.old }
     ensures levels { All (IsLevelOf (G.fits game.now) (G.fits_many game.now) (G.rules game.now).roles) levels.new }
     ensures capacities { all_capacities (G.capacities game.now) (G.many_capacities game.now) levels.new
         ≡ all_capacities (G.capacities game.now) (G.many_capacities game.now) levels.old }
@@ -389,7 +418,7 @@ pub fn value_within<G: Game>(
     if low >= high {
         return high;
     }
-    value_at(game, from, asked, low, high, wide, levels)
+    value_at(game, from, asked, low, high, tools, levels)
 }
 
 /// The first move of the role that attains the value of the state.
@@ -397,17 +426,17 @@ pub fn choice_at<G: Game>(
     game: &G,
     from: &G::Pos,
     asked: Asked,
-    wide: &mut G::Wide,
+    tools: &mut Tools<G::Wide>,
     levels: &mut [Level<G::Pos, G::Many>],
 ) -> Option<u32>
     requires fits { G.fits game.now from.now }
     requires role { asked.role < (G.rules game.now).roles }
     requires deep { asked.depth ≤ length levels.old }
-    requires wide { G.fits_wide game.now wide.old }
+    requires wide { G.fits_wide game.now tools.old.wide }
     requires levels { All (IsLevelOf (G.fits game.now) (G.fits_many game.now) (G.rules game.now).roles) levels.old }
     ensures choice { result ≡ choice_of (G.rules game.now) asked.role asked.depth asked.at (G.state game.now from.now) }
-    ensures wide { G.fits_wide game.now wide.new }
-    ensures wide_capacities { G.wide_capacities game.now wide.new ≡ G.wide_capacities game.now wide.old }
+    ensures wide { G.fits_wide game.now tools.new.wide }
+    ensures tools_capacities { tools_capacities (G.wide_capacities game.now) tools.new ≡ tools_capacities (G.wide_capacities game.now) tools.old }
     ensures levels { All (IsLevelOf (G.fits game.now) (G.fits_many game.now) (G.rules game.now).roles) levels.new }
     ensures capacities { all_capacities (G.capacities game.now) (G.many_capacities game.now) levels.new
         ≡ all_capacities (G.capacities game.now) (G.many_capacities game.now) levels.old }
@@ -423,7 +452,7 @@ pub fn choice_at<G: Game>(
     let mut chosen = 0;
     let mut place = 0;
     while let Some(own) = game.legal(from, asked.role, place) {
-        let worst = worst_at(game, from, next, own, best, 101, wide, levels);
+        let worst = worst_at(game, from, next, own, best, 101, tools, levels);
         if worst > best {
             best = worst;
             chosen = place;
@@ -439,7 +468,7 @@ pub fn reply_at<G: Game>(
     from: &G::Pos,
     asked: Asked,
     own: u32,
-    wide: &mut G::Wide,
+    tools: &mut Tools<G::Wide>,
     levels: &mut [Level<G::Pos, G::Many>],
     out: &mut Joint,
 )
@@ -448,13 +477,13 @@ pub fn reply_at<G: Game>(
     requires own { own < (G.rules game.now).moves asked.role }
     requires open { stuck (G.rules game.now) (G.state game.now from.now) ≡ false }
     requires deep { asked.depth < length levels.old }
-    requires wide { G.fits_wide game.now wide.old }
+    requires wide { G.fits_wide game.now tools.old.wide }
     requires levels { All (IsLevelOf (G.fits game.now) (G.fits_many game.now) (G.rules game.now).roles) levels.old }
     requires out { (G.rules game.now).roles ≤ out.old.capacity }
     ensures reply { reply_of (G.rules game.now) asked.role asked.depth asked.at (G.state game.now from.now) own ≡ Some out.new.items }
     ensures out { out.new.capacity ≡ out.old.capacity }
-    ensures wide { G.fits_wide game.now wide.new }
-    ensures wide_capacities { G.wide_capacities game.now wide.new ≡ G.wide_capacities game.now wide.old }
+    ensures wide { G.fits_wide game.now tools.new.wide }
+    ensures tools_capacities { tools_capacities (G.wide_capacities game.now) tools.new ≡ tools_capacities (G.wide_capacities game.now) tools.old }
     ensures levels { All (IsLevelOf (G.fits game.now) (G.fits_many game.now) (G.rules game.now).roles) levels.new }
     ensures capacities { all_capacities (G.capacities game.now) (G.many_capacities game.now) levels.new
         ≡ all_capacities (G.capacities game.now) (G.many_capacities game.now) levels.old }
@@ -465,7 +494,7 @@ pub fn reply_at<G: Game>(
     let mut upper = 101;
     loop {
         game.step(from, &level.cursor.joint, &mut level.position);
-        let worth = value_at(game, &level.position, asked, -1, upper, wide, rest);
+        let worth = value_at(game, &level.position, asked, -1, upper, tools, rest);
         if worth < upper {
             upper = worth;
             write_joint(&level.cursor.joint, out);

@@ -4,6 +4,7 @@ use Rattle.std.specs.Int.{int_min, int_max}
 use Rattle.game.specs.Rules.{choices}
 use Rattle.game.specs.Value.{value, worst, least, greatest}
 use Rattle.maximin.specs.Turns.{StandsAt, later}
+use Rattle.maximin.specs.Tools.{tools_capacities}
 use Rattle.maximin.specs.Level.{IsLevelOf, level_capacities, all_capacities}
 use Rattle.maximin.proofs.search.+search.Given as goal
 
@@ -26,10 +27,10 @@ invariant-value_at-loop-own g l =
     let state = g.G.Game.state l.game l.from in
     record {
       levels : All (IsLevelOf (g.G.Game.fits l.game) (g.G.Game.fits_many l.game) rules.roles) l.levels;
-      wide : g.G.Game.fits_wide l.game l.wide;
+      wide : g.G.Game.fits_wide l.game l.tools.wide;
       capacities : all_capacities (g.G.Game.capacities l.game) (g.G.Game.many_capacities l.game) l.levels
           ≡ all_capacities (g.G.Game.capacities l.game) (g.G.Game.many_capacities l.game) l.initial.levels;
-      wide_capacities : g.G.Game.wide_capacities l.game l.wide ≡ g.G.Game.wide_capacities l.game l.fn.wide;
+      tools_capacities : tools_capacities (g.G.Game.wide_capacities l.game) l.tools ≡ tools_capacities (g.G.Game.wide_capacities l.game) l.fn.tools;
       deep : length l.levels ≡ length l.initial.levels;
       in_list : l.place ≤ length (rules.legal state l.asked.role);
       above : l.a ≤ℤ l.best;
@@ -56,10 +57,10 @@ invariant-worst_at-runs g l =
     record {
       level : IsLevelOf (g.G.Game.fits l.game) (g.G.Game.fits_many l.game) rules.roles l.level;
       rest : All (IsLevelOf (g.G.Game.fits l.game) (g.G.Game.fits_many l.game) rules.roles) l.rest;
-      wide : g.G.Game.fits_wide l.game l.wide;
+      wide : g.G.Game.fits_wide l.game l.tools.wide;
       capacities : level_capacities of_position of_many l.level ≡ level_capacities of_position of_many l.initial.level;
       rest_capacities : all_capacities of_position of_many l.rest ≡ all_capacities of_position of_many l.initial.rest;
-      wide_capacities : g.G.Game.wide_capacities l.game l.wide ≡ g.G.Game.wide_capacities l.game l.fn.wide;
+      tools_capacities : tools_capacities (g.G.Game.wide_capacities l.game) l.tools ≡ tools_capacities (g.G.Game.wide_capacities l.game) l.fn.tools;
       deep : l.asked.depth ≤ length l.rest;
       some : 0 < l.most;
       few : l.most ≤ 64;
@@ -88,10 +89,10 @@ invariant-least_at-loop-place g l =
     record {
       position : g.G.Game.fits l.game l.position;
       levels : All (IsLevelOf (g.G.Game.fits l.game) (g.G.Game.fits_many l.game) rules.roles) l.levels;
-      wide : g.G.Game.fits_wide l.game l.wide;
+      wide : g.G.Game.fits_wide l.game l.tools.wide;
       position_capacities : g.G.Game.capacities l.game l.position ≡ g.G.Game.capacities l.game l.fn.position;
       capacities : all_capacities of_position of_many l.levels ≡ all_capacities of_position of_many l.initial.levels;
-      wide_capacities : g.G.Game.wide_capacities l.game l.wide ≡ g.G.Game.wide_capacities l.game l.fn.wide;
+      tools_capacities : tools_capacities (g.G.Game.wide_capacities l.game) l.tools ≡ tools_capacities (g.G.Game.wide_capacities l.game) l.fn.tools;
       deep : length l.levels ≡ length l.initial.levels;
       above : l.a <ℤ l.upper;
       below : l.upper ≤ℤ l.b;
@@ -116,10 +117,10 @@ invariant-best_at-runs g l =
     record {
       level : IsLevelOf (g.G.Game.fits l.game) (g.G.Game.fits_many l.game) rules.roles l.level;
       rest : All (IsLevelOf (g.G.Game.fits l.game) (g.G.Game.fits_many l.game) rules.roles) l.rest;
-      wide : g.G.Game.fits_wide l.game l.wide;
+      wide : g.G.Game.fits_wide l.game l.tools.wide;
       capacities : level_capacities of_position of_many l.level ≡ level_capacities of_position of_many l.initial.level;
       rest_capacities : all_capacities of_position of_many l.rest ≡ all_capacities of_position of_many l.initial.rest;
-      wide_capacities : g.G.Game.wide_capacities l.game l.wide ≡ g.G.Game.wide_capacities l.game l.fn.wide;
+      tools_capacities : tools_capacities (g.G.Game.wide_capacities l.game) l.tools ≡ tools_capacities (g.G.Game.wide_capacities l.game) l.fn.tools;
       deep : l.asked.depth ≤ length l.rest;
       some : 0 < l.most;
       few : l.most ≤ 64;
@@ -145,10 +146,10 @@ invariant-greatest_at-loop-child g l =
     record {
       position : g.G.Game.fits l.game l.position;
       levels : All (IsLevelOf (g.G.Game.fits l.game) (g.G.Game.fits_many l.game) rules.roles) l.levels;
-      wide : g.G.Game.fits_wide l.game l.wide;
+      wide : g.G.Game.fits_wide l.game l.tools.wide;
       position_capacities : g.G.Game.capacities l.game l.position ≡ g.G.Game.capacities l.game l.fn.position;
       capacities : all_capacities of_position of_many l.levels ≡ all_capacities of_position of_many l.initial.levels;
-      wide_capacities : g.G.Game.wide_capacities l.game l.wide ≡ g.G.Game.wide_capacities l.game l.fn.wide;
+      tools_capacities : tools_capacities (g.G.Game.wide_capacities l.game) l.tools ≡ tools_capacities (g.G.Game.wide_capacities l.game) l.fn.tools;
       deep : length l.levels ≡ length l.initial.levels;
       above : l.a ≤ℤ l.lower;
       below : l.lower <ℤ l.b;
