@@ -56,7 +56,7 @@ pub fn parts_of(
         listed.fixed_atoms,
         tables,
     )?;
-    let kept = instances_of(alloc, &listed.found, &listed.atoms)?;
+    let kept = instances_of(alloc, &listed.found, &listed.atoms, listed.arena.len())?;
     let dropped = count_dropped(
         &listed.arena,
         words,

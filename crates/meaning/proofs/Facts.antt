@@ -5,7 +5,7 @@ pub use Rattle.meaning.proofs.Ordered.{order_other, among_map_out, among_map_in,
 -- What holds by derivations of bounded length: their bound doesn't matter past the number of rules.
 pub use Rattle.meaning.proofs.Derivations.{relation-under, relation-literal_under, ordinary_not_distinct}
 -- Matching finds exactly the maps that make an atom a given one.
-pub use Rattle.meaning.proofs.Matches.{same_some}
+pub use Rattle.meaning.proofs.Matches.{same_some, Extends, map_of-Agrees, atom_sound}
 -- The listing has exactly the kept instances.
 pub use Rattle.meaning.proofs.ListedLaw.{source_under, is_atom_yes, is_atom_in_yes}
 -- Possible atoms, and what the tests of the listing say of literals.
