@@ -1,3 +1,4 @@
+pub mod EndLemmas
 pub mod TurnLemmas
 pub mod Choices
 pub mod CursorSteps
