@@ -30,7 +30,7 @@ pub(crate) fn is_source(name: Name) -> bool
 }
 
 /// The number of the word that a node is given, if it is.
-fn word_of(name: Name, n: usize) -> Result<Option<u32>, AllocError>
+pub(crate) fn word_of(name: Name, n: usize) -> Result<Option<u32>, AllocError>
     ensures { IfOk result (λ word. word ≡ source_word name n) }
 {
     match name {
