@@ -1,0 +1,8 @@
+mod Shown
+mod NetReads
+mod NetFacts
+mod Words
+mod Kept
+mod Places
+mod Lanes
+mod LaneLemmas
