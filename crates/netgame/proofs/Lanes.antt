@@ -1,5 +1,5 @@
 -- Many states by lanes.
-use Rattle.std.proofs.Common.{◌≡◌, ℕ, zero, suc, ◌+◌, ◌<◌, ◌≤◌, Bool, false, cond, ◌&&◌, le-ltb, List, [], ◌∷◌, length, map, get_or, refl, sym, ap, ◌∙◌, arith, Option, Some, slice_get, ◌⊎◌, inl, inr}
+use Rattle.std.proofs.Common.{◌≡◌, ℕ, zero, suc, ◌+◌, ◌<◌, ◌≤◌, Bool, true, false, cond, ◌&&◌, le-ltb, List, [], ◌∷◌, length, map, get_or, refl, sym, ap, ◌∙◌, arith, Option, Some, slice_get, ◌⊎◌, inl, inr}
 use Rattle.std.specs.Prelude.{All, ◌==◌, nat_lt}
 use Rattle.std.specs.Int.{bit_at}
 use Rattle.std.specs.List.{range_with_len}
@@ -10,6 +10,7 @@ use Rattle.std.proofs.lemmas.Nat.Bits.{bit_at-lt, bit_at-zero}
 use Rattle.std.proofs.lemmas.List.{length-map, get_or-map, get_or_past}
 use Rattle.std.proofs.lemmas.List.FromFn.{length-range_with_len, get_or-range_with_len, get_or-map-range_with_len}
 use Rattle.smallvec.specs.SmallVec.{SmallVec}
+use Rattle.ground.specs.declared.kind.Kind.{Kind}
 use Rattle.ground.specs.declared.ground.Ground.{Ground}
 use Rattle.ground.specs.GroundView.{kinds_of, instances_of}
 use Rattle.propnet.specs.declared.net.Net.{Net}
@@ -19,20 +20,21 @@ use Rattle.propnet.specs.Network.{given, value}
 use Rattle.propnet.specs.Nets.{gates_of}
 use Rattle.propnet.specs.Placing.{input_number}
 use Rattle.propnet.specs.Values.{lane}
-use Rattle.tape.specs.Tapes.{IsTapeOf, IsLane, IsWordOf}
+use Rattle.tape.specs.Tapes.{kept_in, IsTapeOf, HasRun, IsLane, IsWordOf}
 use Rattle.game.specs.Joints.{moves_of, joint_at}
 use Rattle.game.specs.Rules.{State, IsTurn}
 use Rattle.rulegame.specs.declared.naming.Naming.TheVariants.{ByNext}
 use Rattle.netgame.specs.declared.lane_plan.LanePlan.{LanePlan}
-use Rattle.rulegame.specs.RulePlay.{no_turn, holds, is_named}
+use Rattle.rulegame.specs.RulePlay.{no_turn, kind_at, holds, is_named}
 use Rattle.rulegame.specs.RuleState.{rules_of}
-use Rattle.netgame.specs.NetState.{is_lane_on, told_state, lane_state, view_of, AreSpread}
-use Rattle.netgame.specs.LanePlans.{asked_nodes, places_of, next_below, IsLanePlanOf}
-use Rattle.netgame.specs.NetLanes.{TellStates, AreAfter}
+use Rattle.netgame.specs.NetState.{is_shown, is_lane_on, told_state, lane_state, view_of, AreSpread}
+use Rattle.netgame.specs.LanePlans.{shown_below, asked_at, asked_nodes, next_below, IsLanePlanOf}
+use Rattle.netgame.specs.NetLanes.{holds_lane, Tells, AreAfter}
 use Rattle.rulegame.proofs.Facts.{filters_agree}
 use Rattle.netgame.proofs.NetFacts.{base_count}
 use Rattle.netgame.proofs.NetReads.{view_told, transition_told}
-use Rattle.netgame.proofs.Places.{node_at}
+use Rattle.netgame.proofs.Places.{asked_count, asked_node}
+use Rattle.netgame.proofs.Shown.{filter_all}
 
 turn_at : (P : List ℕ → Type 0) (joints : List (SmallVec ℕ)) → All (λ (j : SmallVec ℕ). P j.items) joints → (k : ℕ) → k < length joints → P (joint_at joints k)
 turn_at P [] h k lt = absurd (omega arith)
@@ -53,22 +55,32 @@ lane_alone net states l size = record {
       ap (λ (w : ℕ). bit_at w l) (get_or_past states (input_number net.base net.inputs.items r m) 0 past) ∙ bit_at-zero l ∙ sym (given_none r m);
 }
 
--- what a pass over the tape of what is asked writes
-pub tells_states : (g : Ground) (net : Net) → ∥ IsNetOf g net ∥₁ → (plan : LanePlan) → IsLanePlanOf g net plan → (states told : List ℕ) → length states ≡ length g.starts.items → length told ≡ plan.count
-    → ((made_of : Net) (kept : List ℕ) (i : ℕ) → IsTapeOf made_of kept plan.asked → i < length told → IsWordOf made_of states (get_or kept i 0) (get_or told i 0)) → TellStates g states told
-tells_states g net made plan laned states told size many h k lk a lt shown =
+-- an atom at a place among those that are asked is asked
+asked_shown : (kinds : List Kind) (p : ℕ) → p < length (shown_below kinds (length kinds)) → (asked_at kinds p < length kinds) × (is_shown (kind_at kinds (asked_at kinds p)) ≡ true)
+asked_shown kinds p lt =
+    filter_all (λ a. is_shown (kind_at kinds a)) (λ a. (a < length kinds) × (is_shown (kind_at kinds a) ≡ true)) 0 (length kinds) (λ k from to e. (omega arith, e)) p 0 lt
+
+-- the tape of what is asked keeps a node for each atom that is asked
+pub kept_count : (g : Ground) (net : Net) (plan : LanePlan) → IsLanePlanOf g net plan → kept_in plan.asked ≡ length (shown_below (kinds_of g) (length (kinds_of g)))
+kept_count g net plan laned = ∥∥₁_elim laned.asked (Prim.hlevel props) (λ of. of.size ∙ asked_count net.views.items (kinds_of g))
+
+-- what a pass over the tape of what is asked tells
+pub tells_asked : (g : Ground) (net : Net) → ∥ IsNetOf g net ∥₁ → (plan : LanePlan) → IsLanePlanOf g net plan → (states room : List ℕ) (k : ℕ) → length states ≡ length g.starts.items
+    → HasRun plan.asked states room → k < 64 → Tells plan.asked room k (λ p. holds_lane g states k (asked_at (kinds_of g) p))
+tells_asked g net made plan laned states room k size ran lk p w below h =
+    ∥∥₁_elim laned.asked (Prim.hlevel props) (λ of.
     let kinds = kinds_of g in
     let views = net.views.items in
-    let place = view_of (places_of kinds) a in
-    let here = node_at views kinds a lt shown in
-    let below = here.below in
-    let count = laned.count in
+    let many = of.size in
+    let count = asked_count views kinds in
+    let here : p < length (shown_below kinds (length kinds)) = omega arith in
     let base = base_count g net made in
     let whole : length states ≡ net.base = omega arith in
-    let inside : place < length told = omega arith in
-    let bit : lane told k place ≡ value (gates_of net) (lane states k) no_turn (view_of views a) =
-    ∥∥₁_elim laned.asked (Prim.hlevel props) (λ of. h net (asked_nodes views kinds) place of inside k (lane states k) no_turn lk (lane_alone net states k whole) ∙ ap (value (gates_of net) (lane states k) no_turn) here.at) in
-    ap (λ (v : ℕ). v == 1) bit ∙ (view_told g net made (lane states k) (λ n. bit_at-lt _ _) a lt shown).told
+    let node = asked_node views kinds p here in
+    let shown = asked_shown kinds p here in
+    let bit : bit_at w k ≡ value (gates_of net) (lane states k) no_turn (view_of views (asked_at kinds p)) =
+    h net (asked_nodes views kinds) states of ran k (lane states k) no_turn lk (lane_alone net states k whole) ∙ ap (value (gates_of net) (lane states k) no_turn) node in
+    ap (λ (v : ℕ). v == 1) bit ∙ (view_told g net made (lane states k) (λ n. bit_at-lt _ _) (asked_at kinds p) shown.0 shown.1).told)
 
 -- states whose bits agree
 pub same_state : (f g : ℕ → ℕ) (n : ℕ) → ((p : ℕ) → p < n → f p ≡ g p) → told_state f n ≡ told_state g n

@@ -6,3 +6,4 @@ mod Kept
 mod Places
 mod Lanes
 mod LaneLemmas
+mod TellingLemmas

@@ -5,6 +5,7 @@ use Rattle.std.proofs.Math.Logic.{∥∥₁_elim}
 use Rattle.std.proofs.Props.{props}
 use Rattle.std.proofs.lemmas.List.{length-map}
 use Rattle.kif.specs.Tree.{Tree, text}
+use Rattle.profile.specs.Words.{w_legal}
 use Rattle.profile.specs.Clause.{Atom, Alternative, relation_of}
 use Rattle.profile.specs.Dependence.{IsAmong, is_fixed}
 use Rattle.ground.specs.declared.kind.Kind.{Kind}
@@ -17,7 +18,7 @@ use Rattle.ground.specs.Kinds.{kind_of, place_in}
 use Rattle.ground.specs.Listing.{listing, role_list, base_list, input_list}
 use Rattle.ground.specs.Listed.{IsWellFormed}
 use Rattle.ground.specs.Meaning as meaning
-use Rattle.ground.specs.Meaning.{ordinary, source_of, Holds, nobody, IsRole, RightAs, atom1}
+use Rattle.ground.specs.Meaning.{ordinary, source_of, Holds, nobody, IsRole, RightAs, atom1, atom2}
 use Rattle.ground.specs.Numbers.{number_of}
 use Rattle.ground.specs.Play as play
 use Rattle.ground.proofs.AtomKinds.{kind_sound}
@@ -251,3 +252,25 @@ transition_told g net made state is_bit j turn p lt = record {
   below = ∥∥₁_elim made (Prim.hlevel props) (λ of. ∥∥₁_elim g.sound (Prim.hlevel props) (λ s. (transition_told_by s.0 g s.1 net of state is_bit j turn p lt).below));
   told = ∥∥₁_elim made (Prim.hlevel props) (λ of. ∥∥₁_elim g.sound (Prim.hlevel props) (λ s. (transition_told_by s.0 g s.1 net of state is_bit j turn p lt).told));
 }
+
+-- An atom alone makes a move legal.
+
+module _ (rules : List Alternative) (g : Ground) (is : IsGround rules g) (r m : ℕ) where
+  abbrev move_atom : Atom
+  move_atom = let role = tree_at (role_list rules) r in atom2 w_legal role (tree_at (input_list rules role) m)
+
+  legal_atom : (a : ℕ) → a < length (kinds_of g) → kind_at (kinds_of g) a ≡ Legal r m → number_of move_atom (listing rules).atoms ≡ a
+  legal_atom a lt e =
+      let x = atom_at (listing rules).atoms a in
+      let size : length (kinds_of g) ≡ length (map (kind_of rules) (listing rules).atoms) = ap (λ (ks : List Kind). length ks) is.kinds_are in
+      let many = length-map (listing rules).atoms (kind_of rules) in
+      let within : a < length (listing rules).atoms = omega arith in
+      let kind : kind_of rules x ≡ Legal r m = sym (ap (λ (ks : List Kind). kind_at ks a) is.kinds_are ∙ kind_at_number (kind_of rules) (listing rules).atoms a within) ∙ e in
+      let k = kind_sound rules is.well_formed.acyclic x (Legal r m) kind (λ f. absurd cc) in
+      let same : x ≡ move_atom =
+      k.2 ∙ ap (λ (t : Tree). atom2 w_legal k.0 t) (sym (placed k.1 (input_list rules k.0) m k.4))
+      ∙ ap (λ (q : Tree). atom2 w_legal q (tree_at (input_list rules q) m)) (sym (placed k.0 (role_list rules) r k.3)) in
+      ap (λ (y : Atom). number_of y (listing rules).atoms) (sym same) ∙ number_at (listing rules).atoms (one_number rules) a within
+
+pub one_legal : (g : Ground) (r m a b : ℕ) → a < length (kinds_of g) → b < length (kinds_of g) → kind_at (kinds_of g) a ≡ Legal r m → kind_at (kinds_of g) b ≡ Legal r m → a ≡ b
+one_legal g r m a b la lb ea eb = ∥∥₁_elim g.sound (Prim.hlevel props) (λ s. sym (legal_atom s.0 g s.1 r m a la ea) ∙ legal_atom s.0 g s.1 r m b lb eb)

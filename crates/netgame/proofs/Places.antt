@@ -1,6 +1,6 @@
 -- Where what is asked of a state stands among the nodes that are kept.
-use Rattle.std.proofs.Common.{◌≡◌, ℕ, zero, suc, ◌+◌, ◌<◌, ◌≤◌, Bool, true, false, cond, List, [], ◌∷◌, ◌++◌, length, map, get_or, length-append, refl, sym, subst, ap, ◌∙◌, arith, inl, inr, Option, Some, None}
-use Rattle.std.specs.Prelude.{unwrap_or}
+use Rattle.std.proofs.Common.{◌≡◌, ℕ, zero, suc, ◌+◌, ◌<◌, ◌≤◌, Bool, true, false, cond, List, [], ◌∷◌, ◌++◌, length, map, get_or, length-append, refl, sym, subst, ap, ◌∙◌, arith, inl, inr, Option}
+use Rattle.std.specs.Prelude.{slice_index}
 use Rattle.std.proofs.Math.Seq.{get_or-append_seam}
 use Rattle.std.proofs.Math.ListN.{get_or-append}
 use Rattle.std.proofs.lemmas.Bool.{cases_eq}
@@ -8,8 +8,8 @@ use Rattle.std.proofs.lemmas.List.{length-map, get_or-map, map-append}
 use Rattle.std.proofs.lemmas.List.FromFn.{get_or-map-range_with_len}
 use Rattle.ground.specs.declared.kind.Kind.{Kind}
 use Rattle.rulegame.specs.RulePlay.{kind_at}
-use Rattle.netgame.specs.NetState.{is_shown, view_of, AreViewsBelow}
-use Rattle.netgame.specs.LanePlans.{shown_below, asked_below, asked_nodes, places_of}
+use Rattle.netgame.specs.NetState.{is_shown, view_of}
+use Rattle.netgame.specs.LanePlans.{shown_below, asked_at, asked_below, asked_nodes, places_of}
 use Rattle.rulegame.proofs.Facts.{filter_range_more}
 
 pub record StandsAt (xs : List ℕ) (i a : ℕ) : Type 0 where
@@ -47,25 +47,23 @@ shown_at kinds (suc n) a lt e = subst (λ (m : ℕ). StandsAt (shown_below kinds
       | inr other ↦ appended (shown_below kinds n) (cond (f n) (n ∷ []) []) (length (shown_below kinds a)) a (before (omega arith))
     ]
 
-pub place_at : (kinds : List Kind) (a : ℕ) → a < length kinds → view_of (places_of kinds) a ≡ length (shown_below kinds a)
+pub place_at : (kinds : List Kind) (a : ℕ) → a < length kinds → slice_index (places_of kinds) a ≡ length (shown_below kinds a)
 place_at kinds a lt =
     let z : 0 + a ≡ a = omega arith in
-    ap (λ (o : Option ℕ). unwrap_or o 0) (get_or-map-range_with_len (λ i. Some (length (shown_below kinds i))) 0 (length kinds) a a None lt z)
+    get_or-map-range_with_len (λ i. length (shown_below kinds i)) 0 (length kinds) a a 0 lt z
 
-module _ (views : List (Option ℕ)) (kinds : List Kind) (a : ℕ) (lt : a < length kinds) (shown : is_shown (kind_at kinds a) ≡ true) where
-  -- the node that is kept at the place of an atom is the one that tells of it
-  pub node_at : StandsAt (asked_nodes views kinds) (view_of (places_of kinds) a) (view_of views a)
-  node_at =
-      let s = shown_at kinds (length kinds) a lt shown in
-      let place = place_at kinds a lt in
-      subst (λ (i : ℕ). StandsAt (asked_nodes views kinds) i (view_of views a)) (sym place)
-      (record {
-        at = get_or-map (view_of views) (shown_below kinds (length kinds)) (length (shown_below kinds a)) 0 0 s.below ∙ ap (view_of views) s.at;
-        below = let size = length-map (shown_below kinds (length kinds)) (view_of views) in let below = s.below in omega arith;
-      })
+-- an atom that is asked stands at its place
+pub placed_at : (kinds : List Kind) (a : ℕ) → a < length kinds → is_shown (kind_at kinds a) ≡ true → StandsAt (shown_below kinds (length kinds)) (slice_index (places_of kinds) a) a
+placed_at kinds a lt shown =
+    subst (λ (i : ℕ). StandsAt (shown_below kinds (length kinds)) i a) (sym (place_at kinds a lt)) (shown_at kinds (length kinds) a lt shown)
 
-pub places_within : (views : List (Option ℕ)) (kinds : List Kind) (n : ℕ) → length (asked_nodes views kinds) ≡ n → AreViewsBelow kinds (places_of kinds) n
-places_within views kinds n size a lt shown = let below = (node_at views kinds a lt shown).below in omega arith
+-- as many nodes are kept as atoms are asked
+pub asked_count : (views : List (Option ℕ)) (kinds : List Kind) → length (asked_nodes views kinds) ≡ length (shown_below kinds (length kinds))
+asked_count views kinds = length-map (shown_below kinds (length kinds)) (view_of views)
+
+-- the node that is kept at a place is the one that tells of the atom there
+pub asked_node : (views : List (Option ℕ)) (kinds : List Kind) (p : ℕ) → p < length (shown_below kinds (length kinds)) → get_or (asked_nodes views kinds) p 0 ≡ view_of views (asked_at kinds p)
+asked_node views kinds p lt = get_or-map (view_of views) (shown_below kinds (length kinds)) p 0 0 lt
 
 -- no more atoms are asked than there are
 pub few_shown : (kinds : List Kind) (n : ℕ) → length (shown_below kinds n) ≤ n

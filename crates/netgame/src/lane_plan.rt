@@ -1,7 +1,15 @@
 // What is kept of a network to play up to 64 joint moves at a time.
 
-use crate::net_plan::NetPlan;
 use tape::Tape;
+
+/// Where the atoms that tell of a role stand among those that are asked of a state.
+#[derive(Drop)]
+pub struct RoleAsked {
+    /// The place of each `legal`, with the move that it names, ascending by move.
+    pub(crate) legals: Vec<(u32, u32)>,
+    /// The place of each `goal`, with its value.
+    pub(crate) goals: Vec<(u32, u8)>,
+}
 
 /// The tapes of play.
 #[derive(Drop)]
@@ -10,8 +18,7 @@ pub struct LanePlan {
     pub(crate) next: Tape,
     /// It keeps the nodes that tell of the atoms that are asked of a state, in order.
     pub(crate) asked: Tape,
-    /// How many they are.
-    pub(crate) count: usize,
-    /// What is asked: in these lists the place of a node among those stands for its atom.
-    pub(crate) places: NetPlan,
+    /// The places of those that end the game.
+    pub(crate) ends: Vec<u32>,
+    pub(crate) roles: Vec<RoleAsked>,
 }

@@ -2,12 +2,11 @@
 ghost use Rattle.std.specs.Prelude.{◌≡◌, ◌<◌, ◌++◌, ℕ, [], ◌∷◌, length, map, OnOk, IfOk, if◌then◌else◌};
 ghost use Rattle.ground.specs.GroundView.{kinds_of};
 ghost use Rattle.propnet.specs.Builders.{IsNetOf};
-ghost use Rattle.rulegame.specs.RulePlay.{kind_at};
 ghost use Rattle.netgame.specs.NetState.{is_shown as shown, view_of};
 ghost use Rattle.netgame.specs.LanePlans.{places_of, asked_nodes, next_below, IsLanePlanOf};
 
 use crate::lane_plan::LanePlan;
-use crate::net_planning::make_net_plan;
+use crate::net_planning::{list_ends, plan_roles};
 use ground::{Ground, Kind};
 use propnet::Net;
 use rulegame::kind_of;
@@ -17,8 +16,8 @@ use tape::Tape;
 /// Which atoms are asked of a state.
 #[derive(Drop)]
 struct Asked {
-    /// By atom its place among them, if it is one.
-    places: Vec<Option<u32>>,
+    /// By atom how many atoms below it are asked: its place among them, if it is one.
+    places: Vec<u32>,
     /// The nodes that tell of them, in order.
     nodes: Vec<u32>,
 }
@@ -55,7 +54,7 @@ fn list_asked(alloc: Global, ground: &Ground, net: &Net) -> Result<Asked, AllocE
     let mut places = Vec::new(alloc);
     let mut nodes = Vec::new(alloc);
     for atom in 0..ground.atoms() {
-        places.push(Some(nodes.len() as u32))?;
+        places.push(nodes.len() as u32)?;
         add_asked(net, kind_of(ground, atom), atom as u32, &mut nodes)?;
     }
     Ok(Asked { places, nodes })
@@ -87,7 +86,7 @@ pub(crate) fn make_lane_plan(
     Ok(LanePlan {
         next: Tape::new(alloc, net, &next)?,
         asked: Tape::new(alloc, net, &asked.nodes)?,
-        count: asked.nodes.len(),
-        places: make_net_plan(alloc, ground, &asked.places)?,
+        ends: list_ends(alloc, ground, &asked.places)?,
+        roles: plan_roles(alloc, ground, &asked.places)?,
     })
 }

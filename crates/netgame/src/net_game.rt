@@ -71,7 +71,7 @@ impl Game for NetGame {
 
     ghost fits_wide = { λ g w. HasWideRoom g.net g.lane_plan w };
 
-    ghost fits_many = { λ g m. IsNetMany g.played m };
+    ghost fits_many = { λ g m. IsNetMany g.played g.lane_plan m };
 
     ghost states = { λ g m. lane_states g.played m };
 

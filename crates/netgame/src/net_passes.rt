@@ -36,7 +36,7 @@ pub(crate) fn write_sources(net: &Net, from: &[u64], joints: &[Joint], words: &m
 }
 
 /// Makes a pass.
-fn run(tape: &Tape, words: &[u64], room: &mut Vec<u64>)
+pub(crate) fn run(tape: &Tape, words: &[u64], room: &mut Vec<u64>)
     requires { length room.old.items ≡ slots_in tape.now }
     ensures run { HasRun tape.now words.now room.new.items }
     ensures size { length room.new.items ≡ length room.old.items }

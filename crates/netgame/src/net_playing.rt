@@ -66,10 +66,10 @@ pub(crate) fn start_net_state(game: &NetGame) -> Result<NetPos, AllocError>
     ensures start { IfOk result (λ p. kept_state game.now.played p ≡ marked game.now.played.starts.items) }
 {
     let alloc = game.alloc;
-    let mut wide = new_net_wide(game)?;
+    let wide = new_net_wide(game)?;
     let mut many = new_net_many(game)?;
     write_start(&game.played, &mut many.states);
-    tell_lanes(game, 1, &mut wide, &mut many);
+    tell_lanes(game, 1, &mut many);
     let mut p = NetPos {
         lanes: vec![in alloc; 0u64; game.played.base()]?,
         roles: new_roles(alloc, &game.played)?,

@@ -10,9 +10,9 @@ ghost use Rattle.rulegame.specs.RulePlay.{ends};
 ghost use Rattle.game.specs.Told.{IsTold};
 
 use crate::net_game::NetGame;
-use crate::net_listing::list_lane;
 use crate::net_many::NetMany;
 use crate::net_pos::NetPos;
+use crate::net_telling::{best_told, list_moves};
 use crate::net_words::{all_alike, lane_bit};
 use game::Told;
 use rulegame::RoleState;
@@ -43,21 +43,22 @@ fn take_lane(states: &[u64], k: usize, lanes: &mut Vec<u64>)
 /// Writes what is told of a role in one of many states.
 fn take_role(game: &NetGame, many: &NetMany, k: usize, role: usize, out: &mut RoleState)
     requires role { role < length (inputs_of game.now.played) }
-    requires many { IsNetMany game.now.played many.now }
+    requires many { IsNetMany game.now.played game.now.lane_plan many.now }
     requires lane { k < many.now.count }
     requires room { HasRoleRoom (length (texts_at (inputs_of game.now.played) role)) out.old }
     ensures read { IsRoleRead (kinds_of game.now.played) (holds_lane game.now.played many.now.states.items k) role (length (texts_at (inputs_of game.now.played) role)) out.new }
     ensures room { HasRoleRoom (length (texts_at (inputs_of game.now.played) role)) out.new }
     ensures capacities { role_capacities out.new ≡ role_capacities out.old }
 {
-    let from = &many.roles[role];
-    out.count = list_lane(&from.legals, k, &from.used, from.used_count, &mut out.moves);
-    out.goal = from.goals[k];
+    let plan = &game.lane_plan;
+    let asked = &plan.roles[role];
+    out.count = list_moves(&plan.asked, &many.room, k, &asked.legals, &mut out.moves);
+    out.goal = best_told(&plan.asked, &many.room, k, &asked.goals);
 }
 
 /// Writes what is told of each role in one of many states.
 fn take_roles(game: &NetGame, many: &NetMany, k: usize, roles: &mut Vec<RoleState>)
-    requires many { IsNetMany game.now.played many.now }
+    requires many { IsNetMany game.now.played game.now.lane_plan many.now }
     requires lane { k < many.now.count }
     requires room { HaveRoom (inputs_of game.now.played) roles.old.items }
     ensures read { AreRead (kinds_of game.now.played) (holds_lane game.now.played many.now.states.items k) (inputs_of game.now.played) roles.new.items }
@@ -78,7 +79,7 @@ pub(crate) fn take_told(
     lanes: &mut Vec<u64>,
     roles: &mut Vec<RoleState>,
 ) -> bool
-    requires many { IsNetMany game.now.played many.now }
+    requires many { IsNetMany game.now.played game.now.lane_plan many.now }
     requires lane { k < length (lane_states game.now.played many.now) }
     requires lanes { length lanes.old.items ≡ length game.now.played.starts.items }
     requires roles { HaveRoom (inputs_of game.now.played) roles.old.items }
@@ -99,7 +100,7 @@ pub(crate) fn take_told(
 
 /// Writes one of many states, and what is told of it.
 pub(crate) fn net_take(game: &NetGame, many: &NetMany, k: usize, q: &mut NetPos)
-    requires many { IsNetMany game.now.played many.now }
+    requires many { IsNetMany game.now.played game.now.lane_plan many.now }
     requires lane { k < length (lane_states game.now.played many.now) }
     requires to { HasNetRoom game.now.played game.now.net game.now.lane_plan q.old }
     ensures state { IsNetState game.now.played game.now.net game.now.lane_plan q.new }
@@ -111,13 +112,15 @@ pub(crate) fn net_take(game: &NetGame, many: &NetMany, k: usize, q: &mut NetPos)
 
 /// What is told of one of many states.
 pub(crate) fn net_told(game: &NetGame, many: &NetMany, k: usize, role: usize) -> Told
-    requires many { IsNetMany game.now.played many.now }
+    requires many { IsNetMany game.now.played game.now.lane_plan many.now }
     requires lane { k < length (lane_states game.now.played many.now) }
     requires role { role < length (inputs_of game.now.played) }
     ensures { IsTold (rules_of game.now.played) (get_or (lane_states game.now.played many.now) k []) role result }
 {
     if lane_bit(many.ended, k) == 1 {
-        return Told::Ended(many.roles[role].goals[k]);
+        let plan = &game.lane_plan;
+        let goals = &plan.roles[role].goals;
+        return Told::Ended(best_told(&plan.asked, &many.room, k, goals));
     }
     Told::Open
 }

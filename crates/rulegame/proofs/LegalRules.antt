@@ -37,7 +37,7 @@ pub in_order_once : (ts : List Tree) → AreInPrintedOrder ts → AreDistinct ts
 in_order_once ts h =
     order_other (λ (t u : Tree). printed_cmp t u ≡ Less) (λ (t u : Tree). t ≡ u → ⊥) ts (λ t u a b l e. printed_never t (subst (λ (v : Tree). printed_cmp t v ≡ Less) (sym e) l)) h
 
-legal_only : (r k : ℕ) (c : Kind) → names (ByLegal r) c k ≡ true → c ≡ Legal r k
+pub legal_only : (r k : ℕ) (c : Kind) → names (ByLegal r) c k ≡ true → c ≡ Legal r k
 legal_only r k Fixed e = absurd cc
 legal_only r k (Now p) e = absurd cc
 legal_only r k (Does q m) e = absurd cc

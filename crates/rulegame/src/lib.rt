@@ -14,7 +14,7 @@ mod rule_pos;
 
 pub use evaluation::kind_of;
 pub use naming::Naming;
-pub use plan::{RolePlan, Sought, Standing};
+pub use plan::{Sought, Standing};
 pub use planning::list_standing;
 pub use reading::{number_of, value_of};
 pub use rule_game::RuleGame;

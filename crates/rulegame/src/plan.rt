@@ -26,8 +26,8 @@ pub enum Sought {
 /// The atoms that tell of a role, in order.
 #[derive(Drop)]
 pub struct RolePlan {
-    pub legals: Vec<Standing>,
-    pub goals: Vec<Standing>,
+    pub(crate) legals: Vec<Standing>,
+    pub(crate) goals: Vec<Standing>,
 }
 
 /// The kept instances in flat lists. Those without a body stand apart, as marks, where no body before them names their head.

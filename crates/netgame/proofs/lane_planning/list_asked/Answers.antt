@@ -1,4 +1,4 @@
-use Rattle.std.proofs.Common.{◌≡◌, ◌+◌, ℕ, List, [], ◌∷◌, ◌++◌, cond, length, sym, ap, ◌∙◌, arith, Option, Some}
+use Rattle.std.proofs.Common.{◌≡◌, ◌+◌, ℕ, List, [], ◌∷◌, ◌++◌, cond, length, sym, ap, ◌∙◌, arith}
 use Rattle.std.proofs.lemmas.List.{length-map}
 use Rattle.std.proofs.lemmas.List.FromFn.{map-range_with_len_more}
 use Rattle.ground.specs.declared.kind.Kind.{Kind}
@@ -38,9 +38,9 @@ loop-atom-preserved c =
     c.len.ensures ∙ c.loop-atom.nodes.ok.0 ∙ ap length c.loop-atom.invariant.nodes ∙ length-map (shown_below kinds n) (view_of views) in
     record {
       places = c.in_ok-push.ensures.items
-          ∙ ap (λ (ps : List (Option ℕ)). ps ++ Some c.len.result ∷ []) c.loop-atom.invariant.places
-          ∙ ap (λ (m : ℕ). places_below kinds n ++ Some m ∷ []) count
-          ∙ sym (map-range_with_len_more (λ a. Some (length (shown_below kinds a))) 0 n n z);
+          ∙ ap (λ (ps : List ℕ). ps ++ c.len.result ∷ []) c.loop-atom.invariant.places
+          ∙ ap (λ (m : ℕ). places_below kinds n ++ m ∷ []) count
+          ∙ sym (map-range_with_len_more (λ a. length (shown_below kinds a)) 0 n n z);
       nodes = c.in_ok-add_asked.ensures
           ∙ ap (λ (k : Kind). c.loop-atom.nodes.items ++ cond (is_shown k) (view_of views n ∷ []) []) c.kind_of.ensures
           ∙ ap (λ (ns : List ℕ). ns ++ cond (is_shown (kind_at kinds n)) (view_of views n ∷ []) []) c.loop-atom.invariant.nodes

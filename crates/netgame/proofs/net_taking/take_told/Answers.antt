@@ -14,7 +14,7 @@ take_lane-requires-clause-lane c =
     let g = c.args.game.now.played in
     let m = c.args.many.now in
     let size : length (lane_states g m) ≡ m.count = states_count (lane_state m.states.items (length g.starts.items)) m.count in
-    let few = c.requires.many.room.few in
+    let few = c.requires.many.few in
     let lt : c.args.k < length (lane_states g m) = c.requires.lane in
     omega arith
 
@@ -23,7 +23,7 @@ lane_bit-requires c =
     let g = c.args.game.now.played in
     let m = c.args.many.now in
     let size : length (lane_states g m) ≡ m.count = states_count (lane_state m.states.items (length g.starts.items)) m.count in
-    let few = c.requires.many.room.few in
+    let few = c.requires.many.few in
     let lt : c.args.k < length (lane_states g m) = c.requires.lane in
     omega arith
 
@@ -45,7 +45,7 @@ returns-clause-taken c =
     let size : length (lane_states g m) ≡ m.count = states_count (lane_state states n) m.count in
     let lt : k < length (lane_states g m) = c.requires.lane in
     let lanes = c.take_lane.new.lanes.items in
-    let whole : length c.deref.result.now ≡ n = ap length c.deref.ensures.value ∙ c.requires.many.room.states in
+    let whole : length c.deref.result.now ≡ n = ap length c.deref.ensures.value ∙ c.requires.many.states in
     let written : lane_state lanes n 0 ≡ lane_state c.deref.result.now n k =
     subst (λ (l : ℕ). lane_state lanes l 0 ≡ lane_state c.deref.result.now l k) whole c.take_lane.ensures.told in
     let kept : lane_state lanes n 0 ≡ lane_state states n k = written ∙ ap (λ (ws : List ℕ). lane_state ws n k) c.deref.ensures.value in
@@ -61,7 +61,7 @@ returns-clause-ended c =
     let size : length (lane_states g m) ≡ m.count = states_count (lane_state states n) m.count in
     let lt : k < length (lane_states g m) = c.requires.lane in
     let lanes = c.take_lane.new.lanes.items in
-    let whole : length c.deref.result.now ≡ n = ap length c.deref.ensures.value ∙ c.requires.many.room.states in
+    let whole : length c.deref.result.now ≡ n = ap length c.deref.ensures.value ∙ c.requires.many.states in
     let written : lane_state lanes n 0 ≡ lane_state c.deref.result.now n k =
     subst (λ (l : ℕ). lane_state lanes l 0 ≡ lane_state c.deref.result.now l k) whole c.take_lane.ensures.told in
     let kept : lane_state lanes n 0 ≡ lane_state states n k = written ∙ ap (λ (ws : List ℕ). lane_state ws n k) c.deref.ensures.value in
@@ -77,7 +77,7 @@ returns-clause-read c =
     let size : length (lane_states g m) ≡ m.count = states_count (lane_state states n) m.count in
     let lt : k < length (lane_states g m) = c.requires.lane in
     let lanes = c.take_lane.new.lanes.items in
-    let whole : length c.deref.result.now ≡ n = ap length c.deref.ensures.value ∙ c.requires.many.room.states in
+    let whole : length c.deref.result.now ≡ n = ap length c.deref.ensures.value ∙ c.requires.many.states in
     let written : lane_state lanes n 0 ≡ lane_state c.deref.result.now n k =
     subst (λ (l : ℕ). lane_state lanes l 0 ≡ lane_state c.deref.result.now l k) whole c.take_lane.ensures.told in
     let kept : lane_state lanes n 0 ≡ lane_state states n k = written ∙ ap (λ (ws : List ℕ). lane_state ws n k) c.deref.ensures.value in
