@@ -11,7 +11,7 @@ use crate::builder::{Builder, negation};
 use crate::cones::{cones, is_and, is_or};
 use crate::gates::Literal;
 use crate::gathering::{gather, terms_of};
-use crate::sourcing::{Sources, few, is_source, sources_of};
+use crate::sourcing::{Sources, above, few, is_source, sources_of};
 use crate::tape::Tape;
 use propnet::Net;
 use std::alloc::{AllocError, Global};
@@ -117,9 +117,11 @@ impl Tape {
         let literals = translate(alloc, net, kept, marks, &sources, &mut builder)?;
         let mut slots = Vec::new(alloc);
         gather(&mut slots, kept, &literals)?;
+        let most = above(&sources.words);
         Ok(Tape {
             first: builder.first,
             sources: sources.words,
+            most,
             gates: builder.gates,
             kept: slots,
         })

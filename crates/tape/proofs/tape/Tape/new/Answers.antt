@@ -1,4 +1,5 @@
-use Rattle.std.proofs.Common.{refl}
+use Rattle.std.proofs.Common.{◌<◌, ℕ, List, refl, subst}
+use Rattle.std.specs.Prelude.{All}
 use Rattle.tape.proofs.Tapes.{kept_slots, tape_of}
 use Rattle.tape.proofs.tape.Tape.new.Goals as goal
 
@@ -15,6 +16,7 @@ pub invariant_of-result : goal.invariant_of-result
 invariant_of-result c = record {
   ordered = c.in_ok-literals.ensures.built.tape;
   given = c.in_ok-literals.ensures.first;
+  sources_below = subst (λ (ns : List ℕ). All (λ (n : ℕ). n < c.above-most.result) ns) c.deref-2.ensures.value c.above-most.ensures;
   kept_within = kept_slots c.args.net.now c.in_ok-sources.sources.words.items c.args.kept.now c.translate.new.builder c.in_ok-literals.literals.items c.deref.result.now c.gather.new.queue.items
       c.in_ok-literals.ensures c.deref.ensures.value c.in_ok-gather.ensures;
 }

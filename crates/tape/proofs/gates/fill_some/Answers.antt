@@ -1,7 +1,7 @@
 use Rattle.std.proofs.Common.{ℕ, arith, ap, length-set, get_or}
 use Rattle.tape.specs.Values.{is_bit_on, is_lane_on}
 use Rattle.tape.proofs.Lanes.{one_given, constants}
-use Rattle.tape.proofs.gates.fill_sources.Goals as goal
+use Rattle.tape.proofs.gates.fill_some.Goals as goal
 
 pub loop-i-init : goal.loop-i-init
 loop-i-init c = λ k n h l. constants (λ i. is_lane_on c.args.words.now k (get_or c.args.sources.now i 0)) c.args.room.now k c.complement.result (omega arith) (c.complement.ensures k h) n l
