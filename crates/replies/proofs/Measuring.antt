@@ -15,7 +15,7 @@ use Rattle.ground.specs.Limits.{count_inputs}
 use Rattle.ground.specs.Most.{limits}
 use Rattle.ground.specs.Listing.{listing, role_list, base_list, input_list}
 use Rattle.ground.specs.Play.{dropped}
-use Rattle.position.specs.GroundFacts.{fits}
+use Rattle.rulegame.specs.GroundFacts.{fits}
 use Rattle.propnet.specs.declared.net.Net.{Net}
 use Rattle.propnet.specs.declared.node.Name.{Name}
 use Rattle.propnet.specs.Builders.{IsNetOf, input_counts}

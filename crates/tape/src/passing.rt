@@ -20,7 +20,7 @@ impl Tape {
         requires { length room.old ≡ slots_in self.now }
         ensures { HasRun self.now words.now room.new }
     {
-        fill_sources(&self.sources, words, room);
+        fill_sources(&self.sources, self.most, words, room);
         run_gates(&self.gates, self.first as usize, room);
     }
 

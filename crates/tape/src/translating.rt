@@ -12,7 +12,7 @@ use crate::cones::{cones, is_and, is_or};
 use crate::gates::Literal;
 use crate::gathering::{gather, terms_of};
 use crate::groups::{groups_of, with_inputs};
-use crate::sourcing::{Sources, few, is_source, sources_of};
+use crate::sourcing::{Sources, above, few, is_source, sources_of};
 use crate::tape::Tape;
 use propnet::Net;
 use std::alloc::{AllocError, Global};
@@ -125,9 +125,11 @@ fn made(
     let literals = translate(alloc, net, kept, marks, &sources, &mut builder)?;
     let mut slots = Vec::new(alloc);
     gather(&mut slots, kept, &literals)?;
+    let most = above(&sources.words);
     Ok(Tape {
         first: builder.first,
         sources: sources.words,
+        most,
         gates: builder.gates,
         kept: slots,
     })

@@ -1,4 +1,5 @@
-use Rattle.std.proofs.Common.{refl, ap, ◌∙◌}
+use Rattle.std.specs.Prelude.{All}
+use Rattle.std.proofs.Common.{◌<◌, ℕ, List, subst, refl, ap, ◌∙◌}
 use Rattle.std.specs.Global.{Vec}
 use Rattle.tape.specs.declared.builder.Group.{Group}
 use Rattle.tape.proofs.Tapes.{kept_slots, tape_of}
@@ -8,6 +9,7 @@ pub invariant_of-result : goal.invariant_of-result
 invariant_of-result c = record {
   ordered = c.in_ok-literals.ensures.kept.built.tape;
   given = c.in_ok-literals.ensures.kept.first;
+  sources_below = subst (λ (ns : List ℕ). All (λ (n : ℕ). n < c.above-most.result) ns) c.deref-2.ensures.value c.above-most.ensures;
   kept_within = kept_slots c.args.net.now c.args.sources.words.items c.args.kept.now c.translate.new.builder c.in_ok-literals.literals.items c.deref.result.now c.gather.new.queue.items
       c.in_ok-literals.ensures.kept c.deref.ensures.value c.in_ok-gather.ensures;
 }
