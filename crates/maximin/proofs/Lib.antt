@@ -1,4 +1,3 @@
-pub mod EndLemmas
 pub mod TurnLemmas
 pub mod Choices
 pub mod CursorSteps

@@ -1,14 +1,13 @@
 // The search, level by level.
 ghost use Rattle.std.specs.Prelude.{◌≡◌, ◌<◌, ◌≤◌, ◌<ℤ◌, ◌≤ℤ◌, pos, negsuc, false, Some, [], All, length, map, get_or, if◌then◌else◌};
 ghost use Rattle.game.specs.AtBound.{bound_worth};
-ghost use Rattle.game.specs.Rules.{IsTurn, is_stuck as stuck};
+ghost use Rattle.game.specs.Rules.{is_stuck as stuck};
 ghost use Rattle.game.specs.Value.{Answers, choice_of, greatest, least, reply_of, value, worst};
 ghost use Rattle.maximin.specs.Alone.{IsAlone};
 ghost use Rattle.maximin.specs.Level.{IsLevelOf, all_capacities};
 
 use crate::alone::{gather_own, is_alone};
 use crate::cursor::{next_turn, start_turns, write_joint};
-use crate::end::{greatest_end, least_end};
 use crate::level::Level;
 use crate::run::{LONGEST_RUN, gather};
 use crate::told::{greatest_told, least_told, told_worth};
@@ -133,15 +132,16 @@ pub fn worst_at<G: Game>(
             most,
             &mut level.run,
         );
-        let least = least_after(
+        let count = level.run.count;
+        game.steps(from, &level.run.joints[..count], wide, &mut level.many);
+        let least = least_at(
             game,
-            from,
-            &level.run.joints[..level.run.count],
+            &level.many,
+            count,
             asked,
             a,
             upper,
             wide,
-            &mut level.many,
             &mut level.position,
             rest,
         );
@@ -151,61 +151,6 @@ pub fn worst_at<G: Game>(
         }
         most = LONGEST_RUN.min(most * 8);
     }
-}
-
-/// The least value of the states after some joint moves, within a window.
-#[cycle(search)]
-fn least_after<G: Game>(
-    game: &G,
-    from: &G::Pos,
-    joints: &[Joint],
-    asked: Asked,
-    a: i16,
-    b: i16,
-    wide: &mut G::Wide,
-    many: &mut G::Many,
-    position: &mut G::Pos,
-    levels: &mut [Level<G::Pos, G::Many>],
-) -> i16
-    requires fits { G.fits game.now from.now }
-    requires some { 0 < length joints.now }
-    requires few { length joints.now ≤ 64 }
-    requires joints { All (λ j. IsTurn (G.rules game.now) j.items) joints.now }
-    requires role { asked.role < (G.rules game.now).roles }
-    requires deep { asked.depth ≤ length levels.old }
-    requires wide { G.fits_wide game.now wide.old }
-    requires many { G.fits_many game.now many.old }
-    requires position { G.fits game.now position.old }
-    requires levels { All (IsLevelOf (G.fits game.now) (G.fits_many game.now) (G.rules game.now).roles) levels.old }
-    requires low { negsuc 1 ≤ℤ a }
-    requires order { a <ℤ b }
-    requires high { b ≤ℤ pos 101 }
-    ensures answers { Answers (least (map (value (G.rules game.now) asked.role asked.depth asked.at) (map (λ j. (G.rules game.now).after (G.state game.now from.now) j.items) joints.now))) a b result }
-    ensures wide { G.fits_wide game.now wide.new }
-    ensures wide_capacities { G.wide_capacities game.now wide.new ≡ G.wide_capacities game.now wide.old }
-    ensures many { G.fits_many game.now many.new }
-    ensures many_capacities { G.many_capacities game.now many.new ≡ G.many_capacities game.now many.old }
-    ensures position { G.fits game.now position.new }
-    ensures position_capacities { G.capacities game.now position.new ≡ G.capacities game.now position.old }
-    ensures levels { All (IsLevelOf (G.fits game.now) (G.fits_many game.now) (G.rules game.now).roles) levels.new }
-    ensures capacities { all_capacities (G.capacities game.now) (G.many_capacities game.now) levels.new
-        ≡ all_capacities (G.capacities game.now) (G.many_capacities game.now) levels.old }
-{
-    if let Some(worth) = least_end(game, from, joints, asked, wide) {
-        return worth;
-    }
-    game.steps(from, joints, wide, many);
-    least_at(
-        game,
-        many,
-        joints.len(),
-        asked,
-        a,
-        b,
-        wide,
-        position,
-        levels,
-    )
 }
 
 /// The value of one of many states, within a window.
@@ -343,15 +288,15 @@ fn best_at<G: Game>(
         if count == 0 {
             return best;
         }
-        let greatest = greatest_after(
+        game.steps(from, &level.run.joints[..count], wide, &mut level.many);
+        let greatest = greatest_at(
             game,
-            from,
-            &level.run.joints[..count],
+            &level.many,
+            count,
             asked,
             best,
             b,
             wide,
-            &mut level.many,
             &mut level.position,
             rest,
         );
@@ -362,61 +307,6 @@ fn best_at<G: Game>(
         place += count;
         most = LONGEST_RUN.min(8 * most);
     }
-}
-
-/// The greatest value of the states after some joint moves, within a window.
-#[cycle(search)]
-fn greatest_after<G: Game>(
-    game: &G,
-    from: &G::Pos,
-    joints: &[Joint],
-    asked: Asked,
-    a: i16,
-    b: i16,
-    wide: &mut G::Wide,
-    many: &mut G::Many,
-    position: &mut G::Pos,
-    levels: &mut [Level<G::Pos, G::Many>],
-) -> i16
-    requires fits { G.fits game.now from.now }
-    requires some { 0 < length joints.now }
-    requires few { length joints.now ≤ 64 }
-    requires joints { All (λ j. IsTurn (G.rules game.now) j.items) joints.now }
-    requires role { asked.role < (G.rules game.now).roles }
-    requires deep { asked.depth ≤ length levels.old }
-    requires wide { G.fits_wide game.now wide.old }
-    requires many { G.fits_many game.now many.old }
-    requires position { G.fits game.now position.old }
-    requires levels { All (IsLevelOf (G.fits game.now) (G.fits_many game.now) (G.rules game.now).roles) levels.old }
-    requires low { negsuc 1 ≤ℤ a }
-    requires order { a <ℤ b }
-    requires high { b ≤ℤ pos 101 }
-    ensures answers { Answers (greatest (map (value (G.rules game.now) asked.role asked.depth asked.at) (map (λ j. (G.rules game.now).after (G.state game.now from.now) j.items) joints.now))) a b result }
-    ensures wide { G.fits_wide game.now wide.new }
-    ensures wide_capacities { G.wide_capacities game.now wide.new ≡ G.wide_capacities game.now wide.old }
-    ensures many { G.fits_many game.now many.new }
-    ensures many_capacities { G.many_capacities game.now many.new ≡ G.many_capacities game.now many.old }
-    ensures position { G.fits game.now position.new }
-    ensures position_capacities { G.capacities game.now position.new ≡ G.capacities game.now position.old }
-    ensures levels { All (IsLevelOf (G.fits game.now) (G.fits_many game.now) (G.rules game.now).roles) levels.new }
-    ensures capacities { all_capacities (G.capacities game.now) (G.many_capacities game.now) levels.new
-        ≡ all_capacities (G.capacities game.now) (G.many_capacities game.now) levels.old }
-{
-    if let Some(worth) = greatest_end(game, from, joints, asked, wide) {
-        return worth;
-    }
-    game.steps(from, joints, wide, many);
-    greatest_at(
-        game,
-        many,
-        joints.len(),
-        asked,
-        a,
-        b,
-        wide,
-        position,
-        levels,
-    )
 }
 
 /// The greatest value of some states, within a window.

@@ -112,18 +112,6 @@ impl<G: Game, W: Watch> Game for Watched<G, W> {
         Told::Nothing
     }
 
-    /// Not at all, so that each state is kept, and taken.
-    fn judge(
-        &self,
-        _p: &G::Pos,
-        _joints: &[Joint],
-        _role: usize,
-        _w: &mut G::Wide,
-        _worths: &mut [u8],
-    ) -> bool {
-        false
-    }
-
     ghost goal_within = { λ g. G.goal_within g.inner };
 
     ghost moves_within = { λ g. G.moves_within g.inner };

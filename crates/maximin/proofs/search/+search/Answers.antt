@@ -255,8 +255,8 @@ worst_at-runs-init g t c =
       at_most = start_most all left a b same;
     }
 
-pub worst_at-least_after-least-requires-clause-joints : goal.worst_at-least_after-least-requires-clause-joints
-worst_at-least_after-least-requires-clause-joints g t c κs within =
+pub worst_at-steps-requires-clause-joints : goal.worst_at-steps-requires-clause-joints
+worst_at-steps-requires-clause-joints g t c =
     let rules = g.G.Game.rules c.args.game.now in
     known_each (λ j. IsTurn rules j) (take c.gather-more.new.run.count c.deref.result.now) (rw c.deref.ensures.value c.gather-more.ensures.known)
 
@@ -273,16 +273,16 @@ worst_at-returns-then-upper-a-clause-answers g t c =
     let left = c.runs.level.cursor.joint.items ∷ later lists c.runs.level.cursor.places.items in
     let a = to_z w16 (of_z w16 c.args.a) in
     let b = to_z w16 (of_z w16 c.args.b) in
-    let r = c.least_after-least.result in
+    let r = c.least_at-least.result in
     let upper = to_z w16 c.runs.upper-bits in
     let fits_r : SFits w16 r = search facts in
     let fits_m : SFits w16 c.min-upper.result = search facts in
     let lowered : to_z w16 (of_z w16 c.min-upper.result) ≡ int_min upper r =
     to_z-of_z w16 c.min-upper.result fits_m ∙ c.min-upper.ensures.value ∙ ap (λ z. int_min upper z) (to_z-of_z w16 r fits_r) in
-    let worths : map value_of (map (λ (j : SmallVec ℕ). rules.after state j.items) (take run.count c.deref.result.now)) ≡ map worth (turns_in run) =
-    ap (λ (js : List (SmallVec ℕ)). map value_of (map (λ (j : SmallVec ℕ). rules.after state j.items) (take run.count js))) c.deref.ensures.value
+    let worths : map value_of (g.G.Game.states c.args.game.now c.steps.new.out) ≡ map worth (turns_in run) =
+    ap (map value_of) (c.steps.ensures.after ∙ ap (λ (js : List (SmallVec ℕ)). map (λ (j : SmallVec ℕ). rules.after state j.items) (take run.count js)) c.deref.ensures.value)
     ∙ worths_after value_of (rules.after state) (take run.count run.joints.items) in
-    let answers : Answers here a upper r = subst (λ (ws : List ℕ). Answers (least ws) a upper r) worths c.least_after-least.ensures.answers in
+    let answers : Answers here a upper r = subst (λ (ws : List ℕ). Answers (least ws) a upper r) worths c.least_at-least.ensures.answers in
     let some : 0 < length (turns_in run) = some_taken run.joints.items run.count c.gather-more.ensures.some (omega (arith, c.gather-more.ensures.run.size)) in
     let part : all ≤ here =
     omega (
@@ -309,11 +309,11 @@ worst_at-returns-then-upper-a-clause-levels g t c =
     let one = c.split_at_mut-first.ensures.front_len in
     elim c.then-upper-a.branch [
       | worst_at-then-upper-a-via-then-upper-a w ↦
-          rw w.levels-is (All-first_and_rest P front c.least_after-least.new.levels _ one
-          (record { position = c.least_after-least.ensures.position; cursor = c.gather-more.ensures.cursor; run = c.gather-more.ensures.run; many = c.least_after-least.ensures.many }) c.least_after-least.ensures.levels)
+          rw w.levels-is (All-first_and_rest P front c.least_at-least.new.levels _ one
+          (record { position = c.least_at-least.ensures.position; cursor = c.gather-more.ensures.cursor; run = c.gather-more.ensures.run; many = c.steps.ensures.many }) c.least_at-least.ensures.levels)
       | worst_at-then-upper-a-via-else-upper-a+then-not-more w ↦
-          rw w.levels-is (All-first_and_rest P front c.least_after-least.new.levels _ one
-          (record { position = c.least_after-least.ensures.position; cursor = c.gather-more.ensures.cursor; run = c.gather-more.ensures.run; many = c.least_after-least.ensures.many }) c.least_after-least.ensures.levels)
+          rw w.levels-is (All-first_and_rest P front c.least_at-least.new.levels _ one
+          (record { position = c.least_at-least.ensures.position; cursor = c.gather-more.ensures.cursor; run = c.gather-more.ensures.run; many = c.steps.ensures.many }) c.least_at-least.ensures.levels)
     ]
 
 pub worst_at-returns-then-upper-a-clause-capacities : goal.worst_at-returns-then-upper-a-clause-capacities
@@ -328,13 +328,13 @@ worst_at-returns-then-upper-a-clause-capacities g t c =
     ∙ four_joined (cursor_capacities c.start_turns.new.cursor) (run_capacities old.run) (of_position old.position) (of_many old.many)
     (cursor_capacities old.cursor) (run_capacities old.run) (of_position old.position) (of_many old.many) c.start_turns.ensures.capacities refl refl refl in
     let level : Level g.row.G-Pos.Denot g.row.G-Many.Denot =
-    record { position = c.least_after-least.new.position; cursor = c.gather-more.new.cursor; run = c.gather-more.new.run; many = c.least_after-least.new.many } in
+    record { position = c.least_at-least.new.position; cursor = c.gather-more.new.cursor; run = c.gather-more.new.run; many = c.steps.new.out } in
     let turned : level_capacities of_position of_many level ≡ level_capacities of_position of_many now =
-    four_joined (cursor_capacities c.gather-more.new.cursor) (run_capacities c.gather-more.new.run) (of_position c.least_after-least.new.position) (of_many c.least_after-least.new.many)
+    four_joined (cursor_capacities c.gather-more.new.cursor) (run_capacities c.gather-more.new.run) (of_position c.least_at-least.new.position) (of_many c.steps.new.out)
     (cursor_capacities now.cursor) (run_capacities now.run) (of_position now.position) (of_many now.many)
-    c.gather-more.ensures.cursor_capacities c.gather-more.ensures.run_capacities c.least_after-least.ensures.position_capacities c.least_after-least.ensures.many_capacities in
-    let kept = all_kept (level_capacities of_position of_many) c.args.levels.now c.split_at_mut-first.result.0.now c.split_at_mut-first.result.1.now c.least_after-least.new.levels
-    level c.index-first-0.result split.value split.front_len (turned ∙ begun) (c.least_after-least.ensures.capacities ∙ c.runs.invariant.rest_capacities) in
+    c.gather-more.ensures.cursor_capacities c.gather-more.ensures.run_capacities c.least_at-least.ensures.position_capacities c.steps.ensures.many_capacities in
+    let kept = all_kept (level_capacities of_position of_many) c.args.levels.now c.split_at_mut-first.result.0.now c.split_at_mut-first.result.1.now c.least_at-least.new.levels
+    level c.index-first-0.result split.value split.front_len (turned ∙ begun) (c.least_at-least.ensures.capacities ∙ c.runs.invariant.rest_capacities) in
     elim c.then-upper-a.branch [
       | worst_at-then-upper-a-via-then-upper-a w ↦ rw w.levels-is kept
       | worst_at-then-upper-a-via-else-upper-a+then-not-more w ↦ rw w.levels-is kept
@@ -364,16 +364,16 @@ worst_at-runs-preserved g t c =
     let left = least (map worth (c.gather-more.new.cursor.joint.items ∷ later lists c.gather-more.new.cursor.places.items)) in
     let a = to_z w16 (of_z w16 c.args.a) in
     let b = to_z w16 (of_z w16 c.args.b) in
-    let r = c.least_after-least.result in
+    let r = c.least_at-least.result in
     let upper = to_z w16 c.runs.upper-bits in
     let fits_r : SFits w16 r = search facts in
     let fits_m : SFits w16 c.min-upper.result = search facts in
     let lowered : to_z w16 (of_z w16 c.min-upper.result) ≡ int_min upper r =
     to_z-of_z w16 c.min-upper.result fits_m ∙ c.min-upper.ensures.value ∙ ap (λ z. int_min upper z) (to_z-of_z w16 r fits_r) in
-    let worths : map value_of (map (λ (j : SmallVec ℕ). rules.after state j.items) (take run.count c.deref.result.now)) ≡ map worth (turns_in run) =
-    ap (λ (js : List (SmallVec ℕ)). map value_of (map (λ (j : SmallVec ℕ). rules.after state j.items) (take run.count js))) c.deref.ensures.value
+    let worths : map value_of (g.G.Game.states c.args.game.now c.steps.new.out) ≡ map worth (turns_in run) =
+    ap (map value_of) (c.steps.ensures.after ∙ ap (λ (js : List (SmallVec ℕ)). map (λ (j : SmallVec ℕ). rules.after state j.items) (take run.count js)) c.deref.ensures.value)
     ∙ worths_after value_of (rules.after state) (take run.count run.joints.items) in
-    let answers : Answers here a upper r = subst (λ (ws : List ℕ). Answers (least ws) a upper r) worths c.least_after-least.ensures.answers in
+    let answers : Answers here a upper r = subst (λ (ws : List ℕ). Answers (least ws) a upper r) worths c.least_at-least.ensures.answers in
     let some : 0 < length (turns_in run) = some_taken run.joints.items run.count c.gather-more.ensures.some (omega (arith, c.gather-more.ensures.run.size)) in
     let next : least (map worth before) ≡ min here left =
     least_behind worth before (turns_in run) c.gather-more.new.cursor.joint.items (later lists c.gather-more.new.cursor.places.items) c.if-not-more.ensures.more some in
@@ -383,16 +383,16 @@ worst_at-runs-preserved g t c =
     let of_position = g.G.Game.capacities c.args.game.now in
     let of_many = g.G.Game.many_capacities c.args.game.now in
     record {
-      level = record { position = c.least_after-least.ensures.position; cursor = c.gather-more.ensures.cursor; run = c.gather-more.ensures.run; many = c.least_after-least.ensures.many };
-      rest = c.least_after-least.ensures.levels;
-      wide = c.least_after-least.ensures.wide;
+      level = record { position = c.least_at-least.ensures.position; cursor = c.gather-more.ensures.cursor; run = c.gather-more.ensures.run; many = c.steps.ensures.many };
+      rest = c.least_at-least.ensures.levels;
+      wide = c.least_at-least.ensures.wide;
       capacities =
-          four_joined (cursor_capacities c.gather-more.new.cursor) (run_capacities c.gather-more.new.run) (of_position c.least_after-least.new.position) (of_many c.least_after-least.new.many)
+          four_joined (cursor_capacities c.gather-more.new.cursor) (run_capacities c.gather-more.new.run) (of_position c.least_at-least.new.position) (of_many c.steps.new.out)
           (cursor_capacities now.cursor) (run_capacities now.run) (of_position now.position) (of_many now.many)
-          c.gather-more.ensures.cursor_capacities c.gather-more.ensures.run_capacities c.least_after-least.ensures.position_capacities c.least_after-least.ensures.many_capacities
+          c.gather-more.ensures.cursor_capacities c.gather-more.ensures.run_capacities c.least_at-least.ensures.position_capacities c.steps.ensures.many_capacities
           ∙ c.runs.invariant.capacities;
-      rest_capacities = c.least_after-least.ensures.capacities ∙ c.runs.invariant.rest_capacities;
-      wide_capacities = c.least_after-least.ensures.wide_capacities ∙ c.runs.invariant.wide_capacities;
+      rest_capacities = c.least_at-least.ensures.capacities ∙ c.runs.invariant.rest_capacities;
+      wide_capacities = c.least_at-least.ensures.wide_capacities ∙ c.steps.ensures.wide_capacities ∙ c.runs.invariant.wide_capacities;
       deep = omega arith;
       some = omega (arith, c.min-most.ensures, c.runs.invariant.some);
       few = omega (arith, c.min-most.ensures);
@@ -533,8 +533,8 @@ best_at-gather_own-requires-clause-joint g t c κs within =
     turn_known rules state c.args.asked.role 0 c.runs.level.cursor.places.items c.runs.level.cursor.joint.items c.runs.invariant.stands (omega arith)
     (λ q below. law.legal_within c.args.game.now state q below)
 
-pub best_at-greatest_after-greatest-requires-clause-joints : goal.best_at-greatest_after-greatest-requires-clause-joints
-best_at-greatest_after-greatest-requires-clause-joints g t c κs within =
+pub best_at-steps-requires-clause-joints : goal.best_at-steps-requires-clause-joints
+best_at-steps-requires-clause-joints g t c =
     let rules = g.G.Game.rules c.args.game.now in
     known_each (λ j. IsTurn rules j) (take c.gather_own.new.run.count c.deref.result.now) (rw c.deref.ensures.value c.gather_own.ensures.known)
 
@@ -595,19 +595,19 @@ best_at-returns-then-best-b-clause-answers g t c =
     let a = to_z w16 (of_z w16 c.args.a) in
     let b = to_z w16 (of_z w16 c.args.b) in
     let best = to_z w16 c.runs.best-bits in
-    let r = c.greatest_after-greatest.result in
+    let r = c.greatest_at-greatest.result in
     let fits_r : SFits w16 r = search facts in
     let fits_m : SFits w16 c.max-best.result = search facts in
     let raised : to_z w16 (of_z w16 c.max-best.result) ≡ int_max best r =
     to_z-of_z w16 c.max-best.result fits_m ∙ c.max-best.ensures.value ∙ ap (λ z. int_max best z) (to_z-of_z w16 r fits_r) in
     let each = alone_worst rules c.args.asked.role c.args.asked.depth c.args.asked.at state 0 c.runs.level.cursor.places.items joint c.requires.role c.requires.alone c.runs.invariant.stands in
-    let found : map value_of (map (λ (j : SmallVec ℕ). rules.after state j.items) (take run.count c.deref.result.now)) ≡ take run.count (drop c.runs.place worths) =
-    ap (λ (js : List (SmallVec ℕ)). map value_of (map (λ (j : SmallVec ℕ). rules.after state j.items) (take run.count js))) c.deref.ensures.value
+    let found : map value_of (g.G.Game.states c.args.game.now c.steps.new.out) ≡ take run.count (drop c.runs.place worths) =
+    ap (map value_of) (c.steps.ensures.after ∙ ap (λ (js : List (SmallVec ℕ)). map (λ (j : SmallVec ℕ). rules.after state j.items) (take run.count js)) c.deref.ensures.value)
     ∙ worths_after value_of (rules.after state) (take run.count run.joints.items)
     ∙ ap (λ (ts : List Turn). map (λ t. value_of (rules.after state t)) ts) c.gather_own.ensures.turns
     ∙ own_worths (λ t. value_of (rules.after state t)) (λ m. set joint c.args.asked.role m) own_worth each (take run.count (drop c.runs.place legal))
     ∙ map_part own_worth c.runs.place run.count legal in
-    let answers : Answers (greatest (take run.count (drop c.runs.place worths))) best b r = subst (λ (ws : List ℕ). Answers (greatest ws) best b r) found c.greatest_after-greatest.ensures.answers in
+    let answers : Answers (greatest (take run.count (drop c.runs.place worths))) best b r = subst (λ (ws : List ℕ). Answers (greatest ws) best b r) found c.greatest_at-greatest.ensures.answers in
     let size : length worths ≡ length legal = length-map legal own_worth in
     let some = c.if-count-eq0.false in
     let most = run_most worths c.runs.place run.count a b best r (omega arith) (omega (arith, c.gather_own.ensures.within)) c.runs.invariant.at_most answers in
@@ -619,9 +619,9 @@ pub best_at-returns-then-best-b-clause-levels : goal.best_at-returns-then-best-b
 best_at-returns-then-best-b-clause-levels g t c =
     let roles = (g.G.Game.rules c.args.game.now).roles in
     let P = λ (level : Level g.row.G-Pos.Denot g.row.G-Many.Denot). IsLevelOf (g.G.Game.fits c.args.game.now) (g.G.Game.fits_many c.args.game.now) roles level in
-    All-first_and_rest P c.split_at_mut-first.result.0.now c.greatest_after-greatest.new.levels _ c.split_at_mut-first.ensures.front_len
-    (record { position = c.greatest_after-greatest.ensures.position; cursor = c.runs.invariant.level.cursor; run = c.gather_own.ensures.run; many = c.greatest_after-greatest.ensures.many })
-    c.greatest_after-greatest.ensures.levels
+    All-first_and_rest P c.split_at_mut-first.result.0.now c.greatest_at-greatest.new.levels _ c.split_at_mut-first.ensures.front_len
+    (record { position = c.greatest_at-greatest.ensures.position; cursor = c.runs.invariant.level.cursor; run = c.gather_own.ensures.run; many = c.steps.ensures.many })
+    c.greatest_at-greatest.ensures.levels
 
 pub best_at-returns-then-best-b-clause-capacities : goal.best_at-returns-then-best-b-clause-capacities
 best_at-returns-then-best-b-clause-capacities g t c =
@@ -635,13 +635,13 @@ best_at-returns-then-best-b-clause-capacities g t c =
     ∙ four_joined (cursor_capacities c.start_turns.new.cursor) (run_capacities old.run) (of_position old.position) (of_many old.many)
     (cursor_capacities old.cursor) (run_capacities old.run) (of_position old.position) (of_many old.many) c.start_turns.ensures.capacities refl refl refl in
     let level : Level g.row.G-Pos.Denot g.row.G-Many.Denot =
-    record { position = c.greatest_after-greatest.new.position; cursor = now.cursor; run = c.gather_own.new.run; many = c.greatest_after-greatest.new.many } in
+    record { position = c.greatest_at-greatest.new.position; cursor = now.cursor; run = c.gather_own.new.run; many = c.steps.new.out } in
     let turned : level_capacities of_position of_many level ≡ level_capacities of_position of_many now =
-    four_joined (cursor_capacities now.cursor) (run_capacities c.gather_own.new.run) (of_position c.greatest_after-greatest.new.position) (of_many c.greatest_after-greatest.new.many)
+    four_joined (cursor_capacities now.cursor) (run_capacities c.gather_own.new.run) (of_position c.greatest_at-greatest.new.position) (of_many c.steps.new.out)
     (cursor_capacities now.cursor) (run_capacities now.run) (of_position now.position) (of_many now.many)
-    refl c.gather_own.ensures.capacities c.greatest_after-greatest.ensures.position_capacities c.greatest_after-greatest.ensures.many_capacities in
-    all_kept (level_capacities of_position of_many) c.args.levels.now c.split_at_mut-first.result.0.now c.split_at_mut-first.result.1.now c.greatest_after-greatest.new.levels
-    level c.index-first-0.result split.value split.front_len (turned ∙ begun) (c.greatest_after-greatest.ensures.capacities ∙ c.runs.invariant.rest_capacities)
+    refl c.gather_own.ensures.capacities c.greatest_at-greatest.ensures.position_capacities c.steps.ensures.many_capacities in
+    all_kept (level_capacities of_position of_many) c.args.levels.now c.split_at_mut-first.result.0.now c.split_at_mut-first.result.1.now c.greatest_at-greatest.new.levels
+    level c.index-first-0.result split.value split.front_len (turned ∙ begun) (c.greatest_at-greatest.ensures.capacities ∙ c.runs.invariant.rest_capacities)
 
 pub best_at-runs-preserved : goal.best_at-runs-preserved
 best_at-runs-preserved g t c =
@@ -656,19 +656,19 @@ best_at-runs-preserved g t c =
     let a = to_z w16 (of_z w16 c.args.a) in
     let b = to_z w16 (of_z w16 c.args.b) in
     let best = to_z w16 c.runs.best-bits in
-    let r = c.greatest_after-greatest.result in
+    let r = c.greatest_at-greatest.result in
     let fits_r : SFits w16 r = search facts in
     let fits_m : SFits w16 c.max-best.result = search facts in
     let raised : to_z w16 (of_z w16 c.max-best.result) ≡ int_max best r =
     to_z-of_z w16 c.max-best.result fits_m ∙ c.max-best.ensures.value ∙ ap (λ z. int_max best z) (to_z-of_z w16 r fits_r) in
     let each = alone_worst rules c.args.asked.role c.args.asked.depth c.args.asked.at state 0 c.runs.level.cursor.places.items joint c.requires.role c.requires.alone c.runs.invariant.stands in
-    let found : map value_of (map (λ (j : SmallVec ℕ). rules.after state j.items) (take run.count c.deref.result.now)) ≡ take run.count (drop c.runs.place worths) =
-    ap (λ (js : List (SmallVec ℕ)). map value_of (map (λ (j : SmallVec ℕ). rules.after state j.items) (take run.count js))) c.deref.ensures.value
+    let found : map value_of (g.G.Game.states c.args.game.now c.steps.new.out) ≡ take run.count (drop c.runs.place worths) =
+    ap (map value_of) (c.steps.ensures.after ∙ ap (λ (js : List (SmallVec ℕ)). map (λ (j : SmallVec ℕ). rules.after state j.items) (take run.count js)) c.deref.ensures.value)
     ∙ worths_after value_of (rules.after state) (take run.count run.joints.items)
     ∙ ap (λ (ts : List Turn). map (λ t. value_of (rules.after state t)) ts) c.gather_own.ensures.turns
     ∙ own_worths (λ t. value_of (rules.after state t)) (λ m. set joint c.args.asked.role m) own_worth each (take run.count (drop c.runs.place legal))
     ∙ map_part own_worth c.runs.place run.count legal in
-    let answers : Answers (greatest (take run.count (drop c.runs.place worths))) best b r = subst (λ (ws : List ℕ). Answers (greatest ws) best b r) found c.greatest_after-greatest.ensures.answers in
+    let answers : Answers (greatest (take run.count (drop c.runs.place worths))) best b r = subst (λ (ws : List ℕ). Answers (greatest ws) best b r) found c.greatest_at-greatest.ensures.answers in
     let size : length worths ≡ length legal = length-map legal own_worth in
     let some = c.if-count-eq0.false in
     let inside : c.runs.place + run.count ≤ length worths = omega (arith, c.gather_own.ensures.within) in
@@ -676,16 +676,16 @@ best_at-runs-preserved g t c =
     let of_position = g.G.Game.capacities c.args.game.now in
     let of_many = g.G.Game.many_capacities c.args.game.now in
     record {
-      level = record { position = c.greatest_after-greatest.ensures.position; cursor = c.runs.invariant.level.cursor; run = c.gather_own.ensures.run; many = c.greatest_after-greatest.ensures.many };
-      rest = c.greatest_after-greatest.ensures.levels;
-      wide = c.greatest_after-greatest.ensures.wide;
+      level = record { position = c.greatest_at-greatest.ensures.position; cursor = c.runs.invariant.level.cursor; run = c.gather_own.ensures.run; many = c.steps.ensures.many };
+      rest = c.greatest_at-greatest.ensures.levels;
+      wide = c.greatest_at-greatest.ensures.wide;
       capacities =
-          four_joined (cursor_capacities now.cursor) (run_capacities c.gather_own.new.run) (of_position c.greatest_after-greatest.new.position) (of_many c.greatest_after-greatest.new.many)
+          four_joined (cursor_capacities now.cursor) (run_capacities c.gather_own.new.run) (of_position c.greatest_at-greatest.new.position) (of_many c.steps.new.out)
           (cursor_capacities now.cursor) (run_capacities now.run) (of_position now.position) (of_many now.many)
-          refl c.gather_own.ensures.capacities c.greatest_after-greatest.ensures.position_capacities c.greatest_after-greatest.ensures.many_capacities
+          refl c.gather_own.ensures.capacities c.greatest_at-greatest.ensures.position_capacities c.steps.ensures.many_capacities
           ∙ c.runs.invariant.capacities;
-      rest_capacities = c.greatest_after-greatest.ensures.capacities ∙ c.runs.invariant.rest_capacities;
-      wide_capacities = c.greatest_after-greatest.ensures.wide_capacities ∙ c.runs.invariant.wide_capacities;
+      rest_capacities = c.greatest_at-greatest.ensures.capacities ∙ c.runs.invariant.rest_capacities;
+      wide_capacities = c.greatest_at-greatest.ensures.wide_capacities ∙ c.steps.ensures.wide_capacities ∙ c.runs.invariant.wide_capacities;
       deep = omega arith;
       some = omega (arith, c.min-most.ensures, c.runs.invariant.some);
       few = omega (arith, c.min-most.ensures);
