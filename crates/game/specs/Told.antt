@@ -1,5 +1,5 @@
 -- What is told of a state before it is taken.
-use Rattle.std.specs.Prelude.{ℕ, ◌≡◌, ⊤, true, false, if◌then◌else◌}
+use Rattle.std.specs.Prelude.{ℕ, ◌≡◌, ⊤, true, false}
 use Rattle.game.specs.declared.told.Told.{Told}
 use Rattle.game.specs.declared.told.Told.TheVariants.{Ended, Open, Nothing}
 use Rattle.game.specs.Rules.{Rules, State}
@@ -9,7 +9,3 @@ abbrev pub IsTold : Rules → State → ℕ → Told → Type 0
 IsTold g s role (Ended v) = (g.ended s ≡ true) × (v ≡ g.goal s role)
 IsTold g s role Open = g.ended s ≡ false
 IsTold g s role Nothing = ⊤
-
--- what a state is worth to a role where play is over: its goal value if the game has ended, and 0 otherwise
-abbrev pub end_worth : Rules → ℕ → State → ℕ
-end_worth g role s = if g.ended s then g.goal s role else 0

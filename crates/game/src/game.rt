@@ -1,12 +1,11 @@
 // What every game has.
-ghost use Rattle.std.specs.Prelude.{◌≡◌, ◌≢◌, ℕ, ◌<◌, ◌≤◌, ◌^◌, List, [], length, map, get_or, true, All, IfOk, slice_get, slice_index};
+ghost use Rattle.std.specs.Prelude.{◌≡◌, ◌≢◌, ℕ, ◌<◌, ◌≤◌, ◌^◌, List, [], length, map, get_or, All, IfOk, slice_get};
 ghost use Rattle.std.specs.Ordering.{nat_cmp};
 ghost use Rattle.std.specs.Cmp.Lexicographic.{slice_cmp};
 ghost use Rattle.std.specs.List.Sorted.{IsStrictlyIncreasing};
 ghost use Rattle.std.specs.declared.cmp.Ordering.TheVariants.{Less};
-ghost use Rattle.game.specs.Joints.{joint_at};
 ghost use Rattle.game.specs.Rules.{Rules, IsTurn};
-ghost use Rattle.game.specs.Told.{IsTold, end_worth};
+ghost use Rattle.game.specs.Told.{IsTold};
 
 use crate::joint::Joint;
 use crate::told::Told;
@@ -159,29 +158,6 @@ pub trait Game: Sync {
         requires place { place < length (states self.now many.now) }
         requires role { role < (rules self.now).roles }
         ensures { IsTold (rules self.now) (get_or (states self.now many.now) place []) role result };
-
-    /// Writes what the states after `p` and each of 1 to 64 joint moves are worth to a role where no turn follows: its goal value where
-    /// the game has ended, and 0 elsewhere. It may answer that it has written nothing of use; then `steps` tells of these states.
-    fn judge(
-        &self,
-        p: &Self::Pos,
-        joints: &[Joint],
-        role: usize,
-        w: &mut Self::Wide,
-        worths: &mut [u8],
-    ) -> bool
-        requires from { fits self.now p.now }
-        requires some { 0 < length joints.now }
-        requires few { length joints.now ≤ 64 }
-        requires joints { All (λ j. IsTurn (rules self.now) j.items) joints.now }
-        requires role { role < (rules self.now).roles }
-        requires wide { fits_wide self.now w.old }
-        requires room { length joints.now ≤ length worths.old }
-        ensures wide { fits_wide self.now w.new }
-        ensures worths { result ≡ true → (k : ℕ) → k < length joints.now
-            → slice_index worths.new k ≡ end_worth (rules self.now) role ((rules self.now).after (state self.now p.now) (joint_at joints.now k)) }
-        ensures size { length worths.new ≡ length worths.old }
-        ensures wide_capacities { wide_capacities self.now w.new ≡ wide_capacities self.now w.old };
 
     ghost goal_within: { (g : Self) (s : List ℕ) (r : ℕ) → (rules g).goal s r ≤ 100 };
 

@@ -3,7 +3,6 @@ ghost use Rattle.std.specs.Prelude.{◌≡◌, ⊤, ◌<◌, ◌≤◌, ◌+◌,
 ghost use Rattle.game.specs.Joints.{joint_at};
 ghost use Rattle.game.specs.Rules.{IsTurn};
 ghost use Rattle.game.specs.Table.{table_rules, side_name, choice_name};
-ghost use Rattle.game.specs.Told.{end_worth};
 
 use crate::game::Game;
 use crate::joint::Joint;
@@ -57,33 +56,6 @@ fn choose_each(joints: &[Joint], cells: &mut [u8])
 {
     for k in 0..joints.len() {
         cells[k] = cell_of(&joints[k]);
-    }
-}
-
-/// What a cell is worth to a role, and 0 for one that does not end the game.
-fn end_of(table: &Table, cell: u8, role: usize) -> u8
-    requires cell { cell ≤ 8 }
-    requires role { role < 3 }
-    ensures { result ≡ end_worth (table_rules table.now.worth table.now.ends) role (cell ∷ []) }
-{
-    let p = Chosen { cell };
-    if table.ended(&p) {
-        return table.goal(&p, role);
-    }
-    0
-}
-
-/// Writes what the cells that joint moves choose are worth to a role, and 0 for a cell that does not end the game.
-fn judge_each(table: &Table, joints: &[Joint], role: usize, worths: &mut [u8])
-    requires room { length joints.now ≤ length worths.old }
-    requires joints { All (λ j. IsTurn (table_rules [] []) j.items) joints.now }
-    requires role { role < 3 }
-    ensures worths { (k : ℕ) → k < length joints.now → slice_index worths.new k
-        ≡ end_worth (table_rules table.now.worth table.now.ends) role ((table_rules [] []).after [] (joint_at joints.now k)) }
-    ensures size { length worths.new ≡ length worths.old }
-{
-    for k in 0..joints.len() {
-        worths[k] = end_of(table, cell_of(&joints[k]), role);
     }
 }
 
@@ -200,18 +172,6 @@ impl Game for Table {
             return Told::Ended(self.goal(&p, role));
         }
         Told::Open
-    }
-
-    fn judge(
-        &self,
-        _p: &Chosen,
-        joints: &[Joint],
-        role: usize,
-        _w: &mut NoRoom,
-        worths: &mut [u8],
-    ) -> bool {
-        judge_each(self, joints, role, worths);
-        true
     }
 
     ghost goal_within = { λ g s r. goal_at_most g.worth g.ends s r g.at_most_100 };
