@@ -12,7 +12,8 @@ use Rattle.std.proofs.lemmas.List.FromFn.{length-range_with_len, get_or-range_wi
 use Rattle.smallvec.specs.SmallVec.{SmallVec}
 use Rattle.ground.specs.declared.kind.Kind.{Kind}
 use Rattle.ground.specs.declared.ground.Ground.{Ground}
-use Rattle.ground.specs.GroundView.{kinds_of, instances_of}
+use Rattle.ground.specs.GroundView.{inputs_of, kinds_of, instances_of}
+use Rattle.ground.specs.Grounds.{texts_at}
 use Rattle.propnet.specs.declared.net.Net.{Net}
 use Rattle.propnet.specs.Builders.{IsNetOf}
 use Rattle.propnet.specs.Given.{AreGiven}
@@ -20,7 +21,7 @@ use Rattle.propnet.specs.Network.{given, value}
 use Rattle.propnet.specs.Nets.{gates_of}
 use Rattle.propnet.specs.Placing.{input_number}
 use Rattle.propnet.specs.Values.{lane}
-use Rattle.tape.specs.Tapes.{kept_in, IsTapeOf, HasRun, IsLane, IsWordOf}
+use Rattle.tape.specs.Tapes.{kept_in, HasRun, IsLane, IsJointOf, IsTurnTapeOf, IsTurnWordOf}
 use Rattle.game.specs.Joints.{moves_of, joint_at}
 use Rattle.game.specs.Rules.{State, IsTurn}
 use Rattle.rulegame.specs.declared.naming.Naming.TheVariants.{ByNext}
@@ -31,7 +32,7 @@ use Rattle.netgame.specs.NetState.{is_shown, is_lane_on, told_state, lane_state,
 use Rattle.netgame.specs.LanePlans.{shown_below, asked_at, asked_nodes, next_below, IsLanePlanOf}
 use Rattle.netgame.specs.NetLanes.{holds_lane, Tells, AreAfter}
 use Rattle.rulegame.proofs.Facts.{filters_agree}
-use Rattle.netgame.proofs.NetFacts.{base_count}
+use Rattle.netgame.proofs.NetFacts.{base_count, inputs_count}
 use Rattle.netgame.proofs.NetReads.{view_told, transition_told}
 use Rattle.netgame.proofs.Places.{asked_count, asked_node}
 use Rattle.netgame.proofs.Shown.{filter_all}
@@ -106,11 +107,22 @@ range_map {A} {B} f h (x ∷ xs) a (suc n) e same =
     let rest : map f (range_with_len (a + 1) n) ≡ map h xs = range_map f h xs (a + 1) n (omega arith) (λ k y lt s. ap f (omega arith) ∙ same (suc k) y (omega arith) s) in
     ap (λ (y : B). y ∷ map f (range_with_len (a + 1) n)) here ∙ ap (λ (ys : List B). h x ∷ ys) rest
 
+-- a joint move of the game has an input of each role
+turn_joint : (g : Ground) (net : Net) → ∥ IsNetOf g net ∥₁ → (joint : List ℕ) → IsTurn (rules_of g) joint → IsJointOf net joint
+turn_joint g net made joint turn r lt =
+    let counts = inputs_count g net made in
+    let size : length net.inputs.items ≡ length (inputs_of g) = ap length counts ∙ length-map (inputs_of g) (λ (ts : List (List ℕ)). length ts) in
+    let inside : r < length (inputs_of g) = omega arith in
+    let own : get_or net.inputs.items r 0 ≡ length (texts_at (inputs_of g) r) = ap (λ (ns : List ℕ). get_or ns r 0) counts ∙ get_or-map (λ (ts : List (List ℕ)). length ts) (inputs_of g) r [] 0 inside in
+    let known = turn.each_known r inside in
+    let each = turn.of_each_role in
+    (omega arith, omega arith)
+
 -- what a pass over the tape of the next state writes
 pub tells_next_states : (g : Ground) (net : Net) → ∥ IsNetOf g net ∥₁ → (plan : LanePlan) → IsLanePlanOf g net plan → (from words states : List ℕ) (joints : List (SmallVec ℕ)) → length joints ≤ 64
     → All (λ (j : SmallVec ℕ). IsTurn (rules_of g) j.items) joints → AreSpread from → length states ≡ length g.starts.items
     → ((p : ℕ) → p < net.base → get_or words p 0 ≡ get_or from p 0) → AreGiven net.base net.inputs.items joints words
-    → ((made_of : Net) (kept : List ℕ) (i : ℕ) → IsTapeOf made_of kept plan.next → i < length states → IsWordOf made_of words (get_or kept i 0) (get_or states i 0)) → AreAfter g from joints states
+    → ((made_of : Net) (kept : List ℕ) (i : ℕ) → IsTurnTapeOf made_of kept plan.next → i < length states → IsTurnWordOf made_of words (get_or kept i 0) (get_or states i 0)) → AreAfter g from joints states
 tells_next_states g net made plan laned from words states joints few turns spread size base given_words h =
     let n = length g.starts.items in
     let s = lane_state from n 0 in
@@ -120,6 +132,7 @@ tells_next_states g net made plan laned from words states joints few turns sprea
     let same : lane_state from n k ≡ s = same_state (lane from k) (lane from 0) n (λ p lp. spread p k (omega arith)) in
     let told : IsLane net words k (lane from k) (joint_at joints k) =
     record { bits = λ p. bit_at-lt _ _; bases = λ p lp. ap (λ (w : ℕ). bit_at w k) (base p lp); moves = λ r m lm. given_words r m k lm lk } in
+    let turn : IsTurn (rules_of g) (joint_at joints k) = turn_at (λ j. IsTurn (rules_of g) j) joints turns k lk in
     ap (lane_state states n) z
     ∙ filters_agree (is_lane_on states k) (is_named (kinds_of g) (holds (kinds_of g) (instances_of g) s x.items) ByNext) 0 n
     (λ p low high.
@@ -128,9 +141,9 @@ tells_next_states g net made plan laned from words states joints few turns sprea
     let node = get_or net.transitions.items p 0 in
     let kept : get_or (next_below net n) p 0 ≡ node = get_or-map-range_with_len (λ q. get_or net.transitions.items q 0) 0 n p p 0 lp (omega arith) in
     let bit : lane states k p ≡ value (gates_of net) (lane from k) (joint_at joints k) node =
-    ∥∥₁_elim laned.next (Prim.hlevel props) (λ of. h net (next_below net n) p of inside k (lane from k) (joint_at joints k) (omega arith) told ∙ ap (value (gates_of net) (lane from k) (joint_at joints k)) kept) in
+    ∥∥₁_elim laned.next (Prim.hlevel props) (λ of. h net (next_below net n) p of inside k (lane from k) (joint_at joints k) (omega arith) (turn_joint g net made (joint_at joints k) turn) told ∙ ap (value (gates_of net) (lane from k) (joint_at joints k)) kept) in
     ap (λ (v : ℕ). v == 1) bit
-    ∙ (transition_told g net made (lane from k) (λ q. bit_at-lt _ _) (joint_at joints k) (turn_at (λ j. IsTurn (rules_of g) j) joints turns k lk) p lp).told
+    ∙ (transition_told g net made (lane from k) (λ q. bit_at-lt _ _) (joint_at joints k) turn p lp).told
     ∙ ap (λ (t : State). is_named (kinds_of g) (holds (kinds_of g) (instances_of g) t (joint_at joints k)) ByNext p) same
     ∙ ap (λ (o : Option (SmallVec ℕ)). is_named (kinds_of g) (holds (kinds_of g) (instances_of g) s (moves_of o)) ByNext p) e))
 

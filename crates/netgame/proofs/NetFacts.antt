@@ -6,7 +6,7 @@ use Rattle.std.proofs.lemmas.Nat.Bits.{bit_at-lt}
 use Rattle.ground.specs.declared.ground.Ground.{Ground}
 use Rattle.ground.specs.GroundView.{kinds_of}
 use Rattle.propnet.specs.declared.net.Net.{Net}
-use Rattle.propnet.specs.Builders.{IsNetOf}
+use Rattle.propnet.specs.Builders.{IsNetOf, input_counts}
 use Rattle.propnet.specs.Nets.{gates_of}
 use Rattle.propnet.specs.Values.{bit}
 use Rattle.propnet.proofs.BuildLemmas.{stands_below}
@@ -17,6 +17,9 @@ use Rattle.netgame.proofs.NetReads.{view_told}
 module _ (g : Ground) (net : Net) (made : ∥ IsNetOf g net ∥₁) where
   pub base_count : net.base ≡ length g.starts.items
   base_count = ∥∥₁_elim made (Prim.hlevel props) (λ of. of.base ∙ sym (fits g).starts_fit)
+
+  pub inputs_count : net.inputs.items ≡ input_counts g
+  inputs_count = ∥∥₁_elim made (Prim.hlevel props) (λ of. of.inputs)
 
   pub transitions_count : length net.transitions.items ≡ length g.starts.items
   transitions_count = ∥∥₁_elim made (Prim.hlevel props) (λ of. of.transitions.size ∙ sym (fits g).starts_fit)

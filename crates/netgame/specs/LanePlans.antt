@@ -6,7 +6,7 @@ use Rattle.ground.specs.declared.ground.Ground.{Ground}
 use Rattle.ground.specs.Grounds.{texts_at}
 use Rattle.ground.specs.GroundView.{inputs_of, kinds_of}
 use Rattle.propnet.specs.declared.net.Net.{Net}
-use Rattle.tape.specs.Tapes.{IsTapeOf}
+use Rattle.tape.specs.Tapes.{IsTapeOf, IsTurnTapeOf}
 use Rattle.rulegame.specs.declared.naming.Naming.TheVariants.{ByLegal}
 use Rattle.rulegame.specs.declared.plan.Sought.TheVariants.{Goals, Ends}
 use Rattle.rulegame.specs.declared.plan.Standing.{Standing}
@@ -75,7 +75,7 @@ pub record IsRoleAskedOf (places : List ℕ) (kinds : List Kind) (r n : ℕ) (pl
 
 -- one tape for the state after a turn, and one for what is asked of a state, with the places of what is asked
 pub record IsLanePlanOf (g : Ground) (net : Net) (plan : LanePlan) : Type 0 where
-  pub next : ∥ IsTapeOf net (next_below net (length g.starts.items)) plan.next ∥₁
+  pub next : ∥ IsTurnTapeOf net (next_below net (length g.starts.items)) plan.next ∥₁
   pub asked : ∥ IsTapeOf net (asked_nodes net.views.items (kinds_of g)) plan.asked ∥₁
   pub ends : plan.ends.items ≡ ends_of (places_of (kinds_of g)) (kinds_of g)
   pub size : length plan.roles.items ≡ length (inputs_of g)

@@ -2,7 +2,7 @@
 ghost use Rattle.std.specs.Prelude.{◌≡◌, ◌<◌, ◌≤◌, ◌+◌, ℕ, List, length, sum, get_or, slice_index, vec_capacity};
 ghost use Rattle.propnet.specs.declared.net.Net.{Net};
 ghost use Rattle.propnet.specs.Given.{AreGiven};
-ghost use Rattle.tape.specs.Tapes.{slots_in, kept_in, IsTapeOf, HasRun, IsWordOf};
+ghost use Rattle.tape.specs.Tapes.{slots_in, kept_in, IsTurnTapeOf, HasRun, IsTurnWordOf};
 
 use game::Joint;
 use propnet::Net;
@@ -49,8 +49,8 @@ pub(crate) fn run(tape: &Tape, words: &[u64], room: &mut Vec<u64>)
 fn gather(tape: &Tape, room: &[u64], out: &mut [u64])
     requires room { length room.now ≡ slots_in tape.now }
     requires kept { length out.old ≡ kept_in tape.now }
-    ensures { (net : Net) (kept words : List ℕ) (k : ℕ) → IsTapeOf net kept tape.now → HasRun tape.now words room.now → k < length out.old
-        → IsWordOf net words (slice_index kept k) (slice_index out.new k) }
+    ensures { (net : Net) (kept words : List ℕ) (k : ℕ) → IsTurnTapeOf net kept tape.now → HasRun tape.now words room.now → k < length out.old
+        → IsTurnWordOf net words (slice_index kept k) (slice_index out.new k) }
 {
     for k in 0..out.len() {
         out[k] = tape.word(room, k);
@@ -61,8 +61,8 @@ fn gather(tape: &Tape, room: &[u64], out: &mut [u64])
 pub(crate) fn run_kept(tape: &Tape, words: &[u64], room: &mut Vec<u64>, out: &mut Vec<u64>)
     requires room { length room.old.items ≡ slots_in tape.now }
     requires kept { length out.old.items ≡ kept_in tape.now }
-    ensures told { (net : Net) (kept : List ℕ) (k : ℕ) → IsTapeOf net kept tape.now → k < length out.old.items
-        → IsWordOf net words.now (slice_index kept k) (slice_index out.new.items k) }
+    ensures told { (net : Net) (kept : List ℕ) (k : ℕ) → IsTurnTapeOf net kept tape.now → k < length out.old.items
+        → IsTurnWordOf net words.now (slice_index kept k) (slice_index out.new.items k) }
     ensures room_size { length room.new.items ≡ length room.old.items }
     ensures room_capacity { vec_capacity room.new ≡ vec_capacity room.old }
     ensures size { length out.new.items ≡ length out.old.items }

@@ -2,7 +2,7 @@ use Rattle.std.proofs.Common.{◌≡◌, ℕ, List, length, get_or, sym, subst, 
 use Rattle.std.proofs.Math.Logic.{∥∥₁_elim}
 use Rattle.std.proofs.Props.{props}
 use Rattle.std.proofs.lemmas.List.FromFn.{length-map-range_with_len}
-use Rattle.tape.specs.Tapes.{kept_in, IsWordOf}
+use Rattle.tape.specs.Tapes.{kept_in, IsTurnWordOf}
 use Rattle.netgame.proofs.Lanes.{tells_next_states}
 use Rattle.netgame.proofs.NetFacts.{base_count}
 use Rattle.netgame.proofs.net_lanes.step_lanes.Goals as goal
@@ -24,4 +24,4 @@ returns-clause-after c =
     let states = c.run_kept.new.out.items in
     let size = c.run_kept.ensures.size in
     tells_next_states game.played game.net game.compiled game.lane_plan game.laned c.args.from.now words states c.args.joints.now c.requires.few c.requires.joints c.requires.spread (size ∙ c.requires.to) c.write_sources.ensures.base c.write_sources.ensures.given
-    (λ net kept i of lt. subst (λ (ws : List ℕ). IsWordOf net ws (get_or kept i 0) (get_or states i 0)) c.deref.ensures.value (c.run_kept.ensures.told net kept i of (omega arith)))
+    (λ net kept i of lt. subst (λ (ws : List ℕ). IsTurnWordOf net ws (get_or kept i 0) (get_or states i 0)) c.deref.ensures.value (c.run_kept.ensures.told net kept i of (omega arith)))

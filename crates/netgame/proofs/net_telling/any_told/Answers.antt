@@ -12,5 +12,5 @@ loop-i-preserved c = λ k on tells.
     let place = get_or places i 0 in
     c.either-any.ensures k
     ∙ ap (λ (b : Bool). b || (bit_at c.word.result k == 1)) (c.loop-i.invariant k on tells)
-    ∙ ap (λ (b : Bool). list_any on (take i places) || b) (tells place c.word.result (c.requires.places i 0 c.loop-i-test.true) c.word.ensures)
+    ∙ ap (λ (b : Bool). list_any on (take i places) || b) (tells place c.word.result (c.requires.places i 0 c.loop-i-test.true) c.word.ensures.tells)
     ∙ sym (any_more on places i place c.loop-i-test.true refl)
