@@ -35,6 +35,20 @@ impl Net {
         )
     }
 
+    /// How many base propositions there are. Their nodes come first.
+    pub fn base(&self) -> usize
+        ensures { result ≡ self.now.base }
+    {
+        self.base
+    }
+
+    /// How many inputs each role has. Their nodes come behind the base propositions, role by role.
+    pub fn inputs(&self) -> &[usize]
+        ensures { result.now ≡ self.now.inputs.items }
+    {
+        &self.inputs
+    }
+
     /// How many base propositions and inputs there are.
     pub fn sources(&self) -> usize
         ensures { result ≡ self.now.base + sum self.now.inputs.items }

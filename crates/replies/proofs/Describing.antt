@@ -13,11 +13,11 @@ use Rattle.ground.specs.GroundView.{IsGround}
 use Rattle.meaning.specs.Limits.{excess_in}
 use Rattle.ground.specs.Progress.{IsFaultOf}
 use Rattle.ground.specs.Refusal.{fault_text}
-use Rattle.position.specs.declared.net_game.NetGame.{NetGame}
-use Rattle.position.specs.declared.rule_game.RuleGame.{RuleGame}
+use Rattle.netgame.specs.declared.net_game.NetGame.{NetGame}
+use Rattle.rulegame.specs.declared.rule_game.RuleGame.{RuleGame}
 use Rattle.game.specs.NamedRules.{NamedRules}
-use Rattle.position.specs.RuleState.{named_rules_of}
-use Rattle.position.proofs.GameRules.{game_of_ground}
+use Rattle.rulegame.specs.RuleState.{named_rules_of}
+use Rattle.rulegame.proofs.Facts.{game_of_ground}
 use Rattle.replies.specs.declared.command.Status.{Status}
 use Rattle.replies.specs.declared.command.Status.TheVariants.{Refused}
 use Rattle.replies.specs.declared.games.Described.{Described}

@@ -15,7 +15,7 @@ use Rattle.meaning.specs.Limits.{count_inputs}
 use Rattle.meaning.specs.Most.{limits}
 use Rattle.meaning.specs.Listing.{listing, role_list, base_list, input_list}
 use Rattle.meaning.specs.Play.{dropped}
-use Rattle.position.specs.GroundFacts.{fits}
+use Rattle.rulegame.specs.GroundFacts.{fits}
 use Rattle.propnet.specs.declared.net.Net.{Net}
 use Rattle.propnet.specs.declared.node.Name.{Name}
 use Rattle.propnet.specs.Builders.{IsNetOf, input_counts}

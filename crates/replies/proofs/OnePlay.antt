@@ -9,8 +9,7 @@ use Rattle.meaning.specs.declared.excess.Excess.{Excess}
 use Rattle.ground.specs.declared.fault.GroundFault.TheVariants.{TooMany}
 use Rattle.meaning.specs.Limits.{excess_in}
 use Rattle.ground.specs.Refusal.{fault_text}
-use Rattle.position.proofs.GameRules.{has_game}
-use Rattle.position.proofs.OneGame.{one_game}
+use Rattle.rulegame.proofs.Facts.{has_game, one_game}
 use Rattle.game.specs.NamedRules.{NamedRules}
 use Rattle.game.specs.SamePlay.{SamePlay}
 use Rattle.replies.proofs.OneCheck.{some_verdict, one_refusal, refused_or_lawful}

@@ -10,8 +10,8 @@ use Rattle.ground.specs.GroundView.{IsGround}
 use Rattle.meaning.specs.Limits.{excess_in}
 use Rattle.ground.specs.Refusal.{fault_text}
 use Rattle.game.specs.NamedRules.{NamedRules}
-use Rattle.position.specs.RulesGame.{IsGameOf}
-use Rattle.position.specs.RuleState.{named_rules_of}
+use Rattle.rulegame.specs.RulesGame.{IsGameOf}
+use Rattle.rulegame.specs.RuleState.{named_rules_of}
 use Rattle.replies.specs.declared.games.Described.{Described}
 use Rattle.replies.specs.declared.games.Described.TheVariants.{Network, Rules, Refusal}
 use Rattle.replies.specs.declared.grounding.Instantiated.{Instantiated}

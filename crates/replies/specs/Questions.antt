@@ -2,18 +2,18 @@
 use Rattle.std.specs.Prelude.{ℕ, ◌<◌, Result, Ok, Err}
 use Rattle.game.specs.NamedRules.{NamedRules}
 use Rattle.game.specs.Rules.{State}
-use Rattle.position.specs.NetState.{kept_state}
-use Rattle.position.specs.NetLanes.{IsNetState}
-use Rattle.position.specs.RulePlay.{marked}
-use Rattle.position.specs.RuleState.{IsStateOf, named_rules_of}
-use Rattle.position.specs.declared.net_game.NetGame.{NetGame}
-use Rattle.position.specs.declared.net_many.NetMany.{NetMany}
-use Rattle.position.specs.declared.net_many.NetWide.{NetWide}
-use Rattle.position.specs.declared.net_pos.NetPos.{NetPos}
-use Rattle.position.specs.declared.rule_game.RuleGame.{RuleGame}
-use Rattle.position.specs.declared.rule_many.RuleMany.{RuleMany}
-use Rattle.position.specs.declared.rule_many.RuleWide.{RuleWide}
-use Rattle.position.specs.declared.rule_pos.RulePos.{RulePos}
+use Rattle.netgame.specs.NetState.{kept_state}
+use Rattle.netgame.specs.NetLanes.{IsNetState}
+use Rattle.rulegame.specs.RulePlay.{marked}
+use Rattle.rulegame.specs.RuleState.{IsStateOf, named_rules_of}
+use Rattle.netgame.specs.declared.net_game.NetGame.{NetGame}
+use Rattle.netgame.specs.declared.net_many.NetMany.{NetMany}
+use Rattle.netgame.specs.declared.net_many.NetWide.{NetWide}
+use Rattle.netgame.specs.declared.net_pos.NetPos.{NetPos}
+use Rattle.rulegame.specs.declared.rule_game.RuleGame.{RuleGame}
+use Rattle.rulegame.specs.declared.rule_many.RuleMany.{RuleMany}
+use Rattle.rulegame.specs.declared.rule_many.RuleWide.{RuleWide}
+use Rattle.rulegame.specs.declared.rule_pos.RulePos.{RulePos}
 use Rattle.replies.specs.declared.asking.Asked.{Asked}
 use Rattle.replies.specs.declared.asking.Asked.TheVariants as asked
 use Rattle.replies.specs.declared.question.Question.{Question}

@@ -2,9 +2,9 @@
 use Rattle.std.proofs.Common.{◌≡◌, ◌≢◌, set, get_or-set_same, get_or-set_other, below_more, ℕ, suc, zero, ◌+◌, ◌<◌, ◌≤◌, ◌%◌, ◌/◌, Bool, true, false, not, ◌&&◌, ◌||◌, List, [], ◌∷◌, ◌++◌, length, get_or, drop, refl, sym, ◌∙◌, ap, subst, arith, All, add-one, length-append}
 use Rattle.std.proofs.lemmas.List.{drop-append-le, drop_all, get_or_default}
 use Rattle.std.proofs.Math.Seq.{drop-cons}
-use Rattle.tape.specs.Building.{AreLiterals, IsStep, IsBuilt, IsLiteral, slots_of, value_of, all_of, any_of, IsNegation, AreNegations}
+use Rattle.tape.specs.Building.{AreLiterals, AreOneOf, IsStep, IsBuilt, IsLiteral, slots_of, value_of, all_of, any_of, IsNegation, AreNegations}
 use Rattle.tape.specs.declared.builder.Builder.{Builder}
-use Rattle.tape.proofs.Literals.{step_then, step_refl, value_literals}
+use Rattle.tape.proofs.Literals.{step_then, step_refl, value_literals, groups_after, groups_before}
 
 all_assoc : (a b c : Bool) → (a && (b && c)) ≡ ((a && b) && c)
 all_assoc true b c = refl
@@ -43,10 +43,10 @@ pub record IsAll (start now : Builder) (all rest : List ℕ) : Type 0 where
   pub step : IsStep start now
   pub some : 0 < length rest
   pub literals : All (λ l. l < slots_of now) rest
-  pub value : (bits : ℕ → Bool) → all_of (value_of now bits) rest ≡ all_of (value_of start bits) all
+  pub value : (bits : ℕ → Bool) → AreOneOf start.groups.items bits → all_of (value_of now bits) rest ≡ all_of (value_of start bits) all
 
 pub all_begins : (b : Builder) (xs : List ℕ) → IsBuilt b → 0 < length xs → All (λ l. l < slots_of b) xs → IsAll b b xs xs
-all_begins b xs h s a = record { step = step_refl b h; some = s; literals = a; value = λ bits. refl }
+all_begins b xs h s a = record { step = step_refl b h; some = s; literals = a; value = λ bits one. refl }
 
 pub within_more : (n m : ℕ) (xs : List ℕ) (z : ℕ) → n ≤ m → z < m → All (λ l. l < n) xs → All (λ l. l < m) (xs ++ (z ∷ []))
 within_more n m [] z h k a zero d l = k
@@ -67,12 +67,13 @@ all_more start b c all rest x y z h s l =
       step = step_then start b c h.step s;
       some = simp length-append (omega arith);
       literals = within_more (slots_of b) (slots_of c) rest z s.more l.slot a;
-      value = λ bits.
-          let e : value_of c bits z ≡ (value_of b bits x && value_of b bits y) = rw (← s.keeps bits x p, ← s.keeps bits y q) (l.value bits) in
+      value = λ bits one.
+          let here : AreOneOf c.groups.items bits = groups_after start c (step_then start b c h.step s) bits one in
+          let e : value_of c bits z ≡ (value_of b bits x && value_of b bits y) = rw (← s.keeps bits x p, ← s.keeps bits y q) (l.value bits here) in
           let f : all_of (value_of c bits) rest ≡ all_of (value_of b bits) rest =
           all_same (value_of c bits) (value_of b bits) (slots_of b) rest (λ k i. s.keeps bits k i) a in
           rw (all_append (value_of c bits) rest (z ∷ []), f, and_true (value_of c bits z))
-          (joined (value_of b bits x) (value_of b bits y) (value_of c bits z) (all_of (value_of b bits) rest) e ∙ h.value bits);
+          (joined (value_of b bits x) (value_of b bits y) (value_of c bits z) (all_of (value_of b bits) rest) e ∙ h.value bits one);
     }
 
 front_two : (xs : List ℕ) (n : ℕ) → n + 1 < length xs → drop n xs ≡ get_or xs n 0 ∷ get_or xs (n + 1) 0 ∷ drop (n + 2) xs
@@ -105,7 +106,7 @@ last_at start b all queue n h k a =
     let i : IsAll start b all (get_or queue n 0 ∷ []) = rw e at a in
     record {
       slot = i.literals 0 0 (omega arith);
-      value = λ bits. sym (and_true (value_of b bits (get_or queue n 0))) ∙ i.value bits;
+      value = λ bits one. sym (and_true (value_of b bits (get_or queue n 0))) ∙ i.value bits (groups_before start b a.step bits one);
     }
 
 pub last_queued : (start b : Builder) (all queue : List ℕ) (n x : ℕ) → length queue ≤ n + 1 → n < length queue → x ≡ get_or queue n x
@@ -136,7 +137,7 @@ literal_one w h = let p : w 1 ≡ not (w 0) = h.pairs 0 refl in rw (p, h.none) r
 pub all_of_none : (b : Builder) (xs : List ℕ) → IsBuilt b → length xs ≡ 0 → IsLiteral b 1 (λ bits. all_of (value_of b bits) xs)
 all_of_none b [] h e = record {
   slot = omega (arith, h.tape.some);
-  value = λ bits. literal_one (value_of b bits) (value_literals b.first b.gates.items h.tape bits);
+  value = λ bits one. literal_one (value_of b bits) (value_literals b.first b.gates.items h.tape bits);
 }
 all_of_none b (x ∷ xs) h e = absurd (omega arith)
 
@@ -175,9 +176,9 @@ pub any_literal : (old new : Builder) (xs ys : List ℕ) (l m : ℕ) → IsBuilt
     → IsLiteral new m (λ bits. any_of (value_of old bits) xs)
 any_literal old new xs ys l m h k a i n = record {
   slot = same_pair l m (slots_of new) (let p : new.first % 2 ≡ 0 = k.tape.pairs in omega arith) n.node i.slot;
-  value = λ bits.
+  value = λ bits one.
       n.value (value_of new bits) (value_literals new.first new.gates.items k.tape bits)
-      ∙ (ap not (i.value bits ∙ or_of_negations (value_of old bits) (value_literals old.first old.gates.items h.tape bits) xs ys a.count a.each)
+      ∙ (ap not (i.value bits one ∙ or_of_negations (value_of old bits) (value_literals old.first old.gates.items h.tape bits) xs ys a.count a.each)
       ∙ not_not (any_of (value_of old bits) xs));
 }
 
@@ -201,5 +202,5 @@ pub nor_literal : (old new : Builder) (xs : List ℕ) (l m : ℕ) → IsBuilt ne
     → IsLiteral new m (λ bits. not (any_of (value_of old bits) xs))
 nor_literal old new xs l m k i n = record {
   slot = same_pair l m (slots_of new) (let p : new.first % 2 ≡ 0 = k.tape.pairs in omega arith) n.node i.slot;
-  value = λ bits. n.value (value_of new bits) (value_literals new.first new.gates.items k.tape bits) ∙ ap not (i.value bits);
+  value = λ bits one. n.value (value_of new bits) (value_literals new.first new.gates.items k.tape bits) ∙ ap not (i.value bits one);
 }

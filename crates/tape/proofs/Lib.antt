@@ -3,6 +3,7 @@ pub mod Lanes
 pub mod Literals
 pub mod Folds
 pub mod Terms
+pub mod GroupLemmas
 pub mod Marks
 pub mod Meaning
 pub mod Tapes

@@ -24,6 +24,7 @@ use Rattle.tape.specs.Translating.{AreKept, AreTermsOf, IsTermOf, IsMeant, IsTra
 use Rattle.std.specs.Global.{Vec}
 use Rattle.tape.specs.Terms.{some_of, AreBelow}
 use Rattle.tape.proofs.Folds.{and_true}
+use Rattle.tape.proofs.Literals.{groups_before}
 use Rattle.tape.proofs.Lanes.{given_slot, is_one_min, is_one_not}
 use Rattle.tape.specs.Values.{start, value}
 use Rattle.tape.proofs.Passes.{pass_below}
@@ -95,26 +96,26 @@ module _ (n : Net) (marks : List Bool) (words : List ℕ) (m : ℕ) (gate : Gate
       t.values (get_or gate.reads k 0) ((n.in_order m gate e).smaller k 0 l) (all k 0 l)
 
   -- the literal of such a node by those of the nodes that it reads
-  pub meant_all : (c : Builder) (z : ℕ) → is_and_gate gate.name ≡ true → IsLiteral c z (λ bits. all_of (value_of b bits) queue) → IsMeant n words c z m
-  meant_all c z is l = record {
+  pub meant_all : (c : Builder) (z : ℕ) → IsStep b c → is_and_gate gate.name ≡ true → IsLiteral c z (λ bits. all_of (value_of b bits) queue) → IsMeant n words c z m
+  meant_all c z step is l = record {
     slot = l.slot;
-    value = λ state joint w s.
+    value = λ state joint w s one.
         let v : ℕ → ℕ = node_value (gates_of n) state joint in
-        l.value (λ i. w (get_or words i 0))
+        l.value (λ i. w (get_or words i 0)) one
         ∙ ap (λ (xs : List ℕ). all_of (value_of b (λ i. w (get_or words i 0))) xs) q
-        ∙ all_on v (value_of b (λ i. w (get_or words i 0))) literals gate.reads (λ k. value_lt (gates_of n) state joint s.bits k) (λ k i. (read_meant k i).value state joint w s)
+        ∙ all_on v (value_of b (λ i. w (get_or words i 0))) literals gate.reads (λ k. value_lt (gates_of n) state joint s.bits k) (λ k i. (read_meant k i).value state joint w s (groups_before b c step (λ i. w (get_or words i 0)) one))
         ∙ sym (ap (λ (x : ℕ). x == 1) (solved n state joint m gate e ∙ all_by v state joint gate.name gate.reads is));
   }
 
-  pub meant_none : (c : Builder) (z : ℕ) → is_source gate.name ≡ false → is_and_gate gate.name ≡ false → IsLiteral c z (λ bits. not (any_of (value_of b bits) queue)) → IsMeant n words c z m
-  meant_none c z g h l = record {
+  pub meant_none : (c : Builder) (z : ℕ) → IsStep b c → is_source gate.name ≡ false → is_and_gate gate.name ≡ false → IsLiteral c z (λ bits. not (any_of (value_of b bits) queue)) → IsMeant n words c z m
+  meant_none c z step g h l = record {
     slot = l.slot;
-    value = λ state joint w s.
+    value = λ state joint w s one.
         let v : ℕ → ℕ = node_value (gates_of n) state joint in
         let small : (k : ℕ) → v k < 2 = λ k. value_lt (gates_of n) state joint s.bits k in
-        l.value (λ i. w (get_or words i 0))
+        l.value (λ i. w (get_or words i 0)) one
         ∙ ap (λ (xs : List ℕ). not (any_of (value_of b (λ i. w (get_or words i 0))) xs)) q
-        ∙ ap not (any_on v (value_of b (λ i. w (get_or words i 0))) literals gate.reads small (λ k i. (read_meant k i).value state joint w s))
+        ∙ ap not (any_on v (value_of b (λ i. w (get_or words i 0))) literals gate.reads small (λ k i. (read_meant k i).value state joint w s (groups_before b c step (λ i. w (get_or words i 0)) one)))
         ∙ sym (is_one_not (net.any_of v gate.reads) (any_of_lt v gate.reads small))
         ∙ sym (ap (λ (x : ℕ). x == 1) (solved n state joint m gate e ∙ none_by v state joint gate.name gate.reads g f h));
   }
@@ -203,18 +204,18 @@ module _ (n : Net) (marks : List Bool) (words : List ℕ) (m : ℕ) (gate : Gate
       subst (λ (xs : List ℕ). All (λ i. i < slots_of b) xs) (sym (term_is k d l)) (map_within (λ i. get_or literals i 0) (slots_of b) (nodes k l) (λ i j. (meant k l i j).slot))
 
   -- the literal of the or of the terms is that of the node
-  pub meant_or : (c : Builder) (z : ℕ) → IsLiteral c z (λ bits. some_of (value_of b bits) terms) → IsMeant n words c z m
+  pub meant_or : (c : Builder) (z : ℕ) → IsStep b c → IsLiteral c z (λ bits. some_of (value_of b bits) terms) → IsMeant n words c z m
   unfolding nodes there
-  meant_or c z l = record {
+  meant_or c z step l = record {
     slot = l.slot;
-    value = λ state joint w s.
+    value = λ state joint w s one.
         let v : ℕ → ℕ = node_value (gates_of n) state joint in
         let small : (k : ℕ) → v k < 2 = λ k. value_lt (gates_of n) state joint s.bits k in
-        l.value (λ i. w (get_or words i 0))
+        l.value (λ i. w (get_or words i 0)) one
         ∙ terms_on v (value_of b (λ i. w (get_or words i 0))) small gate.reads terms are.size
         (λ k d h. ap (λ (xs : List ℕ). all_of (value_of b (λ i. w (get_or words i 0))) xs) (term_is k d h)
         ∙ term_on v state joint (value_of b (λ i. w (get_or words i 0))) literals small (there k h).0.name (get_or gate.reads k 0) (there k h).0.reads
-        (solved n state joint (get_or gate.reads k 0) (there k h).0 (there k h).1) (λ i j. (meant k h i j).value state joint w s))
+        (solved n state joint (get_or gate.reads k 0) (there k h).0 (there k h).1) (λ i j. (meant k h i j).value state joint w s (groups_before b c step (λ i. w (get_or words i 0)) one)))
         ∙ sym (ap (λ (x : ℕ). x == 1) (solved n state joint m gate e ∙ or_by v state joint gate.name gate.reads is));
   }
 
@@ -251,7 +252,7 @@ meant_source n marks words given_literals m gate b literals z e lt is on sources
     let below : z < b.first = let f = t.first in let w = at.within in omega arith in
     record {
       slot = omega arith;
-      value = λ state joint w s.
+      value = λ state joint w s one.
           pass_below b.first b.gates.items (start (λ i. w (get_or words i 0))) z below
           ∙ ap (start (λ i. w (get_or words i 0))) slot
           ∙ given_slot (λ i. w (get_or words i 0)) at.place
@@ -322,7 +323,7 @@ not_given gates n name reads e f gate word g s =
 meant_kept : (n : Net) (words : List ℕ) (b c : Builder) (l m : ℕ) → IsStep b c → IsMeant n words b l m → IsMeant n words c l m
 meant_kept n words b c l m s h = record {
   slot = omega (arith, h.slot, s.more);
-  value = λ state joint w t. s.keeps (λ i. w (get_or words i 0)) l h.slot ∙ h.value state joint w t;
+  value = λ state joint w t one. s.keeps (λ i. w (get_or words i 0)) l h.slot ∙ h.value state joint w t (groups_before b c s (λ i. w (get_or words i 0)) one);
 }
 
 pub translated_more : (n : Net) (marks : List Bool) (words : List ℕ) (m : ℕ) (b c : Builder) (literals next : List ℕ) (z : ℕ)

@@ -1,6 +1,6 @@
 -- What a tape tells of the network that it was made of.
-use Rattle.std.proofs.Common.{◌≡◌, ℕ, suc, zero, ◌+◌, ◌*◌, ◌<◌, List, [], ◌∷◌, length, map, get_or, refl, ◌∙◌, ap, arith, All}
-use Rattle.std.specs.Prelude.{◌==◌}
+use Rattle.std.proofs.Common.{◌≡◌, ℕ, suc, zero, ◌+◌, ◌*◌, ◌<◌, List, [], ◌∷◌, length, map, get_or, refl, sym, subst, ◌∙◌, ap, arith, All}
+use Rattle.std.specs.Prelude.{◌==◌, Result, Ok, Err, IfOk}
 use Rattle.std.specs.Int.{bit_at}
 use Rattle.std.proofs.lemmas.Nat.Bits.{bit_at-lt}
 use Rattle.propnet.specs.declared.net.Net.{Net}
@@ -11,9 +11,12 @@ use Rattle.tape.specs.declared.gates.Gate.{Gate}
 use Rattle.tape.specs.declared.tape.Tape.{Tape}
 use Rattle.tape.specs.Values.{slots, start, pass, value, is_lane_on}
 use Rattle.tape.specs.declared.builder.Builder.{Builder}
-use Rattle.tape.specs.Building.{slots_of}
-use Rattle.tape.specs.Translating.{AreKept}
-use Rattle.tape.specs.Tapes.{AreSources, IsTapeOf, HasRun, IsLane, IsWordOf}
+use Rattle.tape.specs.declared.builder.Group.{Group}
+use Rattle.tape.specs.Building.{slots_of, AreOneOf}
+use Rattle.tape.specs.Grouping.{AreGroups}
+use Rattle.tape.specs.Translating.{AreKept, IsGroupTapeOf}
+use Rattle.std.proofs.lemmas.List.Elements.{All-nil}
+use Rattle.tape.specs.Tapes.{AreSources, IsTapeOf, IsTurnTapeOf, HasRun, IsLane, IsWordOf, IsTurnWordOf}
 use Rattle.tape.proofs.Passes.{pass_agree}
 use Rattle.tape.proofs.Meaning.{map_within}
 
@@ -78,16 +81,50 @@ length_mapped : (f : ℕ → ℕ) (xs : List ℕ) → length (map f xs) ≡ leng
 length_mapped f [] = refl
 length_mapped f (x ∷ xs) = ap suc (length_mapped f xs)
 
-pub tape_of : (net : Net) (words kept : List ℕ) (b : Builder) (literals xs : List ℕ) (t : Tape) → AreKept net words kept b literals → xs ≡ literals
-    → t.first ≡ b.first → t.gates.items ≡ b.gates.items → t.sources.items ≡ words → t.kept.items ≡ map (λ n. get_or xs n 0) kept → IsTapeOf net kept t
-tape_of net words kept b literals xs t a e first gates given slots_are = record {
+tape_with : (net : Net) (words kept : List ℕ) (b : Builder) (literals xs : List ℕ) (t : Tape) → AreKept net words kept b literals → xs ≡ literals
+    → t.first ≡ b.first → t.gates.items ≡ b.gates.items → t.sources.items ≡ words → t.kept.items ≡ map (λ n. get_or xs n 0) kept → IsGroupTapeOf net kept words b.groups.items t
+tape_with net words kept b literals xs t a e first gates given slots_are = record {
   size = ap length slots_are ∙ length_mapped (λ n. get_or xs n 0) kept;
-  values = λ k h state joint w s.
+  given = given;
+  values = λ k h state joint w s one.
       let at : get_or t.kept.items k 0 ≡ get_or literals (get_or kept k 0) 0 =
       ap (λ (ls : List ℕ). get_or ls k 0) slots_are ∙ mapped_at (λ m. get_or xs m 0) kept k h ∙ ap (λ (ls : List ℕ). get_or ls (get_or kept k 0) 0) e in
       ap (λ (l : ℕ). value t.first t.gates.items (λ i. w (get_or t.sources.items i 0)) l) at
       ∙ ap (λ (f : ℕ). value f t.gates.items (λ i. w (get_or t.sources.items i 0)) (get_or literals (get_or kept k 0) 0)) first
       ∙ ap (λ (gs : List Gate). value b.first gs (λ i. w (get_or t.sources.items i 0)) (get_or literals (get_or kept k 0) 0)) gates
       ∙ ap (λ (xs : List ℕ). value b.first b.gates.items (λ i. w (get_or xs i 0)) (get_or literals (get_or kept k 0) 0)) given
-      ∙ (a.meant k 0 h).value state joint w s;
+      ∙ (a.meant k 0 h).value state joint w s one;
 }
+
+pub tape_of : (net : Net) (words kept : List ℕ) (b : Builder) (groups : List Group) (literals xs : List ℕ) (t : Tape) → b.groups.items ≡ groups → AreKept net words kept b literals → xs ≡ literals
+    → t.first ≡ b.first → t.gates.items ≡ b.gates.items → t.sources.items ≡ words → t.kept.items ≡ map (λ n. get_or xs n 0) kept → IsGroupTapeOf net kept words groups t
+tape_of net words kept b groups literals xs t g a e first gates given slots_are =
+    subst (λ (gs : List Group). IsGroupTapeOf net kept words gs t) g (tape_with net words kept b literals xs t a e first gates given slots_are)
+
+-- Without groups it is a tape for all joint moves.
+pub plain_tape : (net : Net) (kept words : List ℕ) (groups : List Group) (t : Tape) → IsGroupTapeOf net kept words groups t → groups ≡ [] → IsTapeOf net kept t
+plain_tape net kept words groups t h e = record {
+  size = h.size;
+  values = λ k lt state joint w s. h.values k lt state joint w s (subst (λ (gs : List Group). AreOneOf gs (λ i. w (get_or words i 0))) (sym e) (All-nil _));
+}
+
+-- With the groups of the roles it is one for turns.
+pub turn_tape : (net : Net) (kept words : List ℕ) (groups : List Group) (t : Tape) → IsGroupTapeOf net kept words groups t → AreGroups net words groups → IsTurnTapeOf net kept t
+turn_tape net kept words groups t h g = record {
+  size = h.size;
+  values = λ k lt state joint w turn s. h.values k lt state joint w s (g.one state joint w turn s);
+}
+
+pub turn_word_tells : (t : Tape) (room : List ℕ) (k s word : ℕ) → k < length t.kept.items → s ≡ get_or t.kept.items k 0 → word ≡ get_or room s 0
+    → (net : Net) (kept words : List ℕ) → IsTurnTapeOf net kept t → HasRun t words room → IsTurnWordOf net words (get_or kept k 0) word
+turn_word_tells t room k s word lt at read net kept words is ran = λ l state joint few turn h.
+    let within : get_or t.kept.items k 0 < slots t.first t.gates.items = t.kept_within k 0 lt in
+    let shown : is_lane_on room l (get_or t.kept.items k 0) ≡ (node_value (gates_of net) state joint (get_or kept k 0) == 1) =
+    ran.values l (get_or t.kept.items k 0) few within ∙ is.values k (omega (arith, is.size)) state joint (is_lane_on words l) turn (lane_sources net words l state joint h) in
+    let is_word : word ≡ get_or room (get_or t.kept.items k 0) 0 = read ∙ ap (λ (i : ℕ). get_or room i 0) at in
+    same_bits (bit_at word l) (node_value (gates_of net) state joint (get_or kept k 0)) (bit_at-lt word l) (value_lt (gates_of net) state joint h.bits (get_or kept k 0))
+    (ap (λ (x : ℕ). bit_at x l == 1) is_word ∙ shown)
+
+pub tape_then : {E : Type 0} → (r : Result Tape E) (P Q : Tape → Type 0) → ((t : Tape) → P t → Q t) → IfOk r P → IfOk r Q
+tape_then (Ok t) P Q f h = f t h
+tape_then (Err e) P Q f h = h

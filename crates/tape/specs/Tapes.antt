@@ -34,6 +34,16 @@ pub record IsTapeOf (net : Net) (kept : List ℕ) (t : Tape) : Type 0 where
   pub values : (k : ℕ) → k < length kept → (state : ℕ → ℕ) (joint : List ℕ) (w : ℕ → Bool) → AreSources net state joint w
       → value_in t w (slice_index t.kept.items k) ≡ (node_value (gates_of net) state joint (slice_index kept k) == 1)
 
+-- the joint move has for each role one of its inputs
+abbrev pub IsJointOf : Net → List ℕ → Type 0
+IsJointOf net joint = (r : ℕ) → r < length net.inputs.items → (r < length joint) × (slice_index joint r < slice_index net.inputs.items r)
+
+-- the same in each state, and for each joint move that has an input of each role
+pub record IsTurnTapeOf (net : Net) (kept : List ℕ) (t : Tape) : Type 0 where
+  pub size : kept_in t ≡ length kept
+  pub values : (k : ℕ) → k < length kept → (state : ℕ → ℕ) (joint : List ℕ) (w : ℕ → Bool) → IsJointOf net joint → AreSources net state joint w
+      → value_in t w (slice_index t.kept.items k) ≡ (node_value (gates_of net) state joint (slice_index kept k) == 1)
+
 -- the room has what a pass over the given words writes: in each lane, the value of each literal
 pub record HasRun (t : Tape) (words room : List ℕ) : Type 0 where
   pub size : length room ≡ slots_in t
@@ -49,4 +59,9 @@ pub record IsLane (net : Net) (words : List ℕ) (l : ℕ) (state : ℕ → ℕ)
 -- bit l of the word is the value of node n in the state and for the joint move of lane l
 abbrev pub IsWordOf : Net → List ℕ → ℕ → ℕ → Type 0
 IsWordOf net words n word = (l : ℕ) (state : ℕ → ℕ) (joint : List ℕ) → l < 64 → IsLane net words l state joint
+    → bit_at word l ≡ node_value (gates_of net) state joint n
+
+-- the same where the joint move has an input of each role
+abbrev pub IsTurnWordOf : Net → List ℕ → ℕ → ℕ → Type 0
+IsTurnWordOf net words n word = (l : ℕ) (state : ℕ → ℕ) (joint : List ℕ) → l < 64 → IsJointOf net joint → IsLane net words l state joint
     → bit_at word l ≡ node_value (gates_of net) state joint n

@@ -5,9 +5,11 @@ use Rattle.propnet.specs.declared.net.Net.{Net}
 use Rattle.propnet.specs.Network.{Gate, value as node_value}
 use Rattle.propnet.specs.Nets.{gates_of}
 use Rattle.tape.specs.declared.builder.Builder.{Builder}
-use Rattle.tape.specs.Building.{slots_of, value_of, IsBuilt}
+use Rattle.tape.specs.Building.{slots_of, value_of, AreOneOf, IsBuilt}
 use Rattle.tape.specs.Marks.{is_and_gate, is_marked, term_nodes}
-use Rattle.tape.specs.Tapes.{AreSources}
+use Rattle.tape.specs.declared.builder.Group.{Group}
+use Rattle.tape.specs.declared.tape.Tape.{Tape}
+use Rattle.tape.specs.Tapes.{AreSources, kept_in, value_in}
 
 -- what an or takes for node n: the and of what it reads if it is an and gate, else its literal
 abbrev pub IsTermOf : List Gate → List ℕ → ℕ → List ℕ → Type 0
@@ -18,10 +20,11 @@ pub record AreTermsOf (gates : List Gate) (literals numbers : List ℕ) (terms :
   pub size : length terms ≡ length numbers
   pub each : (k : ℕ) (d : Vec ℕ) → k < length numbers → IsTermOf gates literals (slice_index numbers k) (slice_index_or terms k d).items
 
--- the literal has the value of node n, where the words that stand in front of the gates are those of a state and a joint move
+-- the literal has the value of node n, where the words that stand in front of the gates are those of a state and a joint move, and
+-- one of each group is 1
 pub record IsMeant (net : Net) (words : List ℕ) (b : Builder) (l n : ℕ) : Type 0 where
   pub slot : l < slots_of b
-  pub value : (state : ℕ → ℕ) (joint : List ℕ) (w : ℕ → Bool) → AreSources net state joint w
+  pub value : (state : ℕ → ℕ) (joint : List ℕ) (w : ℕ → Bool) → AreSources net state joint w → AreOneOf b.groups.items (λ i. w (slice_index words i))
       → value_of b (λ i. w (slice_index words i)) l ≡ (node_value (gates_of net) state joint n == 1)
 
 -- the literals of the marked nodes below n
@@ -37,3 +40,10 @@ pub record AreKept (net : Net) (words kept : List ℕ) (b : Builder) (literals :
   pub first : b.first ≡ 2 + 2 * length words
   pub count : length literals ≡ length (gates_of net)
   pub meant : All (λ n. IsMeant net words b (slice_index literals n) n) kept
+
+-- each kept node has a literal whose value is that of the node, in each state and for each joint move under which one of each group is 1
+pub record IsGroupTapeOf (net : Net) (kept words : List ℕ) (groups : List Group) (t : Tape) : Type 0 where
+  pub size : kept_in t ≡ length kept
+  pub given : t.sources.items ≡ words
+  pub values : (k : ℕ) → k < length kept → (state : ℕ → ℕ) (joint : List ℕ) (w : ℕ → Bool) → AreSources net state joint w → AreOneOf groups (λ i. w (slice_index words i))
+      → value_in t w (slice_index t.kept.items k) ≡ (node_value (gates_of net) state joint (slice_index kept k) == 1)

@@ -8,11 +8,19 @@ ghost use Rattle.tape.specs.declared.gates.Gate.{Gate};
 use crate::gates::{Gate, Literal};
 use std::alloc::{AllocError, Global};
 
+/// Given bits of which exactly one is 1: those with numbers from one on to before another.
+#[derive(Clone, Copy, Drop)]
+pub(crate) struct Group {
+    pub(crate) from: u32,
+    pub(crate) to: u32,
+}
+
 /// A tape in the making. The table has places for the numbers of gates, each plus one: a gate stands
 /// at the place of its hash or behind it.
 #[derive(Drop)]
 pub(crate) struct Builder {
     pub(crate) first: u32,
+    pub(crate) groups: Vec<Group>,
     pub(crate) gates: Vec<Gate>,
     pub(crate) table: Vec<u32>,
 }
@@ -61,14 +69,16 @@ fn hash(a: Literal, b: Literal) -> usize {
 }
 
 impl Builder {
-    /// A tape with so many given bits.
-    pub(crate) fn new(alloc: Global, givens: u32) -> Result<Self, AllocError>
-        requires { givens < 2 ^ 30 }
-        ensures { IfOk result (λ b. IsBuilt b × (b.first ≡ 2 + 2 * givens) × (slots_of b ≡ 2 + 2 * givens)) }
+    /// A tape with so many given bits, of which one of each group is 1.
+    pub(crate) fn new(alloc: Global, givens: u32, groups: Vec<Group>) -> Result<Self, AllocError>
+        requires few { givens < 2 ^ 30 }
+        requires groups { All (λ g. g.to ≤ givens) groups.items }
+        ensures { IfOk result (λ b. IsBuilt b × (b.first ≡ 2 + 2 * givens) × (slots_of b ≡ 2 + 2 * givens) × (b.groups ≡ groups)) }
     {
         let table = vec![in alloc; 0u32; 1024]?;
         Ok(Builder {
             first: 2 + 2 * givens,
+            groups,
             gates: Vec::new(alloc),
             table,
         })
@@ -116,6 +126,7 @@ impl Builder {
         requires { IsBuilt self.old }
         ensures gates { self.new.gates.items ≡ self.old.gates.items }
         ensures first { self.new.first ≡ self.old.first }
+        ensures groups { self.new.groups.items ≡ self.old.groups.items }
         ensures table { 0 < length self.new.table.items }
     {
         let places = self.table.len();

@@ -6,6 +6,8 @@ mod cones;
 mod factoring;
 mod gates;
 mod gathering;
+mod grouping;
+mod groups;
 mod keyed;
 mod passing;
 mod sourcing;

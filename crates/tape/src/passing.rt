@@ -1,7 +1,7 @@
 //! The pass over a tape, and what it tells.
 ghost use Rattle.std.specs.Prelude.{ℕ, List, ◌≡◌, ◌<◌, length, slice_index};
 ghost use Rattle.propnet.specs.declared.net.Net.{Net};
-ghost use Rattle.tape.specs.Tapes.{slots_in, kept_in, IsTapeOf, HasRun, IsWordOf};
+ghost use Rattle.tape.specs.Tapes.{slots_in, kept_in, IsTapeOf, IsTurnTapeOf, HasRun, IsWordOf, IsTurnWordOf};
 
 use crate::gates::{fill_sources, run_gates};
 use crate::tape::Tape;
@@ -20,7 +20,7 @@ impl Tape {
         requires { length room.old ≡ slots_in self.now }
         ensures { HasRun self.now words.now room.new }
     {
-        fill_sources(&self.sources, words, room);
+        fill_sources(&self.sources, self.most, words, room);
         run_gates(&self.gates, self.first as usize, room);
     }
 
@@ -29,8 +29,10 @@ impl Tape {
     pub fn word(&self, room: &[u64], k: usize) -> u64
         requires room { length room.now ≡ slots_in self.now }
         requires kept { k < kept_in self.now }
-        ensures { (net : Net) (kept words : List ℕ) → IsTapeOf net kept self.now → HasRun self.now words room.now
+        ensures tells { (net : Net) (kept words : List ℕ) → IsTapeOf net kept self.now → HasRun self.now words room.now
             → IsWordOf net words (slice_index kept k) result }
+        ensures turns { (net : Net) (kept words : List ℕ) → IsTurnTapeOf net kept self.now → HasRun self.now words room.now
+            → IsTurnWordOf net words (slice_index kept k) result }
     {
         room[self.kept[k] as usize]
     }

@@ -1,5 +1,5 @@
 //! The given words of a tape.
-ghost use Rattle.std.specs.Prelude.{◌≡◌, ◌+◌, ◌^◌, ◌<◌, length, IfOk, OnOk};
+ghost use Rattle.std.specs.Prelude.{◌≡◌, ◌+◌, ◌^◌, ◌<◌, length, All, IfOk, OnOk};
 ghost use Rattle.propnet.specs.Nets.{gates_of};
 ghost use Rattle.tape.specs.Sources.{is_source as is_source_name, source_word, AreSourcesOf};
 
@@ -30,7 +30,7 @@ pub(crate) fn is_source(name: Name) -> bool
 }
 
 /// The number of the word that a node is given, if it is.
-fn word_of(name: Name, n: usize) -> Result<Option<u32>, AllocError>
+pub(crate) fn word_of(name: Name, n: usize) -> Result<Option<u32>, AllocError>
     ensures { IfOk result (λ word. word ≡ source_word name n) }
 {
     match name {
@@ -81,6 +81,17 @@ impl Sources {
         self.literals.push(given(index))?;
         Ok(())
     }
+}
+
+/// A number that is above all of a list.
+pub(crate) fn above(numbers: &[u32]) -> usize
+    ensures { All (λ n. n < result) numbers.now }
+{
+    let mut most = 0;
+    for i in 0..numbers.len() {
+        most = most.max(numbers[i] as usize + 1);
+    }
+    most
 }
 
 /// The words of the marked nodes that are given.

@@ -13,10 +13,13 @@ pub struct Tape {
     pub(crate) first: u32,
     /// Which of the words that a pass is given stand there.
     pub(crate) sources: Vec<u32>,
+    /// Their numbers are below this one.
+    pub(crate) most: usize,
     pub(crate) gates: Vec<Gate>,
     /// The literal of each kept node.
     pub(crate) kept: Vec<Literal>,
     pub ghost ordered: { IsTape first gates.items } by { Prim.hlevel tape_props },
     pub ghost given: { first ≡ 2 + 2 * length sources.items },
+    pub ghost sources_below: { All (λ n. n < most) sources.items },
     pub ghost kept_within: { All (λ l. l < slots first gates.items) kept.items },
 }

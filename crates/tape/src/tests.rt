@@ -45,12 +45,13 @@ fn words_of(rt: &impl Abort, alloc: Global, net: &Net) -> Result<Vec<u64>, Alloc
     Ok(words)
 }
 
-/// The word of each node, by one pass in room that was full of ones.
+/// The word of each node, by one pass in room that was full of ones, over the tape for all joint moves or that for turns.
 fn told_by_tape(
     rt: &impl Abort,
     alloc: Global,
     net: &Net,
     words: &[u64],
+    turns: bool,
 ) -> Result<Vec<u64>, AllocError> {
     let mut kept = Vec::new(alloc);
     for n in 0..net.nodes() {
@@ -58,7 +59,11 @@ fn told_by_tape(
         kept.push(n as u32)?;
     }
     assert!(rt; kept.iter().all(|n| (*n as usize) < net.nodes()));
-    let tape = Tape::new(alloc, net, &kept)?;
+    let tape = if turns {
+        Tape::of_turns(alloc, net, &kept)?
+    } else {
+        Tape::new(alloc, net, &kept)?
+    };
     let mut room = vec![in alloc; u64::MAX; tape.words()]?;
     tape.run(words, &mut room);
     let mut told = Vec::new(alloc);
@@ -93,15 +98,17 @@ fn agree(rt: &impl Abort, told: &[u64], bits: &[u64], lane: usize) {
 }
 
 #[test]
-fn tape_tells_what_the_network_tells(rt: HostRuntime) -> Result<(), Fail> {
+fn tapes_tell_what_the_network_tells(rt: HostRuntime) -> Result<(), Fail> {
     let alloc = rt.alloc();
     let net = net_of(&rt, MATCH)?;
     let words = words_of(&rt, alloc, &net)?;
-    let told = told_by_tape(&rt, alloc, &net, &words)?;
-    assert_eq!(rt; told.len(), 34);
-    for lane in 0..64usize {
-        let bits = told_by_net(&rt, alloc, &net, lane)?;
-        agree(&rt, &told, &bits, lane);
+    for turns in [false, true] {
+        let told = told_by_tape(&rt, alloc, &net, &words, turns)?;
+        assert_eq!(rt; told.len(), 34);
+        for lane in 0..64usize {
+            let bits = told_by_net(&rt, alloc, &net, lane)?;
+            agree(&rt, &told, &bits, lane);
+        }
     }
     Ok(())
 }

@@ -1,17 +1,18 @@
 //! From the kept nodes of a network to a tape.
-ghost use Rattle.std.specs.Prelude.{true, ◌≡◌, ◌+◌, ◌*◌, ◌<◌, length, All, IfOk};
+ghost use Rattle.std.specs.Prelude.{true, ◌≡◌, ◌+◌, ◌*◌, ◌<◌, ◌≤◌, length, [], All, IfOk, OnOk};
 ghost use Rattle.propnet.specs.Nets.{gates_of};
 ghost use Rattle.tape.specs.Building.{IsBuilt, IsStep};
 ghost use Rattle.tape.specs.Marks.{is_marked, AllMarked, IsClosedFrom};
 ghost use Rattle.tape.specs.Sources.{AreSourcesOf};
-ghost use Rattle.tape.specs.Tapes.{IsTapeOf};
-ghost use Rattle.tape.specs.Translating.{AreKept, IsMeant, IsTranslated};
+ghost use Rattle.tape.specs.Tapes.{IsTapeOf, IsTurnTapeOf};
+ghost use Rattle.tape.specs.Translating.{AreKept, IsGroupTapeOf, IsMeant, IsTranslated};
 
-use crate::builder::{Builder, negation};
+use crate::builder::{Builder, Group, negation};
 use crate::cones::{cones, is_and, is_or};
 use crate::gates::Literal;
 use crate::gathering::{gather, terms_of};
-use crate::sourcing::{Sources, few, is_source, sources_of};
+use crate::groups::{groups_of, with_inputs};
+use crate::sourcing::{Sources, above, few, is_source, sources_of};
 use crate::tape::Tape;
 use propnet::Net;
 use std::alloc::{AllocError, Global};
@@ -88,7 +89,8 @@ fn translate(
     requires sources { AreSourcesOf (gates_of net.now) marks.now (length (gates_of net.now)) sources.now.words.items sources.now.literals.items }
     requires built { IsBuilt builder.old }
     requires first { builder.old.first ≡ 2 + 2 * length sources.now.words.items }
-    ensures { IfOk result (λ literals. AreKept net.now sources.now.words.items kept.now builder.new literals.items) }
+    ensures kept { IfOk result (λ literals. AreKept net.now sources.now.words.items kept.now builder.new literals.items) }
+    ensures groups { OnOk result (builder.new.groups.items ≡ builder.old.groups.items) }
 {
     let mut literals = Vec::new(alloc);
     let mut work = Work {
@@ -103,6 +105,36 @@ fn translate(
     Ok(literals)
 }
 
+/// The tape of the kept nodes, where these and what they need are marked, and one bit of each group is 1.
+fn made(
+    alloc: Global,
+    net: &Net,
+    kept: &[u32],
+    marks: &[bool],
+    sources: Sources,
+    groups: Vec<Group>,
+) -> Result<Tape, AllocError>
+    requires kept { All (λ n. n < length (gates_of net.now)) kept.now }
+    requires marked { AllMarked marks.now kept.now }
+    requires closed { IsClosedFrom (gates_of net.now) 0 marks.now }
+    requires sources { AreSourcesOf (gates_of net.now) marks.now (length (gates_of net.now)) sources.words.items sources.literals.items }
+    requires groups { All (λ g. g.to ≤ length sources.words.items) groups.items }
+    ensures { IfOk result (λ t. IsGroupTapeOf net.now kept.now sources.words.items groups.items t) }
+{
+    let mut builder = Builder::new(alloc, few(sources.words.len())?, groups)?;
+    let literals = translate(alloc, net, kept, marks, &sources, &mut builder)?;
+    let mut slots = Vec::new(alloc);
+    gather(&mut slots, kept, &literals)?;
+    let most = above(&sources.words);
+    Ok(Tape {
+        first: builder.first,
+        sources: sources.words,
+        most,
+        gates: builder.gates,
+        kept: slots,
+    })
+}
+
 impl Tape {
     /// The tape of some nodes of a network: it has no gate that these do not stand on, and is given no word that none of them
     /// reads. Memory is also refused where literals would pass 32 bits.
@@ -113,15 +145,20 @@ impl Tape {
         let cones = cones(alloc, net, kept)?;
         let marks = cones.as_slice();
         let sources = sources_of(alloc, net, marks)?;
-        let mut builder = Builder::new(alloc, few(sources.words.len())?)?;
-        let literals = translate(alloc, net, kept, marks, &sources, &mut builder)?;
-        let mut slots = Vec::new(alloc);
-        gather(&mut slots, kept, &literals)?;
-        Ok(Tape {
-            first: builder.first,
-            sources: sources.words,
-            gates: builder.gates,
-            kept: slots,
-        })
+        made(alloc, net, kept, marks, sources, Vec::new(alloc))
+    }
+
+    /// The same, for joint moves that have an input of each role: an or of more than half of a role's inputs is the negation of the or
+    /// of its others. It is given the words of all inputs.
+    pub fn of_turns(alloc: Global, net: &Net, kept: &[u32]) -> Result<Tape, AllocError>
+        requires { All (λ n. n < length (gates_of net.now)) kept.now }
+        ensures { IfOk result (IsTurnTapeOf net.now kept.now) }
+    {
+        let nodes = with_inputs(alloc, net, kept)?;
+        let cones = cones(alloc, net, &nodes)?;
+        let marks = cones.as_slice();
+        let sources = sources_of(alloc, net, marks)?;
+        let groups = groups_of(alloc, net, marks, &sources)?;
+        made(alloc, net, kept, marks, sources, groups)
     }
 }

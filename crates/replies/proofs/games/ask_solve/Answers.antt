@@ -1,7 +1,7 @@
 use Rattle.std.proofs.Common.{inr}
 use Rattle.kif.specs.View.{trees_in}
 use Rattle.game.specs.NamedRules.{NamedRules}
-use Rattle.position.specs.RuleState.{named_rules_of}
+use Rattle.rulegame.specs.RuleState.{named_rules_of}
 use Rattle.replies.specs.Answers.{Reply}
 use Rattle.replies.specs.Games.{IsPlayReply}
 use Rattle.replies.specs.Solving.{IsSolveReply}

@@ -26,7 +26,7 @@ returns-then-is_or-clause-value c = ok_then c.any_of_all.result _ _
     meant_or c.args.net.now c.args.marks.now c.args.sources.now.words.items c.args.n (gate_with c.gate-name.result.0 c.gate-name.result.1.now) c.args.builder.now
     c.args.literals.now c.in_ok-terms.terms.items
     c.gate-name.ensures c.requires.node (sym c.is_or.ensures ∙ c.if-is_or.true) c.requires.closed c.if-not-marks-n.false c.requires.so_far c.in_ok-terms.ensures
-    c.any_of_all.new.self l h)
+    c.any_of_all.new.self l c.any_of_all.ensures.step h)
     c.any_of_all.ensures.value
 
 pub gather-requires : goal.gather-requires
@@ -51,7 +51,7 @@ returns-then-is_and-clause-value c = ok_then c.all.result _ _
     meant_all c.args.net.now c.args.marks.now c.args.sources.now.words.items c.args.n (gate_with c.gate-name.result.0 c.gate-name.result.1.now) c.args.builder.now
     c.args.literals.now c.gather.new.queue.items
     c.gate-name.ensures (sym c.is_or.ensures ∙ c.if-is_or.false) c.requires.closed c.if-not-marks-n.false c.requires.so_far c.in_ok-gather.ensures
-    c.all.new.self l (sym c.is_and.ensures ∙ c.if-is_and.true) h)
+    c.all.new.self l c.all.ensures.step (sym c.is_and.ensures ∙ c.if-is_and.true) h)
     c.all.ensures.value
 
 pub returns-clause-value : goal.returns-clause-value
@@ -59,5 +59,5 @@ returns-clause-value c = λ on.
     meant_none c.args.net.now c.args.marks.now c.args.sources.now.words.items c.args.n (gate_with c.gate-name.result.0 c.gate-name.result.1.now) c.args.builder.now
     c.args.literals.now c.gather.new.queue.items
     c.gate-name.ensures (sym c.is_or.ensures ∙ c.if-is_or.false) c.requires.closed c.if-not-marks-n.false c.requires.so_far c.in_ok-gather.ensures
-    c.any.new.self c.negation.result (sym c.is_source.ensures ∙ c.if-is_source.false) (sym c.is_and.ensures ∙ c.if-is_and.false)
+    c.any.new.self c.negation.result c.any.ensures.step (sym c.is_source.ensures ∙ c.if-is_source.false) (sym c.is_and.ensures ∙ c.if-is_and.false)
     (nor_literal c.args.builder.now c.any.new.self c.gather.new.queue.items c.in_ok-any.any c.negation.result c.any.ensures.step.built c.in_ok-any.ensures.value c.negation.ensures)

@@ -1,24 +1,14 @@
-use Rattle.std.proofs.Common.{refl}
-use Rattle.tape.proofs.Tapes.{kept_slots, tape_of}
+use Rattle.tape.proofs.Tapes.{plain_tape, tape_then}
 use Rattle.tape.proofs.tape.Tape.new.Goals as goal
 
 pub sources_of-requires : goal.sources_of-requires
 sources_of-requires c = rw c.as_slice-marks.ensures.value c.in_ok-cones.ensures.closed.count
 
-pub translate-requires-clause-marked : goal.translate-requires-clause-marked
-translate-requires-clause-marked c = rw c.as_slice-marks.ensures.value c.in_ok-cones.ensures.kept
+pub made-requires-clause-marked : goal.made-requires-clause-marked
+made-requires-clause-marked c = rw c.as_slice-marks.ensures.value c.in_ok-cones.ensures.kept
 
-pub translate-requires-clause-closed : goal.translate-requires-clause-closed
-translate-requires-clause-closed c = rw c.as_slice-marks.ensures.value c.in_ok-cones.ensures.closed
-
-pub invariant_of-result : goal.invariant_of-result
-invariant_of-result c = record {
-  ordered = c.in_ok-literals.ensures.built.tape;
-  given = c.in_ok-literals.ensures.first;
-  kept_within = kept_slots c.args.net.now c.in_ok-sources.sources.words.items c.args.kept.now c.translate.new.builder c.in_ok-literals.literals.items c.deref.result.now c.gather.new.queue.items
-      c.in_ok-literals.ensures c.deref.ensures.value c.in_ok-gather.ensures;
-}
+pub made-requires-clause-closed : goal.made-requires-clause-closed
+made-requires-clause-closed c = rw c.as_slice-marks.ensures.value c.in_ok-cones.ensures.closed
 
 pub returns : goal.returns
-returns c = tape_of c.args.net.now c.in_ok-sources.sources.words.items c.args.kept.now c.translate.new.builder c.in_ok-literals.literals.items c.deref.result.now _
-    c.in_ok-literals.ensures c.deref.ensures.value refl refl refl c.in_ok-gather.ensures
+returns c = tape_then c.made.result _ _ (λ t h. plain_tape c.args.net.now c.args.kept.now _ _ t h c.new.ensures.items) c.made.ensures

@@ -3,6 +3,9 @@ use Rattle.tape.proofs.Passes.{order_within}
 use Rattle.tape.proofs.Tapes.{run_values}
 use Rattle.tape.proofs.tape.Tape.run.Goals as goal
 
+pub fill_sources-requires-clause-below : goal.fill_sources-requires-clause-below
+fill_sources-requires-clause-below c = rw c.deref.ensures.value c.args.self.now.sources_below
+
 pub run_gates-requires-clause-operands : goal.run_gates-requires-clause-operands
 run_gates-requires-clause-operands c =
     rw c.deref-2.ensures.value

@@ -1,0 +1,41 @@
+use Rattle.std.proofs.Common.{◌≡◌, ◌<◌, ℕ, Bool, List, length, ap, subst, sym, ◌∙◌, arith}
+use Rattle.std.specs.Prelude.{All}
+use Rattle.std.specs.List.{list_any}
+use Rattle.ground.specs.GroundView.{kinds_of}
+use Rattle.tape.specs.Tapes.{kept_in, HasRun}
+use Rattle.netgame.specs.LanePlans.{shown_below, asked_at, places_of, ends_of}
+use Rattle.netgame.specs.NetLanes.{holds_lane}
+use Rattle.netgame.proofs.Lanes.{kept_count, tells_asked}
+use Rattle.netgame.proofs.TellingLemmas.{told_ends, ends_within}
+use Rattle.netgame.proofs.net_lanes.tell_lanes.Goals as goal
+
+pub any_told-out-requires-clause-places : goal.any_told-out-requires-clause-places
+any_told-out-requires-clause-places c =
+    let game = c.args.game.now in
+    let kinds = kinds_of game.played in
+    let plan = game.lane_plan in
+    subst (λ (ps : List ℕ). All (λ (p : ℕ). p < kept_in plan.asked) ps) (sym (c.deref-3.ensures.value ∙ game.laned.ends))
+    (subst (λ (n : ℕ). All (λ (p : ℕ). p < n) (ends_of (places_of kinds) kinds)) (sym (kept_count game.played game.net plan game.laned)) (ends_within kinds))
+
+pub returns-clause-many : goal.returns-clause-many
+returns-clause-many c =
+    let game = c.args.game.now in
+    let g = game.played in
+    let plan = game.lane_plan in
+    let kinds = kinds_of g in
+    let states = c.args.out.now.states.items in
+    let room = c.run.new.room.items in
+    let few = c.requires.few in
+    let ran : HasRun plan.asked states room = subst (λ (ws : List ℕ). HasRun plan.asked ws room) c.deref.ensures.value c.run.ensures.run in
+    let lent : HasRun plan.asked states c.deref-2.result.now = subst (λ (ws : List ℕ). HasRun plan.asked states ws) (sym c.deref-2.ensures.value) ran in
+    record {
+      states = c.requires.states;
+      room = c.run.ensures.size ∙ c.requires.room;
+      few = few;
+      ran = λ some. ran;
+      ended = λ k lt.
+          let on : ℕ → Bool = λ p. holds_lane g states k (asked_at kinds p) in
+          c.any_told-out.ensures k on (tells_asked g game.net game.compiled plan game.laned states c.deref-2.result.now k c.requires.states lent (omega arith))
+          ∙ ap (list_any on) (c.deref-3.ensures.value ∙ game.laned.ends)
+          ∙ told_ends kinds (holds_lane g states k);
+    }

@@ -1,0 +1,83 @@
+-- The tapes of play, and where one of them keeps what is asked of a state.
+use Rattle.std.specs.Prelude.{ℕ, zero, suc, ◌≡◌, ◌<◌, ◌++◌, List, [], ◌∷◌, length, map, filter, get_or, slice_index, Option, Some, None, if◌then◌else◌}
+use Rattle.std.specs.List.{range_with_len}
+use Rattle.meaning.specs.declared.kind.Kind.{Kind}
+use Rattle.ground.specs.declared.ground.Ground.{Ground}
+use Rattle.ground.specs.Grounds.{texts_at}
+use Rattle.ground.specs.GroundView.{inputs_of, kinds_of}
+use Rattle.propnet.specs.declared.net.Net.{Net}
+use Rattle.tape.specs.Tapes.{IsTapeOf, IsTurnTapeOf}
+use Rattle.rulegame.specs.declared.naming.Naming.TheVariants.{ByLegal}
+use Rattle.rulegame.specs.declared.plan.Sought.TheVariants.{Goals, Ends}
+use Rattle.rulegame.specs.declared.plan.Standing.{Standing}
+use Rattle.rulegame.specs.RulePlay.{kind_at, names, goal_value}
+use Rattle.rulegame.specs.Plans.{all_standing}
+use Rattle.netgame.specs.declared.lane_plan.LanePlan.{LanePlan}
+use Rattle.netgame.specs.declared.lane_plan.RoleAsked.{RoleAsked}
+use Rattle.netgame.specs.NetState.{is_shown, view_of}
+
+-- the atoms below n that are asked, in order
+abbrev pub shown_below : List Kind → ℕ → List ℕ
+shown_below kinds n = filter (λ a. is_shown (kind_at kinds a)) (range_with_len 0 n)
+
+-- the atom at a place among those that are asked
+abbrev pub asked_at : List Kind → ℕ → ℕ
+asked_at kinds p = slice_index (shown_below kinds (length kinds)) p
+
+-- the nodes that tell of the atoms below n that are asked, in order
+abbrev pub asked_below : List (Option ℕ) → List Kind → ℕ → List ℕ
+asked_below views kinds n = map (view_of views) (shown_below kinds n)
+
+abbrev pub asked_nodes : List (Option ℕ) → List Kind → List ℕ
+asked_nodes views kinds = asked_below views kinds (length kinds)
+
+-- where the atoms below n stand among those that are asked
+abbrev pub places_below : List Kind → ℕ → List ℕ
+places_below kinds n = map (λ a. length (shown_below kinds a)) (range_with_len 0 n)
+
+abbrev pub places_of : List Kind → List ℕ
+places_of kinds = places_below kinds (length kinds)
+
+-- the atom below n that makes a move of a role legal
+abbrev pub legal_named : List Kind → ℕ → ℕ → ℕ → Option ℕ
+legal_named kinds r m zero = None
+legal_named kinds r m (suc n) = if names (ByLegal r) (kind_at kinds n) m then Some n else legal_named kinds r m n
+
+-- the place of the atom that makes a move legal, with the move
+abbrev pub legal_pair : List ℕ → Option ℕ → ℕ → List (ℕ × ℕ)
+legal_pair places None m = []
+legal_pair places (Some a) m = (slice_index places a, m) ∷ []
+
+-- the same of the moves below n of a role
+abbrev pub legals_below : List ℕ → List Kind → ℕ → ℕ → List (ℕ × ℕ)
+legals_below places kinds r zero = []
+legals_below places kinds r (suc m) = legals_below places kinds r m ++ legal_pair places (legal_named kinds r m (length kinds)) m
+
+-- the place of a goal of a role, with its value
+abbrev pub goal_pair : List ℕ → ℕ → Standing → ℕ × ℕ
+goal_pair places r p = (slice_index places p.atom, goal_value r p.kind)
+
+abbrev pub goals_of : List ℕ → List Kind → ℕ → List (ℕ × ℕ)
+goals_of places kinds r = map (goal_pair places r) (all_standing (Goals r) kinds)
+
+-- the places of the atoms that end the game
+abbrev pub ends_of : List ℕ → List Kind → List ℕ
+ends_of places kinds = map (λ (p : Standing). slice_index places p.atom) (all_standing Ends kinds)
+
+-- the transitions of the base propositions below n
+abbrev pub next_below : Net → ℕ → List ℕ
+next_below net n = map (λ p. get_or net.transitions.items p 0) (range_with_len 0 n)
+
+-- the places of what tells of a role with n moves
+pub record IsRoleAskedOf (places : List ℕ) (kinds : List Kind) (r n : ℕ) (plan : RoleAsked) : Type 0 where
+  pub legals : plan.legals.items ≡ legals_below places kinds r n
+  pub goals : plan.goals.items ≡ goals_of places kinds r
+
+-- one tape for the state after a turn, and one for what is asked of a state, with the places of what is asked
+pub record IsLanePlanOf (g : Ground) (net : Net) (plan : LanePlan) : Type 0 where
+  pub next : ∥ IsTurnTapeOf net (next_below net (length g.starts.items)) plan.next ∥₁
+  pub asked : ∥ IsTapeOf net (asked_nodes net.views.items (kinds_of g)) plan.asked ∥₁
+  pub ends : plan.ends.items ≡ ends_of (places_of (kinds_of g)) (kinds_of g)
+  pub size : length plan.roles.items ≡ length (inputs_of g)
+  pub roles : (r : ℕ) (d : RoleAsked) → r < length (inputs_of g)
+      → IsRoleAskedOf (places_of (kinds_of g)) (kinds_of g) r (length (texts_at (inputs_of g) r)) (get_or plan.roles.items r d)

@@ -1,0 +1,3 @@
+pub mod NetState
+pub mod LanePlans
+pub mod NetLanes

@@ -1,0 +1,85 @@
+-- Many states of a game over a network, a word for each base proposition, and what is told of each.
+use Rattle.std.specs.Prelude.{ℕ, ◌≡◌, ◌<◌, ◌≤◌, ◌+◌, ◌++◌, ◌==◌, Bool, List, [], ◌∷◌, length, map, filter, sum, slice_index, vec_capacity, if◌then◌else◌}
+use Rattle.std.specs.Int.{bit_at}
+use Rattle.std.specs.List.{range_with_len}
+use Rattle.smallvec.specs.SmallVec.{SmallVec}
+use Rattle.ground.specs.declared.ground.Ground.{Ground}
+use Rattle.ground.specs.GroundView.{inputs_of, kinds_of}
+use Rattle.propnet.specs.declared.net.Net.{Net}
+use Rattle.tape.specs.declared.tape.Tape.{Tape}
+use Rattle.tape.specs.Tapes.{slots_in, kept_in, IsTapeOf, HasRun, IsWordOf}
+use Rattle.netgame.specs.declared.lane_plan.LanePlan.{LanePlan}
+use Rattle.netgame.specs.declared.net_many.NetWide.{NetWide}
+use Rattle.netgame.specs.declared.net_many.NetMany.{NetMany}
+use Rattle.netgame.specs.declared.net_pos.NetPos.{NetPos}
+use Rattle.game.specs.Rules.{State}
+use Rattle.rulegame.specs.Plans.{greatest_of}
+use Rattle.rulegame.specs.RulePlay.{ends}
+use Rattle.rulegame.specs.RuleState.{holds_in, rules_of, HaveRoom, AreRead, all_capacities}
+use Rattle.netgame.specs.NetState.{lane_state, kept_state, AreSpread}
+
+-- the states that the words keep
+abbrev pub lane_states : Ground → NetMany → List State
+lane_states g m = map (lane_state m.states.items (length g.starts.items)) (range_with_len 0 m.count)
+
+-- what holds in the state that the words keep in lane k
+abbrev pub holds_lane : Ground → List ℕ → ℕ → ℕ → Bool
+holds_lane g states k = holds_in g (lane_state states (length g.starts.items) k)
+
+-- the words keep the states after the one of the first lane and each joint move
+abbrev pub AreAfter : Ground → List ℕ → List (SmallVec ℕ) → List ℕ → Type 0
+AreAfter g from joints states =
+    map (lane_state states (length g.starts.items)) (range_with_len 0 (length joints)) ≡ map (λ (j : SmallVec ℕ). (rules_of g).after (lane_state from (length g.starts.items) 0) j.items) joints
+
+-- on says of what a tape keeps what the words that a pass writes for it have in lane k
+abbrev pub Tells : Tape → List ℕ → ℕ → (ℕ → Bool) → Type 0
+Tells tape room k on =
+    (p w : ℕ) → p < kept_in tape
+    → ((net : Net) (kept words : List ℕ) → IsTapeOf net kept tape → HasRun tape words room → IsWordOf net words (slice_index kept p) w)
+    → (bit_at w k == 1) ≡ on p
+
+-- the moves whose places hold
+abbrev pub told_moves : (ℕ → Bool) → List (ℕ × ℕ) → List ℕ
+told_moves on ls = map (λ (l : ℕ × ℕ). l.1) (filter (λ (l : ℕ × ℕ). on l.0) ls)
+
+-- the greatest value whose place holds, or 0
+abbrev pub told_goal : (ℕ → Bool) → List (ℕ × ℕ) → ℕ
+told_goal on ls = greatest_of (map (λ (l : ℕ × ℕ). if on l.0 then l.1 else 0) ls)
+
+-- there is room for 64 states and for what is asked of them, and both are of each of the states that there are
+pub record IsNetMany (g : Ground) (plan : LanePlan) (m : NetMany) : Type 0 where
+  pub states : length m.states.items ≡ length g.starts.items
+  pub room : length m.room.items ≡ slots_in plan.asked
+  pub few : m.count ≤ 64
+  pub ran : 0 < m.count → HasRun plan.asked m.states.items m.room.items
+  pub ended : (k : ℕ) → k < m.count → (bit_at m.ended k == 1) ≡ ends (kinds_of g) (holds_lane g m.states.items k)
+
+-- there is room for the words that passes over the tapes are given and write
+pub record HasWideRoom (net : Net) (plan : LanePlan) (w : NetWide) : Type 0 where
+  pub words : length w.words.items ≡ net.base + sum net.inputs.items
+  pub next : length w.next.items ≡ slots_in plan.next
+
+abbrev pub wide_capacities : NetWide → List ℕ
+wide_capacities w = vec_capacity w.words ∷ vec_capacity w.next ∷ []
+
+abbrev pub many_capacities : NetMany → List ℕ
+many_capacities m = vec_capacity m.states ∷ vec_capacity m.room ∷ []
+
+-- there is room for a state of the game, and for the passes that lead to it
+pub record HasNetRoom (g : Ground) (net : Net) (plan : LanePlan) (p : NetPos) : Type 0 where
+  pub lanes : length p.lanes.items ≡ length g.starts.items
+  pub roles : HaveRoom (inputs_of g) p.roles.items
+  pub wide : HasWideRoom net plan p.wide
+  pub many : IsNetMany g plan p.many
+
+-- what is told of the state is so
+pub record IsNetState (g : Ground) (net : Net) (plan : LanePlan) (p : NetPos) : Type 0 where
+  pub room : HasNetRoom g net plan p
+  pub spread : AreSpread p.lanes.items
+  pub ended : p.ended ≡ ends (kinds_of g) (holds_in g (kept_state g p))
+  pub roles : AreRead (kinds_of g) (holds_in g (kept_state g p)) (inputs_of g) p.roles.items
+
+-- the capacities of what the state keeps
+abbrev pub net_capacities : NetPos → List ℕ
+net_capacities p =
+    vec_capacity p.lanes ∷ vec_capacity p.roles ∷ all_capacities p.roles.items ++ (wide_capacities p.wide ++ many_capacities p.many)

@@ -1,0 +1,54 @@
+-- What a state of a game over a network keeps.
+use Rattle.std.specs.Prelude.{ℕ, ◌≡◌, ◌<◌, ◌==◌, Bool, true, false, List, length, filter, get_or, unwrap_or, Option, None}
+use Rattle.std.specs.List.{range_with_len}
+use Rattle.meaning.specs.declared.kind.Kind.{Kind}
+use Rattle.meaning.specs.declared.kind.Kind.TheVariants.{Fixed, Now, Does, Next, Legal, Goal, Terminal, Other}
+use Rattle.ground.specs.declared.ground.Ground.{Ground}
+use Rattle.ground.specs.GroundView.{kinds_of}
+use Rattle.propnet.specs.Values.{lane}
+use Rattle.netgame.specs.declared.net_pos.NetPos.{NetPos}
+use Rattle.game.specs.Rules.{State}
+use Rattle.rulegame.specs.RulePlay.{kind_at}
+
+-- bit k of word n is 1
+abbrev pub is_lane_on : List ℕ → ℕ → ℕ → Bool
+is_lane_on words k n = lane words k n == 1
+
+-- the state whose base propositions below n are 1
+abbrev pub told_state : (ℕ → ℕ) → ℕ → State
+told_state state n = filter (λ p. state p == 1) (range_with_len 0 n)
+
+-- the state whose base propositions below n have bits in lane k
+abbrev pub lane_state : List ℕ → ℕ → ℕ → State
+lane_state words n k = told_state (lane words k) n
+
+-- each word has the same bit in every lane
+abbrev pub AreSpread : List ℕ → Type 0
+AreSpread words = (p k : ℕ) → k < 64 → lane words k p ≡ lane words 0 p
+
+-- the number of the view of an atom, or 0
+abbrev pub view_of : List (Option ℕ) → ℕ → ℕ
+view_of views a = unwrap_or (get_or views a None) 0
+
+-- what is asked of each state: its end, goals and legal moves
+abbrev pub is_shown : Kind → Bool
+is_shown Fixed = false
+is_shown (Now p) = false
+is_shown (Does r m) = false
+is_shown (Next p) = false
+is_shown (Legal r m) = true
+is_shown (Goal r v) = true
+is_shown Terminal = true
+is_shown Other = false
+
+-- two tests agree on the atoms that are asked
+abbrev pub Alike : List Kind → (ℕ → Bool) → (ℕ → Bool) → Type 0
+Alike kinds f g = (a : ℕ) → a < length kinds → is_shown (kind_at kinds a) ≡ true → f a ≡ g a
+
+-- the views of the atoms that are asked are below n
+abbrev pub AreViewsBelow : List Kind → List (Option ℕ) → ℕ → Type 0
+AreViewsBelow kinds views n = (a : ℕ) → a < length kinds → is_shown (kind_at kinds a) ≡ true → view_of views a < n
+
+-- the state that is kept
+abbrev pub kept_state : Ground → NetPos → State
+kept_state g p = lane_state p.lanes.items (length g.starts.items) 0

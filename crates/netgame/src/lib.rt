@@ -1,0 +1,18 @@
+//! The game of the rules, played over their network.
+#![tactic(auto)]
+
+mod lane_plan;
+mod lane_planning;
+mod net_game;
+mod net_lanes;
+mod net_many;
+mod net_passes;
+mod net_planning;
+mod net_playing;
+mod net_pos;
+mod net_taking;
+mod net_telling;
+mod net_words;
+
+pub use net_game::NetGame;
+pub use net_pos::NetPos;

@@ -1,0 +1,23 @@
+// Up to 64 states of a game over a network, and what is told of them.
+
+/// Working room: words with a bit for each state.
+#[derive(Drop)]
+pub struct NetWide {
+    /// A word for each base proposition, and one for each input behind them.
+    pub(crate) words: Vec<u64>,
+    /// What the tape of the next state writes.
+    pub(crate) next: Vec<u64>,
+}
+
+/// Up to 64 states.
+#[derive(Drop)]
+pub struct NetMany {
+    /// Bit k of word p: whether base proposition p is in state k.
+    pub(crate) states: Vec<u64>,
+    /// What the tape of what is asked wrote for these states.
+    pub(crate) room: Vec<u64>,
+    /// Bit k: whether the game has ended in state k.
+    pub(crate) ended: u64,
+    /// How many states there are.
+    pub(crate) count: usize,
+}

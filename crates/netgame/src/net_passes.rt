@@ -1,0 +1,73 @@
+// Passes over tapes.
+ghost use Rattle.std.specs.Prelude.{◌≡◌, ◌<◌, ◌≤◌, ◌+◌, ℕ, List, length, sum, get_or, slice_index, vec_capacity};
+ghost use Rattle.propnet.specs.declared.net.Net.{Net};
+ghost use Rattle.propnet.specs.Given.{AreGiven};
+ghost use Rattle.tape.specs.Tapes.{slots_in, kept_in, IsTurnTapeOf, HasRun, IsTurnWordOf};
+
+use game::Joint;
+use propnet::Net;
+use tape::Tape;
+
+/// Writes words in front of those of the inputs, and these.
+fn put_sources(net: &Net, from: &[u64], joints: &[Joint], words: &mut [u64])
+    requires from { length from.now ≡ net.now.base }
+    requires few { length joints.now ≤ 64 }
+    requires room { length words.old ≡ net.now.base + sum net.now.inputs.items }
+    ensures base { (p : ℕ) → p < net.now.base → slice_index words.new p ≡ slice_index from.now p }
+    ensures given { AreGiven net.now.base net.now.inputs.items joints.now words.new }
+{
+    for p in 0..from.len() {
+        words[p] = from[p];
+    }
+    net.write_joints(joints, words);
+}
+
+/// Writes words in front of those of the inputs, and these.
+pub(crate) fn write_sources(net: &Net, from: &[u64], joints: &[Joint], words: &mut Vec<u64>)
+    requires from { length from.now ≡ net.now.base }
+    requires few { length joints.now ≤ 64 }
+    requires room { length words.old.items ≡ net.now.base + sum net.now.inputs.items }
+    ensures base { (p : ℕ) → p < net.now.base → slice_index words.new.items p ≡ slice_index from.now p }
+    ensures given { AreGiven net.now.base net.now.inputs.items joints.now words.new.items }
+    ensures size { length words.new.items ≡ length words.old.items }
+    ensures capacity { vec_capacity words.new ≡ vec_capacity words.old }
+{
+    put_sources(net, from, joints, words);
+}
+
+/// Makes a pass.
+pub(crate) fn run(tape: &Tape, words: &[u64], room: &mut Vec<u64>)
+    requires { length room.old.items ≡ slots_in tape.now }
+    ensures run { HasRun tape.now words.now room.new.items }
+    ensures size { length room.new.items ≡ length room.old.items }
+    ensures capacity { vec_capacity room.new ≡ vec_capacity room.old }
+{
+    tape.run(words, room);
+}
+
+/// Writes the words of the kept nodes, behind a pass.
+fn gather(tape: &Tape, room: &[u64], out: &mut [u64])
+    requires room { length room.now ≡ slots_in tape.now }
+    requires kept { length out.old ≡ kept_in tape.now }
+    ensures { (net : Net) (kept words : List ℕ) (k : ℕ) → IsTurnTapeOf net kept tape.now → HasRun tape.now words room.now → k < length out.old
+        → IsTurnWordOf net words (slice_index kept k) (slice_index out.new k) }
+{
+    for k in 0..out.len() {
+        out[k] = tape.word(room, k);
+    }
+}
+
+/// Makes a pass, and writes the words of the kept nodes.
+pub(crate) fn run_kept(tape: &Tape, words: &[u64], room: &mut Vec<u64>, out: &mut Vec<u64>)
+    requires room { length room.old.items ≡ slots_in tape.now }
+    requires kept { length out.old.items ≡ kept_in tape.now }
+    ensures told { (net : Net) (kept : List ℕ) (k : ℕ) → IsTurnTapeOf net kept tape.now → k < length out.old.items
+        → IsTurnWordOf net words.now (slice_index kept k) (slice_index out.new.items k) }
+    ensures room_size { length room.new.items ≡ length room.old.items }
+    ensures room_capacity { vec_capacity room.new ≡ vec_capacity room.old }
+    ensures size { length out.new.items ≡ length out.old.items }
+    ensures capacity { vec_capacity out.new ≡ vec_capacity out.old }
+{
+    run(tape, words, room);
+    gather(tape, room, out);
+}

@@ -1,0 +1,82 @@
+// Play over a network.
+ghost use Rattle.std.specs.Prelude.{◌≡◌, ◌<◌, ℕ, length, slice_index_or, false, vec_capacity, IfOk};
+ghost use Rattle.game.specs.Rules.{IsTurn};
+ghost use Rattle.rulegame.specs.RulePlay.{marked};
+ghost use Rattle.rulegame.specs.RuleState.{rules_of};
+ghost use Rattle.netgame.specs.NetState.{is_lane_on, lane_state, kept_state};
+ghost use Rattle.netgame.specs.NetLanes.{HasNetRoom, IsNetState, net_capacities};
+
+use crate::net_game::NetGame;
+use crate::net_lanes::{net_steps, new_net_many, new_net_wide, tell_lanes};
+use crate::net_pos::NetPos;
+use crate::net_taking::take_told;
+use game::Joint;
+use ground::Ground;
+use rulegame::new_roles;
+use std::alloc::AllocError;
+use std::slice::from_ref;
+
+/// Writes the base propositions that hold at the start into the first lane.
+fn put_start(ground: &Ground, states: &mut [u64])
+    requires { length states.old ≡ length ground.now.starts.items }
+    ensures { (p : ℕ) → p < length ground.now.starts.items → is_lane_on states.new 0 p ≡ slice_index_or ground.now.starts.items p false }
+{
+    for p in 0..states.len() {
+        states[p] = u64::from(ground.starts(p));
+    }
+}
+
+/// Writes the start state into the first lane.
+fn write_start(ground: &Ground, states: &mut Vec<u64>)
+    requires { length states.old.items ≡ length ground.now.starts.items }
+    ensures start { lane_state states.new.items (length ground.now.starts.items) 0 ≡ marked ground.now.starts.items }
+    ensures size { length states.new.items ≡ length states.old.items }
+    ensures capacity { vec_capacity states.new ≡ vec_capacity states.old }
+{
+    put_start(ground, states);
+}
+
+/// Takes the first of the states that the state's own room keeps.
+fn take_first(game: &NetGame, q: &mut NetPos)
+    requires room { HasNetRoom game.now.played game.now.net game.now.lane_plan q.old }
+    requires some { 0 < q.old.many.count }
+    ensures state { IsNetState game.now.played game.now.net game.now.lane_plan q.new }
+    ensures taken { kept_state game.now.played q.new ≡ lane_state q.old.many.states.items (length game.now.played.starts.items) 0 }
+    ensures capacities { net_capacities q.new ≡ net_capacities q.old }
+{
+    q.ended = take_told(game, &q.many, 0, &mut q.lanes, &mut q.roles);
+}
+
+/// Writes the state after another and a joint move.
+pub(crate) fn step_net_state(game: &NetGame, p: &NetPos, joint: &Joint, q: &mut NetPos)
+    requires from { IsNetState game.now.played game.now.net game.now.lane_plan p.now }
+    requires joint { IsTurn (rules_of game.now.played) joint.now.items }
+    requires to { HasNetRoom game.now.played game.now.net game.now.lane_plan q.old }
+    ensures state { IsNetState game.now.played game.now.net game.now.lane_plan q.new }
+    ensures after { kept_state game.now.played q.new ≡ (rules_of game.now.played).after (kept_state game.now.played p.now) joint.now.items }
+    ensures capacities { net_capacities q.new ≡ net_capacities q.old }
+{
+    net_steps(game, p, from_ref(joint), &mut q.wide, &mut q.many);
+    take_first(game, q);
+}
+
+/// The start state.
+pub(crate) fn start_net_state(game: &NetGame) -> Result<NetPos, AllocError>
+    ensures state { IfOk result (IsNetState game.now.played game.now.net game.now.lane_plan) }
+    ensures start { IfOk result (λ p. kept_state game.now.played p ≡ marked game.now.played.starts.items) }
+{
+    let alloc = game.alloc;
+    let wide = new_net_wide(game)?;
+    let mut many = new_net_many(game)?;
+    write_start(&game.played, &mut many.states);
+    tell_lanes(game, 1, &mut many);
+    let mut p = NetPos {
+        lanes: vec![in alloc; 0u64; game.played.base()]?,
+        roles: new_roles(alloc, &game.played)?,
+        ended: false,
+        wide,
+        many,
+    };
+    take_first(game, &mut p);
+    Ok(p)
+}

@@ -1,0 +1,17 @@
+// A state of a game over a network, with what is told of it.
+
+use crate::net_many::{NetMany, NetWide};
+use rulegame::RoleState;
+
+/// A state, and what is told of it.
+#[derive(Drop)]
+pub struct NetPos {
+    /// Word p: whether base proposition p holds, the same in all bits.
+    pub(crate) lanes: Vec<u64>,
+    pub(crate) roles: Vec<RoleState>,
+    pub(crate) ended: bool,
+    /// Room for the passes that lead to the state, to be written over.
+    pub(crate) wide: NetWide,
+    /// Room for what they tell, to be written over.
+    pub(crate) many: NetMany,
+}

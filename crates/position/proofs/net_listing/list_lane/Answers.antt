@@ -1,9 +1,0 @@
-use Rattle.std.proofs.Common.{List, ℕ, length, take, ap, ◌∙◌}
-use Rattle.position.proofs.Words.{written_over}
-use Rattle.position.proofs.net_listing.list_lane.Goals as goal
-
-pub returns-clause-listed : goal.returns-clause-listed
-returns-clause-listed c =
-    let old = c.args.numbers.now in
-    let same = written_over c.put_lane.new.numbers old.items old.len old.ok.0 (c.put_lane.ensures.size ∙ ap length c.deref_mut.ensures.value) in
-    ap (λ (ns : List ℕ). take c.put_lane.result ns) same ∙ c.put_lane.ensures.listed

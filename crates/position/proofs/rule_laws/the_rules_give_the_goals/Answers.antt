@@ -1,5 +1,0 @@
-use Rattle.position.proofs.GameRules.{goals_by_rules}
-use Rattle.position.proofs.rule_laws.the_rules_give_the_goals.Goals as goal
-
-pub returns : goal.returns
-returns c = goals_by_rules

@@ -1,0 +1,224 @@
+-- Marks by number, and going through kept instances.
+use Rattle.std.proofs.Common.{◌≡◌, ℕ, ◌+◌, ◌<◌, ◌≤◌, Bool, true, false, cond, not, ◌&&◌, ◌||◌, List, [], ◌∷◌, ◌++◌, length, map, zero, suc, refl, sym, ◌∙◌, ap, subst, arith, inl, inr, ◌⊎◌, get_or, drop, take, get_or-set_same, get_or-set_other, ne_eqb, eq-eqb, le-ltb}
+use Rattle.std.specs.Prelude.{All, filter, ◌==◌, nat_lt, max, slice_get, Some, None}
+use Rattle.std.specs.List.{range_with_len, flat_map}
+use Rattle.std.proofs.Math.ListN.{set, length-set}
+use Rattle.std.proofs.Math.Seq.{drop-cons}
+use Rattle.std.proofs.lemmas.Bool.{cases_eq, cases_lt}
+use Rattle.std.proofs.lemmas.List.{get_or_past, get_or-map, length-map}
+use Rattle.meaning.specs.declared.kind.Kind.{Kind}
+use Rattle.std.proofs.Math.Bool.{or-false}
+use Rattle.ground.specs.declared.ground.Instance as shown
+use Rattle.ground.specs.Grounds.{Kept, kept_of}
+use Rattle.ground.specs.Fits.{IsKeptWithin}
+use Rattle.game.specs.Rules.{State, Turn}
+use Rattle.rulegame.specs.RulePlay.{stands_in, marked, kind_at, is_given, is_right, all_right, found_by, AreMarks, with_heads, some_below, greatest_below}
+
+other_than : (a p : ℕ) → (p < a) ⊎ (a + 1 ≤ p) → (a == p) ≡ false
+other_than a p (inl l) = ne_eqb a p (λ e. absurd (omega arith))
+other_than a p (inr l) = ne_eqb a p (λ e. absurd (omega arith))
+
+one_on : (a p n : ℕ) → (p < a) ⊎ (a + suc n ≤ p) → (p < a + 1) ⊎ (a + 1 + n ≤ p)
+one_on a p n (inl l) = inl (omega arith)
+one_on a p n (inr l) = inr (omega arith)
+
+here_other : (a p n : ℕ) → (p < a) ⊎ (a + suc n ≤ p) → (p < a) ⊎ (a + 1 ≤ p)
+here_other a p n (inl l) = inl l
+here_other a p n (inr l) = inr (omega arith)
+
+-- a number outside of a range does not stand in what is filtered of it
+pub outside : (f : ℕ → Bool) (a n p : ℕ) → (p < a) ⊎ (a + n ≤ p) → stands_in p (filter f (range_with_len a n)) ≡ false
+outside f a zero p h = refl
+outside f a (suc n) p h = step (f a) (outside f (a + 1) n p (one_on a p n h)) (other_than a p (here_other a p n h))
+  where
+    step : (b : Bool) → stands_in p (filter f (range_with_len (a + 1) n)) ≡ false → (a == p) ≡ false
+        → stands_in p (cond b (a ∷ filter f (range_with_len (a + 1) n)) (filter f (range_with_len (a + 1) n))) ≡ false
+    step true rest other = rw (other, rest) refl
+    step false rest other = rest
+
+-- one within does where it passes
+pub inside : (f : ℕ → Bool) (a n p : ℕ) → a ≤ p → p < a + n → stands_in p (filter f (range_with_len a n)) ≡ f p
+inside f a zero p from to = absurd (omega arith)
+inside f a (suc n) p from to =
+    elim (cases_eq a p) [
+      | inl e ↦ first (f a) refl e
+      | inr other ↦ later (f a) (inside f (a + 1) n p (ahead other) (omega arith)) (ne_eqb a p other)
+    ]
+  where
+    ahead : (a ≡ p → ⊥) → a + 1 ≤ p
+    ahead other = elim (cases_lt a p) [ inl l ↦ omega arith | inr l ↦ absurd (other (omega arith)) ]
+
+    first : (b : Bool) → f a ≡ b → a ≡ p → stands_in p (cond b (a ∷ filter f (range_with_len (a + 1) n)) (filter f (range_with_len (a + 1) n))) ≡ f p
+    first true e same = let here : (a == p) ≡ true = eq-eqb a p same in rw here (sym (ap f (sym same) ∙ e))
+    first false e same = outside f (a + 1) n p (inl (omega arith)) ∙ sym (ap f (sym same) ∙ e)
+
+    later : (b : Bool) → stands_in p (filter f (range_with_len (a + 1) n)) ≡ f p → (a == p) ≡ false
+        → stands_in p (cond b (a ∷ filter f (range_with_len (a + 1) n)) (filter f (range_with_len (a + 1) n))) ≡ f p
+    later true rest other = rw (other, rest) refl
+    later false rest other = rest
+
+-- a number stands among the marked ones where it is marked
+pub in_marked : (bs : List Bool) (p : ℕ) → stands_in p (marked bs) ≡ get_or bs p false
+in_marked bs p = elim (cases_lt p (length bs)) [
+  | inl l ↦ inside (λ n. get_or bs n false) 0 (length bs) p (omega arith) (omega arith)
+  | inr l ↦ outside (λ n. get_or bs n false) 0 (length bs) p (inr (omega arith)) ∙ sym (get_or_past bs p false l)
+]
+
+-- filters that agree on a range give the same
+pub filters_agree : (f g : ℕ → Bool) (a n : ℕ) → ((k : ℕ) → a ≤ k → k < a + n → f k ≡ g k) → filter f (range_with_len a n) ≡ filter g (range_with_len a n)
+filters_agree f g a zero h = refl
+filters_agree f g a (suc n) h =
+    let here : f a ≡ g a = h a (omega arith) (omega arith) in
+    let rest : filter f (range_with_len (a + 1) n) ≡ filter g (range_with_len (a + 1) n) = filters_agree f g (a + 1) n (λ k from to. h k (omega arith) (omega arith)) in
+    ap (λ (b : Bool). cond b (a ∷ filter f (range_with_len (a + 1) n)) (filter f (range_with_len (a + 1) n))) here
+    ∙ ap (λ (xs : List ℕ). cond (g a) (a ∷ xs) xs) rest
+
+pub marked_are : (bs : List Bool) (n : ℕ) (f : ℕ → Bool) → AreMarks bs n f → marked bs ≡ filter f (range_with_len 0 n)
+marked_are bs n f m =
+    ap (λ (k : ℕ). filter (λ (i : ℕ). get_or bs i false) (range_with_len 0 k)) m.size
+    ∙ filters_agree (λ i. get_or bs i false) f 0 n (λ k from to. m.each k (omega arith))
+
+-- one mark more
+pub mark_more : (f : ℕ → Bool) (old new : List Bool) (k : ℕ) (b : Bool) → k < length old → new ≡ set old k b → b ≡ f k
+    → ((i : ℕ) → i < k → get_or old i false ≡ f i) → (i : ℕ) → i < k + 1 → get_or new i false ≡ f i
+mark_more f old new k b within written here before i below =
+    elim (cases_eq i k) [
+      | inl same ↦ rw (written, same) (get_or-set_same old k b false within ∙ here)
+      | inr other ↦ rw written (get_or-set_other old k i b false other ∙ before i (omega arith))
+    ]
+
+-- Bodies.
+
+pub same_right : (f g : ℕ → Bool) (n : ℕ) (ls : List (ℕ × Bool)) → ((k : ℕ) → k < n → f k ≡ g k) → All (λ (l : ℕ × Bool). l.0 < n) ls → all_right f ls ≡ all_right g ls
+same_right f g n [] h within = refl
+same_right f g n (l ∷ ls) h within =
+    let below : l.0 < n = within 0 l (omega arith) in
+    let here : f l.0 ≡ g l.0 = h l.0 below in
+    let rest : all_right f ls ≡ all_right g ls = same_right f g n ls h (λ k d lt. within (suc k) d (omega arith)) in
+    ap (λ (b : Bool). cond l.1 (not b) b && all_right f ls) here ∙ ap (λ (b : Bool). cond l.1 (not (g l.0)) (g l.0) && b) rest
+
+pub or_more : (a b c : Bool) → (a || (b || c)) ≡ (b || (a || c))
+or_more true true c = refl
+or_more true false c = refl
+or_more false true c = refl
+or_more false false c = refl
+
+-- a head more is right
+pub head_more : (kinds : List Kind) (s : State) (j : Turn) (found : List ℕ) (marks : List Bool) (n head : ℕ) → head < n → AreMarks marks n (is_right kinds s j found)
+    → AreMarks (set marks head true) n (is_right kinds s j (head ∷ found))
+head_more kinds s j found marks n head below m = record {
+  size = length-set marks head true ∙ m.size;
+  each = λ k lt. elim (cases_eq k head) [
+    | inl same ↦
+        let here : (head == k) ≡ true = eq-eqb head k (sym same) in
+        let size : length marks ≡ n = m.size in
+        ap (λ (i : ℕ). get_or (set marks head true) i false) same ∙ get_or-set_same marks head true false (omega arith)
+        ∙ sym (ap (λ (b : Bool). is_given s j (kind_at kinds k) || (b || stands_in k found)) here ∙ or_more (is_given s j (kind_at kinds k)) true (stands_in k found))
+    | inr other ↦
+        let here : (head == k) ≡ false = ne_eqb head k (λ e. other (sym e)) in
+        get_or-set_other marks head k true false other ∙ m.each k lt
+        ∙ sym (ap (λ (b : Bool). is_given s j (kind_at kinds k) || (b || stands_in k found)) here)
+  ];
+}
+
+-- going through the instances marks what is found
+pub heads_hold : (kinds : List Kind) (s : State) (j : Turn) (n : ℕ) (kept : List Kept) (found : List ℕ) (marks : List Bool) → All (IsKeptWithin n) kept
+    → AreMarks marks n (is_right kinds s j found) → AreMarks (with_heads marks kept) n (is_right kinds s j (found_by kinds s j found kept))
+heads_hold kinds s j n [] found marks within m = m
+heads_hold kinds s j n (k ∷ ks) found marks within m =
+    let here : IsKeptWithin n k = within 0 k (omega arith) in
+    let same : all_right (λ (i : ℕ). get_or marks i false) k.body ≡ all_right (is_right kinds s j found) k.body =
+    same_right (λ i. get_or marks i false) (is_right kinds s j found) n k.body m.each here.1 in
+    let below = here.0 in
+    step (all_right (λ (i : ℕ). get_or marks i false) k.body) (all_right (is_right kinds s j found) k.body) same
+    (heads_hold kinds s j n ks (k.head ∷ found) (set marks k.head true) (λ i d lt. within (suc i) d (omega arith)) (head_more kinds s j found marks n k.head below m))
+    (heads_hold kinds s j n ks found marks (λ i d lt. within (suc i) d (omega arith)) m)
+  where
+    step : (b c : Bool) → b ≡ c
+        → AreMarks (with_heads (set marks k.head true) ks) n (is_right kinds s j (found_by kinds s j (k.head ∷ found) ks))
+        → AreMarks (with_heads marks ks) n (is_right kinds s j (found_by kinds s j found ks))
+        → AreMarks (with_heads (cond b (set marks k.head true) marks) ks) n (is_right kinds s j (found_by kinds s j (cond c (k.head ∷ found) found) ks))
+    step true true e more less = more
+    step false false e more less = less
+    step true false e more less = absurd cc
+    step false true e more less = absurd cc
+
+pub past_marks : (bs : List Bool) (p : ℕ) → length bs ≤ p → get_or bs p false ≡ nat_lt p (length bs)
+past_marks bs p l = get_or_past bs p false l ∙ sym (le-ltb p (length bs) l)
+
+-- The loop over a body.
+
+pub drop_at : {A : Type 0} (xs : List A) (k : ℕ) (x : A) → k < length xs → x ≡ get_or xs k x → drop k xs ≡ x ∷ drop (k + 1) xs
+drop_at {A} xs k x below same =
+    let at : drop k xs ≡ get_or xs k x ∷ drop (suc k) xs = drop-cons xs k x below in
+    let more : k + 1 ≡ suc k = omega arith in
+    at ∙ ap (λ (y : A). y ∷ drop (suc k) xs) (sym same) ∙ ap (λ (n : ℕ). x ∷ drop n xs) (sym more)
+
+pub body_at : (f : ℕ → Bool) (ls : List (ℕ × Bool)) (k : ℕ) (l : ℕ × Bool) → k < length ls → l ≡ get_or ls k l → all_right f ls ≡ all_right f (drop k ls)
+    → all_right f ls ≡ (cond l.1 (not (f l.0)) (f l.0) && all_right f (drop (k + 1) ls))
+body_at f ls k l below same left = left ∙ ap (all_right f) (drop_at ls k l below same)
+
+-- The loop over the instances.
+
+pub heads_at : (start marks new : List Bool) (ks : List Kept) (p : ℕ) (k : Kept) → p < length ks → k ≡ get_or ks p k → new ≡ with_heads marks (k ∷ [])
+    → with_heads start ks ≡ with_heads marks (drop p ks) → with_heads start ks ≡ with_heads new (drop (p + 1) ks)
+heads_at start marks new ks p k below same written left =
+    left ∙ ap (with_heads marks) (drop_at ks p k below same)
+    ∙ ap (λ (ms : List Bool). with_heads ms (drop (p + 1) ks)) (sym written)
+
+pub kept_here : (is : List shown.Instance) (n p : ℕ) (i : shown.Instance) → p < length is → i ≡ get_or is p i → All (IsKeptWithin n) (map kept_of is) → IsKeptWithin n (kept_of i)
+kept_here is n p i below same within =
+    let many = length-map is kept_of in
+    subst (λ (k : Kept). IsKeptWithin n k) (get_or-map kept_of is p i (kept_of i) below ∙ ap kept_of (sym same)) (within p (kept_of i) (omega arith))
+
+pub right_at_first : (kinds : List Kind) (s : State) (j : Turn) (marks : List Bool) (n : ℕ) → AreMarks marks n (λ k. is_given s j (kind_at kinds k)) → AreMarks marks n (is_right kinds s j [])
+right_at_first kinds s j marks n m = record { size = m.size; each = λ k lt. m.each k lt ∙ sym (or-false (is_given s j (kind_at kinds k))) }
+
+-- Loops over atoms.
+
+pub below_agree : (f g : ℕ → Bool) (n : ℕ) → ((k : ℕ) → k < n → f k ≡ g k) → some_below f n ≡ some_below g n
+below_agree f g zero h = refl
+below_agree f g (suc n) h =
+    let here : f n ≡ g n = h n (omega arith) in
+    let rest : some_below f n ≡ some_below g n = below_agree f g n (λ k lt. h k (omega arith)) in
+    ap (λ (b : Bool). some_below f n || b) here ∙ ap (λ (b : Bool). b || g n) rest
+
+pub greatest_agree : (f g : ℕ → ℕ) (n : ℕ) → ((k : ℕ) → k < n → f k ≡ g k) → greatest_below f n ≡ greatest_below g n
+greatest_agree f g zero h = refl
+greatest_agree f g (suc n) h =
+    let here : f n ≡ g n = h n (omega arith) in
+    let rest : greatest_below f n ≡ greatest_below g n = greatest_agree f g n (λ k lt. h k (omega arith)) in
+    ap (λ (b : ℕ). max (greatest_below f n) b) here ∙ ap (λ (b : ℕ). max b (g n)) rest
+
+-- one number more of a range
+filter_range_suc : (f : ℕ → Bool) (a n k : ℕ) → a + n ≡ k → filter f (range_with_len a (suc n)) ≡ filter f (range_with_len a n) ++ cond (f k) (k ∷ []) []
+filter_range_suc f a zero k e = ap (λ (i : ℕ). cond (f i) (i ∷ []) []) (omega arith)
+filter_range_suc f a (suc n) k e =
+    let rest : filter f (range_with_len (a + 1) (suc n)) ≡ filter f (range_with_len (a + 1) n) ++ cond (f k) (k ∷ []) [] = filter_range_suc f (a + 1) n k (omega arith) in
+    step (f a) (filter f (range_with_len (a + 1) (suc n))) rest
+  where
+    step : (b : Bool) (xs : List ℕ) → xs ≡ filter f (range_with_len (a + 1) n) ++ cond (f k) (k ∷ []) []
+        → cond b (a ∷ xs) xs ≡ cond b (a ∷ filter f (range_with_len (a + 1) n)) (filter f (range_with_len (a + 1) n)) ++ cond (f k) (k ∷ []) []
+    step true xs h = ap (λ (ys : List ℕ). a ∷ ys) h
+    step false xs h = h
+
+pub filter_range_more : (f : ℕ → Bool) (n : ℕ) → filter f (range_with_len 0 (n + 1)) ≡ filter f (range_with_len 0 n) ++ cond (f n) (n ∷ []) []
+filter_range_more f n = let more : n + 1 ≡ suc n = omega arith in ap (λ (k : ℕ). filter f (range_with_len 0 k)) more ∙ filter_range_suc f 0 n n (omega arith)
+
+-- a list of which as many are read as were written
+pub slice_get_front : (xs : List ℕ) (c k : ℕ) → c ≤ length xs → k < c → Some (get_or xs k 0) ≡ slice_get (take c xs) k
+slice_get_front xs zero k few below = absurd (omega arith)
+slice_get_front [] (suc c) k few below = absurd (omega arith)
+slice_get_front (x ∷ xs) (suc c) zero few below = refl
+slice_get_front (x ∷ xs) (suc c) (suc k) few below = slice_get_front xs c k (omega arith) (omega arith)
+
+pub slice_get_past : (xs : List ℕ) (c k : ℕ) → c ≤ k → None ≡ slice_get (take c xs) k
+slice_get_past xs zero k past = refl
+slice_get_past [] (suc c) k past = refl
+slice_get_past (x ∷ xs) (suc c) zero past = absurd (omega arith)
+slice_get_past (x ∷ xs) (suc c) (suc k) past = slice_get_past xs c k (omega arith)
+
+pub flat_map-set : {A : Type 0} (f : A → List ℕ) (xs : List A) (i : ℕ) (y d : A) → f y ≡ f (get_or xs i d) → flat_map f (set xs i y) ≡ flat_map f xs
+flat_map-set f [] i y d same = refl
+flat_map-set f (x ∷ xs) zero y d same = ap (λ (ns : List ℕ). ns ++ flat_map f xs) same
+flat_map-set f (x ∷ xs) (suc i) y d same = ap (λ (ns : List ℕ). f x ++ ns) (flat_map-set f xs i y d same)

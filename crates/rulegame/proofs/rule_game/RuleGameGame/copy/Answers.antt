@@ -1,0 +1,26 @@
+use Rattle.std.proofs.Common.{Bool, List, length, sym, ap, subst, ◌∙◌}
+use Rattle.ground.specs.GroundView.{inputs_of, kinds_of}
+use Rattle.rulegame.specs.declared.rule_pos.RoleState.{RoleState}
+use Rattle.rulegame.specs.RulePlay.{marked, ends}
+use Rattle.rulegame.specs.RuleState.{AreRead, holds_in}
+use Rattle.rulegame.proofs.States.{AreCopied, copied_room, copied_read}
+use Rattle.rulegame.proofs.rule_game.RuleGameGame.copy.Goals as goal
+
+pub returns-clause-fits : goal.returns-clause-fits
+returns-clause-fits c =
+    let g = c.args.self.now.played in
+    let from = c.args.p.now.roles.items in
+    let old = c.args.q.now.roles.items in
+    let new = c.copy_roles.new.to.items in
+    let same = c.copy_from_slice.ensures.items ∙ c.deref.ensures.value in
+    let copied : AreCopied from old new = subst (λ (fs : List RoleState). AreCopied fs old new) c.deref-2.ensures.value c.copy_roles.ensures.copied in
+    record {
+      room = record {
+        base = ap length same ∙ c.requires.from.room.base;
+        right = c.requires.to.room.right;
+        roles = copied_room (inputs_of g) from old new c.requires.from.room.roles c.requires.to.room.roles c.copy_roles.ensures.size copied;
+      };
+      ended = c.requires.from.ended ∙ ap (λ (bs : List Bool). ends (kinds_of g) (holds_in g (marked bs))) (sym same);
+      roles = subst (λ (bs : List Bool). AreRead (kinds_of g) (holds_in g (marked bs)) (inputs_of g) new) (sym same)
+          (copied_read (kinds_of g) (holds_in g (marked c.args.p.now.base.items)) (inputs_of g) from old new c.requires.from.room.roles copied c.requires.from.roles);
+    }

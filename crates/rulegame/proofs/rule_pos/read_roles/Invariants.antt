@@ -1,0 +1,15 @@
+use Rattle.std.proofs.Common.{◌≡◌, ℕ, ◌<◌, false, length, get_or, vec_capacity}
+use Rattle.ground.specs.Grounds.{texts_at}
+use Rattle.ground.specs.GroundView.{inputs_of, kinds_of}
+use Rattle.rulegame.specs.declared.rule_pos.RoleState.{RoleState}
+use Rattle.rulegame.specs.RuleState.{HaveRoom, IsRoleRead, all_capacities}
+use Rattle.rulegame.proofs.rule_pos.read_roles.Given as goal
+
+-- each role before this one is read
+abbrev pub invariant-loop-role : goal.invariant-loop-role
+invariant-loop-role l = record {
+  room : HaveRoom (inputs_of l.game.played) l.roles.items;
+  read : (r : ℕ) (d : RoleState) → r < l.role → IsRoleRead (kinds_of l.game.played) (λ a. get_or l.right.items a false) r (length (texts_at (inputs_of l.game.played) r)) (get_or l.roles.items r d);
+  capacities : all_capacities l.roles.items ≡ all_capacities l.initial.roles.items;
+  capacity : vec_capacity l.roles ≡ vec_capacity l.initial.roles;
+}

@@ -1,0 +1,158 @@
+// The game of an instantiation.
+ghost use Rattle.std.specs.Prelude.{◌≡◌, IfOk};
+ghost use Rattle.rulegame.specs.Plans.{IsPlanOf};
+
+use crate::plan::Plan;
+use crate::planning::make_plan;
+use crate::rule_many::{RuleMany, RuleWide, new_bases, step_each};
+use crate::rule_pos::{RulePos, copy_roles, legal_at, read_state, start_state, step_state};
+use game::{Game, Joint, Told};
+use ground::Ground;
+use std::alloc::{AllocError, Global};
+
+/// The game that an instantiation describes, played over its kept instances.
+#[derive(Drop)]
+pub struct RuleGame {
+    pub(crate) alloc: Global,
+    pub(crate) played: Ground,
+    pub(crate) plan: Plan,
+    pub ghost planned: { IsPlanOf played plan },
+}
+
+impl RuleGame {
+    /// The game of the instantiation.
+    pub fn new(alloc: Global, g: Ground) -> Result<RuleGame, AllocError>
+        ensures { IfOk result (λ game. game.played ≡ g) }
+    {
+        let plan = make_plan(alloc, &g)?;
+        Ok(RuleGame {
+            alloc,
+            played: g,
+            plan,
+        })
+    }
+}
+
+impl Game for RuleGame {
+    ghost use Rattle.ground.specs.Grounds.{text_at, texts_at};
+    ghost use Rattle.ground.specs.GroundView.{roles_of, inputs_of};
+    ghost use Rattle.rulegame.specs.RulePlay.{marked};
+    ghost use Rattle.rulegame.specs.RuleState.{IsStateOf, rules_of, capacities};
+    ghost use Rattle.rulegame.specs.RuleMany.{IsManyOf, IsWideOf, kept_states, capacities_wide, capacities_many};
+    ghost use Rattle.rulegame.specs.RuleLaws.{goal_at_most, few_moves_of, legal_below, legal_in_order, moves_in_order, roles_once};
+
+    type Pos = RulePos;
+
+    type Wide = RuleWide;
+
+    type Many = RuleMany;
+
+    ghost rules = { λ g. rules_of g.played };
+
+    ghost role_name = { λ g r. text_at (roles_of g.played) r };
+
+    ghost move_name = { λ g r m. text_at (texts_at (inputs_of g.played) r) m };
+
+    ghost fits = { λ g p. IsStateOf g.played p };
+
+    ghost state = { λ _ p. marked p.base.items };
+
+    ghost capacities = { λ _ p. capacities p };
+
+    ghost fits_wide = { λ g w. IsWideOf g.played w };
+
+    ghost fits_many = { λ g m. IsManyOf g.played m };
+
+    ghost states = { λ _ m. kept_states m };
+
+    ghost wide_capacities = { λ _ w. capacities_wide w };
+
+    ghost many_capacities = { λ _ m. capacities_many m };
+
+    fn roles(&self) -> usize {
+        self.played.roles()
+    }
+
+    fn role_text(&self, role: usize) -> &[u8] {
+        self.played.role_text(role)
+    }
+
+    fn moves(&self, role: usize) -> usize {
+        self.played.inputs(role)
+    }
+
+    fn move_text(&self, role: usize, number: u32) -> &[u8] {
+        self.played.input_text(role, number)
+    }
+
+    fn fresh(&self) -> Result<RulePos, AllocError> {
+        start_state(self)
+    }
+
+    fn ended(&self, p: &RulePos) -> bool {
+        p.ended
+    }
+
+    fn goal(&self, p: &RulePos, role: usize) -> u8 {
+        p.roles[role].goal
+    }
+
+    fn legal(&self, p: &RulePos, role: usize, place: usize) -> Option<u32> {
+        legal_at(&p.roles[role], place)
+    }
+
+    fn step(&self, p: &RulePos, joint: &Joint, q: &mut RulePos) {
+        step_state(self, p, joint, q);
+    }
+
+    fn copy(&self, p: &RulePos, q: &mut RulePos) {
+        q.base.copy_from_slice(&p.base);
+        q.ended = p.ended;
+        copy_roles(&p.roles, &mut q.roles);
+    }
+
+    fn new_wide(&self) -> Result<RuleWide, AllocError> {
+        Ok(RuleWide {
+            right: vec![in self.alloc; false; self.played.atoms()]?,
+        })
+    }
+
+    fn new_many(&self) -> Result<RuleMany, AllocError> {
+        Ok(RuleMany {
+            states: new_bases(self)?,
+            count: 0,
+        })
+    }
+
+    fn steps(&self, p: &RulePos, joints: &[Joint], w: &mut RuleWide, out: &mut RuleMany) {
+        step_each(self, p, joints, &mut w.right, &mut out.states);
+        out.count = joints.len();
+    }
+
+    /// One: each joint move is played for itself.
+    fn abreast(&self) -> usize {
+        1
+    }
+
+    fn take(&self, many: &RuleMany, place: usize, q: &mut RulePos) {
+        q.base.copy_from_slice(&many.states[place].marks);
+        read_state(self, q);
+    }
+
+    /// Nothing: what holds in a state is found when it is taken.
+    fn told(&self, _many: &RuleMany, _place: usize, _role: usize) -> Told {
+        Told::Nothing
+    }
+
+    ghost goal_within = { λ g s r. goal_at_most g.played s r };
+
+    ghost moves_within = { λ g r _. few_moves_of g.played r };
+
+    ghost legal_within = { λ g s r _. legal_below g.played s r };
+
+    ghost legal_ascending = { λ g s r _. legal_in_order g.played s r };
+
+    ghost moves_in_printed_order = { λ g r m n inside less below. moves_in_order g.played r m n inside less below };
+
+    ghost role_names_differ = { λ g q r less below. roles_once g.played q r less below };
+}

@@ -1,0 +1,197 @@
+// A state of a game of rules, with what is told of it.
+ghost use Rattle.std.specs.Prelude.{◌≡◌, ◌<◌, ◌≤◌, ℕ, false, length, take, get_or, slice_get, slice_index_or, vec_capacity, IfOk};
+ghost use Rattle.ground.specs.Grounds.{texts_at};
+ghost use Rattle.ground.specs.GroundView.{inputs_of, kinds_of};
+ghost use Rattle.rulegame.specs.RulePlay.{AreMarks, marked};
+ghost use Rattle.rulegame.specs.declared.rule_pos.RoleState.{RoleState};
+ghost use Rattle.rulegame.specs.RuleState.{HasRoleRoom, IsRoleRead, HaveRoom, AreRead, HasRoom, IsCopied, IsStateOf, role_capacities, all_capacities, capacities, rules_of};
+
+use crate::evaluation::{evaluate, put_mark};
+use crate::naming::Naming;
+use crate::reading::{best_goal, has_ended, list_marked, mark_named};
+use crate::rule_game::RuleGame;
+use ground::Ground;
+use std::alloc::{AllocError, Global};
+
+/// What is told of a role in a state.
+#[derive(Drop)]
+pub struct RoleState {
+    /// A mark for each move, to be written over.
+    pub marks: Vec<bool>,
+    /// Begins with the legal moves, ascending.
+    pub moves: Vec<u32>,
+    /// How many moves are legal.
+    pub count: usize,
+    pub goal: u8,
+}
+
+/// A state, and what is told of it.
+#[derive(Drop)]
+pub struct RulePos {
+    /// A mark for each base proposition: whether it holds.
+    pub(crate) base: Vec<bool>,
+    /// A mark for each atom, to be written over.
+    pub(crate) right: Vec<bool>,
+    pub(crate) roles: Vec<RoleState>,
+    pub(crate) ended: bool,
+}
+
+/// Writes what the atoms that hold tell of a role.
+fn read_role(game: &RuleGame, right: &Vec<bool>, role: usize, out: &mut RoleState)
+    requires role { role < length (inputs_of game.now.played) }
+    requires right { length right.now.items ≡ length (kinds_of game.now.played) }
+    requires room { HasRoleRoom (length (texts_at (inputs_of game.now.played) role)) out.old }
+    ensures read { IsRoleRead (kinds_of game.now.played) (λ a. slice_index_or right.now.items a false) role (length (texts_at (inputs_of game.now.played) role)) out.new }
+    ensures room { HasRoleRoom (length (texts_at (inputs_of game.now.played) role)) out.new }
+    ensures capacities { role_capacities out.new ≡ role_capacities out.old }
+{
+    let plan = &game.plan.roles[role];
+    mark_named(&plan.legals, right, Naming::ByLegal(role), &mut out.marks);
+    out.count = list_marked(&out.marks, &mut out.moves);
+    out.goal = best_goal(&plan.goals, right, role);
+}
+
+/// Writes what the atoms that hold tell of each role.
+fn read_roles(game: &RuleGame, right: &Vec<bool>, roles: &mut Vec<RoleState>)
+    requires right { length right.now.items ≡ length (kinds_of game.now.played) }
+    requires room { HaveRoom (inputs_of game.now.played) roles.old.items }
+    ensures read { AreRead (kinds_of game.now.played) (λ a. slice_index_or right.now.items a false) (inputs_of game.now.played) roles.new.items }
+    ensures room { HaveRoom (inputs_of game.now.played) roles.new.items }
+    ensures capacities { all_capacities roles.new.items ≡ all_capacities roles.old.items }
+    ensures capacity { vec_capacity roles.new ≡ vec_capacity roles.old }
+{
+    for role in 0..roles.len() {
+        read_role(game, right, role, &mut roles[role]);
+    }
+}
+
+/// Writes what is told of the state that is marked.
+pub(crate) fn read_state(game: &RuleGame, p: &mut RulePos)
+    requires { HasRoom game.now.played p.old }
+    ensures state { IsStateOf game.now.played p.new }
+    ensures same { p.new.base.items ≡ p.old.base.items }
+    ensures capacities { capacities p.new ≡ capacities p.old }
+{
+    evaluate(game, &p.base, &[], &mut p.right);
+    p.ended = has_ended(&game.plan.ends, &p.right);
+    read_roles(game, &p.right, &mut p.roles);
+}
+
+/// Marks the base propositions that hold after a joint move, in the state after the one whose base propositions are marked.
+pub(crate) fn mark_next(
+    game: &RuleGame,
+    base: &[bool],
+    joint: &[u32],
+    right: &mut Vec<bool>,
+    next: &mut Vec<bool>,
+)
+    requires right { length right.old.items ≡ length (kinds_of game.now.played) }
+    requires next { length next.old.items ≡ length game.now.played.starts.items }
+    ensures after { marked next.new.items ≡ (rules_of game.now.played).after (marked base.now) joint.now }
+    ensures right { length right.new.items ≡ length right.old.items }
+    ensures next { length next.new.items ≡ length next.old.items }
+    ensures right_capacity { vec_capacity right.new ≡ vec_capacity right.old }
+    ensures next_capacity { vec_capacity next.new ≡ vec_capacity next.old }
+{
+    evaluate(game, base, joint, right);
+    mark_named(&game.plan.nexts, right, Naming::ByNext, next);
+}
+
+/// Writes the state after another and a joint move. The other's marks are read, and this one's are written.
+pub(crate) fn step_state(game: &RuleGame, p: &RulePos, joint: &[u32], q: &mut RulePos)
+    requires { HasRoom game.now.played q.old }
+    ensures state { IsStateOf game.now.played q.new }
+    ensures after { marked q.new.base.items ≡ (rules_of game.now.played).after (marked p.now.base.items) joint.now }
+    ensures capacities { capacities q.new ≡ capacities q.old }
+{
+    mark_next(game, &p.base, joint, &mut q.right, &mut q.base);
+    read_state(game, q);
+}
+
+/// Writes what is told of a role in another state.
+fn copy_role(from: &RoleState, to: &mut RoleState)
+    requires { length from.now.moves.items ≡ length to.old.moves.items }
+    ensures copied { IsCopied from.now to.old to.new }
+    ensures capacities { role_capacities to.new ≡ role_capacities to.old }
+{
+    to.moves.copy_from_slice(&from.moves);
+    to.count = from.count;
+    to.goal = from.goal;
+}
+
+/// Writes what is told of each role in another state.
+pub fn copy_roles(from: &[RoleState], to: &mut Vec<RoleState>)
+    requires size { length from.now ≡ length to.old.items }
+    requires room { (r : ℕ) (d : RoleState) → r < length from.now → length (get_or from.now r d).moves.items ≡ length (get_or to.old.items r d).moves.items }
+    ensures copied { (r : ℕ) (d : RoleState) → r < length from.now → IsCopied (get_or from.now r d) (get_or to.old.items r d) (get_or to.new.items r d) }
+    ensures size { length to.new.items ≡ length to.old.items }
+    ensures capacities { all_capacities to.new.items ≡ all_capacities to.old.items }
+    ensures capacity { vec_capacity to.new ≡ vec_capacity to.old }
+{
+    for role in 0..from.len() {
+        copy_role(&from[role], &mut to[role]);
+    }
+}
+
+/// Room for what is told of a role with this many moves.
+fn new_role(alloc: Global, moves: usize) -> Result<RoleState, AllocError>
+    ensures { IfOk result (λ role. HasRoleRoom moves role) }
+{
+    Ok(RoleState {
+        marks: vec![in alloc; false; moves]?,
+        moves: vec![in alloc; 0; moves]?,
+        count: 0,
+        goal: 0,
+    })
+}
+
+/// Room for what is told of each role.
+pub fn new_roles(alloc: Global, ground: &Ground) -> Result<Vec<RoleState>, AllocError>
+    ensures { IfOk result (λ roles. HaveRoom (inputs_of ground.now) roles.items) }
+{
+    let mut roles = Vec::new(alloc);
+    for role in 0..ground.roles() {
+        roles.push(new_role(alloc, ground.inputs(role))?)?;
+    }
+    Ok(roles)
+}
+
+/// Marks the base propositions that hold at the start.
+fn mark_start(ground: &Ground, base: &mut Vec<bool>)
+    requires { length base.old.items ≡ length ground.now.starts.items }
+    ensures marks { AreMarks base.new.items (length ground.now.starts.items) (λ p. slice_index_or ground.now.starts.items p false) }
+{
+    for proposition in 0..base.len() {
+        put_mark(base, proposition, ground.starts(proposition));
+    }
+}
+
+/// The start state.
+pub(crate) fn start_state(game: &RuleGame) -> Result<RulePos, AllocError>
+    ensures state { IfOk result (λ p. IsStateOf game.now.played p) }
+    ensures start { IfOk result (λ p. marked p.base.items ≡ marked game.now.played.starts.items) }
+{
+    let alloc = game.alloc;
+    let ground = &game.played;
+    let mut base = vec![in alloc; false; ground.base()]?;
+    mark_start(ground, &mut base);
+    let mut p = RulePos {
+        base,
+        right: vec![in alloc; false; ground.atoms()]?,
+        roles: new_roles(alloc, ground)?,
+        ended: false,
+    };
+    read_state(game, &mut p);
+    Ok(p)
+}
+
+/// The legal move of a role at a place of their list, or none past its end.
+pub fn legal_at(role: &RoleState, place: usize) -> Option<u32>
+    requires { role.now.count ≤ length role.now.moves.items }
+    ensures { result ≡ slice_get (take role.now.count role.now.moves.items) place }
+{
+    if place < role.count {
+        return Some(role.moves[place]);
+    }
+    None
+}

@@ -1,0 +1,137 @@
+//! The groups of given bits that the inputs of the roles are.
+ghost use Rattle.std.specs.Prelude.{ℕ, Bool, List, ◌≡◌, ◌+◌, ◌*◌, ◌<◌, ◌≤◌, true, length, sum, take, All, IfOk, IfSome, slice_index};
+ghost use Rattle.propnet.specs.Nets.{gates_of};
+ghost use Rattle.tape.specs.Grouping.{IsGivenInput, IsGroupOf, AreGroups};
+ghost use Rattle.tape.specs.Marks.{AllMarked};
+ghost use Rattle.tape.specs.Sources.{AreSourcesOf};
+
+use crate::builder::Group;
+use crate::sourcing::{Sources, few, word_of};
+use propnet::Net;
+use std::alloc::{AllocError, Global};
+
+/// Whether a node is an input that is given in the bit of this number.
+fn is_given_at(
+    net: &Net,
+    marks: &[bool],
+    sources: &Sources,
+    n: usize,
+    bit: usize,
+) -> Result<bool, AllocError>
+    requires sources { AreSourcesOf (gates_of net.now) marks.now (length (gates_of net.now)) sources.now.words.items sources.now.literals.items }
+    requires marks { length marks.now ≡ length (gates_of net.now) }
+    ensures { IfOk result (λ is. is ≡ true → IsGivenInput sources.now.words.items bit n) }
+{
+    if n >= marks.len() || !marks[n] {
+        return Ok(false);
+    }
+    let (name, _reads) = net.gate(n);
+    let Some(word) = word_of(name, n)? else {
+        return Ok(false);
+    };
+    if word as usize != n {
+        return Ok(false);
+    }
+    let literal = sources.literals[n] as usize;
+    if literal % 2 == 1 || literal < 2 {
+        return Ok(false);
+    }
+    Ok(literal / 2 - 1 == bit)
+}
+
+/// Whether so many nodes from one on are inputs that are given in the bits from this number on.
+fn are_given_from(
+    net: &Net,
+    marks: &[bool],
+    sources: &Sources,
+    first: usize,
+    count: usize,
+    from: usize,
+) -> Result<bool, AllocError>
+    requires sources { AreSourcesOf (gates_of net.now) marks.now (length (gates_of net.now)) sources.now.words.items sources.now.literals.items }
+    requires marks { length marks.now ≡ length (gates_of net.now) }
+    requires within { first + count ≤ length (gates_of net.now) }
+    ensures { IfOk result (λ are. are ≡ true → (m : ℕ) → m < count → IsGivenInput sources.now.words.items (from + m) (first + m)) }
+{
+    for m in 0..count {
+        let Some(bit) = from.checked_add(m) else {
+            return Ok(false);
+        };
+        if !is_given_at(net, marks, sources, first + m, bit)? {
+            return Ok(false);
+        }
+    }
+    Ok(true)
+}
+
+/// The group of a role's inputs, whose nodes begin here, if all of them are given.
+fn group_of(
+    net: &Net,
+    marks: &[bool],
+    sources: &Sources,
+    role: usize,
+    first: usize,
+) -> Result<Option<Group>, AllocError>
+    requires sources { AreSourcesOf (gates_of net.now) marks.now (length (gates_of net.now)) sources.now.words.items sources.now.literals.items }
+    requires marks { length marks.now ≡ length (gates_of net.now) }
+    requires role { role < length net.now.inputs.items }
+    requires first { first ≡ net.now.base + sum (take role net.now.inputs.items) }
+    requires within { first + slice_index net.now.inputs.items role ≤ length (gates_of net.now) }
+    ensures { IfOk result (λ found. IfSome found (IsGroupOf net.now sources.now.words.items)) }
+{
+    let count = net.inputs()[role];
+    if count == 0 {
+        return Ok(None);
+    }
+    let literal = sources.literals[first];
+    if literal < 2 {
+        return Ok(None);
+    }
+    let from = literal / 2 - 1;
+    if !are_given_from(net, marks, sources, first, count, from as usize)? {
+        return Ok(None);
+    }
+    let Some(end) = (from as usize).checked_add(count) else {
+        return Ok(None);
+    };
+    let to = few(end)?;
+    Ok(Some(Group { from, to }))
+}
+
+/// The groups of the inputs of the roles.
+pub(crate) fn groups_of(
+    alloc: Global,
+    net: &Net,
+    marks: &[bool],
+    sources: &Sources,
+) -> Result<Vec<Group>, AllocError>
+    requires sources { AreSourcesOf (gates_of net.now) marks.now (length (gates_of net.now)) sources.now.words.items sources.now.literals.items }
+    requires marks { length marks.now ≡ length (gates_of net.now) }
+    ensures { IfOk result (λ groups. AreGroups net.now sources.now.words.items groups.items) }
+{
+    let mut groups = Vec::new(alloc);
+    let mut first = net.base();
+    for role in 0..net.inputs().len() {
+        if let Some(group) = group_of(net, marks, sources, role, first)? {
+            groups.push(group)?;
+        }
+        first += net.inputs()[role];
+    }
+    Ok(groups)
+}
+
+/// Some nodes, and all inputs behind them.
+pub(crate) fn with_inputs(alloc: Global, net: &Net, kept: &[u32]) -> Result<Vec<u32>, AllocError>
+    requires { All (λ n. n < length (gates_of net.now)) kept.now }
+    ensures within { IfOk result (λ nodes. All (λ n. n < length (gates_of net.now)) nodes.items) }
+    ensures kept { IfOk result (λ nodes. (marks : List Bool) → AllMarked marks nodes.items → AllMarked marks kept.now) }
+{
+    let mut nodes = Vec::from_slice(alloc, kept)?;
+    for n in net.base()..net.sources() {
+        let Ok(number) = u32::try_from(n) else {
+            return Err(AllocError);
+        };
+        nodes.push(number)?;
+    }
+    Ok(nodes)
+}
