@@ -1,19 +1,18 @@
 -- What the places of what is asked tell of a state.
-use Rattle.std.proofs.Common.{◌≡◌, ℕ, zero, suc, ◌+◌, ◌<◌, ◌≤◌, Bool, true, false, cond, ◌&&◌, ◌||◌, List, [], ◌∷◌, ◌++◌, length, length-append, map, take, get_or, refl, sym, ap, subst, ◌∙◌, arith, Option, Some, None, eqb-true}
-use Rattle.std.specs.Prelude.{All, filter, max, slice_index, ◌==◌}
+use Rattle.std.proofs.Common.{◌≡◌, ℕ, zero, suc, ◌+◌, ◌<◌, ◌≤◌, Bool, true, false, cond, ◌&&◌, ◌||◌, List, [], ◌∷◌, ◌++◌, length, length-append, map, take, get_or, refl, sym, ap, ◌∙◌, arith, Option, Some, None}
+use Rattle.std.specs.Prelude.{All, filter, max, slice_index}
 use Rattle.std.specs.List.{list_any}
 use Rattle.std.proofs.Math.Bool.{or-false}
-use Rattle.std.proofs.lemmas.List.{append-nil, map-append, take_more}
+use Rattle.std.proofs.lemmas.List.{map-append, take_more}
 use Rattle.std.proofs.lemmas.List.Elements.{All-append, All-map, filter-append}
 use Rattle.std.proofs.lemmas.List.Folds.{list_any-append}
 use Rattle.meaning.specs.declared.kind.Kind.{Kind}
-use Rattle.meaning.specs.declared.kind.Kind.TheVariants.{Fixed, Now, Does, Next, Legal, Goal, Terminal, Other}
 use Rattle.ground.specs.declared.ground.Ground.{Ground}
 use Rattle.ground.specs.GroundView.{kinds_of}
 use Rattle.rulegame.specs.declared.naming.Naming.TheVariants.{ByLegal}
 use Rattle.rulegame.specs.declared.plan.Sought.TheVariants.{Goals, Ends}
 use Rattle.rulegame.specs.declared.plan.Standing.{Standing}
-use Rattle.rulegame.specs.RulePlay.{kind_at, is_number, names, is_named, named_below, some_below, is_terminal, ends, goal_value, best_goal}
+use Rattle.rulegame.specs.RulePlay.{kind_at, names, is_named, named_below, some_below, is_terminal, ends, best_goal}
 use Rattle.rulegame.specs.Plans.{standing_at, all_standing, greatest_of}
 use Rattle.rulegame.proofs.Facts.{ends_all, goals_all, filter_range_more, greatest_snoc, legal_only}
 use Rattle.netgame.specs.NetState.{is_shown, Alike}

@@ -4,7 +4,6 @@ use Rattle.std.specs.List.{range_with_len}
 use Rattle.meaning.specs.declared.kind.Kind.{Kind}
 use Rattle.meaning.specs.declared.kind.Kind.TheVariants.{Fixed, Now, Does, Next, Legal, Goal, Terminal, Other}
 use Rattle.ground.specs.declared.ground.Ground.{Ground}
-use Rattle.ground.specs.GroundView.{kinds_of}
 use Rattle.propnet.specs.Values.{lane}
 use Rattle.netgame.specs.declared.net_pos.NetPos.{NetPos}
 use Rattle.game.specs.Rules.{State}

@@ -1,9 +1,9 @@
-use Rattle.std.proofs.Common.{◌≡◌, ◌<◌, ℕ, Bool, List, length, ap, subst, sym, ◌∙◌, arith}
+use Rattle.std.proofs.Common.{◌<◌, ℕ, Bool, List, ap, subst, sym, ◌∙◌, arith}
 use Rattle.std.specs.Prelude.{All}
 use Rattle.std.specs.List.{list_any}
 use Rattle.ground.specs.GroundView.{kinds_of}
 use Rattle.tape.specs.Tapes.{kept_in, HasRun}
-use Rattle.netgame.specs.LanePlans.{shown_below, asked_at, places_of, ends_of}
+use Rattle.netgame.specs.LanePlans.{asked_at, places_of, ends_of}
 use Rattle.netgame.specs.NetLanes.{holds_lane}
 use Rattle.netgame.proofs.Lanes.{kept_count, tells_asked}
 use Rattle.netgame.proofs.TellingLemmas.{told_ends, ends_within}

@@ -1,6 +1,5 @@
-use Rattle.std.proofs.Common.{◌≡◌, ◌+◌, ◌<◌, ℕ, List, ◌++◌, suc, length, get_or, sym, ap, ◌∙◌, arith, Option, None}
-use Rattle.ground.specs.Grounds.{texts_at}
-use Rattle.ground.specs.GroundView.{kinds_of, inputs_of}
+use Rattle.std.proofs.Common.{◌≡◌, ◌+◌, ◌<◌, ℕ, List, ◌++◌, suc, length, ap, ◌∙◌, arith, Option, None}
+use Rattle.ground.specs.GroundView.{kinds_of}
 use Rattle.game.proofs.ManyStates.{get_or_any}
 use Rattle.rulegame.specs.GroundFacts.{few_moves}
 use Rattle.netgame.specs.LanePlans.{legal_named, legal_pair, legals_below}

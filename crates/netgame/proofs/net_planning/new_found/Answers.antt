@@ -1,4 +1,4 @@
-use Rattle.std.proofs.Common.{◌≡◌, ◌+◌, ℕ, List, [], ◌∷◌, length, length-append, get_or, ap, ◌∙◌, arith, Option, None}
+use Rattle.std.proofs.Common.{ℕ, List, [], ◌∷◌, length, length-append, get_or, ap, ◌∙◌, arith, Option, None}
 use Rattle.netgame.proofs.TellingLemmas.{none_pushed}
 use Rattle.netgame.proofs.net_planning.new_found.Goals as goal
 

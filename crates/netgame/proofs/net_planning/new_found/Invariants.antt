@@ -1,4 +1,4 @@
-use Rattle.std.proofs.Common.{◌≡◌, ℕ, length, get_or, Option, None}
+use Rattle.std.proofs.Common.{◌≡◌, ℕ, length, get_or, None}
 use Rattle.netgame.proofs.net_planning.new_found.Given as goal
 
 -- there is room for each move before this one

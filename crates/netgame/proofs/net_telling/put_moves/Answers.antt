@@ -1,5 +1,4 @@
 use Rattle.std.proofs.Common.{ℕ, Bool, List, [], ◌∷◌, ◌++◌, cond, take, get_or, sym, ap, ◌∙◌, arith}
-use Rattle.netgame.specs.NetLanes.{told_moves}
 use Rattle.netgame.proofs.TellingLemmas.{moves_more}
 use Rattle.netgame.proofs.net_telling.put_moves.Goals as goal
 
