@@ -38,7 +38,8 @@ abbrev pub Knows : List ℕ → ℕ → Book → Type 0
 Knows ws i k = (0 < k.shares) × (seen k i ≡ upper ws i)
 
 -- a step that leaves the word as it was, and what its seat knew of it
-pub known_on : (ws ws' : List ℕ) (ks : List Book) (id : ℕ) (k w : Book) (i : ℕ) → get_elem? ks id ≡ some k → upper ws' i ≡ upper ws i → (0 < k.shares → 0 < w.shares)
+pub known_on : (ws ws' : List ℕ) (ks : List Book) (id : ℕ) (k w : Book) (i : ℕ) → get_elem? ks id ≡ some k → upper ws' i ≡ upper ws i
+    → (0 < k.shares → 0 < w.shares)
     → (seen k i ≡ upper ws i → seen w i ≡ upper ws i) → Any (Knows ws i) ks → Any (Knows ws' i) (set ks id w)
 known_on ws ws' ks id k w i at same live mine a = dite (ℕ_discrete a.0 id)
     (λ e. let is : a.1 ≡ k = some-injective a.1 k (sym (any_at (Knows ws i) ks a) ∙ (ap (get_elem? ks) e ∙ at)) in
@@ -47,8 +48,10 @@ known_on ws ws' ks id k w i at same live mine a = dite (ℕ_discrete a.0 id)
     (λ ne. any_there (Knows ws' i) (set ks id w) a.0 a.1 (set_else ks id a.0 w ne ∙ any_at (Knows ws i) ks a) (a.4.0, a.4.1 ∙ sym same))
 
 -- two seats become one, which knows the word where either did
-pub known_both : (ws : List ℕ) (ks : List Book) (id other : ℕ) (k l b z : Book) (i : ℕ) → other ≢ id → get_elem? ks id ≡ some k → get_elem? ks other ≡ some l
-    → (0 < k.shares → 0 < b.shares) → (0 < l.shares → 0 < b.shares) → (seen k i ≡ upper ws i → seen b i ≡ upper ws i) → (seen l i ≡ upper ws i → seen b i ≡ upper ws i)
+pub known_both : (ws : List ℕ) (ks : List Book) (id other : ℕ) (k l b z : Book) (i : ℕ) → other ≢ id → get_elem? ks id ≡ some k
+    → get_elem? ks other ≡ some l
+    → (0 < k.shares → 0 < b.shares) → (0 < l.shares → 0 < b.shares) → (seen k i ≡ upper ws i → seen b i ≡ upper ws i)
+    → (seen l i ≡ upper ws i → seen b i ≡ upper ws i)
     → Any (Knows ws i) ks → Any (Knows ws i) (set (set ks id b) other z)
 known_both ws ks id other k l b z i apart at from live live' mine its a =
     let final = set (set ks id b) other z in

@@ -22,7 +22,8 @@ starts_grow n [] (suc i) h = absurd (omega arith)
 starts_grow n (r ∷ rs) (suc i) h = omega (arith, starts_grow (n + r) rs i (omega arith))
 
 -- x lies between the starts of move i and of the next one
-move_between : (n : ℕ) (rs : List ℕ) (i x : ℕ) → i < length rs → slice_index (starts_from n rs) i ≤ n + x → n + x < slice_index (starts_from n rs) (suc i)
+move_between : (n : ℕ) (rs : List ℕ) (i x : ℕ) → i < length rs → slice_index (starts_from n rs) i ≤ n + x
+    → n + x < slice_index (starts_from n rs) (suc i)
     → (move_of rs x ≡ i) × (slice_index (starts_from n rs) i + reply_of rs x ≡ n + x)
 move_between n [] i x h low high = absurd (omega arith)
 move_between n (r ∷ rs) zero x h low high = let lt : x < r = omega (arith, high, starts_first (n + r) rs) in
@@ -33,11 +34,13 @@ move_between n (r ∷ rs) (suc i) x h low high =
     let later = move_between (n + r) rs i (x - r) (omega arith) (omega (arith, low, there)) (omega (arith, high, there)) in
     (move_later r rs x le ∙ ap suc later.0, omega (arith, reply_later r rs x le, later.1, there))
 
-starts_next : (n : ℕ) (rs : List ℕ) (i : ℕ) → i < length rs → starts_from n (take (suc i) rs) ≡ starts_from n (take i rs) ++ (n + task_count (take (suc i) rs)) ∷ []
+starts_next : (n : ℕ) (rs : List ℕ) (i : ℕ) → i < length rs → starts_from n (take (suc i) rs) ≡ starts_from n (take i rs)
+    ++ (n + task_count (take (suc i) rs)) ∷ []
 starts_next n [] i lt = absurd (omega arith)
 starts_next n (r ∷ rs) zero lt = ap (λ (m : ℕ). n ∷ m ∷ []) (omega arith)
 starts_next n (r ∷ rs) (suc i) lt = ap (λ (ms : List ℕ). n ∷ ms) (starts_next (n + r) rs i (omega arith)
-    ∙ ap (λ (m : ℕ). starts_from (n + r) (take i rs) ++ m ∷ []) (let e : n + r + task_count (take (suc i) rs) ≡ n + (r + task_count (take (suc i) rs)) = omega arith in e))
+    ∙ ap (λ (m : ℕ). starts_from (n + r) (take i rs) ++ m ∷ []) (let e : n + r + task_count (take (suc i) rs) ≡ n
+    + (r + task_count (take (suc i) rs)) = omega arith in e))
 
 count_next : (rs : List ℕ) (i : ℕ) → i < length rs → task_count (take (suc i) rs) ≡ task_count (take i rs) + slice_index rs i
 count_next [] i lt = absurd (omega arith)
@@ -53,9 +56,12 @@ count_some (r ∷ rs) (suc i) = omega (arith, count_some rs i)
 pub count_step : (rs : List ℕ) (i : ℕ) → i < length rs → task_count (take (i + 1) rs) ≡ task_count (take i rs) + slice_index rs i
 count_step rs i lt = ap (λ (j : ℕ). task_count (take j rs)) (let e : i + 1 ≡ suc i = omega arith in e) ∙ count_next rs i lt
 
-pub starts_step : (rs : List ℕ) (i m : ℕ) → i < length rs → m ≡ task_count (take (i + 1) rs) → starts_from 0 (take (i + 1) rs) ≡ starts_from 0 (take i rs) ++ m ∷ []
+pub starts_step : (rs : List ℕ) (i m : ℕ) → i < length rs → m ≡ task_count (take (i + 1) rs)
+    → starts_from 0 (take (i + 1) rs) ≡ starts_from 0 (take i rs) ++ m ∷ []
 starts_step rs i m lt is = let e : i + 1 ≡ suc i = omega arith in
-    ap (λ (j : ℕ). starts_from 0 (take j rs)) e ∙ (starts_next 0 rs i lt ∙ ap (λ (k : ℕ). starts_from 0 (take i rs) ++ k ∷ []) (let f : 0 + task_count (take (suc i) rs) ≡ m = omega (arith, is, ap (λ (j : ℕ). task_count (take j rs)) e) in f))
+    ap (λ (j : ℕ). starts_from 0 (take j rs)) e ∙ (starts_next 0 rs i lt
+    ∙ ap (λ (k : ℕ). starts_from 0 (take i rs) ++ k ∷ []) (let f : 0 + task_count (take (suc i) rs) ≡ m =
+    omega (arith, is, ap (λ (j : ℕ). task_count (take j rs)) e) in f))
 
 -- what the starts tell of a task x
 module _ (starts rs : List ℕ) (x : ℕ) (are : starts ≡ starts_from 0 rs) where
@@ -75,5 +81,6 @@ module _ (starts rs : List ℕ) (x : ℕ) (are : starts ≡ starts_from 0 rs) wh
       → (move_of rs x ≡ low) × (x - slice_index starts low ≡ reply_of rs x)
   place_at low high from under apart close within =
       let next : high ≡ suc low = omega arith in
-      let found = move_between 0 rs low x (omega arith) (omega (arith, from, at low)) (omega (arith, under, at high, ap (λ (j : ℕ). slice_index (starts_from 0 rs) j) next)) in
+      let found = move_between 0 rs low x (omega arith) (omega (arith, from, at low))
+      (omega (arith, under, at high, ap (λ (j : ℕ). slice_index (starts_from 0 rs) j) next)) in
       (found.0, omega (arith, found.1, at low))

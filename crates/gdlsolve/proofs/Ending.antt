@@ -2,9 +2,9 @@
 use Rattle.std.proofs.Common.{ℕ, ◌≡◌, ◌≢◌, ◌≤◌, List, arith}
 use Rattle.std.specs.Prelude.{Option, Result, Ok, Err, IfOk, IfErr}
 use Rattle.std.specs.Io.KnownBytes.{Appends}
-use Rattle.replies.specs.declared.command.Command.{Command}
-use Rattle.replies.specs.declared.command.Status.{Status}
-use Rattle.replies.specs.declared.command.Status.TheVariants.{Answer, Refused}
+use Rattle.words.specs.declared.command.Command.{Command}
+use Rattle.replies.specs.declared.status.Status.{Status}
+use Rattle.replies.specs.declared.status.Status.TheVariants.{Answer, Refused}
 use Rattle.gdlsolve.specs.declared.fault.RunFault.{RunFault}
 use Rattle.gdlsolve.specs.declared.fault.RunFault.TheVariants.{Memory, Read, Write}
 use Rattle.gdlsolve.specs.Exits.{exit_status, Replied}
@@ -32,7 +32,8 @@ starved_is_silent (Err Read) P h e = absurd (omega arith)
 starved_is_silent (Err Write) P h e = absurd (omega arith)
 
 pub refused_replied : (r : Result Status RunFault) (command : Command) (input left before after : Option (List ℕ))
-    → IfOk r (λ status. (written : List ℕ) × RepliesTo command input left (record { output = written; status = status }) × Appends before after written)
+    → IfOk r (λ status. (written : List ℕ) × RepliesTo command input left (record { output = written; status = status })
+    × Appends before after written)
     → exit_status r ≡ 2 → Replied Refused input left before after
 refused_replied (Ok Answer) command input left before after h e = absurd (omega arith)
 refused_replied (Ok Refused) command input left before after h e = (command, h.0, h.1, h.2)
@@ -41,7 +42,8 @@ refused_replied (Err Read) command input left before after h e = absurd (omega a
 refused_replied (Err Write) command input left before after h e = absurd (omega arith)
 
 pub answer_replied : (r : Result Status RunFault) (command : Command) (input left before after : Option (List ℕ))
-    → IfOk r (λ status. (written : List ℕ) × RepliesTo command input left (record { output = written; status = status }) × Appends before after written)
+    → IfOk r (λ status. (written : List ℕ) × RepliesTo command input left (record { output = written; status = status })
+    × Appends before after written)
     → exit_status r ≡ 0 → Replied Answer input left before after
 answer_replied (Ok Answer) command input left before after h e = (command, h.0, h.1, h.2)
 answer_replied (Ok Refused) command input left before after h e = absurd (omega arith)

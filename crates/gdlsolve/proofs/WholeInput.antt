@@ -1,15 +1,16 @@
 -- The reply to the bytes that were read is the reply to the whole input.
-use Rattle.std.proofs.Common.{ℕ, ◌≡◌, ◌≤◌, ◌<◌, inl, inr, List, ◌++◌, length, drop, refl, sym, ap, subst, ◌∙◌, arith, Bool, true, false, append-nil, drop_of_length-le, drop_at, length-append, rules}
+use Rattle.std.proofs.Common.{ℕ, ◌≡◌, ◌≤◌, ◌<◌, inl, inr, List, ◌++◌, length, drop, refl, sym, ap, subst, ◌∙◌, arith}
+use Rattle.std.proofs.Common.{Bool, true, false, append-nil, drop_of_length-le, drop_at, length-append, rules}
 use Rattle.std.specs.Prelude.{Option, Some, None, nat_lt}
 use Rattle.kif.specs.Reading.{too_long, fault_in, fault_where, or_else, text_limit, first_fault, first_unclosed}
 use Rattle.kif.specs.Lexical.{spots}
 use Rattle.kif.specs.Refusal.{fault_text}
 use Rattle.kif.specs.declared.fault.KifFault.TheVariants as faults
-use Rattle.replies.specs.declared.command.Command.{Command}
+use Rattle.words.specs.declared.command.Command.{Command}
 use Rattle.gdlsolve.specs.Input.{read_limit, IsReadFrom, RepliesTo}
 use Rattle.replies.specs.Answers.{Reply, refusal}
 use Rattle.replies.specs.Replies.{IsReply}
-use Rattle.replies.proofs.OneText.{one_text_fault}
+use Rattle.replies.proofs.Facts.{one_text_fault}
 
 below_is_true : (m n : ℕ) → m < n → nat_lt m n ≡ true
 below_is_true m n h = search (rules, h)

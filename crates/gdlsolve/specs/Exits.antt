@@ -1,9 +1,9 @@
 -- The exit status of the program.
 use Rattle.std.specs.Prelude.{ℕ, List, Option, Result, Ok, Err}
 use Rattle.std.specs.Io.KnownBytes.{Appends}
-use Rattle.replies.specs.declared.command.Command.{Command}
-use Rattle.replies.specs.declared.command.Status.{Status}
-use Rattle.replies.specs.declared.command.Status.TheVariants.{Answer, Refused}
+use Rattle.words.specs.declared.command.Command.{Command}
+use Rattle.replies.specs.declared.status.Status.{Status}
+use Rattle.replies.specs.declared.status.Status.TheVariants.{Answer, Refused}
 use Rattle.gdlsolve.specs.declared.fault.RunFault.{RunFault}
 use Rattle.gdlsolve.specs.declared.fault.RunFault.TheVariants.{Memory, Read, Write}
 use Rattle.gdlsolve.specs.Input.{RepliesTo}

@@ -2,7 +2,7 @@
 use Rattle.std.specs.Prelude.{ℕ, suc, ◌≡◌, ◌≤◌, ◌<◌, List, Option, Some, None, drop, length, ⊤}
 use Rattle.std.specs.Io.KnownBytes.{Consumes, IsAtEnd}
 use Rattle.kif.specs.Reading.{text_limit}
-use Rattle.replies.specs.declared.command.Command.{Command}
+use Rattle.words.specs.declared.command.Command.{Command}
 use Rattle.replies.specs.Answers.{Reply}
 use Rattle.replies.specs.Replies.{IsReply}
 

@@ -27,7 +27,8 @@ pub(crate) fn told_by_workers<T: Threads + Sync + AllocGlobal, G: Game + Drop>(
 ) -> Result<Reply, AllocError>
     requires fits { G.fits search.game search.here }
     requires role { search.role < (G.rules search.game).roles }
-    ensures { IfOk result (λ reply. reply_of reply ≡ answer (solve_lines (named (G.rules search.game) (G.role_name search.game) (G.move_name search.game))
+    ensures { IfOk result (λ reply. reply_of reply ≡ answer (solve_lines
+        (named (G.rules search.game) (G.role_name search.game) (G.move_name search.game))
         search.role search.depth search.at (G.state search.game search.here))) }
 {
     let found = solve(

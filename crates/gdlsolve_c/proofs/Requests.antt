@@ -1,8 +1,8 @@
 -- What is told of a request is told of the rules.
 use Rattle.std.proofs.Common.{ℕ, List}
 use Rattle.std.specs.Prelude.{Result, Ok, Err, IfOk}
-use Rattle.replies.specs.declared.grammar.Request.{Request}
-use Rattle.replies.specs.declared.grammar.Request.TheVariants.{Run, Help, Misuse, Misread}
+use Rattle.words.specs.declared.grammar.Request.{Request}
+use Rattle.words.specs.declared.grammar.Request.TheVariants.{Run, Help, Misuse, Misread}
 use Rattle.gdlsolve_c.specs.declared.told.Told.{Told}
 use Rattle.gdlsolve_c.specs.declared.told.Told.TheVariants.{Reply, Words}
 use Rattle.gdlsolve_c.specs.Telling.{IsTold, IsToldOf}

@@ -1,8 +1,8 @@
 -- What each status says of what was told.
 use Rattle.std.proofs.Common.{ℕ, ◌≡◌, List, refl, arith, subst}
-use Rattle.replies.specs.declared.command.Command.{Command}
-use Rattle.replies.specs.declared.command.Status.{Status}
-use Rattle.replies.specs.declared.command.Status.TheVariants.{Answer, Refused}
+use Rattle.words.specs.declared.command.Command.{Command}
+use Rattle.replies.specs.declared.status.Status.{Status}
+use Rattle.replies.specs.declared.status.Status.TheVariants.{Answer, Refused}
 use Rattle.replies.specs.Replies.{IsReply}
 use Rattle.gdlsolve_c.specs.declared.told.Told.{Told}
 use Rattle.gdlsolve_c.specs.declared.told.Told.TheVariants.{Reply, Words}

@@ -1,7 +1,7 @@
 -- What a call leaves in the caller's memory.
 use Rattle.std.specs.Prelude.{ℕ, ◌≡◌, List, ◌++◌, length, take, drop}
-use Rattle.replies.specs.declared.command.Command.{Command}
-use Rattle.replies.specs.declared.command.Status.{Status}
+use Rattle.words.specs.declared.command.Command.{Command}
+use Rattle.replies.specs.declared.status.Status.{Status}
 use Rattle.replies.specs.Replies.{IsReply}
 
 -- a room with the bytes at its front, as many as it has place for, and behind them what stood there

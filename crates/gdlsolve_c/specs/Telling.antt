@@ -1,10 +1,10 @@
 -- What a caller is told of a request, and by which status.
 use Rattle.std.specs.Prelude.{ℕ, List}
-use Rattle.replies.specs.declared.command.Command.{Command}
-use Rattle.replies.specs.declared.command.Status.{Status}
-use Rattle.replies.specs.declared.command.Status.TheVariants.{Answer, Refused}
-use Rattle.replies.specs.declared.grammar.Request.{Request}
-use Rattle.replies.specs.declared.grammar.Request.TheVariants.{Run, Help, Misuse, Misread}
+use Rattle.words.specs.declared.command.Command.{Command}
+use Rattle.replies.specs.declared.status.Status.{Status}
+use Rattle.replies.specs.declared.status.Status.TheVariants.{Answer, Refused}
+use Rattle.words.specs.declared.grammar.Request.{Request}
+use Rattle.words.specs.declared.grammar.Request.TheVariants.{Run, Help, Misuse, Misread}
 use Rattle.replies.specs.Questions.{reply_of}
 use Rattle.replies.specs.Replies.{IsReply}
 use Rattle.gdlsolve_c.specs.declared.told.Told.{Told}

@@ -12,19 +12,21 @@ use Rattle.clauses.specs.Store.{Data, relation_at}
 use Rattle.clauses.specs.declared.numbered.Alternative.{Alternative}
 use Rattle.rules.specs.declared.rule_set.Keywords.{Keywords}
 use Rattle.std.specs.Prelude.{Bool}
-use Rattle.replies.specs.declared.command.Status.{Status}
-use Rattle.replies.specs.declared.command.Status.TheVariants.{Answer}
+use Rattle.replies.specs.declared.status.Status.{Status}
+use Rattle.replies.specs.declared.status.Status.TheVariants.{Answer}
 use Rattle.replies.specs.Checking.{count_line, spaced, check_lines, IsCheckReply}
 
 -- as many alternatives as stand in memory
-pub as_many_alternatives : (d : Data) (xs alternatives : List Alternative) → xs ≡ alternatives → length xs ≡ length (rules_of d (map numbered alternatives))
+pub as_many_alternatives : (d : Data) (xs alternatives : List Alternative) → xs ≡ alternatives
+    → length xs ≡ length (rules_of d (map numbered alternatives))
 as_many_alternatives d xs alternatives same =
     ap (λ (ys : List Alternative). length ys) same
     ∙ sym (length-map alternatives numbered)
     ∙ sym (length-map (map numbered alternatives) (alternative_of d))
 
 -- as many relations as stand in order
-pub as_many_relations : (d : Data) (ns : List Numbered) (fixed : List Bool) (xs order : List ℕ) (k : Keywords) → IsSound d ns fixed order k → xs ≡ order
+pub as_many_relations : (d : Data) (ns : List Numbered) (fixed : List Bool) (xs order : List ℕ) (k : Keywords) → IsSound d ns fixed order k
+    → xs ≡ order
     → length xs ≡ length (relations_in_order (rules_of d ns))
 as_many_relations d ns fixed xs order k sound same =
     ap (λ (ys : List ℕ). length ys) same
@@ -49,9 +51,11 @@ pub counts : (items : List Tree) (rules : List said.Alternative) (texts : List (
     → made ≡ check_lines n (length rules) (length (relations_in_order rules)) texts → output ≡ made → status ≡ Answer
     → IsCheckReply items (record { output = output; status = status })
 counts items rules texts n made output status many lawful same said_roles lines is_output is_status =
-    let all : output ≡ check_lines (length items) (length (alternatives items)) (length (relations_in_order (alternatives items))) (map text (roles items)) =
+    let all : output ≡ check_lines (length items) (length (alternatives items)) (length (relations_in_order (alternatives items)))
+    (map text (roles items)) =
     is_output ∙ lines
     ∙ ap (λ (k : ℕ). check_lines k (length rules) (length (relations_in_order rules)) texts) many
     ∙ ap (λ (rs : List said.Alternative). check_lines (length items) (length rs) (length (relations_in_order rs)) texts) same
-    ∙ ap (λ (ts : List (List ℕ)). check_lines (length items) (length (alternatives items)) (length (relations_in_order (alternatives items))) ts) said_roles in
+    ∙ ap (λ (ts : List (List ℕ)). check_lines (length items) (length (alternatives items)) (length (relations_in_order (alternatives items))) ts)
+    said_roles in
     inr (lawful, cc (all, is_status))

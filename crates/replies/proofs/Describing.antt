@@ -18,8 +18,8 @@ use Rattle.rulegame.specs.declared.rule_game.RuleGame.{RuleGame}
 use Rattle.game.specs.NamedRules.{NamedRules}
 use Rattle.rulegame.specs.RuleState.{named_rules_of}
 use Rattle.rulegame.proofs.Facts.{game_of_ground}
-use Rattle.replies.specs.declared.command.Status.{Status}
-use Rattle.replies.specs.declared.command.Status.TheVariants.{Refused}
+use Rattle.replies.specs.declared.status.Status.{Status}
+use Rattle.replies.specs.declared.status.Status.TheVariants.{Refused}
 use Rattle.replies.specs.declared.games.Described.{Described}
 use Rattle.replies.specs.declared.games.Described.TheVariants.{Network, Rules, Refusal}
 use Rattle.replies.specs.declared.grounding.Instantiated.{Instantiated}
@@ -71,10 +71,12 @@ pub tells_game : {E : Type 0} (items : List Tree) (told : NamedRules → Reply �
 tells_game items told g (Ok reply) its h = inr (g, its, h)
 tells_game items told g (Err e) its h = h
 
-pub over_network : (items : List Tree) (d : Described) (game : NetGame) → IsDescribed items d → d ≡ Network game → IsItsGame items (named_rules_of game.played)
+pub over_network : (items : List Tree) (d : Described) (game : NetGame) → IsDescribed items d → d ≡ Network game
+    → IsItsGame items (named_rules_of game.played)
 over_network items d game is same = subst (λ (e : Described). IsDescribed items e) same is
 
-pub over_rules : (items : List Tree) (d : Described) (game : RuleGame) → IsDescribed items d → d ≡ Rules game → IsItsGame items (named_rules_of game.played)
+pub over_rules : (items : List Tree) (d : Described) (game : RuleGame) → IsDescribed items d → d ≡ Rules game
+    → IsItsGame items (named_rules_of game.played)
 over_rules items d game is same = subst (λ (e : Described). IsDescribed items e) same is
 
 pub over_ground : (items : List Tree) (i : Instantiated) (g : Ground) → IsInstantiated items i → i ≡ Fits g → IsItsGround items g

@@ -1,21 +1,22 @@
-pub mod OneHistory
-pub mod OneMoves
-pub mod OnePlay
-pub mod OneReply
-pub mod OneText
-pub mod OneCheck
-pub mod Spacing
-pub mod Counting
-pub mod Ranges
-pub mod Describing
-pub mod Leading
-pub mod OneTree
-pub mod LineLemmas
-pub mod Solved
-pub mod Lines
-pub mod OneSolve
-pub mod NoRole
-pub mod OneNet
-pub mod Measuring
-pub mod Questions
-pub mod Exact
+mod OneHistory
+mod OneMoves
+mod OnePlay
+mod OneReply
+mod OneText
+mod OneCheck
+mod Spacing
+mod Counting
+mod Ranges
+mod Describing
+mod Leading
+mod OneTree
+mod LineLemmas
+mod Solved
+mod Lines
+mod OneSolve
+mod NoRole
+mod OneNet
+mod Measuring
+mod Questions
+mod Exact
+pub mod Facts

@@ -1,5 +1,6 @@
 -- The line of play, one turn at a time.
-use Rattle.std.proofs.Common.{◌≡◌, ℕ, zero, suc, ◌+◌, ◌-◌, ◌<◌, ◌≤◌, Bool, true, false, cond, List, [], ◌∷◌, ◌++◌, length, get_or, refl, sym, ap, ◌∙◌, arith, append_assoc, Option, Some, None}
+use Rattle.std.proofs.Common.{◌≡◌, ℕ, zero, suc, ◌+◌, ◌-◌, ◌<◌, ◌≤◌, Bool, true, false, cond, List, [], ◌∷◌}
+use Rattle.std.proofs.Common.{◌++◌, length, get_or, refl, sym, ap, ◌∙◌, arith, append_assoc, Option, Some, None}
 use Rattle.std.specs.Prelude.{find, Contains, ◌==◌, ◌||◌}
 use Rattle.std.specs.Option.{option_map_or}
 use Rattle.std.proofs.lemmas.List.{append-nil}
@@ -18,11 +19,13 @@ found_among p (y ∷ ys) x h = either (p y) h (found_among p ys x)
     either false h later = let rest = later h in (suc rest.0, omega (arith, rest.1), rest.2)
 
 -- a choice is a legal move
-pub choice_legal : (g : Rules) (role depth : ℕ) (at : AtBound) (s : State) (own : ℕ) → choice_of g role depth at s ≡ Some own → Contains (g.legal s role) own
+pub choice_legal : (g : Rules) (role depth : ℕ) (at : AtBound) (s : State) (own : ℕ) → choice_of g role depth at s ≡ Some own
+    → Contains (g.legal s role) own
 choice_legal g role zero at s own h = absurd cc
 choice_legal g role (suc depth) at s own h = either (g.ended s || is_stuck g s) h
   where
-    either : (b : Bool) → cond b None (find (λ m. worst g role depth at s m == value g role (suc depth) at s) (g.legal s role)) ≡ Some own → Contains (g.legal s role) own
+    either : (b : Bool) → cond b None (find (λ m. worst g role depth at s m == value g role (suc depth) at s) (g.legal s role)) ≡ Some own
+        → Contains (g.legal s role) own
     either true h = absurd cc
     either false h = found_among _ (g.legal s role) own h
 
@@ -31,20 +34,23 @@ pub choice_turn : (g : Rules) (role depth : ℕ) (at : AtBound) (s : State) (own
 choice_turn g role zero at s own h = absurd cc
 choice_turn g role (suc depth) at s own h = omega arith
 
-line_more : (g : Rules) (role depth : ℕ) (at : AtBound) (s : State) (own : ℕ) (j : Turn) → choice_of g role depth at s ≡ Some own → reply_of g role (depth - 1) at s own ≡ Some j
+line_more : (g : Rules) (role depth : ℕ) (at : AtBound) (s : State) (own : ℕ) (j : Turn) → choice_of g role depth at s ≡ Some own
+    → reply_of g role (depth - 1) at s own ≡ Some j
     → line_of g role depth at s ≡ j ∷ line_of g role (depth - 1) at (g.after s j)
 line_more g role zero at s own j chosen reply = absurd cc
 line_more g role (suc depth) at s own j chosen reply =
     let same : suc depth - 1 ≡ depth = omega arith in
     let answer : reply_of g role depth at s own ≡ Some j = ap (λ (d : ℕ). reply_of g role d at s own) (sym same) ∙ reply in
-    ap (λ (o : Option ℕ). option_map_or (λ m. option_map_or (λ i. i ∷ line_of g role depth at (g.after s i)) (reply_of g role depth at s m) []) o []) chosen
+    ap (λ (o : Option ℕ). option_map_or (λ m. option_map_or (λ i. i ∷ line_of g role depth at (g.after s i)) (reply_of g role depth at s m) []) o [])
+    chosen
     ∙ ap (λ (o : Option Turn). option_map_or (λ i. i ∷ line_of g role depth at (g.after s i)) o []) answer
     ∙ ap (λ (d : ℕ). j ∷ line_of g role d at (g.after s j)) (sym same)
 
 line_end : (g : Rules) (role depth : ℕ) (at : AtBound) (s : State) → choice_of g role depth at s ≡ None → line_of g role depth at s ≡ []
 line_end g role zero at s h = refl
 line_end g role (suc depth) at s h =
-    ap (λ (o : Option ℕ). option_map_or (λ m. option_map_or (λ i. i ∷ line_of g role depth at (g.after s i)) (reply_of g role depth at s m) []) o []) h
+    ap (λ (o : Option ℕ). option_map_or (λ m. option_map_or (λ i. i ∷ line_of g role depth at (g.after s i)) (reply_of g role depth at s m) []) o [])
+    h
 
 -- one more turn of the line
 pub lines_more : (g : NamedRules) (role depth left : ℕ) (at : AtBound) (s : State) (own : ℕ) (j : Turn) (whole before after : List ℕ) → left ≤ depth

@@ -22,8 +22,8 @@ use Rattle.propnet.specs.Builders.{IsNetOf, input_counts}
 use Rattle.propnet.specs.Names.{node_names}
 use Rattle.propnet.specs.Network.{Gate}
 use Rattle.propnet.specs.Nets.{gates_of}
-use Rattle.replies.specs.declared.command.Status.{Status}
-use Rattle.replies.specs.declared.command.Status.TheVariants.{Answer}
+use Rattle.replies.specs.declared.status.Status.{Status}
+use Rattle.replies.specs.declared.status.Status.TheVariants.{Answer}
 use Rattle.replies.specs.Answers.{Reply, answer}
 use Rattle.replies.specs.Games.{IsItsGround}
 use Rattle.replies.specs.Networks.{nodes_of, net_lines, measures, IsNetReply}
@@ -91,25 +91,32 @@ nodes_are : (rules : List Alternative) (g : Ground) (net : Net) → IsGround rul
 nodes_are rules g net are of =
     sym (length-map (gates_of net) (λ (gate : Gate). gate.name))
     ∙ ap (λ (xs : List Name). length xs) of.names
-    ∙ ap (λ (n : ℕ). length (node_names n (input_counts g) (kinds_of g) (instances_of g))) (ap (λ (ts : List (List ℕ)). length ts) are.base_are ∙ length-map (base_list rules) text)
+    ∙ ap (λ (n : ℕ). length (node_names n (input_counts g) (kinds_of g) (instances_of g)))
+    (ap (λ (ts : List (List ℕ)). length ts) are.base_are ∙ length-map (base_list rules) text)
     ∙ ap (λ (ns : List ℕ). length (node_names (length (base_list rules)) ns (kinds_of g) (instances_of g)))
     (ap (λ (lists : List (List (List ℕ))). map (λ (ts : List (List ℕ)). length ts) lists) are.inputs_are ∙ counts_each rules (role_list rules))
-    ∙ ap (λ (kinds : List Kind). length (node_names (length (base_list rules)) (map (λ r. length (input_list rules r)) (role_list rules)) kinds (instances_of g))) are.kinds_are
-    ∙ ap (λ (kept : List Kept). length (node_names (length (base_list rules)) (map (λ r. length (input_list rules r)) (role_list rules)) (map (kind_of rules) (listing rules).atoms) kept)) are.kept_are
+    ∙ ap (λ (kinds : List Kind). length (node_names (length (base_list rules)) (map (λ r. length (input_list rules r)) (role_list rules)) kinds
+    (instances_of g))) are.kinds_are
+    ∙ ap (λ (kept : List Kept). length (node_names (length (base_list rules)) (map (λ r. length (input_list rules r)) (role_list rules))
+    (map (kind_of rules) (listing rules).atoms) kept)) are.kept_are
 
 measures_are : (rules : List Alternative) (g : Ground) (net : Net) → IsGround rules g → IsNetOf g net
     → net_lines (length (base_of g)) (count_all (inputs_of g)) (length (instances_of g)) g.dropped (length (gates_of net)) ≡ measures rules
 measures_are rules g net are of =
-    let base : length (base_of g) ≡ length (base_list rules) = ap (λ (ts : List (List ℕ)). length ts) are.base_are ∙ length-map (base_list rules) text in
+    let base : length (base_of g) ≡ length (base_list rules) =
+    ap (λ (ts : List (List ℕ)). length ts) are.base_are ∙ length-map (base_list rules) text in
     let inputs : count_all (inputs_of g) ≡ count_inputs rules (role_list rules) = ap count_all are.inputs_are ∙ counts_all rules (role_list rules) in
-    let kept : length (instances_of g) ≡ length (listing rules).kept = ap (λ (ks : List Kept). length ks) are.kept_are ∙ length-map (listing rules).kept (numbered rules) in
+    let kept : length (instances_of g) ≡ length (listing rules).kept =
+    ap (λ (ks : List Kept). length ks) are.kept_are ∙ length-map (listing rules).kept (numbered rules) in
     let heads : g.dropped ≡ dropped rules = are.dropped_is in
     let nodes = nodes_are rules g net are of in
     ap (λ (n : ℕ). net_lines n (count_all (inputs_of g)) (length (instances_of g)) g.dropped (length (gates_of net))) base
     ∙ ap (λ (n : ℕ). net_lines (length (base_list rules)) n (length (instances_of g)) g.dropped (length (gates_of net))) inputs
     ∙ ap (λ (n : ℕ). net_lines (length (base_list rules)) (count_inputs rules (role_list rules)) n g.dropped (length (gates_of net))) kept
-    ∙ ap (λ (n : ℕ). net_lines (length (base_list rules)) (count_inputs rules (role_list rules)) (length (listing rules).kept) n (length (gates_of net))) heads
-    ∙ ap (λ (n : ℕ). net_lines (length (base_list rules)) (count_inputs rules (role_list rules)) (length (listing rules).kept) (dropped rules) n) nodes
+    ∙ ap (λ (n : ℕ). net_lines (length (base_list rules)) (count_inputs rules (role_list rules)) (length (listing rules).kept) n
+    (length (gates_of net))) heads
+    ∙ ap (λ (n : ℕ). net_lines (length (base_list rules)) (count_inputs rules (role_list rules)) (length (listing rules).kept) (dropped rules) n)
+    nodes
 
 -- the numbers that were written are those of the items
 pub items_measured : (items : List Tree) (g : Ground) (net : Net) (made output : List ℕ) (status : Status) → IsItsGround items g → IsNetOf g net

@@ -6,14 +6,15 @@ use Rattle.game.specs.declared.at_bound.AtBound.{AtBound}
 use Rattle.game.specs.declared.fault.HistoryFault.{HistoryFault}
 use Rattle.game.specs.NamedRules.{NamedRules}
 use Rattle.game.specs.Rules.{State}
-use Rattle.replies.specs.declared.command.Status.TheVariants.{Refused}
+use Rattle.replies.specs.declared.status.Status.TheVariants.{Refused}
 use Rattle.replies.specs.declared.reply.Reply as shown
 use Rattle.replies.specs.Answers.{Reply, refusal}
 use Rattle.replies.specs.Histories.{IsHistoryOf}
 use Rattle.replies.specs.Moving.{history_reply}
 use Rattle.replies.specs.Solving.{IsRoleNamed, IsSolveReply, solve_lines}
 
-pub no_role : {E : Type 0} (g : NamedRules) (role : List ℕ) (depth : ℕ) (at : AtBound) (after : List ℕ) (r : Result shown.Reply E) → IsRoleNamed g role None
+pub no_role : {E : Type 0} (g : NamedRules) (role : List ℕ) (depth : ℕ) (at : AtBound) (after : List ℕ) (r : Result shown.Reply E)
+    → IsRoleNamed g role None
     → IfOk r (λ reply. reply.output.items ≡ refusal_line (codes "S1 NoSuchRole")) → IfOk r (λ reply. reply.status ≡ Refused)
     → IfOk r (λ reply. IsSolveReply g role depth at after (record { output = reply.output.items; status = reply.status }))
 no_role g role depth at after (Ok reply) none line status =

@@ -5,7 +5,8 @@ use Rattle.kif.specs.Tree.{Tree, text}
 use Rattle.profile.specs.Answer as rules
 use Rattle.profile.specs.Items.{alternatives}
 use Rattle.profile.specs.Order.{relations_in_order}
-use Rattle.profile.specs.Profile.{Fault, Limit, rules_limit, variables_limit, alternatives_limit, roles_limit, bad_form, bad_keyword, too_many, not_safe, recursive, bad_dependence, no_role, fault_in, HasNoFault, roles}
+use Rattle.profile.specs.Profile.{Fault, Limit, rules_limit, variables_limit, alternatives_limit, roles_limit, bad_form}
+use Rattle.profile.specs.Profile.{bad_keyword, too_many, not_safe, recursive, bad_dependence, no_role, fault_in, HasNoFault, roles}
 use Rattle.profile.specs.Refusal.{fault_text}
 use Rattle.profile.specs.declared.fault.Excess.{Excess}
 use Rattle.profile.specs.declared.fault.Excess.TheVariants as excesses
@@ -51,7 +52,11 @@ named_of items (faults.BadDependence n) other h = record { fault = bad_dependenc
 named_of items faults.NoRole other h = record { fault = no_role; stands = h; same = refl }
 named_of items (faults.TooMany n x) other h =
     let limit = excess_named x in
-    record { fault = too_many n limit.0; stands = h ∙ ap (λ (l : Limit). Some (too_many n l)) limit.1; same = ap (λ (y : Excess). faults.TooMany n y) limit.2 }
+    record {
+      fault = too_many n limit.0;
+      stands = h ∙ ap (λ (l : Limit). Some (too_many n l)) limit.1;
+      same = ap (λ (y : Excess). faults.TooMany n y) limit.2;
+    }
 named_of items faults.NoMemory other h = absurd (other refl)
 
 limit_named : (l : Limit) → rules.limit_of (excess_of l) ≡ l
@@ -82,7 +87,10 @@ some_verdict items = go (fault_in items) refl
     go None e = inr e
 
 pub some_check : (items : List Tree) → (reply : Reply) × IsCheckReply items reply
-some_check items = elim (some_verdict items) [ inl refused ↦ (refused.0, inl refused.1) | inr lawful ↦ (answer (lines_for items), inr (lawful, refl)) ]
+some_check items = elim (some_verdict items) [
+  | inl refused ↦ (refused.0, inl refused.1)
+  | inr lawful ↦ (answer (lines_for items), inr (lawful, refl))
+]
 
 one_fault : (items : List Tree) (e f : RuleFault) → IsNamed items e → IsNamed items f → e ≡ f
 one_fault items e f p q =

@@ -35,12 +35,14 @@ one_history g h same bytes result other (inr p) (inr q) =
     ∙ ap (λ (ts : Trees). played h.rules h.move_name (list_of ts)) (reads_once bytes p.0 q.0 p.1 q.1) ∙ sym q.2
 
 -- a fault of a history names a role of the game, if it names one
-role_known : (g : NamedRules) (bytes : List ℕ) (result : Result State HistoryFault) → IsHistoryOf g bytes result → IfErr result (IsRoleOf g.rules.roles)
+role_known : (g : NamedRules) (bytes : List ℕ) (result : Result State HistoryFault) → IsHistoryOf g bytes result
+    → IfErr result (IsRoleOf g.rules.roles)
 role_known g bytes result (inl p) = subst (λ (r : Result State HistoryFault). IfErr r (IsRoleOf g.rules.roles)) (sym p.3) tt
 role_known g bytes result (inr p) =
     subst (λ (r : Result State HistoryFault). IfErr r (IsRoleOf g.rules.roles)) (sym p.2) (role_named g.rules g.move_name (list_of p.0))
 
-part_alike : (g h : NamedRules) → SamePlay g h → (fault : HistoryFault) → IsRoleOf g.rules.roles fault → role_part g.role_name fault ≡ role_part h.role_name fault
+part_alike : (g h : NamedRules) → SamePlay g h → (fault : HistoryFault) → IsRoleOf g.rules.roles fault
+    → role_part g.role_name fault ≡ role_part h.role_name fault
 part_alike g h same (BadForm turn) known = refl
 part_alike g h same (NotLegal turn role) known = ap (λ (name : List ℕ). 32 ∷ name) (same.role_names role known)
 part_alike g h same (Over turn) known = refl
@@ -58,4 +60,5 @@ pub one_history_reply : (g h : NamedRules) → SamePlay g h → (lines others : 
     → (bytes : List ℕ) (result other : Result State HistoryFault) → IsHistoryOf g bytes result → IsHistoryOf h bytes other
     → history_reply g lines result ≡ history_reply h others other
 one_history_reply g h same lines others alike bytes result other p q =
-    reply_alike g h same lines others alike result (role_known g bytes result p) ∙ ap (history_reply h others) (one_history g h same bytes result other p q)
+    reply_alike g h same lines others alike result (role_known g bytes result p)
+    ∙ ap (history_reply h others) (one_history g h same bytes result other p q)

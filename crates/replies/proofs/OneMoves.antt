@@ -36,14 +36,17 @@ module _ (g h : NamedRules) (same : SamePlay g h) where
       ap (λ (name : List ℕ). codes "legal " ++ name ++ 32 ∷ g.move_name r m ++ 10 ∷ []) (same.role_names r lt)
       ∙ ap (λ (name : List ℕ). codes "legal " ++ h.role_name r ++ 32 ∷ name ++ 10 ∷ []) (same.move_names r m lt known)
 
-  legals_alike : (s : State) (r : ℕ) → r < g.rules.roles → flat_map (legal_line g r) (g.rules.legal s r) ≡ flat_map (legal_line h r) (h.rules.legal s r)
+  legals_alike : (s : State) (r : ℕ) → r < g.rules.roles → flat_map (legal_line g r) (g.rules.legal s r)
+      ≡ flat_map (legal_line h r) (h.rules.legal s r)
   legals_alike s r lt =
-      flat_maps_alike (legal_line g r) (legal_line h r) (g.rules.legal s r) (λ k d inside. legal_alike r (get_or (g.rules.legal s r) k d) lt (same.known s r lt k d inside))
+      flat_maps_alike (legal_line g r) (legal_line h r) (g.rules.legal s r)
+      (λ k d inside. legal_alike r (get_or (g.rules.legal s r) k d) lt (same.known s r lt k d inside))
       ∙ ap (flat_map (legal_line h r)) (same.legal s r lt)
 
   all_goals_alike : (s : State) → goal_lines g s ≡ goal_lines h s
   all_goals_alike s =
-      flat_maps_alike (goal_line g s) (goal_line h s) (all_roles g.rules) (all_below (λ r. goal_line g s r ≡ goal_line h s r) g.rules.roles (goal_alike s))
+      flat_maps_alike (goal_line g s) (goal_line h s) (all_roles g.rules)
+      (all_below (λ r. goal_line g s r ≡ goal_line h s r) g.rules.roles (goal_alike s))
       ∙ ap (λ (n : ℕ). flat_map (goal_line h s) (range_with_len 0 n)) same.roles
 
   all_legals_alike : (s : State) → legal_lines g s ≡ legal_lines h s

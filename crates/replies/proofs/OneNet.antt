@@ -15,7 +15,8 @@ use Rattle.replies.specs.Games.{PassesLimit}
 use Rattle.replies.specs.Networks.{measures, MeasuresItems, IsNetReply}
 
 -- items without a fault pass a limit, or are measured
-some_net_of : (items : List Tree) → HasNoFault items → (found : Option Excess) → excess_in (alternatives items) ≡ found → (reply : Reply) × IsNetReply items reply
+some_net_of : (items : List Tree) → HasNoFault items → (found : Option Excess) → excess_in (alternatives items) ≡ found
+    → (reply : Reply) × IsNetReply items reply
 some_net_of items lawful (Some excess) e = (refusal (fault_text (TooMany excess)), inl (inr (lawful, excess, e, refl)))
 some_net_of items lawful None e = (answer (measures (alternatives items)), inr (lawful, e, refl))
 

@@ -40,7 +40,8 @@ one_limit items reply other p q =
     let one : p.1 ≡ q.1 = cc in
     p.3 ∙ ap (λ (excess : Excess). refusal (fault_text (TooMany excess))) one ∙ sym q.3
 
-limit_or_game : (items : List Tree) (told : NamedRules → Reply → Type 0) (reply other : Reply) → PassesLimit items reply → TellsGame items told other → ⊥
+limit_or_game : (items : List Tree) (told : NamedRules → Reply → Type 0) (reply other : Reply) → PassesLimit items reply → TellsGame items told other
+    → ⊥
 limit_or_game items told reply other p q =
     let passed = p.2 in
     let within = q.1.within in

@@ -9,8 +9,8 @@ use Rattle.replies.proofs.OneMoves.{some_moves, one_moves}
 use Rattle.replies.proofs.OnePlay.{some_play, one_play}
 use Rattle.replies.proofs.OneSolve.{some_solve, one_solve}
 use Rattle.replies.proofs.OneText.{fault_or_trees, one_text_fault, not_fault_and_trees}
-use Rattle.replies.specs.declared.command.Command.{Command}
-use Rattle.replies.specs.declared.command.Command.TheVariants.{Show, Check, Net, Moves, Solve}
+use Rattle.words.specs.declared.command.Command.{Command}
+use Rattle.words.specs.declared.command.Command.TheVariants.{Show, Check, Net, Moves, Solve}
 use Rattle.replies.specs.Answers.{Reply, answer, refusal}
 use Rattle.replies.specs.Moving.{IsMovesReply}
 use Rattle.replies.specs.Solving.{IsSolveReply}
@@ -21,7 +21,8 @@ some_reply_to Show ts = (answer (lines_of ts), refl)
 some_reply_to Check ts = some_check (list_of ts)
 some_reply_to Net ts = some_net (list_of ts)
 some_reply_to (Moves after) ts = some_play (list_of ts) (λ g. IsMovesReply g after.now) (λ g. some_moves g after.now)
-some_reply_to (Solve role depth at cut after) ts = some_play (list_of ts) (λ g. IsSolveReply g role.now depth at after.now) (λ g. some_solve g role.now depth at after.now)
+some_reply_to (Solve role depth at cut after) ts =
+    some_play (list_of ts) (λ g. IsSolveReply g role.now depth at after.now) (λ g. some_solve g role.now depth at after.now)
 
 one_reply_to : (command : Command) (ts : Trees) (reply other : Reply) → IsReplyTo command ts reply → IsReplyTo command ts other → reply ≡ other
 one_reply_to Show ts reply other p q = p ∙ sym q
@@ -30,7 +31,8 @@ one_reply_to Net ts reply other p q = one_net (list_of ts) reply other p q
 one_reply_to (Moves after) ts reply other p q =
     one_play (list_of ts) (λ g. IsMovesReply g after.now) (λ g h same. one_moves g h same after.now) reply other p q
 one_reply_to (Solve role depth at cut after) ts reply other p q =
-    one_play (list_of ts) (λ g. IsSolveReply g role.now depth at after.now) (λ g h same. one_solve g h same role.now depth at after.now) reply other p q
+    one_play (list_of ts) (λ g. IsSolveReply g role.now depth at after.now) (λ g h same. one_solve g h same role.now depth at after.now) reply other p
+    q
 
 pub some_reply : (command : Command) (bytes : List ℕ) → (reply : Reply) × IsReply command bytes reply
 some_reply command bytes =

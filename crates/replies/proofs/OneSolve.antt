@@ -35,11 +35,13 @@ role_alike : (g h : NamedRules) → SamePlay g h → (ts : Trees) → role_in g 
 role_alike g h same no_trees = refl
 role_alike g h same (tree t no_trees) =
     finds_alike (λ r. name_eq (text t) (g.role_name r)) (λ r. name_eq (text t) (h.role_name r)) (all_roles g.rules)
-    (all_below (λ r. name_eq (text t) (g.role_name r) ≡ name_eq (text t) (h.role_name r)) g.rules.roles (λ r lt. ap (name_eq (text t)) (same.role_names r lt)))
+    (all_below (λ r. name_eq (text t) (g.role_name r) ≡ name_eq (text t) (h.role_name r)) g.rules.roles
+    (λ r lt. ap (name_eq (text t)) (same.role_names r lt)))
     ∙ ap (λ (n : ℕ). find (λ r. name_eq (text t) (h.role_name r)) (range_with_len 0 n)) same.roles
 role_alike g h same (tree t (tree u us)) = refl
 
-one_role : (g h : NamedRules) → SamePlay g h → (bytes : List ℕ) (found other : Option ℕ) → IsRoleNamed g bytes found → IsRoleNamed h bytes other → found ≡ other
+one_role : (g h : NamedRules) → SamePlay g h → (bytes : List ℕ) (found other : Option ℕ) → IsRoleNamed g bytes found → IsRoleNamed h bytes other
+    → found ≡ other
 one_role g h same bytes found other (inl p) (inl q) = p.3 ∙ sym q.3
 one_role g h same bytes found other (inl p) (inr q) = absurd (not_fault_and_trees bytes p.0 q.0 p.1 p.2 q.1)
 one_role g h same bytes found other (inr p) (inl q) = absurd (not_fault_and_trees bytes q.0 p.0 q.1 q.2 p.1)
@@ -48,7 +50,8 @@ one_role g h same bytes found other (inr p) (inr q) = p.2 ∙ role_alike g h sam
 role_within : (g : NamedRules) (ts : Trees) → IfSome (role_in g ts) (λ r. r < g.rules.roles)
 role_within g no_trees = tt
 role_within g (tree t no_trees) =
-    found_within (λ r. r < g.rules.roles) (λ r. name_eq (text t) (g.role_name r)) (all_roles g.rules) (all_below (λ r. r < g.rules.roles) g.rules.roles (λ r lt. lt))
+    found_within (λ r. r < g.rules.roles) (λ r. name_eq (text t) (g.role_name r)) (all_roles g.rules)
+    (all_below (λ r. r < g.rules.roles) g.rules.roles (λ r lt. lt))
 role_within g (tree t (tree u us)) = tt
 
 role_known : (g : NamedRules) (bytes : List ℕ) (found : Option ℕ) → IsRoleNamed g bytes found → IfSome found (λ r. r < g.rules.roles)
@@ -60,13 +63,16 @@ role_known g bytes found (inr p) = subst (λ (o : Option ℕ). IfSome o (λ r. r
 texts_alike : (g h : NamedRules) → SamePlay g h → (j : Turn) → IsTurn g.rules j → move_texts g j ≡ move_texts h j
 texts_alike g h same j turn =
     maps_alike (λ q. g.move_name q (slice_index j q)) (λ q. h.move_name q (slice_index j q)) (all_roles g.rules)
-    (all_below (λ q. g.move_name q (slice_index j q) ≡ h.move_name q (slice_index j q)) g.rules.roles (λ q lt. same.move_names q (slice_index j q) lt (turn.each_known q lt)))
+    (all_below (λ q. g.move_name q (slice_index j q) ≡ h.move_name q (slice_index j q)) g.rules.roles
+    (λ q lt. same.move_names q (slice_index j q) lt (turn.each_known q lt)))
     ∙ ap (λ (n : ℕ). map (λ q. h.move_name q (slice_index j q)) (range_with_len 0 n)) same.roles
 
-turns_alike : (g h : NamedRules) → SamePlay g h → (number : ℕ) (js : List Turn) → All (IsTurn g.rules) js → turn_lines g number js ≡ turn_lines h number js
+turns_alike : (g h : NamedRules) → SamePlay g h → (number : ℕ) (js : List Turn) → All (IsTurn g.rules) js
+    → turn_lines g number js ≡ turn_lines h number js
 turns_alike g h same number [] all = refl
 turns_alike g h same number (j ∷ js) all =
-    ap (λ (ts : List (List ℕ)). (codes "line " ++ decimal number ++ spaced ts ++ 10 ∷ []) ++ turn_lines g (number + 1) js) (texts_alike g h same j (All-head (IsTurn g.rules) j js all))
+    ap (λ (ts : List (List ℕ)). (codes "line " ++ decimal number ++ spaced ts ++ 10 ∷ []) ++ turn_lines g (number + 1) js)
+    (texts_alike g h same j (All-head (IsTurn g.rules) j js all))
     ∙ ap (λ (rest : List ℕ). turn_line h number j ++ rest) (turns_alike g h same (number + 1) js (All-tail (IsTurn g.rules) j js all))
 
 chosen_alike : (g h : NamedRules) → SamePlay g h → (role : ℕ) → role < g.rules.roles → (o : Option ℕ) → IfSome o (λ m. m < g.rules.moves role)
@@ -74,18 +80,25 @@ chosen_alike : (g h : NamedRules) → SamePlay g h → (role : ℕ) → role < g
 chosen_alike g h same role lt None within = refl
 chosen_alike g h same role lt (Some own) within = same.move_names role own lt within
 
-lines_alike : (g h : NamedRules) → SamePlay g h → (role : ℕ) → role < g.rules.roles → (depth : ℕ) (at : AtBound) (s : State) → solve_lines g role depth at s ≡ solve_lines h role depth at s
+lines_alike : (g h : NamedRules) → SamePlay g h → (role : ℕ) → role < g.rules.roles → (depth : ℕ) (at : AtBound) (s : State)
+    → solve_lines g role depth at s ≡ solve_lines h role depth at s
 lines_alike g h same role lt depth at s =
-    ap (λ (v : ℕ). count_line (codes "value") v ++ move_line (choice_text g role (choice_of g.rules role depth at s)) ++ turn_lines g 1 (line_of g.rules role depth at s))
+    ap (λ (v : ℕ). count_line (codes "value") v ++ move_line (choice_text g role (choice_of g.rules role depth at s))
+    ++ turn_lines g 1 (line_of g.rules role depth at s))
     (value_alike g h same role lt depth at s)
-    ∙ ap (λ (words : List ℕ). count_line (codes "value") (value h.rules role depth at s) ++ move_line words ++ turn_lines g 1 (line_of g.rules role depth at s))
-    (chosen_alike g h same role lt (choice_of g.rules role depth at s) (choice_within g.rules same.known role depth at s lt) ∙ ap (choice_text h role) (choice_alike g h same role lt depth at s))
-    ∙ ap (λ (lines : List ℕ). count_line (codes "value") (value h.rules role depth at s) ++ move_line (choice_text h role (choice_of h.rules role depth at s)) ++ lines)
-    (turns_alike g h same 1 (line_of g.rules role depth at s) (line_within g.rules same.known role depth at s lt) ∙ ap (turn_lines h 1) (line_alike g h same role lt depth at s))
+    ∙ ap (λ (words : List ℕ). count_line (codes "value") (value h.rules role depth at s) ++ move_line words
+    ++ turn_lines g 1 (line_of g.rules role depth at s))
+    (chosen_alike g h same role lt (choice_of g.rules role depth at s) (choice_within g.rules same.known role depth at s lt)
+    ∙ ap (choice_text h role) (choice_alike g h same role lt depth at s))
+    ∙ ap (λ (lines : List ℕ). count_line (codes "value") (value h.rules role depth at s)
+    ++ move_line (choice_text h role (choice_of h.rules role depth at s)) ++ lines)
+    (turns_alike g h same 1 (line_of g.rules role depth at s) (line_within g.rules same.known role depth at s lt)
+    ∙ ap (turn_lines h 1) (line_alike g h same role lt depth at s))
 
 -- Replies.
 
-pub some_solve : (g : NamedRules) (role : List ℕ) (depth : ℕ) (at : AtBound) (after : List ℕ) → (reply : Reply) × IsSolveReply g role depth at after reply
+pub some_solve : (g : NamedRules) (role : List ℕ) (depth : ℕ) (at : AtBound) (after : List ℕ)
+    → (reply : Reply) × IsSolveReply g role depth at after reply
 some_solve g role depth at after = found (some_role g role).0 (some_role g role).1
   where
     found : (o : Option ℕ) → IsRoleNamed g role o → (reply : Reply) × IsSolveReply g role depth at after reply
@@ -98,8 +111,10 @@ some_solve g role depth at after = found (some_role g role).0 (some_role g role)
 pub one_solve : (g h : NamedRules) → SamePlay g h → (role : List ℕ) (depth : ℕ) (at : AtBound) (after : List ℕ) (reply other : Reply)
     → IsSolveReply g role depth at after reply → IsSolveReply h role depth at after other → reply ≡ other
 one_solve g h same role depth at after reply other (inl p) (inl q) = p.1 ∙ sym q.1
-one_solve g h same role depth at after reply other (inl p) (inr q) = let e : None ≡ Some q.0 = one_role g h same role None (Some q.0) p.0 q.1.0 in absurd cc
-one_solve g h same role depth at after reply other (inr p) (inl q) = let e : Some p.0 ≡ None = one_role g h same role (Some p.0) None p.1.0 q.0 in absurd cc
+one_solve g h same role depth at after reply other (inl p) (inr q) = let e : None ≡ Some q.0 = one_role g h same role None (Some q.0) p.0 q.1.0 in
+    absurd cc
+one_solve g h same role depth at after reply other (inr p) (inl q) = let e : Some p.0 ≡ None = one_role g h same role (Some p.0) None p.1.0 q.0 in
+    absurd cc
 one_solve g h same role depth at after reply other (inr p) (inr q) =
     let e : Some p.0 ≡ Some q.0 = one_role g h same role (Some p.0) (Some q.0) p.1.0 q.1.0 in
     let r : p.0 ≡ q.0 = cc in

@@ -19,11 +19,13 @@ use Rattle.replies.specs.declared.question.Question.TheVariants.{Told, Network, 
 use Rattle.replies.specs.declared.reply.Reply as made
 use Rattle.replies.specs.declared.search.Search.{Search}
 use Rattle.replies.specs.Answers.{Reply}
-use Rattle.replies.specs.Questions.{reply_of, IsSearchOf, IsAskedOf, IsQuestionOf, net_fits, net_state, rule_fits, rule_state, told_question, network_question, rules_question}
+use Rattle.replies.specs.Questions.{reply_of, IsSearchOf, IsAskedOf, IsQuestionOf, net_fits, net_state}
+use Rattle.replies.specs.Questions.{rule_fits, rule_state, told_question, network_question, rules_question}
 
 -- a search whose reply is of one kind, where each of that kind is of another
 lift_search : {G P W M : Type 0} {made_for : G → P → Type 0} {game_of : G → NamedRules} {state_of : G → P → State} (is other : Reply → Type 0)
-    → ((reply : Reply) → is reply → other reply) → (s : Search G P W M) → IsSearchOf made_for game_of state_of is s → IsSearchOf made_for game_of state_of other s
+    → ((reply : Reply) → is reply → other reply) → (s : Search G P W M) → IsSearchOf made_for game_of state_of is s
+    → IsSearchOf made_for game_of state_of other s
 lift_search is other f s h = record { fits = h.fits; role = h.role; reply = f _ h.reply }
 
 pub lift_asked : {G P W M E : Type 0} (made_for : G → P → Type 0) (game_of : G → NamedRules) (state_of : G → P → State) (is other : Reply → Type 0)
@@ -46,7 +48,8 @@ pub of_network : (is other : Reply → Type 0) → ((reply : Reply) → is reply
 of_network is other f (asked.Told reply) q same h = subst (IsQuestionOf other) (sym same) (f _ h)
 of_network is other f (asked.Open s) q same h = subst (IsQuestionOf other) (sym same) (lift_search is other f s h)
 
-pub of_rules : (is other : Reply → Type 0) → ((reply : Reply) → is reply → other reply) → (a : Asked RuleGame RulePos RuleWide RuleMany) (q : Question)
+pub of_rules : (is other : Reply → Type 0) → ((reply : Reply) → is reply → other reply)
+    → (a : Asked RuleGame RulePos RuleWide RuleMany) (q : Question)
     → q ≡ rules_question a → IsAskedOf rule_fits (λ g. named_rules_of g.played) rule_state is a → IsQuestionOf other q
 of_rules is other f (asked.Told reply) q same h = subst (IsQuestionOf other) (sym same) (f _ h)
 of_rules is other f (asked.Open s) q same h = subst (IsQuestionOf other) (sym same) (lift_search is other f s h)

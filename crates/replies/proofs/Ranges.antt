@@ -14,7 +14,8 @@ find_range p a (suc n) k from to h passes =
           rw here (ap (λ (x : ℕ). Some x) e)
       | inr lt ↦
           let here : p a ≡ false = h a (omega arith) lt in
-          let found : find p (range_with_len (a + 1) n) ≡ Some k = find_range p (a + 1) n k (omega arith) (omega arith) (λ j after before. h j (omega arith) before) passes in
+          let found : find p (range_with_len (a + 1) n) ≡ Some k =
+          find_range p (a + 1) n k (omega arith) (omega arith) (λ j after before. h j (omega arith) before) passes in
           rw here found
     ]
 

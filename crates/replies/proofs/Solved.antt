@@ -9,7 +9,8 @@ use Rattle.replies.specs.Solving.{move_line, choice_text, turn_lines, solve_line
 
 pub lines_are : (g : NamedRules) (role depth : ℕ) (at : AtBound) (s : State) (n : ℕ) (found : Option ℕ) (o0 o1 o2 o3 : List ℕ) → o0 ≡ []
     → o1 ≡ o0 ++ count_line (codes "value") n → n ≡ value g.rules role depth at s → found ≡ choice_of g.rules role depth at s
-    → o2 ≡ o1 ++ move_line (choice_text g role found) → o3 ≡ o2 ++ turn_lines g 1 (line_of g.rules role depth at s) → o3 ≡ solve_lines g role depth at s
+    → o2 ≡ o1 ++ move_line (choice_text g role found) → o3 ≡ o2 ++ turn_lines g 1 (line_of g.rules role depth at s)
+    → o3 ≡ solve_lines g role depth at s
 lines_are g role depth at s n found o0 o1 o2 o3 e0 e1 same is e2 e3 =
     let worth = value g.rules role depth at s in
     let choice = choice_of g.rules role depth at s in

@@ -1,8 +1,8 @@
 -- All that is written, and the status.
 use Rattle.std.specs.Prelude.{ℕ, List}
 use Rattle.kif.specs.Refusal.{refusal_line}
-use Rattle.replies.specs.declared.command.Status.{Status}
-use Rattle.replies.specs.declared.command.Status.TheVariants.{Answer, Refused}
+use Rattle.replies.specs.declared.status.Status.{Status}
+use Rattle.replies.specs.declared.status.Status.TheVariants.{Answer, Refused}
 
 -- all that is written, and the status
 pub record Reply : Type 0 where

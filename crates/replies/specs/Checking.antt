@@ -35,7 +35,8 @@ RefusesItems items reply =
 abbrev pub CountsItems : List Tree → Reply → Type 0
 CountsItems items reply =
     HasNoFault items
-    × (reply ≡ answer (check_lines (length items) (length (alternatives items)) (length (relations_in_order (alternatives items))) (map text (roles items))))
+    × (reply ≡ answer (check_lines (length items) (length (alternatives items)) (length (relations_in_order (alternatives items)))
+    (map text (roles items))))
 
 abbrev pub IsCheckReply : List Tree → Reply → Type 0
 IsCheckReply items reply = RefusesItems items reply ⊎ CountsItems items reply

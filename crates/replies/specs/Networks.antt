@@ -30,7 +30,8 @@ net_lines base inputs instances heads nodes =
 -- the same of the rules
 abbrev pub measures : List Alternative → List ℕ
 measures rules =
-    net_lines (length (base_list rules)) (count_inputs rules (role_list rules)) (length (listing rules).kept) (dropped rules) (length (nodes_of rules))
+    net_lines (length (base_list rules)) (count_inputs rules (role_list rules)) (length (listing rules).kept) (dropped rules)
+    (length (nodes_of rules))
 
 -- the items are a description within all limits, and the reply says how large it is
 abbrev pub MeasuresItems : List Tree → Reply → Type 0

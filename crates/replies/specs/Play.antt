@@ -5,7 +5,8 @@ use Rattle.replies.specs.declared.play.Play.{Play}
 
 -- play of a game with this many roles, whose positions have to meet `fits`, working rooms `fits_wide`, and rooms for many states
 -- `fits_many`
-pub record IsPlayOf {G P W M : Type 0} (fits : P → Type 0) (fits_wide : W → Type 0) (fits_many : M → Type 0) (roles : ℕ) (play : Play G P W M) : Type 0 where
+pub record IsPlayOf {G P W M : Type 0} (fits : P → Type 0) (fits_wide : W → Type 0) (fits_many : M → Type 0) (roles : ℕ) (play : Play G P W M) : Type
+    0 where
   pub here : fits play.here
   pub next : fits play.next
   pub joint : roles ≤ play.joint.capacity

@@ -6,8 +6,8 @@ use Rattle.kif.specs.Answer.{IsFaultOf}
 use Rattle.kif.specs.Refusal.{fault_text}
 use Rattle.kif.specs.declared.fault.KifFault.{KifFault}
 use Rattle.kif.specs.declared.fault.KifFault.TheVariants as faults
-use Rattle.replies.specs.declared.command.Command.{Command}
-use Rattle.replies.specs.declared.command.Command.TheVariants.{Show, Check, Net, Moves, Solve}
+use Rattle.words.specs.declared.command.Command.{Command}
+use Rattle.words.specs.declared.command.Command.TheVariants.{Show, Check, Net, Moves, Solve}
 use Rattle.replies.specs.Answers.{Reply, answer, refusal}
 use Rattle.replies.specs.Checking.{IsCheckReply}
 use Rattle.replies.specs.Moving.{IsMovesReply}

@@ -8,7 +8,6 @@ ghost use Rattle.replies.specs.Replies.{IsReply};
 ghost use Rattle.replies.specs.Solving.{solve_lines};
 
 use crate::answering::ask;
-use crate::command::Command;
 use crate::games::Player;
 use crate::question::Question;
 use crate::reply::Reply;
@@ -17,6 +16,7 @@ use game::Game;
 use maximin::{Room, choice, value_in};
 use share::Answer;
 use std::alloc::{AllocError, Global};
+use words::Command;
 
 /// The value and the first best move of a search.
 fn found_alone<G: Game + Drop>(alloc: Global, search: &Search<G>) -> Result<Answer, AllocError>
@@ -52,7 +52,8 @@ pub(crate) fn told_alone<G: Game + Drop>(
 ) -> Result<Reply, AllocError>
     requires fits { G.fits search.game search.here }
     requires role { search.role < (G.rules search.game).roles }
-    ensures { IfOk result (λ reply. reply_of reply ≡ answer (solve_lines (named (G.rules search.game) (G.role_name search.game) (G.move_name search.game))
+    ensures { IfOk result (λ reply. reply_of reply ≡ answer (solve_lines
+        (named (G.rules search.game) (G.role_name search.game) (G.move_name search.game))
         search.role search.depth search.at (G.state search.game search.here))) }
 {
     let found = found_alone(alloc, &search)?;

@@ -8,7 +8,6 @@ ghost use Rattle.replies.specs.Checking.{spaced, check_lines, IsCheckReply};
 ghost use Rattle.replies.specs.Questions.{IsQuestionOf, told_question};
 ghost use Rattle.replies.specs.Replies.{IsReply, IsReplyTo, lines_of};
 
-use crate::command::Command;
 use crate::games::{Player, ask_solve, reply_to_moves};
 use crate::grounding::reply_to_net;
 use crate::question::Question;
@@ -17,6 +16,7 @@ use bumpalo::Bump;
 use kif::{Expr, KifFault, read, write};
 use rules::{RuleFault, RuleSet};
 use std::alloc::{AllocError, Allocator, Global};
+use words::Command;
 
 /// The canonical text of each tree, one a line.
 fn shown<A: Allocator>(alloc: Global, trees: &[Expr<A>]) -> Result<Vec<u8>, AllocError>

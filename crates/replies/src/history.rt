@@ -6,8 +6,8 @@ ghost use Rattle.game.specs.Played.{played};
 ghost use Rattle.game.specs.Refusal.{fault_text, role_part, IsRoleOf};
 ghost use Rattle.replies.specs.Histories.{named, IsHistoryOf};
 
-use crate::command::Status;
 use crate::reply::Reply;
+use crate::status::Status;
 use bumpalo::Bump;
 use game::{Game, HistoryFault, add_history_refusal, replay};
 use kif::{Expr, KifFault, read};
@@ -21,7 +21,8 @@ fn after_turns<G: Game, A: Allocator>(
 ) -> Result<G::Pos, HistoryFault>
     ensures fits { IfOk result (λ p. G.fits g.now p) }
     ensures played { IfOk result (λ p. played (G.rules g.now) (G.move_name g.now) (trees_in turns.now) ≡ Ok (G.state g.now p)) }
-    ensures refused { IfErr result (λ fault. fault ≢ HistoryFault.NoMemory → played (G.rules g.now) (G.move_name g.now) (trees_in turns.now) ≡ Err fault) }
+    ensures refused { IfErr result (λ fault. fault ≢ HistoryFault.NoMemory
+        → played (G.rules g.now) (G.move_name g.now) (trees_in turns.now) ≡ Err fault) }
     ensures role { IfErr result (IsRoleOf (G.rules g.now).roles) }
 {
     let mut p = g.fresh()?;
@@ -38,7 +39,8 @@ pub(crate) fn position_after<G: Game>(
 ) -> Result<G::Pos, HistoryFault>
     ensures fits { IfOk result (λ p. G.fits g.now p) }
     ensures played { IfOk result (λ p. IsHistoryOf (named (G.rules g.now) (G.role_name g.now) (G.move_name g.now)) after.now (Ok (G.state g.now p))) }
-    ensures refused { IfErr result (λ fault. fault ≢ HistoryFault.NoMemory → IsHistoryOf (named (G.rules g.now) (G.role_name g.now) (G.move_name g.now)) after.now (Err fault)) }
+    ensures refused { IfErr result (λ fault. fault ≢ HistoryFault.NoMemory
+        → IsHistoryOf (named (G.rules g.now) (G.role_name g.now) (G.move_name g.now)) after.now (Err fault)) }
     ensures role { IfErr result (IsRoleOf (G.rules g.now).roles) }
 {
     let arena = Bump::new(alloc);

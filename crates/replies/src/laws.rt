@@ -1,6 +1,6 @@
 // The law of the replies.
 ghost use Rattle.std.specs.Prelude.{◌≡◌, ℕ, List};
-ghost use Rattle.replies.specs.declared.command.Command.{Command};
+ghost use Rattle.words.specs.declared.command.Command.{Command};
 ghost use Rattle.replies.specs.Answers.{Reply};
 ghost use Rattle.replies.specs.Replies.{IsReply};
 

@@ -4,9 +4,7 @@
 mod alone;
 mod answering;
 mod asking;
-mod command;
 mod games;
-mod grammar;
 mod grounding;
 mod history;
 mod laws;
@@ -17,15 +15,16 @@ mod reply;
 mod roles;
 mod search;
 mod solving;
+mod status;
 #[cfg(test)]
 mod tests;
 
 pub use alone::reply_alone;
 pub use answering::ask;
-pub use command::{Command, Status};
 pub use games::Player;
-pub use grammar::{Request, request_of};
 pub use laws::each_input_has_one_reply;
 pub use question::Question;
 pub use reply::Reply;
 pub use search::Search;
+pub use status::Status;
+pub use words::{Command, Request, request_of};

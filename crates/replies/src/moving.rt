@@ -65,7 +65,8 @@ fn add_moves_of<G: Game>(
     requires fits { G.fits g.now p.now }
     requires role { role < (G.rules g.now).roles }
     ensures { OnOk result (output.new.items ≡ output.old.items
-        ++ flat_map (legal_line (named (G.rules g.now) (G.role_name g.now) (G.move_name g.now)) role) ((G.rules g.now).legal (G.state g.now p.now) role)) }
+        ++ flat_map (legal_line (named (G.rules g.now) (G.role_name g.now) (G.move_name g.now)) role)
+        ((G.rules g.now).legal (G.state g.now p.now) role)) }
 {
     let mut place = 0;
     while let Some(number) = g.legal(p, role, place) {

@@ -3,7 +3,7 @@ ghost use Rattle.std.specs.Prelude.{◌≡◌, ◌++◌, IfOk, OnOk, IfSome};
 ghost use Rattle.kif.specs.Refusal.{refusal_line};
 ghost use Rattle.replies.specs.Checking.{count_line};
 
-use crate::command::Status;
+use crate::status::Status;
 use kif::add_refusal;
 use std::alloc::{AllocError, Global};
 use std::fmt::Display;

@@ -38,7 +38,8 @@ impl<G: Game + Drop> Search<G> {
         requires role { self.role < (G.rules self.game).roles }
         requires value { found.value ≡ pos (value (G.rules self.game) self.role self.depth self.at (G.state self.game self.here)) }
         requires choice { found.choice ≡ choice_of (G.rules self.game) self.role self.depth self.at (G.state self.game self.here) }
-        ensures { IfOk result (λ reply. reply_of reply ≡ answer (solve_lines (named (G.rules self.game) (G.role_name self.game) (G.move_name self.game))
+        ensures { IfOk result (λ reply. reply_of reply ≡ answer (solve_lines
+            (named (G.rules self.game) (G.role_name self.game) (G.move_name self.game))
             self.role self.depth self.at (G.state self.game self.here))) }
     {
         let Search {

@@ -86,7 +86,8 @@ fn add_turns<G: Game>(
     requires worth { worth ≡ pos (value (G.rules g.now) role depth at (G.state g.now play.old.here)) }
     requires first { first ≡ choice_of (G.rules g.now) role depth at (G.state g.now play.old.here) }
     ensures { OnOk result (output.new.items ≡ output.old.items
-        ++ turn_lines (named (G.rules g.now) (G.role_name g.now) (G.move_name g.now)) 1 (line_of (G.rules g.now) role depth at (G.state g.now play.old.here))) }
+        ++ turn_lines (named (G.rules g.now) (G.role_name g.now) (G.move_name g.now)) 1
+        (line_of (G.rules g.now) role depth at (G.state g.now play.old.here))) }
 {
     let mut chosen = first;
     let mut left = depth;

@@ -1,8 +1,8 @@
 // What `solve` answers over a game of one turn, by hand.
 use crate::alone::told_alone;
 use crate::asking::{Asked, ask_best};
-use crate::command::Status;
 use crate::reply::Reply;
+use crate::status::Status;
 use game::AtBound;
 use game::table::Table;
 use share::Cut;

@@ -12,7 +12,7 @@ use Rattle.maximin.proofs.Best.{IsBest, worst_at_place, choice_found}
 use Rattle.board.specs.Values.{least}
 use Rattle.board.specs.Boards.{kept, table_of}
 use Rattle.board.specs.Windows.{Answers}
-use Rattle.board.proofs.Least.{least_le, least_under}
+use Rattle.board.proofs.Facts.{least_le, least_under}
 use Rattle.share.specs.Tasks.{own_at, task_value}
 use Rattle.share.specs.Node.{IsNode}
 use Rattle.share.specs.declared.plan.Plan.{Plan}

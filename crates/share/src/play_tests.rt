@@ -16,7 +16,7 @@ use std::test::Fail;
 use std::thread::Threads;
 
 /// One role and four moves, of which the second and the third are worth the same.
-const FOUR: &[u8] = b"(role a) (val x 40) (val y 70) (val z 70) (val zz 10)
+pub(crate) const FOUR: &[u8] = b"(role a) (val x 40) (val y 70) (val z 70) (val zz 10)
 (<= (input a ?m) (val ?m ?v))
 (<= (base (did ?m)) (val ?m ?v))
 (<= (legal a ?m) (val ?m ?v))
@@ -25,7 +25,7 @@ const FOUR: &[u8] = b"(role a) (val x 40) (val y 70) (val z 70) (val zz 10)
 (<= terminal (true (did ?m)))";
 
 /// The first move is worth 90 at once, and the second at most 10, by ten replies.
-const LIVE: &[u8] = b"(role a) (role b) (first x) (first y) (first z)
+pub(crate) const LIVE: &[u8] = b"(role a) (role b) (first x) (first y) (first z)
 (reply r0) (reply r1) (reply r2) (reply r3) (reply r4)
 (reply r5) (reply r6) (reply r7) (reply r8) (reply r9)
 (base start) (base wx) (base wz) (base mid) (base low) (init start)
@@ -72,7 +72,7 @@ const WIDER: &[u8] = b"(role r1) (role r2) (role r3) (role r4) (role r5)
 (<= (goal r1 30) (true on))";
 
 /// The game of a description.
-fn game_of<R: Abort + AllocGlobal>(rt: &R, text: &[u8]) -> Result<RuleGame, Fail> {
+pub(crate) fn game_of<R: Abort + AllocGlobal>(rt: &R, text: &[u8]) -> Result<RuleGame, Fail> {
     let items = read(rt.alloc(), text)?;
     let rules = RuleSet::check(rt.alloc(), items.as_slice())?;
     let ground = instantiate(rt, &rules)?;

@@ -11,7 +11,8 @@ some_next (x ∷ xs) some (suc i) lt = some_next xs (λ j near. some (suc j) (om
 
 next : (xs ys : List ℕ) (n : ℕ) → ys ≡ xs ++ 1 ∷ [] → length xs ≡ n → task_count xs ≡ n → ((i : ℕ) → i < length xs → 0 < slice_index xs i)
     → (length ys ≡ n + 1) × (task_count ys ≡ n + 1) × ((i : ℕ) → i < length ys → 0 < slice_index ys i)
-next xs ys n is long many some = subst (λ (zs : List ℕ). (length zs ≡ n + 1) × (task_count zs ≡ n + 1) × ((i : ℕ) → i < length zs → 0 < slice_index zs i)) (sym is)
+next xs ys n is long many some =
+    subst (λ (zs : List ℕ). (length zs ≡ n + 1) × (task_count zs ≡ n + 1) × ((i : ℕ) → i < length zs → 0 < slice_index zs i)) (sym is)
     (omega (arith, length-append xs (1 ∷ []), long), omega (arith, total-append (λ r. r) xs (1 ∷ []), many), some_next xs some)
 
 pub pushes-preserved : goal.pushes-preserved

@@ -3,4 +3,5 @@ use Rattle.board.specs.Values.{task_count}
 use Rattle.board.proofs.crowd_tests.single_replies.Given as goal
 
 abbrev pub invariant-pushes : goal.invariant-pushes
-invariant-pushes l = (length l.replies.items ≡ l._i) × (task_count l.replies.items ≡ l._i) × ((i : ℕ) → i < length l.replies.items → 0 < slice_index l.replies.items i)
+invariant-pushes l = (length l.replies.items ≡ l._i) × (task_count l.replies.items ≡ l._i)
+    × ((i : ℕ) → i < length l.replies.items → 0 < slice_index l.replies.items i)

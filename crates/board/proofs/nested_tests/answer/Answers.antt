@@ -7,10 +7,18 @@ use Rattle.board.proofs.Nested.{still_held, inner_serve}
 use Rattle.board.proofs.nested_tests.answer.Goals as goal
 
 pub report-requires-clause-task : goal.report-requires-clause-task
-report-requires-clause-task c = (c.requires.task.0, still_held c.args.task.number _ _ _ (book c.args.seat) (book c.args.above) (book c.join-seat.result) (book c.window.new.s) c.join-seat.ensures.book c.window.ensures.read c.requires.task.1)
+report-requires-clause-task c = (
+  c.requires.task.0,
+  still_held c.args.task.number _ _ _ (book c.args.seat) (book c.args.above) (book
+      c.join-seat.result) (book c.window.new.s) c.join-seat.ensures.book c.window.ensures.read c.requires.task.1,
+)
 
 pub skip-requires-clause-task : goal.skip-requires-clause-task
-skip-requires-clause-task c = (c.requires.task.0, still_held c.args.task.number _ _ _ (book c.args.seat) (book c.args.above) (book c.join-seat.result) (book c.window.new.s) c.join-seat.ensures.book c.window.ensures.read c.requires.task.1)
+skip-requires-clause-task c = (
+  c.requires.task.0,
+  still_held c.args.task.number _ _ _ (book c.args.seat) (book c.args.above) (book
+      c.join-seat.result) (book c.window.new.s) c.join-seat.ensures.book c.window.ensures.read c.requires.task.1,
+)
 
 pub report-requires-clause-answers : goal.report-requires-clause-answers
 report-requires-clause-answers c =
@@ -25,5 +33,6 @@ report-requires-clause-answers c =
     let found : Answers 42 l.low l.high r = subst (λ (v : ℕ). Answers v l.low l.high r) c.requires.worth (search rules) in
     let right : Answers 42 (w.best - t) (seen w i) r =
     inner_serve (setup_on c.args.inner) l 42 ((book c.args.above).best - t) (seen (book c.args.above) i) (w.best - t) (seen w i) r c.requires.bounds
-    (omega (arith, also.best, on.best)) (omega (arith, also.uppers i, on.uppers i)) (omega (arith, c.requires.low, from.best, on.best)) (omega (arith, c.requires.high, from.uppers i, on.uppers i)) found in
+    (omega (arith, also.best, on.best)) (omega (arith, also.uppers i, on.uppers i)) (omega (arith, c.requires.low, from.best, on.best))
+    (omega (arith, c.requires.high, from.uppers i, on.uppers i)) found in
     search (rules, right)

@@ -15,8 +15,12 @@ loop-reply-preserved-in-Some-window c =
     let high_now : kept c.look-lo.result.1 ≡ seen k (task_own c.args.task.now) = c.look-lo.ensures.high in
     let low_next : l.low ≡ max (book c.window.new.s).low (kept c.look-lo.result.0 + (setup_on c.args.inner.now).margin) = search rules in
     let high_next : l.high ≡ min (book c.window.new.s).high (kept c.look-lo.result.1) = search rules in
-    let low_same : (book c.window.new.s).low ≡ (book c.loop-reply.seat).low = ap (λ (u : Book). u.low) c.window.ensures.read ∙ ap (λ (u : Book). u.low) c.in-Some.ensures.hand in
-    let high_same : (book c.window.new.s).high ≡ (book c.loop-reply.seat).high = ap (λ (u : Book). u.high) c.window.ensures.read ∙ ap (λ (u : Book). u.high) c.in-Some.ensures.hand in
-    let within : IsWithin (k.best - (setup_on c.args.outer.now).margin) (seen k (task_own c.args.task.now)) (setup_on c.args.inner.now) l =
-    (omega (arith, was.0, c.look-lo.ensures.narrower.best, low_now, low_next, low_same, c.requires.ties), omega (arith, was.1, c.look-lo.ensures.narrower.uppers (task_own c.args.task.now), high_now, high_next, high_same)) in
+    let low_same : (book c.window.new.s).low ≡ (book c.loop-reply.seat).low =
+    ap (λ (u : Book). u.low) c.window.ensures.read ∙ ap (λ (u : Book). u.low) c.in-Some.ensures.hand in
+    let high_same : (book c.window.new.s).high ≡ (book c.loop-reply.seat).high =
+    ap (λ (u : Book). u.high) c.window.ensures.read ∙ ap (λ (u : Book). u.high) c.in-Some.ensures.hand in
+    let within : IsWithin (k.best - (setup_on c.args.outer.now).margin) (seen k (task_own c.args.task.now)) (setup_on c.args.inner.now) l = (
+      omega (arith, was.0, c.look-lo.ensures.narrower.best, low_now, low_next, low_same, c.requires.ties),
+      omega (arith, was.1, c.look-lo.ensures.narrower.uppers (task_own c.args.task.now), high_now, high_next, high_same),
+    ) in
     search (rules, within)

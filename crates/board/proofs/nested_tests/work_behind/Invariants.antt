@@ -10,5 +10,6 @@ abbrev pub decreases-loop-reply : goal.decreases-loop-reply
 decreases-loop-reply l = tasks (setup_on l.inner) - reach (book l.seat)
 
 abbrev pub invariant-loop-reply : goal.invariant-loop-reply
-invariant-loop-reply l = IsSeatOf l.outer l.above × IsSeatOf l.inner l.seat × ((book l.seat).hand ≡ []) × ((book l.seat).shares ≡ (book l.initial.seat).shares)
+invariant-loop-reply l = IsSeatOf l.outer l.above × IsSeatOf l.inner l.seat × ((book l.seat).hand ≡ [])
+    × ((book l.seat).shares ≡ (book l.initial.seat).shares)
     × IsWithin ((book l.above).best - (setup_on l.outer).margin) (seen (book l.above) (task_own l.task)) (setup_on l.inner) (book l.seat)

@@ -13,5 +13,6 @@ pub loop-count-preserved : goal.loop-count-preserved
 loop-count-preserved c =
     let rs = c.args.replies.now in
     let i = c.loop-count.count-index in
-    let next : c.loop-count.total + slice_index rs i ≡ task_count (take (i + 1) rs) = omega (arith, c.loop-count.invariant.1, count_step rs i (omega arith)) in
+    let next : c.loop-count.total + slice_index rs i ≡ task_count (take (i + 1) rs) =
+    omega (arith, c.loop-count.invariant.1, count_step rs i (omega arith)) in
     (rw (starts_step rs i (c.loop-count.total + slice_index rs i) (omega arith) next) (search rules), next)

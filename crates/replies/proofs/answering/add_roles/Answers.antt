@@ -5,6 +5,7 @@ use Rattle.replies.proofs.answering.add_roles.Goals as goal
 
 pub loop-role-preserved : goal.loop-role-preserved
 loop-role-preserved c =
-    spaced_more (roles_in c.args.rules.now) c.loop-role.role c.args.output.now.items c.loop-role.output.items c.push.new.self.items c.extend_from_slice.new.self.items
+    spaced_more (roles_in c.args.rules.now) c.loop-role.role c.args.output.now.items c.loop-role.output.items c.push.new.self.items
+    c.extend_from_slice.new.self.items
     (search rules) c.loop-role.invariant c.in_ok-push.ensures.items
     (c.in_ok-extend_from_slice.ensures.items ∙ ap (λ (xs : List ℕ). c.push.new.self.items ++ xs) c.role_text.ensures)

@@ -10,4 +10,5 @@ returns-in_ok-counted-in-Ok g c =
     let accepted = c.in-Ok.ensures.accepted in
     counts (trees_in c.args.items.now) (rules_in c.in-Ok.rules) (roles_in c.in-Ok.rules) (length c.args.items.now)
     c.in_ok-counted-in-Ok.field-0.items c.answered.result.output.items c.answered.result.status
-    (sym (length-map c.args.items.now tree_of)) accepted.0 accepted.1 accepted.2 c.in_ok-counted-in-Ok.ensures (search rules) c.answered.ensures.status
+    (sym (length-map c.args.items.now tree_of)) accepted.0 accepted.1 accepted.2 c.in_ok-counted-in-Ok.ensures (search rules)
+    c.answered.ensures.status

@@ -10,7 +10,8 @@ pub returns-in-Some : goal.returns-in-Some
 returns-in-Some g c =
     let game = named (g.G.Game.rules c.args.game) (g.G.Game.role_name c.args.game) (g.G.Game.move_name c.args.game) in
     let role : IsRoleNamed game c.args.role.now (Some c.in-Some.number) = rw c.in-Some.is at c.in_ok-number.ensures.named in
-    lift_asked g.G.Game.fits (λ p. named (g.G.Game.rules p) (g.G.Game.role_name p) (g.G.Game.move_name p)) g.G.Game.state _ _ (some_role game c.args.role.now c.args.depth c.args.at c.args.after.now c.in-Some.number role) c.ask_for.result c.ask_for.ensures
+    lift_asked g.G.Game.fits (λ p. named (g.G.Game.rules p) (g.G.Game.role_name p) (g.G.Game.move_name p)) g.G.Game.state _ _
+    (some_role game c.args.role.now c.args.depth c.args.at c.args.after.now c.in-Some.number role) c.ask_for.result c.ask_for.ensures
 
 pub returns-in_ok-refused-in-None : goal.returns-in_ok-refused-in-None
 returns-in_ok-refused-in-None g c =

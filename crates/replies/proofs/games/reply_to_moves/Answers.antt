@@ -12,5 +12,6 @@ returns-in-Network g c =
 
 pub returns-in-Rules : goal.returns-in-Rules
 returns-in-Rules g c =
-    tells_game (trees_in c.args.items.now) (λ told. IsMovesReply told c.args.after.now) (named_rules_of c.in-Rules.game.played) c.moves_reply-in-Rules.result
+    tells_game (trees_in c.args.items.now) (λ told. IsMovesReply told c.args.after.now) (named_rules_of c.in-Rules.game.played)
+    c.moves_reply-in-Rules.result
     (over_rules (trees_in c.args.items.now) c.in_ok-game.field-0 c.in-Rules.game c.in_ok-game.ensures c.in-Rules.is) c.moves_reply-in-Rules.ensures

@@ -10,7 +10,8 @@ add_move-requires-clause-number g c κs within =
     let rules = g.G.Game.rules c.args.g.now in
     let state = g.G.Game.state c.args.g.now c.args.p.now in
     let law = g.met.G.Game g.world.𝓛 g.world.𝓜 g.world.𝓡 ((λ _ x. x), (λ x. x), (λ x. x), λ x. x) in
-    legal_known rules state c.args.role c.loop-number.place c.in-Some.number c.legal.result (law.legal_within c.args.g.now state c.args.role c.requires.role) c.legal.ensures c.in-Some.is
+    legal_known rules state c.args.role c.loop-number.place c.in-Some.number c.legal.result
+    (law.legal_within c.args.g.now state c.args.role c.requires.role) c.legal.ensures c.in-Some.is
 
 pub overflow_add-place : goal.overflow_add-place
 overflow_add-place g c =
@@ -18,7 +19,8 @@ overflow_add-place g c =
     let state = g.G.Game.state c.args.g.now c.args.p.now in
     let here = legal_place rules state c.args.role c.loop-number.place c.in-Some.number c.legal.result c.legal.ensures c.in-Some.is in
     let law = g.met.G.Game g.world.𝓛 g.world.𝓜 g.world.𝓡 ((λ _ x. x), (λ x. x), (λ x. x), λ x. x) in
-    let few = legal_count rules state c.args.role (law.legal_ascending c.args.g.now state c.args.role c.requires.role) (law.legal_within c.args.g.now state c.args.role c.requires.role)
+    let few = legal_count rules state c.args.role (law.legal_ascending c.args.g.now state c.args.role c.requires.role)
+    (law.legal_within c.args.g.now state c.args.role c.requires.role)
     (law.moves_within c.args.g.now c.args.role c.requires.role) in
     omega (arith, here.0)
 
@@ -38,7 +40,8 @@ loop-number-preserved g c =
     record {
       within = omega (arith, here.0);
       lines =
-          one_element_more (legal_line (named rules (g.G.Game.role_name c.args.g.now) (g.G.Game.move_name c.args.g.now)) c.args.role) (rules.legal state c.args.role)
+          one_element_more (legal_line (named rules (g.G.Game.role_name c.args.g.now) (g.G.Game.move_name c.args.g.now)) c.args.role)
+          (rules.legal state c.args.role)
           c.loop-number.place c.in-Some.number c.args.output.now.items _ _ here.0 here.1 c.loop-number.invariant.lines c.in_ok-add_move.ensures;
     }
 
@@ -46,5 +49,6 @@ pub returns : goal.returns
 returns g c =
     let rules = g.G.Game.rules c.args.g.now in
     let state = g.G.Game.state c.args.g.now c.args.p.now in
-    past_the_end (legal_line (named rules (g.G.Game.role_name c.args.g.now) (g.G.Game.move_name c.args.g.now)) c.args.role) (rules.legal state c.args.role)
+    past_the_end (legal_line (named rules (g.G.Game.role_name c.args.g.now) (g.G.Game.move_name c.args.g.now)) c.args.role)
+    (rules.legal state c.args.role)
     c.loop-number.place c.legal.result c.args.output.now.items _ c.legal.ensures c.in_default.is c.loop-number.invariant.lines

@@ -11,7 +11,8 @@ invariant-loop-number g l =
     let legal = (game.rules l.g).legal (game.state l.g l.p) l.role in
     record {
       within : l.place ≤ length legal;
-      lines : l.output.items ≡ l.fn.output.items ++ flat_map (legal_line (named (game.rules l.g) (game.role_name l.g) (game.move_name l.g)) l.role) (take l.place legal);
+      lines : l.output.items ≡ l.fn.output.items ++ flat_map (legal_line (named (game.rules l.g) (game.role_name l.g) (game.move_name l.g)) l.role)
+          (take l.place legal);
     }
 
 abbrev pub decreases-loop-number : goal.decreases-loop-number

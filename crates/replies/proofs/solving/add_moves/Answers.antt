@@ -16,8 +16,10 @@ loop-role-preserved g c =
     let role = c.loop-role.role in
     let text = λ (q : ℕ). names q (slice_index joint q) in
     let count = length-map-range_with_len text 0 game.roles in
-    let at : get_or (move_texts (named game (g.G.Game.role_name c.args.g.now) names) joint) role [] ≡ text role = get_or-map-range_with_len text 0 game.roles role role [] (omega arith) (omega arith) in
-    spaced_more (move_texts (named game (g.G.Game.role_name c.args.g.now) names) joint) role c.args.output.now.items c.loop-role.output.items c.push.new.self.items c.extend_from_slice.new.self.items
+    let at : get_or (move_texts (named game (g.G.Game.role_name c.args.g.now) names) joint) role [] ≡ text role =
+    get_or-map-range_with_len text 0 game.roles role role [] (omega arith) (omega arith) in
+    spaced_more (move_texts (named game (g.G.Game.role_name c.args.g.now) names) joint) role c.args.output.now.items c.loop-role.output.items
+    c.push.new.self.items c.extend_from_slice.new.self.items
     (omega (arith, count)) c.loop-role.invariant c.in_ok-push.ensures.items
     (c.in_ok-extend_from_slice.ensures.items ∙ ap (λ (xs : List ℕ). c.push.new.self.items ++ xs) (search facts ∙ sym at))
 

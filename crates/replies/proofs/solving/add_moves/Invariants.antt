@@ -6,4 +6,5 @@ use Rattle.replies.proofs.solving.add_moves.Given as goal
 
 abbrev pub invariant-loop-role : goal.invariant-loop-role
 invariant-loop-role g l =
-    l.output.items ≡ l.fn.output.items ++ spaced (take l.role (move_texts (named (g.G.Game.rules l.g) (g.G.Game.role_name l.g) (g.G.Game.move_name l.g)) l.joint.items))
+    l.output.items ≡ l.fn.output.items ++ spaced (take l.role (move_texts
+    (named (g.G.Game.rules l.g) (g.G.Game.role_name l.g) (g.G.Game.move_name l.g)) l.joint.items))

@@ -34,14 +34,16 @@ returns-clause-own g c =
     let rs = c.args.self.now.terms.replies.items in
     let are : c.as_slice-starts.result.now ≡ starts_from 0 rs = search (rules, c.args.self.now.numbered) in
     let i = c.halves.invariant in
-    sym (place_at c.as_slice-starts.result.now rs c.args.number are c.halves.low c.halves.high i.from i.under i.apart (omega (arith, c.halves-test.false)) i.within).0
+    sym (place_at c.as_slice-starts.result.now rs c.args.number are c.halves.low c.halves.high i.from i.under i.apart
+    (omega (arith, c.halves-test.false)) i.within).0
 
 pub returns-clause-reply : goal.returns-clause-reply
 returns-clause-reply g c =
     let rs = c.args.self.now.terms.replies.items in
     let are : c.as_slice-starts.result.now ≡ starts_from 0 rs = search (rules, c.args.self.now.numbered) in
     let i = c.halves.invariant in
-    (place_at c.as_slice-starts.result.now rs c.args.number are c.halves.low c.halves.high i.from i.under i.apart (omega (arith, c.halves-test.false)) i.within).1
+    (place_at c.as_slice-starts.result.now rs c.args.number are c.halves.low c.halves.high i.from i.under i.apart (omega (arith, c.halves-test.false))
+    i.within).1
 
 pub returns-clause-some : goal.returns-clause-some
 returns-clause-some g c =

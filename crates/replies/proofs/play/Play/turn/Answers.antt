@@ -10,7 +10,8 @@ use Rattle.replies.proofs.play.Play.turn.Goals as goal
 
 pub reply_by_value-requires-clause-own : goal.reply_by_value-requires-clause-own
 reply_by_value-requires-clause-own g c κs within =
-    choice_legal (g.G.Game.rules c.args.g.now) c.args.role c.args.depth c.args.at (g.G.Game.state c.args.g.now c.args.self.now.here) c.args.own c.requires.own
+    choice_legal (g.G.Game.rules c.args.g.now) c.args.role c.args.depth c.args.at (g.G.Game.state c.args.g.now c.args.self.now.here) c.args.own
+    c.requires.own
 
 pub reply_by_value-requires-clause-worth : goal.reply_by_value-requires-clause-worth
 reply_by_value-requires-clause-worth g c κs within =
@@ -25,16 +26,20 @@ step-requires-clause-joint g c =
     let game = g.G.Game.rules c.args.g.now in
     let state = g.G.Game.state c.args.g.now c.args.self.now.here in
     let law = g.met.G.Game g.world.𝓛 g.world.𝓜 g.world.𝓡 ((λ _ x. x), (λ x. x), (λ x. x), λ x. x) in
-    let own = rw c.requires.own at (choice_within game (λ s r below. law.legal_within c.args.g.now s r below) c.args.role c.args.depth c.args.at state c.requires.role) in
-    rw c.reply_by_value.ensures.reply at (reply_within game (λ s r below. law.legal_within c.args.g.now s r below) c.args.role (c.args.depth - 1) c.args.at state c.args.own own)
+    let own = rw c.requires.own at (choice_within game (λ s r below. law.legal_within c.args.g.now s r below) c.args.role c.args.depth c.args.at state
+    c.requires.role) in
+    rw c.reply_by_value.ensures.reply at (reply_within game (λ s r below. law.legal_within c.args.g.now s r below) c.args.role (c.args.depth - 1)
+    c.args.at state c.args.own own)
 
 pub returns-clause-turn : goal.returns-clause-turn
 returns-clause-turn g c =
     let game = g.G.Game.rules c.args.g.now in
     let state = g.G.Game.state c.args.g.now c.args.self.now.here in
     let law = g.met.G.Game g.world.𝓛 g.world.𝓜 g.world.𝓡 ((λ _ x. x), (λ x. x), (λ x. x), λ x. x) in
-    let own = rw c.requires.own at (choice_within game (λ s r below. law.legal_within c.args.g.now s r below) c.args.role c.args.depth c.args.at state c.requires.role) in
-    rw c.reply_by_value.ensures.reply at (reply_within game (λ s r below. law.legal_within c.args.g.now s r below) c.args.role (c.args.depth - 1) c.args.at state c.args.own own)
+    let own = rw c.requires.own at (choice_within game (λ s r below. law.legal_within c.args.g.now s r below) c.args.role c.args.depth c.args.at state
+    c.requires.role) in
+    rw c.reply_by_value.ensures.reply at (reply_within game (λ s r below. law.legal_within c.args.g.now s r below) c.args.role (c.args.depth - 1)
+    c.args.at state c.args.own own)
 
 pub returns-clause-worth : goal.returns-clause-worth
 returns-clause-worth g c =
@@ -43,7 +48,9 @@ returns-clause-worth g c =
     let joint = c.reply_by_value.new.out.items in
     let chosen : worst game c.args.role (c.args.depth - 1) c.args.at state c.args.own ≡ value game c.args.role c.args.depth c.args.at state =
     choice_stays game c.args.role c.args.depth c.args.at state c.args.own c.requires.own in
-    let replied : value game c.args.role (c.args.depth - 1) c.args.at (game.after state joint) ≡ worst game c.args.role (c.args.depth - 1) c.args.at state c.args.own =
+    let replied : value game c.args.role (c.args.depth - 1) c.args.at (game.after state joint)
+    ≡ worst game c.args.role (c.args.depth - 1) c.args.at state c.args.own =
     reply_stays game c.args.role (c.args.depth - 1) c.args.at state c.args.own joint c.reply_by_value.ensures.reply in
-    let after : g.G.Game.state c.args.g.now c.swap.new.x ≡ game.after state joint = ap (g.G.Game.state c.args.g.now) c.swap.ensures.x_after ∙ c.step.ensures.after in
+    let after : g.G.Game.state c.args.g.now c.swap.new.x ≡ game.after state joint =
+    ap (g.G.Game.state c.args.g.now) c.swap.ensures.x_after ∙ c.step.ensures.after in
     rw after (c.requires.worth ∙ ap pos (sym (replied ∙ chosen)))

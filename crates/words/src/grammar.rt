@@ -8,6 +8,9 @@ use std::alloc::{AllocError, Global};
 /// The version that `--version` tells.
 const VERSION: &str = "0.1.0";
 
+/// How many turns may be looked ahead.
+const DEPTH_LIMIT: i64 = 64;
+
 /// What stands below the help of the program.
 const CLOSING: &str = "Exit status:
   0  an answer, or help
@@ -67,7 +70,7 @@ fn depth<'a>(alloc: Global) -> clap::Arg<'a> {
         .long("depth")
         .value_name("TURNS")
         .required(true)
-        .value_parser(clap::value_parser!(u32).range(0..=64))
+        .value_parser(clap::value_parser!(u32).range(0..=DEPTH_LIMIT))
         .help("How many turns to look ahead, from 0 to 64")
 }
 

@@ -1,4 +1,4 @@
-// What is asked of rules, and what kind of reply there is.
+// What is asked of rules.
 use game::AtBound;
 use share::Cut;
 
@@ -30,13 +30,4 @@ pub enum Command<'a> {
         /// The text of the history, as of `Moves`.
         after: &'a str,
     },
-}
-
-/// What kind of reply it is.
-#[derive(Clone, Copy, Debug, PartialEq, Eq)]
-pub enum Status {
-    /// The output answers the command.
-    Answer,
-    /// The output is the one line that names the fault of the input.
-    Refused,
 }

@@ -1,0 +1,8 @@
+//! The words of a command line, and the command that they make.
+#![tactic(auto)]
+
+mod command;
+mod grammar;
+
+pub use command::Command;
+pub use grammar::{Request, request_of};
