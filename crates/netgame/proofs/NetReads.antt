@@ -18,7 +18,7 @@ use Rattle.meaning.specs.Kinds.{kind_of, place_in}
 use Rattle.meaning.specs.Listing.{listing, role_list, base_list, input_list}
 use Rattle.meaning.specs.Listed.{IsWellFormed}
 use Rattle.meaning.specs.Meaning as meaning
-use Rattle.ground.specs.Meaning.{ordinary}
+use Rattle.meaning.specs.Meaning.{ordinary}
 use Rattle.meaning.specs.Meaning.{source_of, Holds, nobody, IsRole, RightAs, atom1, atom2}
 use Rattle.meaning.specs.Numbers.{number_of}
 use Rattle.meaning.specs.Play as play
