@@ -11,4 +11,3 @@ pub mod Beside
 pub mod Stays
 pub mod OwnTurns
 pub mod Runs
-pub mod Orders

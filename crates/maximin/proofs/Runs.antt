@@ -27,14 +27,14 @@ worths_after worth after [] = refl
 worths_after worth after (x ∷ xs) = ap (λ (ns : List ℕ). worth (after x.items) ∷ ns) (worths_after worth after xs)
 
 -- the least of a list is at most each of its parts, and stands in it
-pub least_below : (xs : List ℕ) (k : ℕ) → k < length xs → least xs ≤ get_or xs k 0
+least_below : (xs : List ℕ) (k : ℕ) → k < length xs → least xs ≤ get_or xs k 0
 least_below [] k below = absurd (omega arith)
 least_below (x ∷ []) zero below = omega arith
 least_below (x ∷ []) (suc k) below = absurd (omega arith)
 least_below (x ∷ y ∷ ys) zero below = omega arith
 least_below (x ∷ y ∷ ys) (suc k) below = let rest = least_below (y ∷ ys) k (omega arith) in omega arith
 
-pub least_reached : (xs : List ℕ) → 0 < length xs → (k : ℕ) × (k < length xs) × (get_or xs k 0 ≡ least xs)
+least_reached : (xs : List ℕ) → 0 < length xs → (k : ℕ) × (k < length xs) × (get_or xs k 0 ≡ least xs)
 least_reached [] some = absurd (omega arith)
 least_reached (x ∷ []) some = (0, omega arith, refl)
 least_reached (x ∷ y ∷ ys) some =

@@ -1,5 +1,5 @@
 -- A run of joint moves.
-use Rattle.std.specs.Prelude.{◌≡◌, ℕ, ◌≤◌, List, ◌∷◌, All, length, map, max, take, vec_capacity}
+use Rattle.std.specs.Prelude.{◌≡◌, ℕ, ◌≤◌, List, ◌∷◌, All, length, map, take, vec_capacity}
 use Rattle.smallvec.specs.SmallVec.{SmallVec}
 use Rattle.game.specs.Rules.{Turn}
 use Rattle.maximin.specs.declared.run.Run.{Run}
@@ -8,7 +8,7 @@ use Rattle.maximin.specs.declared.run.Run.{Run}
 pub record IsRunOf (roles : ℕ) (run : Run) : Type 0 where
   pub size : length run.joints.items ≡ 64
   pub few : run.count ≤ 64
-  pub room : All (λ (joint : SmallVec ℕ). joint.capacity ≡ max 8 roles) run.joints.items
+  pub room : All (λ (joint : SmallVec ℕ). roles ≤ joint.capacity) run.joints.items
 
 -- the joint moves of the run
 abbrev pub turns_in : Run → List Turn

@@ -5,17 +5,12 @@ ghost use Rattle.game.specs.Rules.{is_stuck as stuck};
 ghost use Rattle.game.specs.Value.{Answers, choice_of, greatest, least, reply_of, value, worst};
 ghost use Rattle.maximin.specs.Alone.{IsAlone};
 ghost use Rattle.maximin.specs.Level.{IsLevelOf, all_capacities};
-ghost use Rattle.maximin.specs.Run.{IsRunOf};
-ghost use Rattle.maximin.specs.Tools.{tools_capacities};
 
 use crate::alone::{gather_own, is_alone};
 use crate::cursor::{next_turn, start_turns, write_joint};
-use crate::history::Movers;
 use crate::level::Level;
-use crate::order::put_in_order;
-use crate::run::{LONGEST_RUN, Run, gather};
+use crate::run::{LONGEST_RUN, gather};
 use crate::told::{greatest_told, least_told, told_worth};
-use crate::tools::Tools;
 use game::{AtBound, Game, Joint, is_stuck};
 
 /// What is asked of a state: what a role can be sure of within some turns.
@@ -47,20 +42,20 @@ fn value_at<G: Game>(
     asked: Asked,
     a: i16,
     b: i16,
-    tools: &mut Tools<G::Wide>,
+    wide: &mut G::Wide,
     levels: &mut [Level<G::Pos, G::Many>],
 ) -> i16
     requires fits { G.fits game.now from.now }
     requires role { asked.role < (G.rules game.now).roles }
     requires deep { asked.depth ≤ length levels.old }
-    requires wide { G.fits_wide game.now tools.old.wide }
+    requires wide { G.fits_wide game.now wide.old }
     requires levels { All (IsLevelOf (G.fits game.now) (G.fits_many game.now) (G.rules game.now).roles) levels.old }
     requires low { negsuc 1 ≤ℤ a }
     requires order { a <ℤ b }
     requires high { b ≤ℤ pos 101 }
     ensures answers { Answers (value (G.rules game.now) asked.role asked.depth asked.at (G.state game.now from.now)) a b result }
-    ensures wide { G.fits_wide game.now tools.new.wide }
-    ensures tools_capacities { tools_capacities (G.wide_capacities game.now) tools.new ≡ tools_capacities (G.wide_capacities game.now) tools.old }
+    ensures wide { G.fits_wide game.now wide.new }
+    ensures wide_capacities { G.wide_capacities game.now wide.new ≡ G.wide_capacities game.now wide.old }
     ensures levels { All (IsLevelOf (G.fits game.now) (G.fits_many game.now) (G.rules game.now).roles) levels.new }
     ensures capacities { all_capacities (G.capacities game.now) (G.many_capacities game.now) levels.new
         ≡ all_capacities (G.capacities game.now) (G.many_capacities game.now) levels.old }
@@ -79,12 +74,12 @@ fn value_at<G: Game>(
         ..asked
     };
     if is_alone(game, from, asked.role) {
-        return best_at(game, from, next, a, b, tools, levels);
+        return best_at(game, from, next, a, b, wide, levels);
     }
     let mut best = a;
     let mut place = 0;
     while let Some(own) = game.legal(from, asked.role, place) {
-        best = best.max(worst_at(game, from, next, own, best, b, tools, levels));
+        best = best.max(worst_at(game, from, next, own, best, b, wide, levels));
         if best >= b {
             return best;
         }
@@ -102,7 +97,7 @@ pub fn worst_at<G: Game>(
     own: u32,
     a: i16,
     b: i16,
-    tools: &mut Tools<G::Wide>,
+    wide: &mut G::Wide,
     levels: &mut [Level<G::Pos, G::Many>],
 ) -> i16
     requires fits { G.fits game.now from.now }
@@ -110,14 +105,14 @@ pub fn worst_at<G: Game>(
     requires own { own < (G.rules game.now).moves asked.role }
     requires open { stuck (G.rules game.now) (G.state game.now from.now) ≡ false }
     requires deep { asked.depth < length levels.old }
-    requires wide { G.fits_wide game.now tools.old.wide }
+    requires wide { G.fits_wide game.now wide.old }
     requires levels { All (IsLevelOf (G.fits game.now) (G.fits_many game.now) (G.rules game.now).roles) levels.old }
     requires low { negsuc 1 ≤ℤ a }
     requires order { a <ℤ b }
     requires high { b ≤ℤ pos 101 }
     ensures answers { Answers (worst (G.rules game.now) asked.role asked.depth asked.at (G.state game.now from.now) own) a b result }
-    ensures wide { G.fits_wide game.now tools.new.wide }
-    ensures tools_capacities { tools_capacities (G.wide_capacities game.now) tools.new ≡ tools_capacities (G.wide_capacities game.now) tools.old }
+    ensures wide { G.fits_wide game.now wide.new }
+    ensures wide_capacities { G.wide_capacities game.now wide.new ≡ G.wide_capacities game.now wide.old }
     ensures levels { All (IsLevelOf (G.fits game.now) (G.fits_many game.now) (G.rules game.now).roles) levels.new }
     ensures capacities { all_capacities (G.capacities game.now) (G.many_capacities game.now) levels.new
         ≡ all_capacities (G.capacities game.now) (G.many_capacities game.now) levels.old }
@@ -137,23 +132,16 @@ pub fn worst_at<G: Game>(
             most,
             &mut level.run,
         );
-        let movers = Movers::Others(asked.role);
-        put_in_order(&tools.history, movers, asked.depth, &mut level.run);
         let count = level.run.count;
-        game.steps(
-            from,
-            &level.run.joints[..count],
-            &mut tools.wide,
-            &mut level.many,
-        );
+        game.steps(from, &level.run.joints[..count], wide, &mut level.many);
         let least = least_at(
             game,
             &level.many,
-            &level.run,
+            count,
             asked,
             a,
             upper,
-            tools,
+            wide,
             &mut level.position,
             rest,
         );
@@ -174,7 +162,7 @@ fn child_at<G: Game>(
     asked: Asked,
     a: i16,
     b: i16,
-    tools: &mut Tools<G::Wide>,
+    wide: &mut G::Wide,
     position: &mut G::Pos,
     levels: &mut [Level<G::Pos, G::Many>],
 ) -> i16
@@ -182,15 +170,15 @@ fn child_at<G: Game>(
     requires place { place < length (G.states game.now many.now) }
     requires role { asked.role < (G.rules game.now).roles }
     requires deep { asked.depth ≤ length levels.old }
-    requires wide { G.fits_wide game.now tools.old.wide }
+    requires wide { G.fits_wide game.now wide.old }
     requires position { G.fits game.now position.old }
     requires levels { All (IsLevelOf (G.fits game.now) (G.fits_many game.now) (G.rules game.now).roles) levels.old }
     requires low { negsuc 1 ≤ℤ a }
     requires order { a <ℤ b }
     requires high { b ≤ℤ pos 101 }
     ensures answers { Answers (value (G.rules game.now) asked.role asked.depth asked.at (get_or (G.states game.now many.now) place [])) a b result }
-    ensures wide { G.fits_wide game.now tools.new.wide }
-    ensures tools_capacities { tools_capacities (G.wide_capacities game.now) tools.new ≡ tools_capacities (G.wide_capacities game.now) tools.old }
+    ensures wide { G.fits_wide game.now wide.new }
+    ensures wide_capacities { G.wide_capacities game.now wide.new ≡ G.wide_capacities game.now wide.old }
     ensures position { G.fits game.now position.new }
     ensures position_capacities { G.capacities game.now position.new ≡ G.capacities game.now position.old }
     ensures levels { All (IsLevelOf (G.fits game.now) (G.fits_many game.now) (G.rules game.now).roles) levels.new }
@@ -201,7 +189,7 @@ fn child_at<G: Game>(
         return worth;
     }
     game.take(many, place, position);
-    value_at(game, position, asked, a, b, tools, levels)
+    value_at(game, position, asked, a, b, wide, levels)
 }
 
 /// The least value of some states, within a window.
@@ -209,46 +197,41 @@ fn child_at<G: Game>(
 fn least_at<G: Game>(
     game: &G,
     many: &G::Many,
-    run: &Run,
+    count: usize,
     asked: Asked,
     a: i16,
     b: i16,
-    tools: &mut Tools<G::Wide>,
+    wide: &mut G::Wide,
     position: &mut G::Pos,
     levels: &mut [Level<G::Pos, G::Many>],
 ) -> i16
     requires many { G.fits_many game.now many.now }
-    requires run { IsRunOf (G.rules game.now).roles run.now }
-    requires count { run.now.count ≡ length (G.states game.now many.now) }
-    requires some { 0 < run.now.count }
+    requires count { count ≡ length (G.states game.now many.now) }
+    requires some { 0 < count }
     requires role { asked.role < (G.rules game.now).roles }
     requires deep { asked.depth ≤ length levels.old }
-    requires wide { G.fits_wide game.now tools.old.wide }
+    requires wide { G.fits_wide game.now wide.old }
     requires position { G.fits game.now position.old }
     requires levels { All (IsLevelOf (G.fits game.now) (G.fits_many game.now) (G.rules game.now).roles) levels.old }
     requires low { negsuc 1 ≤ℤ a }
     requires order { a <ℤ b }
     requires high { b ≤ℤ pos 101 }
     ensures answers { Answers (least (map (value (G.rules game.now) asked.role asked.depth asked.at) (G.states game.now many.now))) a b result }
-    ensures wide { G.fits_wide game.now tools.new.wide }
-    ensures tools_capacities { tools_capacities (G.wide_capacities game.now) tools.new ≡ tools_capacities (G.wide_capacities game.now) tools.old }
+    ensures wide { G.fits_wide game.now wide.new }
+    ensures wide_capacities { G.wide_capacities game.now wide.new ≡ G.wide_capacities game.now wide.old }
     ensures position { G.fits game.now position.new }
     ensures position_capacities { G.capacities game.now position.new ≡ G.capacities game.now position.old }
     ensures levels { All (IsLevelOf (G.fits game.now) (G.fits_many game.now) (G.rules game.now).roles) levels.new }
     ensures capacities { all_capacities (G.capacities game.now) (G.many_capacities game.now) levels.new
         ≡ all_capacities (G.capacities game.now) (G.many_capacities game.now) levels.old }
 {
-    let mut upper = least_told(game, many, run.count, asked, b);
+    let mut upper = least_told(game, many, count, asked, b);
     if upper <= a {
         return upper;
     }
-    for place in 0..run.count {
-        let worth = child_at(game, many, place, asked, a, upper, tools, position, levels);
+    for place in 0..count {
+        let worth = child_at(game, many, place, asked, a, upper, wide, position, levels);
         upper = upper.min(worth);
-        let movers = Movers::Others(asked.role);
-        tools
-            .history
-            .note_turn(&run.joints[place], movers, asked.depth, upper <= a);
         if upper <= a {
             return upper;
         }
@@ -264,7 +247,7 @@ fn best_at<G: Game>(
     asked: Asked,
     a: i16,
     b: i16,
-    tools: &mut Tools<G::Wide>,
+    wide: &mut G::Wide,
     levels: &mut [Level<G::Pos, G::Many>],
 ) -> i16
     requires fits { G.fits game.now from.now }
@@ -272,15 +255,15 @@ fn best_at<G: Game>(
     requires open { stuck (G.rules game.now) (G.state game.now from.now) ≡ false }
     requires alone { IsAlone (G.rules game.now) (G.state game.now from.now) asked.role }
     requires deep { asked.depth < length levels.old }
-    requires wide { G.fits_wide game.now tools.old.wide }
+    requires wide { G.fits_wide game.now wide.old }
     requires levels { All (IsLevelOf (G.fits game.now) (G.fits_many game.now) (G.rules game.now).roles) levels.old }
     requires low { negsuc 1 ≤ℤ a }
     requires order { a <ℤ b }
     requires high { b ≤ℤ pos 101 }
     ensures answers { Answers (greatest (map (worst (G.rules game.now) asked.role asked.depth asked.at (G.state game.now from.now))
         ((G.rules game.now).legal (G.state game.now from.now) asked.role))) a b result }
-    ensures wide { G.fits_wide game.now tools.new.wide }
-    ensures tools_capacities { tools_capacities (G.wide_capacities game.now) tools.new ≡ tools_capacities (G.wide_capacities game.now) tools.old }
+    ensures wide { G.fits_wide game.now wide.new }
+    ensures wide_capacities { G.wide_capacities game.now wide.new ≡ G.wide_capacities game.now wide.old }
     ensures levels { All (IsLevelOf (G.fits game.now) (G.fits_many game.now) (G.rules game.now).roles) levels.new }
     ensures capacities { all_capacities (G.capacities game.now) (G.many_capacities game.now) levels.new
         ≡ all_capacities (G.capacities game.now) (G.many_capacities game.now) levels.old }
@@ -301,26 +284,19 @@ fn best_at<G: Game>(
             most,
             &mut level.run,
         );
-        if level.run.count == 0 {
+        let count = level.run.count;
+        if count == 0 {
             return best;
         }
-        let movers = Movers::Role(asked.role);
-        put_in_order(&tools.history, movers, asked.depth, &mut level.run);
-        let count = level.run.count;
-        game.steps(
-            from,
-            &level.run.joints[..count],
-            &mut tools.wide,
-            &mut level.many,
-        );
+        game.steps(from, &level.run.joints[..count], wide, &mut level.many);
         let greatest = greatest_at(
             game,
             &level.many,
-            &level.run,
+            count,
             asked,
             best,
             b,
-            tools,
+            wide,
             &mut level.position,
             rest,
         );
@@ -338,46 +314,41 @@ fn best_at<G: Game>(
 fn greatest_at<G: Game>(
     game: &G,
     many: &G::Many,
-    run: &Run,
+    count: usize,
     asked: Asked,
     a: i16,
     b: i16,
-    tools: &mut Tools<G::Wide>,
+    wide: &mut G::Wide,
     position: &mut G::Pos,
     levels: &mut [Level<G::Pos, G::Many>],
 ) -> i16
     requires many { G.fits_many game.now many.now }
-    requires run { IsRunOf (G.rules game.now).roles run.now }
-    requires count { run.now.count ≡ length (G.states game.now many.now) }
-    requires some { 0 < run.now.count }
+    requires count { count ≡ length (G.states game.now many.now) }
+    requires some { 0 < count }
     requires role { asked.role < (G.rules game.now).roles }
     requires deep { asked.depth ≤ length levels.old }
     requires position { G.fits game.now position.old }
-    requires wide { G.fits_wide game.now tools.old.wide }
+    requires wide { G.fits_wide game.now wide.old }
     requires levels { All (IsLevelOf (G.fits game.now) (G.fits_many game.now) (G.rules game.now).roles) levels.old }
     requires low { negsuc 1 ≤ℤ a }
     requires order { a <ℤ b }
     requires high { b ≤ℤ pos 101 }
     ensures answers { Answers (greatest (map (value (G.rules game.now) asked.role asked.depth asked.at) (G.states game.now many.now))) a b result }
-    ensures wide { G.fits_wide game.now tools.new.wide }
-    ensures tools_capacities { tools_capacities (G.wide_capacities game.now) tools.new ≡ tools_capacities (G.wide_capacities game.now) tools.old }
+    ensures wide { G.fits_wide game.now wide.new }
+    ensures wide_capacities { G.wide_capacities game.now wide.new ≡ G.wide_capacities game.now wide.old }
     ensures position { G.fits game.now position.new }
     ensures position_capacities { G.capacities game.now position.new ≡ G.capacities game.now position.old }
     ensures levels { All (IsLevelOf (G.fits game.now) (G.fits_many game.now) (G.rules game.now).roles) levels.new }
     ensures capacities { all_capacities (G.capacities game.now) (G.many_capacities game.now) levels.new
         ≡ all_capacities (G.capacities game.now) (G.many_capacities game.now) levels.old }
 {
-    let mut lower = greatest_told(game, many, run.count, asked, a);
+    let mut lower = greatest_told(game, many, count, asked, a);
     if lower >= b {
         return lower;
     }
-    for child in 0..run.count {
-        let worth = child_at(game, many, child, asked, lower, b, tools, position, levels);
+    for child in 0..count {
+        let worth = child_at(game, many, child, asked, lower, b, wide, position, levels);
         lower = lower.max(worth);
-        let movers = Movers::Role(asked.role);
-        tools
-            .history
-            .note_turn(&run.joints[child], movers, asked.depth, lower >= b);
         if lower >= b {
             return lower;
         }
@@ -397,18 +368,18 @@ pub fn value_within<G: Game>(
     asked: Asked,
     a: i16,
     b: i16,
-    tools: &mut Tools<G::Wide>,
+    wide: &mut G::Wide,
     levels: &mut [Level<G::Pos, G::Many>],
 ) -> i16
     requires fits { G.fits game.now from.now }
     requires role { asked.role < (G.rules game.now).roles }
     requires deep { asked.depth ≤ length levels.old }
-    requires wide { G.fits_wide game.now tools.old.wide }
+    requires wide { G.fits_wide game.now wide.old }
     requires levels { All (IsLevelOf (G.fits game.now) (G.fits_many game.now) (G.rules game.now).roles) levels.old }
     requires order { a <ℤ b }
     ensures answers { Answers (value (G.rules game.now) asked.role asked.depth asked.at (G.state game.now from.now)) a b result }
-    ensures wide { G.fits_wide game.now tools.new.wide }
-    ensures tools_capacities { tools_capacities (G.wide_capacities game.now) tools.new ≡ tools_capacities (G.wide_capacities game.now) tools.old }
+    ensures wide { G.fits_wide game.now wide.new }
+    ensures wide_capacities { G.wide_capacities game.now wide.new ≡ G.wide_capacities game.now wide.old }
     ensures levels { All (IsLevelOf (G.fits game.now) (G.fits_many game.now) (G.rules game.now).roles) levels.new }
     ensures capacities { all_capacities (G.capacities game.now) (G.many_capacities game.now) levels.new
         ≡ all_capacities (G.capacities game.now) (G.many_capacities game.now) levels.old }
@@ -418,7 +389,7 @@ pub fn value_within<G: Game>(
     if low >= high {
         return high;
     }
-    value_at(game, from, asked, low, high, tools, levels)
+    value_at(game, from, asked, low, high, wide, levels)
 }
 
 /// The first move of the role that attains the value of the state.
@@ -426,17 +397,17 @@ pub fn choice_at<G: Game>(
     game: &G,
     from: &G::Pos,
     asked: Asked,
-    tools: &mut Tools<G::Wide>,
+    wide: &mut G::Wide,
     levels: &mut [Level<G::Pos, G::Many>],
 ) -> Option<u32>
     requires fits { G.fits game.now from.now }
     requires role { asked.role < (G.rules game.now).roles }
     requires deep { asked.depth ≤ length levels.old }
-    requires wide { G.fits_wide game.now tools.old.wide }
+    requires wide { G.fits_wide game.now wide.old }
     requires levels { All (IsLevelOf (G.fits game.now) (G.fits_many game.now) (G.rules game.now).roles) levels.old }
     ensures choice { result ≡ choice_of (G.rules game.now) asked.role asked.depth asked.at (G.state game.now from.now) }
-    ensures wide { G.fits_wide game.now tools.new.wide }
-    ensures tools_capacities { tools_capacities (G.wide_capacities game.now) tools.new ≡ tools_capacities (G.wide_capacities game.now) tools.old }
+    ensures wide { G.fits_wide game.now wide.new }
+    ensures wide_capacities { G.wide_capacities game.now wide.new ≡ G.wide_capacities game.now wide.old }
     ensures levels { All (IsLevelOf (G.fits game.now) (G.fits_many game.now) (G.rules game.now).roles) levels.new }
     ensures capacities { all_capacities (G.capacities game.now) (G.many_capacities game.now) levels.new
         ≡ all_capacities (G.capacities game.now) (G.many_capacities game.now) levels.old }
@@ -452,7 +423,7 @@ pub fn choice_at<G: Game>(
     let mut chosen = 0;
     let mut place = 0;
     while let Some(own) = game.legal(from, asked.role, place) {
-        let worst = worst_at(game, from, next, own, best, 101, tools, levels);
+        let worst = worst_at(game, from, next, own, best, 101, wide, levels);
         if worst > best {
             best = worst;
             chosen = place;
@@ -468,7 +439,7 @@ pub fn reply_at<G: Game>(
     from: &G::Pos,
     asked: Asked,
     own: u32,
-    tools: &mut Tools<G::Wide>,
+    wide: &mut G::Wide,
     levels: &mut [Level<G::Pos, G::Many>],
     out: &mut Joint,
 )
@@ -477,13 +448,13 @@ pub fn reply_at<G: Game>(
     requires own { own < (G.rules game.now).moves asked.role }
     requires open { stuck (G.rules game.now) (G.state game.now from.now) ≡ false }
     requires deep { asked.depth < length levels.old }
-    requires wide { G.fits_wide game.now tools.old.wide }
+    requires wide { G.fits_wide game.now wide.old }
     requires levels { All (IsLevelOf (G.fits game.now) (G.fits_many game.now) (G.rules game.now).roles) levels.old }
     requires out { (G.rules game.now).roles ≤ out.old.capacity }
     ensures reply { reply_of (G.rules game.now) asked.role asked.depth asked.at (G.state game.now from.now) own ≡ Some out.new.items }
     ensures out { out.new.capacity ≡ out.old.capacity }
-    ensures wide { G.fits_wide game.now tools.new.wide }
-    ensures tools_capacities { tools_capacities (G.wide_capacities game.now) tools.new ≡ tools_capacities (G.wide_capacities game.now) tools.old }
+    ensures wide { G.fits_wide game.now wide.new }
+    ensures wide_capacities { G.wide_capacities game.now wide.new ≡ G.wide_capacities game.now wide.old }
     ensures levels { All (IsLevelOf (G.fits game.now) (G.fits_many game.now) (G.rules game.now).roles) levels.new }
     ensures capacities { all_capacities (G.capacities game.now) (G.many_capacities game.now) levels.new
         ≡ all_capacities (G.capacities game.now) (G.many_capacities game.now) levels.old }
@@ -494,7 +465,7 @@ pub fn reply_at<G: Game>(
     let mut upper = 101;
     loop {
         game.step(from, &level.cursor.joint, &mut level.position);
-        let worth = value_at(game, &level.position, asked, -1, upper, tools, rest);
+        let worth = value_at(game, &level.position, asked, -1, upper, wide, rest);
         if worth < upper {
             upper = worth;
             write_joint(&level.cursor.joint, out);

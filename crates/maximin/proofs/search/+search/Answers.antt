@@ -1,7 +1,7 @@
-use Rattle.std.proofs.Common.{◌≡◌, ℕ, ◌+◌, ◌-◌, ◌<◌, ◌≤◌, ◌++◌, length, [], ◌∷◌, List, take, drop, get_or, arith, sym, ◌∙◌, ap, subst, w16, min, refl, rules as facts, below_more}
+use Rattle.std.proofs.Common.{◌≡◌, ℕ, ◌+◌, ◌-◌, ◌<◌, ◌≤◌, length, [], ◌∷◌, List, take, drop, get_or, arith, sym, ◌∙◌, ap, subst, w16, min, refl, rules as facts, below_more}
 use Rattle.std.proofs.Math.ListN.{set}
 use Rattle.std.proofs.lemmas.Int.{ints, clamps, to_z-of_z}
-use Rattle.std.proofs.lemmas.List.{length-map, length-take-le}
+use Rattle.std.proofs.lemmas.List.{length-map}
 use mir.Val.{SFits, of_z, to_z}
 use Rattle.std.specs.Prelude.{pos, ◌≤ℤ◌, map}
 use Rattle.std.specs.Int.{int_min, int_max}
@@ -12,9 +12,6 @@ use Rattle.maximin.specs.declared.level.Level.{Level}
 use Rattle.maximin.specs.Turns.{later}
 use Rattle.maximin.specs.Cursor.{cursor_capacities}
 use Rattle.maximin.specs.Run.{turns_in, run_capacities}
-use Rattle.maximin.specs.History.{history_capacities}
-use Rattle.maximin.proofs.Orders.{least_worth_ordered, greatest_worth_ordered, run_ordered, capacities_ordered}
-use Rattle.std.proofs.lemmas.List.Sorted.{All-permutation}
 use Rattle.maximin.specs.Level.{IsLevelOf, level_capacities}
 use Rattle.maximin.proofs.Windows.{raised_most, raised_seen, raised_now, raised_above, cut_above, lowered_least, lowered_most, lowered_end, lowered_seen, lowered_now, exact, cut_below, start_least, start_most, lowered_below, le_z_true, le_z_false}
 use Rattle.maximin.proofs.Choices.{legal_some}
@@ -99,7 +96,7 @@ value_at-loop-own-preserved g t c =
       levels = c.worst_at.ensures.levels;
       wide = c.worst_at.ensures.wide;
       capacities = c.worst_at.ensures.capacities ∙ c.loop-own.invariant.capacities;
-      tools_capacities = c.worst_at.ensures.tools_capacities ∙ c.loop-own.invariant.tools_capacities;
+      wide_capacities = c.worst_at.ensures.wide_capacities ∙ c.loop-own.invariant.wide_capacities;
       deep = omega arith;
       in_list = omega (arith, here.0);
       above = rw raised (raised_above a best r c.loop-own.invariant.above);
@@ -166,8 +163,7 @@ least_at-loop-place-preserved g t c =
       wide = c.child_at-worth.ensures.wide;
       position_capacities = c.child_at-worth.ensures.position_capacities ∙ c.loop-place.invariant.position_capacities;
       capacities = c.child_at-worth.ensures.capacities ∙ c.loop-place.invariant.capacities;
-      tools_capacities = ap (λ (cs : List ℕ). cs ++ g.G.Game.wide_capacities c.args.game.now c.child_at-worth.new.tools.wide) c.note_turn.ensures
-          ∙ c.child_at-worth.ensures.tools_capacities ∙ c.loop-place.invariant.tools_capacities;
+      wide_capacities = c.child_at-worth.ensures.wide_capacities ∙ c.loop-place.invariant.wide_capacities;
       deep = omega arith;
       above = le_z_false _ a c.if-upper-a-2.false;
       below = rw lowered (lowered_below b upper r c.loop-place.invariant.below);
@@ -247,7 +243,7 @@ worst_at-runs-init g t c =
       wide = c.requires.wide;
       capacities = refl;
       rest_capacities = refl;
-      tools_capacities = refl;
+      wide_capacities = refl;
       deep = omega arith;
       some = omega arith;
       few = omega arith;
@@ -262,8 +258,7 @@ worst_at-runs-init g t c =
 pub worst_at-steps-requires-clause-joints : goal.worst_at-steps-requires-clause-joints
 worst_at-steps-requires-clause-joints g t c =
     let rules = g.G.Game.rules c.args.game.now in
-    let known = All-permutation (λ j. IsTurn rules j) (turns_in c.gather-more.new.run) (turns_in c.put_in_order.new.run) c.put_in_order.ensures.turns c.gather-more.ensures.known in
-    known_each (λ j. IsTurn rules j) (take c.put_in_order.new.run.count c.deref.result.now) (rw c.deref.ensures.value known)
+    known_each (λ j. IsTurn rules j) (take c.gather-more.new.run.count c.deref.result.now) (rw c.deref.ensures.value c.gather-more.ensures.known)
 
 pub worst_at-returns-then-upper-a-clause-answers : goal.worst_at-returns-then-upper-a-clause-answers
 worst_at-returns-then-upper-a-clause-answers g t c =
@@ -284,14 +279,11 @@ worst_at-returns-then-upper-a-clause-answers g t c =
     let fits_m : SFits w16 c.min-upper.result = search facts in
     let lowered : to_z w16 (of_z w16 c.min-upper.result) ≡ int_min upper r =
     to_z-of_z w16 c.min-upper.result fits_m ∙ c.min-upper.ensures.value ∙ ap (λ z. int_min upper z) (to_z-of_z w16 r fits_r) in
+    let worths : map value_of (g.G.Game.states c.args.game.now c.steps.new.out) ≡ map worth (turns_in run) =
+    ap (map value_of) (c.steps.ensures.after ∙ ap (λ (js : List (SmallVec ℕ)). map (λ (j : SmallVec ℕ). rules.after state j.items) (take run.count js)) c.deref.ensures.value)
+    ∙ worths_after value_of (rules.after state) (take run.count run.joints.items) in
+    let answers : Answers here a upper r = subst (λ (ws : List ℕ). Answers (least ws) a upper r) worths c.least_at-least.ensures.answers in
     let some : 0 < length (turns_in run) = some_taken run.joints.items run.count c.gather-more.ensures.some (omega (arith, c.gather-more.ensures.run.size)) in
-    let ordered = c.put_in_order.new.run in
-    let worths : map value_of (g.G.Game.states c.args.game.now c.steps.new.out) ≡ map worth (turns_in ordered) =
-    ap (map value_of) (c.steps.ensures.after ∙ ap (λ (js : List (SmallVec ℕ)). map (λ (j : SmallVec ℕ). rules.after state j.items) (take ordered.count js)) c.deref.ensures.value)
-    ∙ worths_after value_of (rules.after state) (take ordered.count ordered.joints.items) in
-    let same_least : least (map value_of (g.G.Game.states c.args.game.now c.steps.new.out)) ≡ here =
-    ap least worths ∙ sym (least_worth_ordered worth (turns_in run) (turns_in ordered) c.put_in_order.ensures.turns some) in
-    let answers : Answers here a upper r = subst (λ (w : ℕ). Answers w a upper r) same_least c.least_at-least.ensures.answers in
     let part : all ≤ here =
     omega (
       arith,
@@ -312,26 +304,22 @@ worst_at-returns-then-upper-a-clause-answers g t c =
 pub worst_at-returns-then-upper-a-clause-levels : goal.worst_at-returns-then-upper-a-clause-levels
 worst_at-returns-then-upper-a-clause-levels g t c =
     let roles = (g.G.Game.rules c.args.game.now).roles in
-    let run = run_ordered roles c.gather-more.new.run c.put_in_order.new.run c.put_in_order.ensures.joints c.put_in_order.ensures.count c.gather-more.ensures.run in
     let P = λ (level : Level g.row.G-Pos.Denot g.row.G-Many.Denot). IsLevelOf (g.G.Game.fits c.args.game.now) (g.G.Game.fits_many c.args.game.now) roles level in
     let front = c.split_at_mut-first.result.0.now in
     let one = c.split_at_mut-first.ensures.front_len in
     elim c.then-upper-a.branch [
       | worst_at-then-upper-a-via-then-upper-a w ↦
           rw w.levels-is (All-first_and_rest P front c.least_at-least.new.levels _ one
-          (record { position = c.least_at-least.ensures.position; cursor = c.gather-more.ensures.cursor; run = run; many = c.steps.ensures.many }) c.least_at-least.ensures.levels)
+          (record { position = c.least_at-least.ensures.position; cursor = c.gather-more.ensures.cursor; run = c.gather-more.ensures.run; many = c.steps.ensures.many }) c.least_at-least.ensures.levels)
       | worst_at-then-upper-a-via-else-upper-a+then-not-more w ↦
           rw w.levels-is (All-first_and_rest P front c.least_at-least.new.levels _ one
-          (record { position = c.least_at-least.ensures.position; cursor = c.gather-more.ensures.cursor; run = run; many = c.steps.ensures.many }) c.least_at-least.ensures.levels)
+          (record { position = c.least_at-least.ensures.position; cursor = c.gather-more.ensures.cursor; run = c.gather-more.ensures.run; many = c.steps.ensures.many }) c.least_at-least.ensures.levels)
     ]
 
 pub worst_at-returns-then-upper-a-clause-capacities : goal.worst_at-returns-then-upper-a-clause-capacities
 worst_at-returns-then-upper-a-clause-capacities g t c =
     let of_position = g.G.Game.capacities c.args.game.now in
     let of_many = g.G.Game.many_capacities c.args.game.now in
-    let roles = (g.G.Game.rules c.args.game.now).roles in
-    let ordered = run_ordered roles c.gather-more.new.run c.put_in_order.new.run c.put_in_order.ensures.joints c.put_in_order.ensures.count c.gather-more.ensures.run in
-    let run_kept = capacities_ordered roles c.gather-more.new.run c.put_in_order.new.run c.put_in_order.ensures.joints c.put_in_order.ensures.capacity c.gather-more.ensures.run ordered in
     let split = c.split_at_mut-first.ensures in
     let old = get_or c.split_at_mut-first.result.0.now 0 c.index-first-0.result in
     let now = c.runs.level in
@@ -340,11 +328,11 @@ worst_at-returns-then-upper-a-clause-capacities g t c =
     ∙ four_joined (cursor_capacities c.start_turns.new.cursor) (run_capacities old.run) (of_position old.position) (of_many old.many)
     (cursor_capacities old.cursor) (run_capacities old.run) (of_position old.position) (of_many old.many) c.start_turns.ensures.capacities refl refl refl in
     let level : Level g.row.G-Pos.Denot g.row.G-Many.Denot =
-    record { position = c.least_at-least.new.position; cursor = c.gather-more.new.cursor; run = c.put_in_order.new.run; many = c.steps.new.out } in
+    record { position = c.least_at-least.new.position; cursor = c.gather-more.new.cursor; run = c.gather-more.new.run; many = c.steps.new.out } in
     let turned : level_capacities of_position of_many level ≡ level_capacities of_position of_many now =
-    four_joined (cursor_capacities c.gather-more.new.cursor) (run_capacities c.put_in_order.new.run) (of_position c.least_at-least.new.position) (of_many c.steps.new.out)
+    four_joined (cursor_capacities c.gather-more.new.cursor) (run_capacities c.gather-more.new.run) (of_position c.least_at-least.new.position) (of_many c.steps.new.out)
     (cursor_capacities now.cursor) (run_capacities now.run) (of_position now.position) (of_many now.many)
-    c.gather-more.ensures.cursor_capacities (run_kept ∙ c.gather-more.ensures.run_capacities) c.least_at-least.ensures.position_capacities c.steps.ensures.many_capacities in
+    c.gather-more.ensures.cursor_capacities c.gather-more.ensures.run_capacities c.least_at-least.ensures.position_capacities c.steps.ensures.many_capacities in
     let kept = all_kept (level_capacities of_position of_many) c.args.levels.now c.split_at_mut-first.result.0.now c.split_at_mut-first.result.1.now c.least_at-least.new.levels
     level c.index-first-0.result split.value split.front_len (turned ∙ begun) (c.least_at-least.ensures.capacities ∙ c.runs.invariant.rest_capacities) in
     elim c.then-upper-a.branch [
@@ -382,35 +370,29 @@ worst_at-runs-preserved g t c =
     let fits_m : SFits w16 c.min-upper.result = search facts in
     let lowered : to_z w16 (of_z w16 c.min-upper.result) ≡ int_min upper r =
     to_z-of_z w16 c.min-upper.result fits_m ∙ c.min-upper.ensures.value ∙ ap (λ z. int_min upper z) (to_z-of_z w16 r fits_r) in
+    let worths : map value_of (g.G.Game.states c.args.game.now c.steps.new.out) ≡ map worth (turns_in run) =
+    ap (map value_of) (c.steps.ensures.after ∙ ap (λ (js : List (SmallVec ℕ)). map (λ (j : SmallVec ℕ). rules.after state j.items) (take run.count js)) c.deref.ensures.value)
+    ∙ worths_after value_of (rules.after state) (take run.count run.joints.items) in
+    let answers : Answers here a upper r = subst (λ (ws : List ℕ). Answers (least ws) a upper r) worths c.least_at-least.ensures.answers in
     let some : 0 < length (turns_in run) = some_taken run.joints.items run.count c.gather-more.ensures.some (omega (arith, c.gather-more.ensures.run.size)) in
-    let ordered = c.put_in_order.new.run in
-    let worths : map value_of (g.G.Game.states c.args.game.now c.steps.new.out) ≡ map worth (turns_in ordered) =
-    ap (map value_of) (c.steps.ensures.after ∙ ap (λ (js : List (SmallVec ℕ)). map (λ (j : SmallVec ℕ). rules.after state j.items) (take ordered.count js)) c.deref.ensures.value)
-    ∙ worths_after value_of (rules.after state) (take ordered.count ordered.joints.items) in
-    let same_least : least (map value_of (g.G.Game.states c.args.game.now c.steps.new.out)) ≡ here =
-    ap least worths ∙ sym (least_worth_ordered worth (turns_in run) (turns_in ordered) c.put_in_order.ensures.turns some) in
-    let answers : Answers here a upper r = subst (λ (w : ℕ). Answers w a upper r) same_least c.least_at-least.ensures.answers in
     let next : least (map worth before) ≡ min here left =
     least_behind worth before (turns_in run) c.gather-more.new.cursor.joint.items (later lists c.gather-more.new.cursor.places.items) c.if-not-more.ensures.more some in
     let part : all ≤ here = omega (arith, next, c.runs.invariant.part) in
     let low : int_min (pos all) b ≤ℤ int_min upper r = lowered_least all here a b upper r part c.runs.invariant.at_least c.runs.invariant.below answers in
-    let ordered_run = run_ordered rules.roles c.gather-more.new.run c.put_in_order.new.run c.put_in_order.ensures.joints c.put_in_order.ensures.count c.gather-more.ensures.run in
-    let run_kept = capacities_ordered rules.roles c.gather-more.new.run c.put_in_order.new.run c.put_in_order.ensures.joints c.put_in_order.ensures.capacity c.gather-more.ensures.run ordered_run in
     let now = c.runs.level in
     let of_position = g.G.Game.capacities c.args.game.now in
     let of_many = g.G.Game.many_capacities c.args.game.now in
     record {
-      level = record { position = c.least_at-least.ensures.position; cursor = c.gather-more.ensures.cursor; run = ordered_run; many = c.steps.ensures.many };
+      level = record { position = c.least_at-least.ensures.position; cursor = c.gather-more.ensures.cursor; run = c.gather-more.ensures.run; many = c.steps.ensures.many };
       rest = c.least_at-least.ensures.levels;
       wide = c.least_at-least.ensures.wide;
       capacities =
-          four_joined (cursor_capacities c.gather-more.new.cursor) (run_capacities c.put_in_order.new.run) (of_position c.least_at-least.new.position) (of_many c.steps.new.out)
+          four_joined (cursor_capacities c.gather-more.new.cursor) (run_capacities c.gather-more.new.run) (of_position c.least_at-least.new.position) (of_many c.steps.new.out)
           (cursor_capacities now.cursor) (run_capacities now.run) (of_position now.position) (of_many now.many)
-          c.gather-more.ensures.cursor_capacities (run_kept ∙ c.gather-more.ensures.run_capacities) c.least_at-least.ensures.position_capacities c.steps.ensures.many_capacities
+          c.gather-more.ensures.cursor_capacities c.gather-more.ensures.run_capacities c.least_at-least.ensures.position_capacities c.steps.ensures.many_capacities
           ∙ c.runs.invariant.capacities;
       rest_capacities = c.least_at-least.ensures.capacities ∙ c.runs.invariant.rest_capacities;
-      tools_capacities = c.least_at-least.ensures.tools_capacities
-          ∙ ap (λ (cs : List ℕ). history_capacities c.runs.tools.history ++ cs) c.steps.ensures.wide_capacities ∙ c.runs.invariant.tools_capacities;
+      wide_capacities = c.least_at-least.ensures.wide_capacities ∙ c.steps.ensures.wide_capacities ∙ c.runs.invariant.wide_capacities;
       deep = omega arith;
       some = omega (arith, c.min-most.ensures, c.runs.invariant.some);
       few = omega (arith, c.min-most.ensures);
@@ -445,8 +427,7 @@ greatest_at-loop-child-preserved g t c =
       wide = c.child_at-worth.ensures.wide;
       position_capacities = c.child_at-worth.ensures.position_capacities ∙ c.loop-child.invariant.position_capacities;
       capacities = c.child_at-worth.ensures.capacities ∙ c.loop-child.invariant.capacities;
-      tools_capacities = ap (λ (cs : List ℕ). cs ++ g.G.Game.wide_capacities c.args.game.now c.child_at-worth.new.tools.wide) c.note_turn.ensures
-          ∙ c.child_at-worth.ensures.tools_capacities ∙ c.loop-child.invariant.tools_capacities;
+      wide_capacities = c.child_at-worth.ensures.wide_capacities ∙ c.loop-child.invariant.wide_capacities;
       deep = omega arith;
       above = rw raised (raised_above a lower r c.loop-child.invariant.above);
       below = le_z_false b _ c.if-lower-b-2.false;
@@ -530,7 +511,7 @@ best_at-runs-init g t c =
       wide = c.requires.wide;
       capacities = refl;
       rest_capacities = refl;
-      tools_capacities = refl;
+      wide_capacities = refl;
       deep = omega arith;
       some = omega arith;
       few = omega arith;
@@ -555,17 +536,16 @@ best_at-gather_own-requires-clause-joint g t c κs within =
 pub best_at-steps-requires-clause-joints : goal.best_at-steps-requires-clause-joints
 best_at-steps-requires-clause-joints g t c =
     let rules = g.G.Game.rules c.args.game.now in
-    let known = All-permutation (λ j. IsTurn rules j) (turns_in c.gather_own.new.run) (turns_in c.put_in_order.new.run) c.put_in_order.ensures.turns c.gather_own.ensures.known in
-    known_each (λ j. IsTurn rules j) (take c.put_in_order.new.run.count c.deref.result.now) (rw c.deref.ensures.value known)
+    known_each (λ j. IsTurn rules j) (take c.gather_own.new.run.count c.deref.result.now) (rw c.deref.ensures.value c.gather_own.ensures.known)
 
-pub best_at-returns-then-level-eq0-clause-answers : goal.best_at-returns-then-level-eq0-clause-answers
-best_at-returns-then-level-eq0-clause-answers g t c =
+pub best_at-returns-then-count-eq0-clause-answers : goal.best_at-returns-then-count-eq0-clause-answers
+best_at-returns-then-count-eq0-clause-answers g t c =
     let rules = g.G.Game.rules c.args.game.now in
     let state = g.G.Game.state c.args.game.now c.args.from.now in
     let worths = map (worst rules c.args.asked.role c.args.asked.depth c.args.asked.at state) (rules.legal state c.args.asked.role) in
     let size : length worths ≡ length (rules.legal state c.args.asked.role) = length-map (rules.legal state c.args.asked.role) (worst rules c.args.asked.role c.args.asked.depth c.args.asked.at state) in
     let some = legal_some rules state c.args.asked.role c.requires.«open» c.requires.role in
-    let none = c.if-level-eq0.true in
+    let none = c.if-count-eq0.true in
     let past = c.gather_own.ensures.all (omega (arith, c.runs.invariant.some)) in
     let a = to_z w16 (of_z w16 c.args.a) in
     let b = to_z w16 (of_z w16 c.args.b) in
@@ -576,16 +556,16 @@ best_at-returns-then-level-eq0-clause-answers g t c =
       at_most = c.runs.invariant.at_most;
     }
 
-pub best_at-returns-then-level-eq0-clause-levels : goal.best_at-returns-then-level-eq0-clause-levels
-best_at-returns-then-level-eq0-clause-levels g t c =
+pub best_at-returns-then-count-eq0-clause-levels : goal.best_at-returns-then-count-eq0-clause-levels
+best_at-returns-then-count-eq0-clause-levels g t c =
     let roles = (g.G.Game.rules c.args.game.now).roles in
     let P = λ (level : Level g.row.G-Pos.Denot g.row.G-Many.Denot). IsLevelOf (g.G.Game.fits c.args.game.now) (g.G.Game.fits_many c.args.game.now) roles level in
     let kept = c.runs.invariant.level in
     All-first_and_rest P c.split_at_mut-first.result.0.now c.runs.rest _ c.split_at_mut-first.ensures.front_len
     (record { position = kept.position; cursor = kept.cursor; run = c.gather_own.ensures.run; many = kept.many }) c.runs.invariant.rest
 
-pub best_at-returns-then-level-eq0-clause-capacities : goal.best_at-returns-then-level-eq0-clause-capacities
-best_at-returns-then-level-eq0-clause-capacities g t c =
+pub best_at-returns-then-count-eq0-clause-capacities : goal.best_at-returns-then-count-eq0-clause-capacities
+best_at-returns-then-count-eq0-clause-capacities g t c =
     let of_position = g.G.Game.capacities c.args.game.now in
     let of_many = g.G.Game.many_capacities c.args.game.now in
     let split = c.split_at_mut-first.ensures in
@@ -621,20 +601,15 @@ best_at-returns-then-best-b-clause-answers g t c =
     let raised : to_z w16 (of_z w16 c.max-best.result) ≡ int_max best r =
     to_z-of_z w16 c.max-best.result fits_m ∙ c.max-best.ensures.value ∙ ap (λ z. int_max best z) (to_z-of_z w16 r fits_r) in
     let each = alone_worst rules c.args.asked.role c.args.asked.depth c.args.asked.at state 0 c.runs.level.cursor.places.items joint c.requires.role c.requires.alone c.runs.invariant.stands in
-    let ordered = c.put_in_order.new.run in
-    let whole : map (λ t. value_of (rules.after state t)) (turns_in run) ≡ take run.count (drop c.runs.place worths) =
-    ap (λ (ts : List Turn). map (λ t. value_of (rules.after state t)) ts) c.gather_own.ensures.turns
+    let found : map value_of (g.G.Game.states c.args.game.now c.steps.new.out) ≡ take run.count (drop c.runs.place worths) =
+    ap (map value_of) (c.steps.ensures.after ∙ ap (λ (js : List (SmallVec ℕ)). map (λ (j : SmallVec ℕ). rules.after state j.items) (take run.count js)) c.deref.ensures.value)
+    ∙ worths_after value_of (rules.after state) (take run.count run.joints.items)
+    ∙ ap (λ (ts : List Turn). map (λ t. value_of (rules.after state t)) ts) c.gather_own.ensures.turns
     ∙ own_worths (λ t. value_of (rules.after state t)) (λ m. set joint c.args.asked.role m) own_worth each (take run.count (drop c.runs.place legal))
     ∙ map_part own_worth c.runs.place run.count legal in
-    let found : map value_of (g.G.Game.states c.args.game.now c.steps.new.out) ≡ map (λ t. value_of (rules.after state t)) (turns_in ordered) =
-    ap (map value_of) (c.steps.ensures.after ∙ ap (λ (js : List (SmallVec ℕ)). map (λ (j : SmallVec ℕ). rules.after state j.items) (take ordered.count js)) c.deref.ensures.value)
-    ∙ worths_after value_of (rules.after state) (take ordered.count ordered.joints.items) in
-    let there : 0 < length (turns_in run) = some_taken run.joints.items run.count (omega (arith, c.if-level-eq0.false)) (omega (arith, c.gather_own.ensures.run.size)) in
-    let same_greatest : greatest (map value_of (g.G.Game.states c.args.game.now c.steps.new.out)) ≡ greatest (take run.count (drop c.runs.place worths)) =
-    ap greatest found ∙ sym (greatest_worth_ordered (λ t. value_of (rules.after state t)) (turns_in run) (turns_in ordered) c.put_in_order.ensures.turns there) ∙ ap greatest whole in
-    let answers : Answers (greatest (take run.count (drop c.runs.place worths))) best b r = subst (λ (w : ℕ). Answers w best b r) same_greatest c.greatest_at-greatest.ensures.answers in
+    let answers : Answers (greatest (take run.count (drop c.runs.place worths))) best b r = subst (λ (ws : List ℕ). Answers (greatest ws) best b r) found c.greatest_at-greatest.ensures.answers in
     let size : length worths ≡ length legal = length-map legal own_worth in
-    let some = c.if-level-eq0.false in
+    let some = c.if-count-eq0.false in
     let most = run_most worths c.runs.place run.count a b best r (omega arith) (omega (arith, c.gather_own.ensures.within)) c.runs.invariant.at_most answers in
     let ea : a ≡ c.args.a = to_z-of_z w16 c.args.a c.ranges.a in
     let eb : b ≡ c.args.b = to_z-of_z w16 c.args.b c.ranges.b in
@@ -643,19 +618,15 @@ best_at-returns-then-best-b-clause-answers g t c =
 pub best_at-returns-then-best-b-clause-levels : goal.best_at-returns-then-best-b-clause-levels
 best_at-returns-then-best-b-clause-levels g t c =
     let roles = (g.G.Game.rules c.args.game.now).roles in
-    let run = run_ordered roles c.gather_own.new.run c.put_in_order.new.run c.put_in_order.ensures.joints c.put_in_order.ensures.count c.gather_own.ensures.run in
     let P = λ (level : Level g.row.G-Pos.Denot g.row.G-Many.Denot). IsLevelOf (g.G.Game.fits c.args.game.now) (g.G.Game.fits_many c.args.game.now) roles level in
     All-first_and_rest P c.split_at_mut-first.result.0.now c.greatest_at-greatest.new.levels _ c.split_at_mut-first.ensures.front_len
-    (record { position = c.greatest_at-greatest.ensures.position; cursor = c.runs.invariant.level.cursor; run = run; many = c.steps.ensures.many })
+    (record { position = c.greatest_at-greatest.ensures.position; cursor = c.runs.invariant.level.cursor; run = c.gather_own.ensures.run; many = c.steps.ensures.many })
     c.greatest_at-greatest.ensures.levels
 
 pub best_at-returns-then-best-b-clause-capacities : goal.best_at-returns-then-best-b-clause-capacities
 best_at-returns-then-best-b-clause-capacities g t c =
     let of_position = g.G.Game.capacities c.args.game.now in
     let of_many = g.G.Game.many_capacities c.args.game.now in
-    let roles = (g.G.Game.rules c.args.game.now).roles in
-    let ordered = run_ordered roles c.gather_own.new.run c.put_in_order.new.run c.put_in_order.ensures.joints c.put_in_order.ensures.count c.gather_own.ensures.run in
-    let run_kept = capacities_ordered roles c.gather_own.new.run c.put_in_order.new.run c.put_in_order.ensures.joints c.put_in_order.ensures.capacity c.gather_own.ensures.run ordered in
     let split = c.split_at_mut-first.ensures in
     let old = get_or c.split_at_mut-first.result.0.now 0 c.index-first-0.result in
     let now = c.runs.level in
@@ -664,11 +635,11 @@ best_at-returns-then-best-b-clause-capacities g t c =
     ∙ four_joined (cursor_capacities c.start_turns.new.cursor) (run_capacities old.run) (of_position old.position) (of_many old.many)
     (cursor_capacities old.cursor) (run_capacities old.run) (of_position old.position) (of_many old.many) c.start_turns.ensures.capacities refl refl refl in
     let level : Level g.row.G-Pos.Denot g.row.G-Many.Denot =
-    record { position = c.greatest_at-greatest.new.position; cursor = now.cursor; run = c.put_in_order.new.run; many = c.steps.new.out } in
+    record { position = c.greatest_at-greatest.new.position; cursor = now.cursor; run = c.gather_own.new.run; many = c.steps.new.out } in
     let turned : level_capacities of_position of_many level ≡ level_capacities of_position of_many now =
-    four_joined (cursor_capacities now.cursor) (run_capacities c.put_in_order.new.run) (of_position c.greatest_at-greatest.new.position) (of_many c.steps.new.out)
+    four_joined (cursor_capacities now.cursor) (run_capacities c.gather_own.new.run) (of_position c.greatest_at-greatest.new.position) (of_many c.steps.new.out)
     (cursor_capacities now.cursor) (run_capacities now.run) (of_position now.position) (of_many now.many)
-    refl (run_kept ∙ c.gather_own.ensures.capacities) c.greatest_at-greatest.ensures.position_capacities c.steps.ensures.many_capacities in
+    refl c.gather_own.ensures.capacities c.greatest_at-greatest.ensures.position_capacities c.steps.ensures.many_capacities in
     all_kept (level_capacities of_position of_many) c.args.levels.now c.split_at_mut-first.result.0.now c.split_at_mut-first.result.1.now c.greatest_at-greatest.new.levels
     level c.index-first-0.result split.value split.front_len (turned ∙ begun) (c.greatest_at-greatest.ensures.capacities ∙ c.runs.invariant.rest_capacities)
 
@@ -691,38 +662,30 @@ best_at-runs-preserved g t c =
     let raised : to_z w16 (of_z w16 c.max-best.result) ≡ int_max best r =
     to_z-of_z w16 c.max-best.result fits_m ∙ c.max-best.ensures.value ∙ ap (λ z. int_max best z) (to_z-of_z w16 r fits_r) in
     let each = alone_worst rules c.args.asked.role c.args.asked.depth c.args.asked.at state 0 c.runs.level.cursor.places.items joint c.requires.role c.requires.alone c.runs.invariant.stands in
-    let ordered = c.put_in_order.new.run in
-    let whole : map (λ t. value_of (rules.after state t)) (turns_in run) ≡ take run.count (drop c.runs.place worths) =
-    ap (λ (ts : List Turn). map (λ t. value_of (rules.after state t)) ts) c.gather_own.ensures.turns
+    let found : map value_of (g.G.Game.states c.args.game.now c.steps.new.out) ≡ take run.count (drop c.runs.place worths) =
+    ap (map value_of) (c.steps.ensures.after ∙ ap (λ (js : List (SmallVec ℕ)). map (λ (j : SmallVec ℕ). rules.after state j.items) (take run.count js)) c.deref.ensures.value)
+    ∙ worths_after value_of (rules.after state) (take run.count run.joints.items)
+    ∙ ap (λ (ts : List Turn). map (λ t. value_of (rules.after state t)) ts) c.gather_own.ensures.turns
     ∙ own_worths (λ t. value_of (rules.after state t)) (λ m. set joint c.args.asked.role m) own_worth each (take run.count (drop c.runs.place legal))
     ∙ map_part own_worth c.runs.place run.count legal in
-    let found : map value_of (g.G.Game.states c.args.game.now c.steps.new.out) ≡ map (λ t. value_of (rules.after state t)) (turns_in ordered) =
-    ap (map value_of) (c.steps.ensures.after ∙ ap (λ (js : List (SmallVec ℕ)). map (λ (j : SmallVec ℕ). rules.after state j.items) (take ordered.count js)) c.deref.ensures.value)
-    ∙ worths_after value_of (rules.after state) (take ordered.count ordered.joints.items) in
-    let there : 0 < length (turns_in run) = some_taken run.joints.items run.count (omega (arith, c.if-level-eq0.false)) (omega (arith, c.gather_own.ensures.run.size)) in
-    let same_greatest : greatest (map value_of (g.G.Game.states c.args.game.now c.steps.new.out)) ≡ greatest (take run.count (drop c.runs.place worths)) =
-    ap greatest found ∙ sym (greatest_worth_ordered (λ t. value_of (rules.after state t)) (turns_in run) (turns_in ordered) c.put_in_order.ensures.turns there) ∙ ap greatest whole in
-    let answers : Answers (greatest (take run.count (drop c.runs.place worths))) best b r = subst (λ (w : ℕ). Answers w best b r) same_greatest c.greatest_at-greatest.ensures.answers in
+    let answers : Answers (greatest (take run.count (drop c.runs.place worths))) best b r = subst (λ (ws : List ℕ). Answers (greatest ws) best b r) found c.greatest_at-greatest.ensures.answers in
     let size : length worths ≡ length legal = length-map legal own_worth in
-    let some = c.if-level-eq0.false in
+    let some = c.if-count-eq0.false in
     let inside : c.runs.place + run.count ≤ length worths = omega (arith, c.gather_own.ensures.within) in
-    let ordered_run = run_ordered rules.roles c.gather_own.new.run c.put_in_order.new.run c.put_in_order.ensures.joints c.put_in_order.ensures.count c.gather_own.ensures.run in
-    let run_kept = capacities_ordered rules.roles c.gather_own.new.run c.put_in_order.new.run c.put_in_order.ensures.joints c.put_in_order.ensures.capacity c.gather_own.ensures.run ordered_run in
     let now = c.runs.level in
     let of_position = g.G.Game.capacities c.args.game.now in
     let of_many = g.G.Game.many_capacities c.args.game.now in
     record {
-      level = record { position = c.greatest_at-greatest.ensures.position; cursor = c.runs.invariant.level.cursor; run = ordered_run; many = c.steps.ensures.many };
+      level = record { position = c.greatest_at-greatest.ensures.position; cursor = c.runs.invariant.level.cursor; run = c.gather_own.ensures.run; many = c.steps.ensures.many };
       rest = c.greatest_at-greatest.ensures.levels;
       wide = c.greatest_at-greatest.ensures.wide;
       capacities =
-          four_joined (cursor_capacities now.cursor) (run_capacities c.put_in_order.new.run) (of_position c.greatest_at-greatest.new.position) (of_many c.steps.new.out)
+          four_joined (cursor_capacities now.cursor) (run_capacities c.gather_own.new.run) (of_position c.greatest_at-greatest.new.position) (of_many c.steps.new.out)
           (cursor_capacities now.cursor) (run_capacities now.run) (of_position now.position) (of_many now.many)
-          refl (run_kept ∙ c.gather_own.ensures.capacities) c.greatest_at-greatest.ensures.position_capacities c.steps.ensures.many_capacities
+          refl c.gather_own.ensures.capacities c.greatest_at-greatest.ensures.position_capacities c.steps.ensures.many_capacities
           ∙ c.runs.invariant.capacities;
       rest_capacities = c.greatest_at-greatest.ensures.capacities ∙ c.runs.invariant.rest_capacities;
-      tools_capacities = c.greatest_at-greatest.ensures.tools_capacities
-          ∙ ap (λ (cs : List ℕ). history_capacities c.runs.tools.history ++ cs) c.steps.ensures.wide_capacities ∙ c.runs.invariant.tools_capacities;
+      wide_capacities = c.greatest_at-greatest.ensures.wide_capacities ∙ c.steps.ensures.wide_capacities ∙ c.runs.invariant.wide_capacities;
       deep = omega arith;
       some = omega (arith, c.min-most.ensures, c.runs.invariant.some);
       few = omega (arith, c.min-most.ensures);
@@ -731,7 +694,7 @@ best_at-runs-preserved g t c =
       above = rw raised (raised_above a best r c.runs.invariant.above);
       below = le_z_false b _ c.if-best-b.false;
       at_most = rw raised (run_most worths c.runs.place run.count a b best r (omega arith) inside c.runs.invariant.at_most answers);
-      seen = λ k lt. rw raised (run_seen worths c.runs.place run.count b best r inside c.runs.invariant.seen answers k (omega (arith, c.put_in_order.ensures.count)));
+      seen = λ k lt. rw raised (run_seen worths c.runs.place run.count b best r inside c.runs.invariant.seen answers k lt);
     }
 
 pub best_at-overflow_add-place : goal.best_at-overflow_add-place
@@ -742,61 +705,3 @@ best_at-overflow_add-place g t c =
     let few = legal_count rules state c.args.asked.role (law.legal_ascending c.args.game.now state c.args.asked.role c.requires.role) (law.legal_within c.args.game.now state c.args.asked.role c.requires.role)
     (law.moves_within c.args.game.now c.args.asked.role c.requires.role) in
     omega (arith, c.gather_own.ensures.within)
-
-pub worst_at-slice_bounds-steps-end : goal.worst_at-slice_bounds-steps-end
-worst_at-slice_bounds-steps-end g t c =
-    let kept = run_ordered (g.G.Game.rules c.args.game.now).roles c.gather-more.new.run c.put_in_order.new.run c.put_in_order.ensures.joints c.put_in_order.ensures.count c.gather-more.ensures.run in
-    let long = ap length c.deref.ensures.value in
-    let size = length-take-le c.put_in_order.new.run.count c.deref.result.now (omega (arith, kept.size, kept.few)) in
-    omega (arith, kept.size, kept.few)
-
-pub worst_at-steps-requires-clause-some : goal.worst_at-steps-requires-clause-some
-worst_at-steps-requires-clause-some g t c =
-    let kept = run_ordered (g.G.Game.rules c.args.game.now).roles c.gather-more.new.run c.put_in_order.new.run c.put_in_order.ensures.joints c.put_in_order.ensures.count c.gather-more.ensures.run in
-    let long = ap length c.deref.ensures.value in
-    let size = length-take-le c.put_in_order.new.run.count c.deref.result.now (omega (arith, kept.size, kept.few)) in
-    omega (arith, c.put_in_order.ensures.count, c.gather-more.ensures.some)
-
-pub worst_at-least_at-least-requires-clause-run : goal.worst_at-least_at-least-requires-clause-run
-worst_at-least_at-least-requires-clause-run g t c κs within =
-    run_ordered (g.G.Game.rules c.args.game.now).roles c.gather-more.new.run c.put_in_order.new.run c.put_in_order.ensures.joints c.put_in_order.ensures.count c.gather-more.ensures.run
-
-pub worst_at-least_at-least-requires-clause-count : goal.worst_at-least_at-least-requires-clause-count
-worst_at-least_at-least-requires-clause-count g t c κs within =
-    let rules = g.G.Game.rules c.args.game.now in
-    let state = g.G.Game.state c.args.game.now c.args.from.now in
-    let kept = run_ordered (g.G.Game.rules c.args.game.now).roles c.gather-more.new.run c.put_in_order.new.run c.put_in_order.ensures.joints c.put_in_order.ensures.count c.gather-more.ensures.run in
-    let long = ap length c.deref.ensures.value in
-    let size = length-take-le c.put_in_order.new.run.count c.deref.result.now (omega (arith, kept.size, kept.few)) in
-    let each = length-map (take c.put_in_order.new.run.count c.deref.result.now) (λ (j : SmallVec ℕ). rules.after state j.items) in
-    let after = ap length c.steps.ensures.after in
-    omega arith
-
-pub best_at-slice_bounds-steps-end : goal.best_at-slice_bounds-steps-end
-best_at-slice_bounds-steps-end g t c =
-    let kept = run_ordered (g.G.Game.rules c.args.game.now).roles c.gather_own.new.run c.put_in_order.new.run c.put_in_order.ensures.joints c.put_in_order.ensures.count c.gather_own.ensures.run in
-    let long = ap length c.deref.ensures.value in
-    let size = length-take-le c.put_in_order.new.run.count c.deref.result.now (omega (arith, kept.size, kept.few)) in
-    omega (arith, kept.size, kept.few)
-
-pub best_at-steps-requires-clause-some : goal.best_at-steps-requires-clause-some
-best_at-steps-requires-clause-some g t c =
-    let kept = run_ordered (g.G.Game.rules c.args.game.now).roles c.gather_own.new.run c.put_in_order.new.run c.put_in_order.ensures.joints c.put_in_order.ensures.count c.gather_own.ensures.run in
-    let long = ap length c.deref.ensures.value in
-    let size = length-take-le c.put_in_order.new.run.count c.deref.result.now (omega (arith, kept.size, kept.few)) in
-    omega (arith, c.put_in_order.ensures.count, c.if-level-eq0.false)
-
-pub best_at-greatest_at-greatest-requires-clause-run : goal.best_at-greatest_at-greatest-requires-clause-run
-best_at-greatest_at-greatest-requires-clause-run g t c κs within =
-    run_ordered (g.G.Game.rules c.args.game.now).roles c.gather_own.new.run c.put_in_order.new.run c.put_in_order.ensures.joints c.put_in_order.ensures.count c.gather_own.ensures.run
-
-pub best_at-greatest_at-greatest-requires-clause-count : goal.best_at-greatest_at-greatest-requires-clause-count
-best_at-greatest_at-greatest-requires-clause-count g t c κs within =
-    let rules = g.G.Game.rules c.args.game.now in
-    let state = g.G.Game.state c.args.game.now c.args.from.now in
-    let kept = run_ordered (g.G.Game.rules c.args.game.now).roles c.gather_own.new.run c.put_in_order.new.run c.put_in_order.ensures.joints c.put_in_order.ensures.count c.gather_own.ensures.run in
-    let long = ap length c.deref.ensures.value in
-    let size = length-take-le c.put_in_order.new.run.count c.deref.result.now (omega (arith, kept.size, kept.few)) in
-    let each = length-map (take c.put_in_order.new.run.count c.deref.result.now) (λ (j : SmallVec ℕ). rules.after state j.items) in
-    let after = ap length c.steps.ensures.after in
-    omega arith

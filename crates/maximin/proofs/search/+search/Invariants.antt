@@ -4,7 +4,6 @@ use Rattle.std.specs.Int.{int_min, int_max}
 use Rattle.game.specs.Rules.{choices}
 use Rattle.game.specs.Value.{value, worst, least, greatest}
 use Rattle.maximin.specs.Turns.{StandsAt, later}
-use Rattle.maximin.specs.Tools.{tools_capacities}
 use Rattle.maximin.specs.Level.{IsLevelOf, level_capacities, all_capacities}
 use Rattle.maximin.proofs.search.+search.Given as goal
 
@@ -27,10 +26,10 @@ invariant-value_at-loop-own g l =
     let state = g.G.Game.state l.game l.from in
     record {
       levels : All (IsLevelOf (g.G.Game.fits l.game) (g.G.Game.fits_many l.game) rules.roles) l.levels;
-      wide : g.G.Game.fits_wide l.game l.tools.wide;
+      wide : g.G.Game.fits_wide l.game l.wide;
       capacities : all_capacities (g.G.Game.capacities l.game) (g.G.Game.many_capacities l.game) l.levels
           ≡ all_capacities (g.G.Game.capacities l.game) (g.G.Game.many_capacities l.game) l.initial.levels;
-      tools_capacities : tools_capacities (g.G.Game.wide_capacities l.game) l.tools ≡ tools_capacities (g.G.Game.wide_capacities l.game) l.fn.tools;
+      wide_capacities : g.G.Game.wide_capacities l.game l.wide ≡ g.G.Game.wide_capacities l.game l.fn.wide;
       deep : length l.levels ≡ length l.initial.levels;
       in_list : l.place ≤ length (rules.legal state l.asked.role);
       above : l.a ≤ℤ l.best;
@@ -57,10 +56,10 @@ invariant-worst_at-runs g l =
     record {
       level : IsLevelOf (g.G.Game.fits l.game) (g.G.Game.fits_many l.game) rules.roles l.level;
       rest : All (IsLevelOf (g.G.Game.fits l.game) (g.G.Game.fits_many l.game) rules.roles) l.rest;
-      wide : g.G.Game.fits_wide l.game l.tools.wide;
+      wide : g.G.Game.fits_wide l.game l.wide;
       capacities : level_capacities of_position of_many l.level ≡ level_capacities of_position of_many l.initial.level;
       rest_capacities : all_capacities of_position of_many l.rest ≡ all_capacities of_position of_many l.initial.rest;
-      tools_capacities : tools_capacities (g.G.Game.wide_capacities l.game) l.tools ≡ tools_capacities (g.G.Game.wide_capacities l.game) l.fn.tools;
+      wide_capacities : g.G.Game.wide_capacities l.game l.wide ≡ g.G.Game.wide_capacities l.game l.fn.wide;
       deep : l.asked.depth ≤ length l.rest;
       some : 0 < l.most;
       few : l.most ≤ 64;
@@ -89,10 +88,10 @@ invariant-least_at-loop-place g l =
     record {
       position : g.G.Game.fits l.game l.position;
       levels : All (IsLevelOf (g.G.Game.fits l.game) (g.G.Game.fits_many l.game) rules.roles) l.levels;
-      wide : g.G.Game.fits_wide l.game l.tools.wide;
+      wide : g.G.Game.fits_wide l.game l.wide;
       position_capacities : g.G.Game.capacities l.game l.position ≡ g.G.Game.capacities l.game l.fn.position;
       capacities : all_capacities of_position of_many l.levels ≡ all_capacities of_position of_many l.initial.levels;
-      tools_capacities : tools_capacities (g.G.Game.wide_capacities l.game) l.tools ≡ tools_capacities (g.G.Game.wide_capacities l.game) l.fn.tools;
+      wide_capacities : g.G.Game.wide_capacities l.game l.wide ≡ g.G.Game.wide_capacities l.game l.fn.wide;
       deep : length l.levels ≡ length l.initial.levels;
       above : l.a <ℤ l.upper;
       below : l.upper ≤ℤ l.b;
@@ -117,10 +116,10 @@ invariant-best_at-runs g l =
     record {
       level : IsLevelOf (g.G.Game.fits l.game) (g.G.Game.fits_many l.game) rules.roles l.level;
       rest : All (IsLevelOf (g.G.Game.fits l.game) (g.G.Game.fits_many l.game) rules.roles) l.rest;
-      wide : g.G.Game.fits_wide l.game l.tools.wide;
+      wide : g.G.Game.fits_wide l.game l.wide;
       capacities : level_capacities of_position of_many l.level ≡ level_capacities of_position of_many l.initial.level;
       rest_capacities : all_capacities of_position of_many l.rest ≡ all_capacities of_position of_many l.initial.rest;
-      tools_capacities : tools_capacities (g.G.Game.wide_capacities l.game) l.tools ≡ tools_capacities (g.G.Game.wide_capacities l.game) l.fn.tools;
+      wide_capacities : g.G.Game.wide_capacities l.game l.wide ≡ g.G.Game.wide_capacities l.game l.fn.wide;
       deep : l.asked.depth ≤ length l.rest;
       some : 0 < l.most;
       few : l.most ≤ 64;
@@ -146,10 +145,10 @@ invariant-greatest_at-loop-child g l =
     record {
       position : g.G.Game.fits l.game l.position;
       levels : All (IsLevelOf (g.G.Game.fits l.game) (g.G.Game.fits_many l.game) rules.roles) l.levels;
-      wide : g.G.Game.fits_wide l.game l.tools.wide;
+      wide : g.G.Game.fits_wide l.game l.wide;
       position_capacities : g.G.Game.capacities l.game l.position ≡ g.G.Game.capacities l.game l.fn.position;
       capacities : all_capacities of_position of_many l.levels ≡ all_capacities of_position of_many l.initial.levels;
-      tools_capacities : tools_capacities (g.G.Game.wide_capacities l.game) l.tools ≡ tools_capacities (g.G.Game.wide_capacities l.game) l.fn.tools;
+      wide_capacities : g.G.Game.wide_capacities l.game l.wide ≡ g.G.Game.wide_capacities l.game l.fn.wide;
       deep : length l.levels ≡ length l.initial.levels;
       above : l.a ≤ℤ l.lower;
       below : l.lower <ℤ l.b;
