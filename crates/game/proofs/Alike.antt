@@ -1,5 +1,28 @@
 -- What is made of a list by two functions that agree on its elements.
-use Rattle.std.proofs.Common.{ℕ, ◌<◌, ◌≡◌, Bool, true, false, cond, ◌||◌, List, [], ◌∷◌, map, get_or, refl, sym, ap, subst, ◌∙◌, arith, Option, Some, None}
+use Rattle.std.proofs.Common.{
+  ℕ,
+  ◌<◌,
+  ◌≡◌,
+  Bool,
+  true,
+  false,
+  cond,
+  ◌||◌,
+  List,
+  [],
+  ◌∷◌,
+  map,
+  get_or,
+  refl,
+  sym,
+  ap,
+  subst,
+  ◌∙◌,
+  arith,
+  Option,
+  Some,
+  None,
+}
 use Rattle.std.specs.Prelude.{All, IfSome, filter, find}
 use Rattle.std.specs.Option.{option_map_or}
 use Rattle.std.specs.List.{flat_map, list_any, range_with_len}
@@ -75,6 +98,7 @@ pub none_left : {X Y : Type 0} (f : X → Y) (p : X → Bool) (xs : List X) → 
 none_left f p [] e = All-nil (λ x. p x ≡ false)
 none_left {X} f p (x ∷ xs) e = go (p x) refl e (none_left f p xs)
   where
-    go : (b : Bool) → p x ≡ b → map f (cond b (x ∷ filter p xs) (filter p xs)) ≡ [] → (map f (filter p xs) ≡ [] → All (λ y. p y ≡ false) xs) → All (λ y. p y ≡ false) (x ∷ xs)
+    go : (b : Bool) → p x ≡ b → map f (cond b (x ∷ filter p xs) (filter p xs)) ≡ [] → (map f (filter p xs) ≡ [] → All (λ y. p y ≡ false) xs)
+        → All (λ y. p y ≡ false) (x ∷ xs)
     go true h k more = absurd cc
     go false h k more = All-cons (λ (y : X). p y ≡ false) x xs h (more k)

@@ -1,5 +1,37 @@
 -- The first fault of a history.
-use Rattle.std.proofs.Common.{◌≡◌, ℕ, ◌+◌, ◌<◌, ◌≤◌, Bool, true, false, List, [], ◌∷◌, ◌++◌, length, map, zero, suc, refl, ◌∙◌, ap, sym, arith, inl, inr, get_or, Result, Ok, Err, take, eqb-true, get_or-set_same, get_or-set_other}
+use Rattle.std.proofs.Common.{
+  ◌≡◌,
+  ℕ,
+  ◌+◌,
+  ◌<◌,
+  ◌≤◌,
+  Bool,
+  true,
+  false,
+  List,
+  [],
+  ◌∷◌,
+  ◌++◌,
+  length,
+  map,
+  zero,
+  suc,
+  refl,
+  ◌∙◌,
+  ap,
+  sym,
+  arith,
+  inl,
+  inr,
+  get_or,
+  Result,
+  Ok,
+  Err,
+  take,
+  eqb-true,
+  get_or-set_same,
+  get_or-set_other,
+}
 use Rattle.std.specs.Prelude.{IsErrAnd, IfErr, filter, find, fold, not, is_none, Option, ◌&&◌}
 use Rattle.std.specs.List.{flat_map, range_with_len}
 use Rattle.std.proofs.Math.Nat.{eq-or-lt_of_le}
@@ -13,7 +45,20 @@ use Rattle.kif.specs.View.{tree_of, trees_in, parts_of, is_name_tree}
 use Rattle.game.specs.declared.fault.HistoryFault.{HistoryFault}
 use Rattle.game.specs.declared.fault.HistoryFault.TheVariants.{BadForm, NotLegal}
 use Rattle.game.specs.Rules.{Rules, State}
-use Rattle.game.specs.Played.{MoveNames, first_fault, tree_at, is_turn_list, AreFormed, form_faults, illegal_faults, turn_faults, named_move, named_turn, state_after, played}
+use Rattle.game.specs.Played.{
+  MoveNames,
+  first_fault,
+  tree_at,
+  is_turn_list,
+  AreFormed,
+  form_faults,
+  illegal_faults,
+  turn_faults,
+  named_move,
+  named_turn,
+  state_after,
+  played,
+}
 
 -- no number of a range passes
 pub filter_none : (p : ℕ → Bool) (a n : ℕ) → ((k : ℕ) → a ≤ k → k < a + n → p k ≡ false) → filter p (range_with_len a n) ≡ []
@@ -141,7 +186,8 @@ role_refused g names s parts number role inside before here =
     rw found.1 refl
 
 pub roles_right : (g : Rules) (names : MoveNames) (s : State) (parts : List Tree) (number role : ℕ) → g.roles ≤ role
-    → ((k : ℕ) → k < role → is_none (named_move g names s parts k) ≡ false) → Ok tt ≡ first_fault {X = Unit {0}} (illegal_faults g names s parts number) tt
+    → ((k : ℕ) → k < role → is_none (named_move g names s parts k) ≡ false)
+    → Ok tt ≡ first_fault {X = Unit {0}} (illegal_faults g names s parts number) tt
 roles_right g names s parts number role past before =
     let none : filter (λ (q : ℕ). is_none (named_move g names s parts q)) (range_with_len 0 g.roles) ≡ [] =
     filter_none (λ q. is_none (named_move g names s parts q)) 0 g.roles (λ k _ less. before k (omega arith)) in
@@ -155,7 +201,8 @@ state_more g names ts place inside =
     let step = λ (s : State) (t : Tree). g.after s (named_turn g names s (parts_of t)) in
     ap (fold step g.start) (take_more ts place (list no_trees) inside) ∙ fold-append step g.start (take place ts) (tree_at ts place ∷ [])
 
-pub turn_refused : (g : Rules) (names : MoveNames) (ts : List Tree) (place : ℕ) (fault : HistoryFault) → form_faults g.roles ts ≡ [] → place < length ts
+pub turn_refused : (g : Rules) (names : MoveNames) (ts : List Tree) (place : ℕ) (fault : HistoryFault) → form_faults g.roles ts ≡ []
+    → place < length ts
     → ((k : ℕ) → k < place → turn_faults g names (state_after g names (take k ts)) (parts_of (tree_at ts k)) (k + 1) ≡ [])
     → first_fault {X = Unit {0}} (turn_faults g names (state_after g names (take place ts)) (parts_of (tree_at ts place)) (place + 1)) tt ≡ Err fault
     → played g names ts ≡ Err fault

@@ -1,5 +1,29 @@
 -- The list of legal moves, place by place.
-use Rattle.std.proofs.Common.{◌≡◌, ℕ, ◌+◌, ◌<◌, ◌≤◌, ◌^◌, Bool, true, false, List, [], ◌∷◌, length, drop, sym, ◌∙◌, ap, refl, arith, get_or, add-one, inl, inr}
+use Rattle.std.proofs.Common.{
+  ◌≡◌,
+  ℕ,
+  ◌+◌,
+  ◌<◌,
+  ◌≤◌,
+  ◌^◌,
+  Bool,
+  true,
+  false,
+  List,
+  [],
+  ◌∷◌,
+  length,
+  drop,
+  sym,
+  ◌∙◌,
+  ap,
+  refl,
+  arith,
+  get_or,
+  add-one,
+  inl,
+  inr,
+}
 use Rattle.std.specs.Prelude.{All, IfSome, Option, Some, None, slice_get, find, IsTrue, ◌↔◌}
 use Rattle.std.specs.List.Sorted.{IsStrictlyIncreasing}
 use Rattle.std.proofs.Math.Seq.{drop-cons}
@@ -12,22 +36,26 @@ use Rattle.game.specs.Rules.{Rules, State}
 use Rattle.game.proofs.Ascending.{length_ascending}
 
 -- a move that was found is one of the moves of its role
-pub legal_known : (g : Rules) (s : State) (q place x : ℕ) (r : Option ℕ) → All (λ m. m < g.moves q) (g.legal s q) → r ≡ slice_get (g.legal s q) place → r ≡ Some x → x < g.moves q
+pub legal_known : (g : Rules) (s : State) (q place x : ℕ) (r : Option ℕ) → All (λ m. m < g.moves q) (g.legal s q) → r ≡ slice_get (g.legal s q) place
+    → r ≡ Some x → x < g.moves q
 legal_known g s q place x r h e found =
     let there : slice_get (g.legal s q) place ≡ Some x = sym e ∙ found in
     let known : get_or (g.legal s q) place 0 < g.moves q = h place 0 (slice_get_within (g.legal s q) place x there) in
     rw (get_or_from_slice_get (g.legal s q) place x 0 there) at known
 
-pub legal_all : (g : Rules) (s : State) (q place : ℕ) (r : Option ℕ) → All (λ m. m < g.moves q) (g.legal s q) → r ≡ slice_get (g.legal s q) place → IfSome r (λ m. m < g.moves q)
+pub legal_all : (g : Rules) (s : State) (q place : ℕ) (r : Option ℕ) → All (λ m. m < g.moves q) (g.legal s q) → r ≡ slice_get (g.legal s q) place
+    → IfSome r (λ m. m < g.moves q)
 legal_all g s q place None h e = tt
 legal_all g s q place (Some x) h e = legal_known g s q place x (Some x) h e refl
 
-pub legal_place : (g : Rules) (s : State) (q place x : ℕ) (r : Option ℕ) → r ≡ slice_get (g.legal s q) place → r ≡ Some x → (place < length (g.legal s q)) × (get_or (g.legal s q) place 0 ≡ x)
+pub legal_place : (g : Rules) (s : State) (q place x : ℕ) (r : Option ℕ) → r ≡ slice_get (g.legal s q) place → r ≡ Some x
+    → (place < length (g.legal s q)) × (get_or (g.legal s q) place 0 ≡ x)
 legal_place g s q place x r e found =
     let there : slice_get (g.legal s q) place ≡ Some x = sym e ∙ found in
     (slice_get_within (g.legal s q) place x there, get_or_from_slice_get (g.legal s q) place x 0 there)
 
-pub legal_count : (g : Rules) (s : State) (q : ℕ) → IsStrictlyIncreasing (g.legal s q) → All (λ m. m < g.moves q) (g.legal s q) → g.moves q ≤ 2 ^ 32 → length (g.legal s q) ≤ 2 ^ 32
+pub legal_count : (g : Rules) (s : State) (q : ℕ) → IsStrictlyIncreasing (g.legal s q) → All (λ m. m < g.moves q) (g.legal s q) → g.moves q ≤ 2 ^ 32
+    → length (g.legal s q) ≤ 2 ^ 32
 legal_count g s q up within few = omega (arith, length_ascending (g.legal s q) (g.moves q) up within)
 
 drop_here : (xs : List ℕ) (k x : ℕ) → k < length xs → get_or xs k 0 ≡ x → drop k xs ≡ x ∷ drop (k + 1) xs
@@ -53,7 +81,8 @@ none_past xs place r e none = elim (cases_lt place (length xs))
     [ inl inside ↦ let some = slice_get-get_or xs place 0 inside in absurd (cc (some, e, none)) | inr past ↦ past ]
 
 -- the search ends with nothing past the end
-pub find_past : (p : ℕ → Bool) (xs : List ℕ) (k : ℕ) (r : Option ℕ) → r ≡ slice_get xs k → r ≡ None → find p xs ≡ find p (drop k xs) → None ≡ find p xs
+pub find_past : (p : ℕ → Bool) (xs : List ℕ) (k : ℕ) (r : Option ℕ) → r ≡ slice_get xs k → r ≡ None → find p xs ≡ find p (drop k xs)
+    → None ≡ find p xs
 find_past p xs k r e none left =
     let rest : drop k xs ≡ [] = drop_of_length-le xs (none_past xs k r e none) in
     sym (left ∙ ap (find p) rest)

@@ -1,9 +1,10 @@
-pub mod Ascending
-pub mod Roles
-pub mod FirstFaults
-pub mod LegalMoves
-pub mod Alike
-pub mod PlayRange
-pub mod SamePlays
-pub mod PlainValues
-pub mod ManyStates
+mod Ascending
+mod Roles
+mod FirstFaults
+mod LegalMoves
+mod Alike
+mod PlayRange
+mod SamePlays
+mod PlainValues
+mod ManyStates
+pub mod Facts

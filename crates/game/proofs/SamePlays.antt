@@ -1,5 +1,35 @@
 -- Games that tell the same are played the same.
-use Rattle.std.proofs.Common.{ℕ, zero, suc, ◌+◌, ◌<◌, ◌≤◌, ◌≡◌, inl, inr, Bool, true, false, cond, List, [], ◌∷◌, ◌++◌, length, map, get_or, refl, sym, ap, subst, ◌∙◌, arith, Option, None, Ok}
+use Rattle.std.proofs.Common.{
+  ℕ,
+  zero,
+  suc,
+  ◌+◌,
+  ◌<◌,
+  ◌≤◌,
+  ◌≡◌,
+  inl,
+  inr,
+  Bool,
+  true,
+  false,
+  cond,
+  List,
+  [],
+  ◌∷◌,
+  ◌++◌,
+  length,
+  map,
+  get_or,
+  refl,
+  sym,
+  ap,
+  subst,
+  ◌∙◌,
+  arith,
+  Option,
+  None,
+  Ok,
+}
 use Rattle.std.specs.Prelude.{filter, find, take, unwrap_or, is_none, ◌==◌, ◌||◌}
 use Rattle.std.specs.Option.{option_map_or}
 use Rattle.std.specs.List.{flat_map, list_any, range_with_len}
@@ -10,7 +40,18 @@ use Rattle.kif.specs.View.{parts_of}
 use Rattle.game.specs.declared.fault.HistoryFault.{HistoryFault}
 use Rattle.game.specs.declared.fault.HistoryFault.TheVariants.{NotLegal, Over, Stuck}
 use Rattle.game.specs.NamedRules.{NamedRules}
-use Rattle.game.specs.Played.{tree_at, named_move, named_turn, state_after, form_faults, illegal_faults, turn_faults, play_faults, first_fault, played}
+use Rattle.game.specs.Played.{
+  tree_at,
+  named_move,
+  named_turn,
+  state_after,
+  form_faults,
+  illegal_faults,
+  turn_faults,
+  play_faults,
+  first_fault,
+  played,
+}
 use Rattle.game.specs.Rules.{Rules, State, Turn, IsTurn, all_roles, is_stuck, picks, turns_with}
 use Rattle.game.specs.SamePlay.{SamePlay}
 use Rattle.game.specs.declared.at_bound.AtBound.{AtBound}
@@ -22,7 +63,8 @@ use Rattle.game.proofs.PlayRange.{turns_within, choice_within, reply_within, tur
 
 -- Faults up to the first.
 
-first_more : {X : Type 0} (xs ys zs : List HistoryFault) (x y : X) → first_fault ys x ≡ first_fault zs y → first_fault (xs ++ ys) x ≡ first_fault (xs ++ zs) y
+first_more : {X : Type 0} (xs ys zs : List HistoryFault) (x y : X) → first_fault ys x ≡ first_fault zs y
+    → first_fault (xs ++ ys) x ≡ first_fault (xs ++ zs) y
 first_more [] ys zs x y h = h
 first_more (fault ∷ xs) ys zs x y h = refl
 
@@ -78,42 +120,57 @@ module _ (g h : NamedRules) (same : SamePlay g h) where
       (λ k d lt. ap u (same.after s _ (turns_within g.rules same.known s role own below k d lt)) ∙ alike _)
       ∙ ap (map (λ j. v (h.rules.after s j))) (turns_alike s role own))
 
-  pub value_alike : (role : ℕ) → role < g.rules.roles → (depth : ℕ) (at : AtBound) (s : State) → value g.rules role depth at s ≡ value h.rules role depth at s
+  pub value_alike : (role : ℕ) → role < g.rules.roles → (depth : ℕ) (at : AtBound) (s : State)
+      → value g.rules role depth at s ≡ value h.rules role depth at s
   value_alike role lt zero at s =
       ap (λ (b : Bool). cond b (g.rules.goal s role) (cond (is_stuck g.rules s) 0 (bound_worth at (g.rules.goal s role)))) (same.ended s)
       ∙ ap (λ (n : ℕ). cond (h.rules.ended s) n (cond (is_stuck g.rules s) 0 (bound_worth at n))) (same.goal s role lt)
       ∙ ap (λ (b : Bool). cond (h.rules.ended s) (h.rules.goal s role) (cond b 0 (bound_worth at (h.rules.goal s role)))) (stuck_alike s)
   value_alike role lt (suc depth) at s =
-      let best : map (λ m. least_after g.rules (value g.rules role depth at) s role m) (g.rules.legal s role) ≡ map (λ m. least_after h.rules (value h.rules role depth at) s role m) (h.rules.legal s role) =
+      let best : map (λ m. least_after g.rules (value g.rules role depth at) s role m) (g.rules.legal s role) ≡ map
+      (λ m. least_after h.rules (value h.rules role depth at) s role m) (h.rules.legal s role) =
       maps_alike _ _ (g.rules.legal s role)
-      (λ k d below. least_alike (value g.rules role depth at) (value h.rules role depth at) (value_alike role lt depth at) s role _ (same.known s role lt k d below))
+      (λ k d below. least_alike (value g.rules role depth at) (value h.rules role depth at) (value_alike role lt depth at) s role _
+      (same.known s role lt k d below))
       ∙ ap (map (λ m. least_after h.rules (value h.rules role depth at) s role m)) (same.legal s role lt) in
-      ap (λ (b : Bool). cond b (g.rules.goal s role) (cond (is_stuck g.rules s) 0 (greatest (map (λ m. least_after g.rules (value g.rules role depth at) s role m) (g.rules.legal s role))))) (same.ended s)
-      ∙ ap (λ (n : ℕ). cond (h.rules.ended s) n (cond (is_stuck g.rules s) 0 (greatest (map (λ m. least_after g.rules (value g.rules role depth at) s role m) (g.rules.legal s role))))) (same.goal s role lt)
-      ∙ ap (λ (b : Bool). cond (h.rules.ended s) (h.rules.goal s role) (cond b 0 (greatest (map (λ m. least_after g.rules (value g.rules role depth at) s role m) (g.rules.legal s role))))) (stuck_alike s)
+      ap (λ (b : Bool). cond b (g.rules.goal s role)
+      (cond (is_stuck g.rules s) 0 (greatest (map (λ m. least_after g.rules (value g.rules role depth at) s role m) (g.rules.legal s role)))))
+      (same.ended s)
+      ∙ ap (λ (n : ℕ). cond (h.rules.ended s) n
+      (cond (is_stuck g.rules s) 0 (greatest (map (λ m. least_after g.rules (value g.rules role depth at) s role m) (g.rules.legal s role)))))
+      (same.goal s role lt)
+      ∙ ap (λ (b : Bool). cond (h.rules.ended s) (h.rules.goal s role)
+      (cond b 0 (greatest (map (λ m. least_after g.rules (value g.rules role depth at) s role m) (g.rules.legal s role))))) (stuck_alike s)
       ∙ ap (λ (ns : List ℕ). cond (h.rules.ended s) (h.rules.goal s role) (cond (is_stuck h.rules s) 0 (greatest ns))) best
 
   pub worst_alike : (role : ℕ) → role < g.rules.roles → (depth : ℕ) (at : AtBound) (s : State) (own : ℕ) → own < g.rules.moves role
       → worst g.rules role depth at s own ≡ worst h.rules role depth at s own
-  worst_alike role lt depth at s own below = least_alike (value g.rules role depth at) (value h.rules role depth at) (value_alike role lt depth at) s role own below
+  worst_alike role lt depth at s own below = least_alike (value g.rules role depth at) (value h.rules role depth at) (value_alike role lt depth at) s
+      role own below
 
-  pub choice_alike : (role : ℕ) → role < g.rules.roles → (depth : ℕ) (at : AtBound) (s : State) → choice_of g.rules role depth at s ≡ choice_of h.rules role depth at s
+  pub choice_alike : (role : ℕ) → role < g.rules.roles → (depth : ℕ) (at : AtBound) (s : State)
+      → choice_of g.rules role depth at s ≡ choice_of h.rules role depth at s
   choice_alike role lt zero at s = refl
   choice_alike role lt (suc depth) at s =
-      let found : find (λ m. worst g.rules role depth at s m == value g.rules role (suc depth) at s) (g.rules.legal s role) ≡ find (λ m. worst h.rules role depth at s m == value h.rules role (suc depth) at s) (h.rules.legal s role) =
-      finds_alike (λ m. worst g.rules role depth at s m == value g.rules role (suc depth) at s) (λ m. worst h.rules role depth at s m == value h.rules role (suc depth) at s) (g.rules.legal s role)
+      let found : find (λ m. worst g.rules role depth at s m == value g.rules role (suc depth) at s) (g.rules.legal s role) ≡ find
+      (λ m. worst h.rules role depth at s m == value h.rules role (suc depth) at s) (h.rules.legal s role) =
+      finds_alike (λ m. worst g.rules role depth at s m == value g.rules role (suc depth) at s)
+      (λ m. worst h.rules role depth at s m == value h.rules role (suc depth) at s) (g.rules.legal s role)
       (λ k d below.
       ap (λ (n : ℕ). n == value g.rules role (suc depth) at s) (worst_alike role lt depth at s _ (same.known s role lt k d below))
       ∙ ap (λ (n : ℕ). worst h.rules role depth at s (get_or (g.rules.legal s role) k d) == n) (value_alike role lt (suc depth) at s))
       ∙ ap (find (λ m. worst h.rules role depth at s m == value h.rules role (suc depth) at s)) (same.legal s role lt) in
-      ap (λ (b : Bool). cond (b || is_stuck g.rules s) None (find (λ m. worst g.rules role depth at s m == value g.rules role (suc depth) at s) (g.rules.legal s role))) (same.ended s)
-      ∙ ap (λ (b : Bool). cond (h.rules.ended s || b) None (find (λ m. worst g.rules role depth at s m == value g.rules role (suc depth) at s) (g.rules.legal s role))) (stuck_alike s)
+      ap (λ (b : Bool). cond (b || is_stuck g.rules s) None
+      (find (λ m. worst g.rules role depth at s m == value g.rules role (suc depth) at s) (g.rules.legal s role))) (same.ended s)
+      ∙ ap (λ (b : Bool). cond (h.rules.ended s || b) None
+      (find (λ m. worst g.rules role depth at s m == value g.rules role (suc depth) at s) (g.rules.legal s role))) (stuck_alike s)
       ∙ ap (λ (o : Option ℕ). cond (h.rules.ended s || is_stuck h.rules s) None o) found
 
   pub reply_alike : (role : ℕ) → role < g.rules.roles → (depth : ℕ) (at : AtBound) (s : State) (own : ℕ) → own < g.rules.moves role
       → reply_of g.rules role depth at s own ≡ reply_of h.rules role depth at s own
   reply_alike role lt depth at s own below =
-      finds_alike (λ j. value g.rules role depth at (g.rules.after s j) == worst g.rules role depth at s own) (λ j. value h.rules role depth at (h.rules.after s j) == worst h.rules role depth at s own) (turns_with g.rules s role own)
+      finds_alike (λ j. value g.rules role depth at (g.rules.after s j) == worst g.rules role depth at s own)
+      (λ j. value h.rules role depth at (h.rules.after s j) == worst h.rules role depth at s own) (turns_with g.rules s role own)
       (λ k d within.
       let j = get_or (turns_with g.rules s role own) k d in
       let next = same.after s j (turns_within g.rules same.known s role own below k d within) in
@@ -122,56 +179,75 @@ module _ (g h : NamedRules) (same : SamePlay g h) where
       ∙ ap (λ (n : ℕ). value h.rules role depth at (h.rules.after s j) == n) (worst_alike role lt depth at s own below))
       ∙ ap (find (λ j. value h.rules role depth at (h.rules.after s j) == worst h.rules role depth at s own)) (turns_alike s role own)
 
-  pub line_alike : (role : ℕ) → role < g.rules.roles → (depth : ℕ) (at : AtBound) (s : State) → line_of g.rules role depth at s ≡ line_of h.rules role depth at s
+  pub line_alike : (role : ℕ) → role < g.rules.roles → (depth : ℕ) (at : AtBound) (s : State)
+      → line_of g.rules role depth at s ≡ line_of h.rules role depth at s
   line_alike role lt zero at s = refl
   line_alike role lt (suc depth) at s =
       options_alike (line_by g.rules role depth at s) (line_by h.rules role depth at s) (choice_of g.rules role (suc depth) at s) []
-      (if_weaker (λ m. m < g.rules.moves role) (λ own. line_by g.rules role depth at s own ≡ line_by h.rules role depth at s own) (choice_of g.rules role (suc depth) at s) (each (line_alike role lt depth at)) (choice_within g.rules same.known role (suc depth) at s lt))
+      (if_weaker (λ m. m < g.rules.moves role) (λ own. line_by g.rules role depth at s own ≡ line_by h.rules role depth at s own)
+      (choice_of g.rules role (suc depth) at s) (each (line_alike role lt depth at)) (choice_within g.rules same.known role (suc depth) at s lt))
       ∙ ap (λ (o : Option ℕ). option_map_or (line_by h.rules role depth at s) o []) (choice_alike role lt (suc depth) at s)
     where
-      each : ((t : State) → line_of g.rules role depth at t ≡ line_of h.rules role depth at t) → (own : ℕ) → own < g.rules.moves role → line_by g.rules role depth at s own ≡ line_by h.rules role depth at s own
+      each : ((t : State) → line_of g.rules role depth at t ≡ line_of h.rules role depth at t) → (own : ℕ) → own < g.rules.moves role
+          → line_by g.rules role depth at s own ≡ line_by h.rules role depth at s own
       each more own below =
-          options_alike (λ j. j ∷ line_of g.rules role depth at (g.rules.after s j)) (λ j. j ∷ line_of h.rules role depth at (h.rules.after s j)) (reply_of g.rules role depth at s own) []
+          options_alike (λ j. j ∷ line_of g.rules role depth at (g.rules.after s j)) (λ j. j ∷ line_of h.rules role depth at (h.rules.after s j))
+          (reply_of g.rules role depth at s own) []
           (if_weaker (IsTurn g.rules) _ (reply_of g.rules role depth at s own)
-          (λ j turn. ap (λ (t : State). j ∷ line_of g.rules role depth at t) (same.after s j turn) ∙ ap (λ (js : List Turn). j ∷ js) (more (h.rules.after s j)))
+          (λ j turn. ap (λ (t : State). j ∷ line_of g.rules role depth at t) (same.after s j turn)
+          ∙ ap (λ (js : List Turn). j ∷ js) (more (h.rules.after s j)))
           (reply_within g.rules same.known role depth at s own below))
-          ∙ ap (λ (o : Option Turn). option_map_or (λ j. j ∷ line_of h.rules role depth at (h.rules.after s j)) o []) (reply_alike role lt depth at s own below)
+          ∙ ap (λ (o : Option Turn). option_map_or (λ j. j ∷ line_of h.rules role depth at (h.rules.after s j)) o [])
+          (reply_alike role lt depth at s own below)
 
   -- Histories.
 
-  move_alike : (s : State) (parts : List Tree) (q : ℕ) → q < g.rules.roles → named_move g.rules g.move_name s parts q ≡ named_move h.rules h.move_name s parts q
+  move_alike : (s : State) (parts : List Tree) (q : ℕ) → q < g.rules.roles → named_move g.rules g.move_name s parts q ≡ named_move h.rules h.move_name
+      s parts q
   move_alike s parts q lt =
-      finds_alike (λ m. name_eq (text (tree_at parts q)) (g.move_name q m)) (λ m. name_eq (text (tree_at parts q)) (h.move_name q m)) (g.rules.legal s q)
+      finds_alike (λ m. name_eq (text (tree_at parts q)) (g.move_name q m)) (λ m. name_eq (text (tree_at parts q)) (h.move_name q m))
+      (g.rules.legal s q)
       (λ k d below. ap (name_eq (text (tree_at parts q))) (same.move_names q _ lt (same.known s q lt k d below)))
       ∙ ap (find (λ m. name_eq (text (tree_at parts q)) (h.move_name q m))) (same.legal s q lt)
 
   turn_alike : (s : State) (parts : List Tree) → named_turn g.rules g.move_name s parts ≡ named_turn h.rules h.move_name s parts
   turn_alike s parts =
-      maps_alike (λ q. unwrap_or (named_move g.rules g.move_name s parts q) 0) (λ q. unwrap_or (named_move h.rules h.move_name s parts q) 0) (all_roles g.rules)
+      maps_alike (λ q. unwrap_or (named_move g.rules g.move_name s parts q) 0) (λ q. unwrap_or (named_move h.rules h.move_name s parts q) 0)
+      (all_roles g.rules)
       (all_below _ g.rules.roles (λ q lt. ap (λ (o : Option ℕ). unwrap_or o 0) (move_alike s parts q lt)))
       ∙ ap (map (λ q. unwrap_or (named_move h.rules h.move_name s parts q) 0)) roles_alike
 
-  illegal_alike : (s : State) (parts : List Tree) (number : ℕ) → illegal_faults g.rules g.move_name s parts number ≡ illegal_faults h.rules h.move_name s parts number
+  illegal_alike : (s : State) (parts : List Tree) (number : ℕ) → illegal_faults g.rules g.move_name s parts number ≡ illegal_faults h.rules
+      h.move_name s parts number
   illegal_alike s parts number =
       ap (map (NotLegal number))
-      (filters_alike (λ q. is_none (named_move g.rules g.move_name s parts q)) (λ q. is_none (named_move h.rules h.move_name s parts q)) (all_roles g.rules)
+      (filters_alike (λ q. is_none (named_move g.rules g.move_name s parts q)) (λ q. is_none (named_move h.rules h.move_name s parts q))
+      (all_roles g.rules)
       (all_below _ g.rules.roles (λ q lt. ap (λ (o : Option ℕ). is_none o) (move_alike s parts q lt)))
       ∙ ap (filter (λ q. is_none (named_move h.rules h.move_name s parts q))) roles_alike)
 
-  faults_alike : (s : State) (parts : List Tree) (number : ℕ) → turn_faults g.rules g.move_name s parts number ≡ turn_faults h.rules h.move_name s parts number
+  faults_alike : (s : State) (parts : List Tree) (number : ℕ) → turn_faults g.rules g.move_name s parts number ≡ turn_faults h.rules h.move_name s
+      parts number
   faults_alike s parts number =
-      ap (λ (b : Bool). cond b (Over number ∷ []) (cond (is_stuck g.rules s) (Stuck number ∷ []) (illegal_faults g.rules g.move_name s parts number))) (same.ended s)
-      ∙ ap (λ (b : Bool). cond (h.rules.ended s) (Over number ∷ []) (cond b (Stuck number ∷ []) (illegal_faults g.rules g.move_name s parts number))) (stuck_alike s)
-      ∙ ap (λ (fs : List HistoryFault). cond (h.rules.ended s) (Over number ∷ []) (cond (is_stuck h.rules s) (Stuck number ∷ []) fs)) (illegal_alike s parts number)
+      ap (λ (b : Bool). cond b (Over number ∷ []) (cond (is_stuck g.rules s) (Stuck number ∷ []) (illegal_faults g.rules g.move_name s parts number)))
+      (same.ended s)
+      ∙ ap (λ (b : Bool). cond (h.rules.ended s) (Over number ∷ []) (cond b (Stuck number ∷ []) (illegal_faults g.rules g.move_name s parts number)))
+      (stuck_alike s)
+      ∙ ap (λ (fs : List HistoryFault). cond (h.rules.ended s) (Over number ∷ []) (cond (is_stuck h.rules s) (Stuck number ∷ []) fs))
+      (illegal_alike s parts number)
 
   -- a turn without faults is one of the game
-  no_faults_turn : (s : State) (parts : List Tree) (number : ℕ) → turn_faults g.rules g.move_name s parts number ≡ [] → IsTurn g.rules (named_turn g.rules g.move_name s parts)
+  no_faults_turn : (s : State) (parts : List Tree) (number : ℕ) → turn_faults g.rules g.move_name s parts number ≡ []
+      → IsTurn g.rules (named_turn g.rules g.move_name s parts)
   no_faults_turn s parts number e = go (g.rules.ended s) (is_stuck g.rules s) e
     where
-      go : (b c : Bool) → cond b (Over number ∷ []) (cond c (Stuck number ∷ []) (illegal_faults g.rules g.move_name s parts number)) ≡ [] → IsTurn g.rules (named_turn g.rules g.move_name s parts)
+      go : (b c : Bool) → cond b (Over number ∷ []) (cond c (Stuck number ∷ []) (illegal_faults g.rules g.move_name s parts number)) ≡ []
+          → IsTurn g.rules (named_turn g.rules g.move_name s parts)
       go true c k = absurd cc
       go false true k = absurd cc
-      go false false k = turn_named g.rules same.known g.move_name s parts (each_below (λ q. is_none (named_move g.rules g.move_name s parts q) ≡ false) g.rules.roles (none_left (NotLegal number) (λ q. is_none (named_move g.rules g.move_name s parts q)) (all_roles g.rules) k))
+      go false false k = turn_named g.rules same.known g.move_name s parts
+          (each_below (λ q. is_none (named_move g.rules g.move_name s parts q) ≡ false) g.rules.roles
+          (none_left (NotLegal number) (λ q. is_none (named_move g.rules g.move_name s parts q)) (all_roles g.rules) k))
 
   module _ (ts : List Tree) where
     abbrev F : ℕ → List HistoryFault
@@ -180,7 +256,8 @@ module _ (g h : NamedRules) (same : SamePlay g h) where
     abbrev G : ℕ → List HistoryFault
     G k = turn_faults h.rules h.move_name (state_after h.rules h.move_name (take k ts)) (parts_of (tree_at ts k)) (k + 1)
 
-    states_alike : (k : ℕ) → k ≤ length ts → ((i : ℕ) → i < k → F i ≡ []) → state_after g.rules g.move_name (take k ts) ≡ state_after h.rules h.move_name (take k ts)
+    states_alike : (k : ℕ) → k ≤ length ts → ((i : ℕ) → i < k → F i ≡ []) → state_after g.rules g.move_name (take k ts) ≡ state_after h.rules
+        h.move_name (take k ts)
     states_alike zero le before = same.start
     states_alike (suc k) le before =
         let here = states_alike k (omega arith) (λ i lt. before i (omega arith)) in
@@ -198,11 +275,13 @@ module _ (g h : NamedRules) (same : SamePlay g h) where
 
     pub played_alike : played g.rules g.move_name ts ≡ played h.rules h.move_name ts
     played_alike =
-        first_more (form_faults g.rules.roles ts) (play_faults g.rules g.move_name ts) (play_faults h.rules h.move_name ts) (state_after g.rules g.move_name ts) (state_after h.rules h.move_name ts)
+        first_more (form_faults g.rules.roles ts) (play_faults g.rules g.move_name ts) (play_faults h.rules h.move_name ts)
+        (state_after g.rules g.move_name ts) (state_after h.rules h.move_name ts)
         (first_alike F G (state_after g.rules g.move_name ts) (state_after h.rules h.move_name ts) 0 (length ts)
         (λ k from to before.
         faults_alike (state_after g.rules g.move_name (take k ts)) (parts_of (tree_at ts k)) (k + 1)
-        ∙ ap (λ (s : State). turn_faults h.rules h.move_name s (parts_of (tree_at ts k)) (k + 1)) (states_alike k (omega arith) (λ i lt. before i (omega arith) lt)))
+        ∙ ap (λ (s : State). turn_faults h.rules h.move_name s (parts_of (tree_at ts k)) (k + 1))
+        (states_alike k (omega arith) (λ i lt. before i (omega arith) lt)))
         (λ all.
         ap (state_after g.rules g.move_name) (sym (take_all (length ts) ts (omega arith)))
         ∙ states_alike (length ts) (omega arith) (λ i lt. all i (omega arith) (omega arith))

@@ -1,5 +1,33 @@
 -- What a history of turns leads to: a state, or the first fault.
-use Rattle.std.specs.Prelude.{◌≡◌, ℕ, ◌+◌, ◌<◌, Bool, true, not, ◌&&◌, ◌==◌, List, [], ◌∷◌, ◌++◌, length, map, filter, fold, find, take, slice_index_or, unwrap_or, is_none, Option, Result, Ok, Err, if◌then◌else◌}
+use Rattle.std.specs.Prelude.{
+  ◌≡◌,
+  ℕ,
+  ◌+◌,
+  ◌<◌,
+  Bool,
+  true,
+  not,
+  ◌&&◌,
+  ◌==◌,
+  List,
+  [],
+  ◌∷◌,
+  ◌++◌,
+  length,
+  map,
+  filter,
+  fold,
+  find,
+  take,
+  slice_index_or,
+  unwrap_or,
+  is_none,
+  Option,
+  Result,
+  Ok,
+  Err,
+  if◌then◌else◌,
+}
 use Rattle.std.specs.List.{flat_map, range_with_len}
 use Rattle.kif.specs.Tree.{Tree, list, no_trees, text, name_eq}
 use Rattle.kif.specs.View.{is_name_tree, parts_of}

@@ -1,5 +1,25 @@
 -- A game of one turn.
-use Rattle.std.specs.Prelude.{ℕ, zero, suc, ◌+◌, ◌-◌, ◌*◌, ◌==◌, ◌&&◌, ◌||◌, not, Bool, List, [], ◌∷◌, codes, slice_index, slice_index_or, false, if◌then◌else◌}
+use Rattle.std.specs.Prelude.{
+  ℕ,
+  zero,
+  suc,
+  ◌+◌,
+  ◌-◌,
+  ◌*◌,
+  ◌==◌,
+  ◌&&◌,
+  ◌||◌,
+  not,
+  Bool,
+  List,
+  [],
+  ◌∷◌,
+  codes,
+  slice_index,
+  slice_index_or,
+  false,
+  if◌then◌else◌,
+}
 use Rattle.game.specs.Rules.{Rules, State}
 
 abbrev pub is_start : State → Bool

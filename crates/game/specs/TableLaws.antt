@@ -15,7 +15,8 @@ cell_at_most (x ∷ xs) zero h = h 0 (omega arith)
 cell_at_most (x ∷ xs) (suc k) h = cell_at_most xs k (λ i below. h (suc i) (omega arith))
 
 -- no number of the table is above 100, so no goal is
-pub goal_at_most : (worth : List ℕ) (ends : List Bool) (s : List ℕ) (r : ℕ) → EachIndex worth (λ k. slice_index worth k ≤ 100) → (table_rules worth ends).goal s r ≤ 100
+pub goal_at_most : (worth : List ℕ) (ends : List Bool) (s : List ℕ) (r : ℕ) → EachIndex worth (λ k. slice_index worth k ≤ 100)
+    → (table_rules worth ends).goal s r ≤ 100
 goal_at_most worth ends s r h =
     let at = cell_at_most worth (slice_index s 0 - 1) h in grind (arith, nat_tests)
 

@@ -51,7 +51,8 @@ fn find_move<G: Game, A: Allocator>(g: &G, p: &G::Pos, role: usize, part: &Expr<
     requires fits { G.fits g.now p.now }
     requires role { role < (G.rules g.now).roles }
     ensures known { IfSome result (λ m. m < (G.rules g.now).moves role) }
-    ensures found { result ≡ find (λ m. name_eq (text (tree_of part.now)) (G.move_name g.now role m)) ((G.rules g.now).legal (G.state g.now p.now) role) }
+    ensures found { result ≡ find (λ m. name_eq (text (tree_of part.now)) (G.move_name g.now role m))
+        ((G.rules g.now).legal (G.state g.now p.now) role) }
 {
     let mut place = 0;
     while let Some(number) = g.legal(p, role, place) {
@@ -128,7 +129,8 @@ pub fn replay<G: Game, A: Allocator>(
     requires { G.fits g.now p.old }
     ensures fits { G.fits g.now p.new }
     ensures played { OnOk result (played (G.rules g.now) (G.move_name g.now) (trees_in turns.now) ≡ Ok (G.state g.now p.new)) }
-    ensures refused { IfErr result (λ fault. fault ≢ HistoryFault.NoMemory → played (G.rules g.now) (G.move_name g.now) (trees_in turns.now) ≡ Err fault) }
+    ensures refused { IfErr result (λ fault. fault ≢ HistoryFault.NoMemory → played (G.rules g.now) (G.move_name g.now) (trees_in turns.now) ≡ Err
+        fault) }
     ensures role { IfErr result (IsRoleOf (G.rules g.now).roles) }
     ensures capacities { G.capacities g.now p.new ≡ G.capacities g.now p.old }
     ensures unchanged { OnErr result (p.new ≡ p.old) }

@@ -1,5 +1,38 @@
 -- The parts of an instantiation fit together.
-use Rattle.std.proofs.Common.{ℕ, zero, suc, ◌<◌, ◌≤◌, ◌+◌, Bool, true, false, not, cond, ◌≡◌, ◌≢◌, inl, inr, List, [], ◌∷◌, ◌++◌, length, length-append, map, get_or, refl, sym, ap, subst, ◌∙◌, arith, Option, Some, None}
+use Rattle.std.proofs.Common.{
+  ℕ,
+  zero,
+  suc,
+  ◌<◌,
+  ◌≤◌,
+  ◌+◌,
+  Bool,
+  true,
+  false,
+  not,
+  cond,
+  ◌≡◌,
+  ◌≢◌,
+  inl,
+  inr,
+  List,
+  [],
+  ◌∷◌,
+  ◌++◌,
+  length,
+  length-append,
+  map,
+  get_or,
+  refl,
+  sym,
+  ap,
+  subst,
+  ◌∙◌,
+  arith,
+  Option,
+  Some,
+  None,
+}
 use Rattle.std.proofs.Math.Logic.{∥∥₁_elim}
 use Rattle.std.proofs.Props.{props}
 use Rattle.std.specs.Prelude.{All, AllPairs, filter}
@@ -25,12 +58,51 @@ use Rattle.meaning.specs.Effects.{IsWithin}
 use Rattle.meaning.specs.Limits.{count_inputs}
 use Rattle.meaning.specs.Most.{limits}
 use Rattle.meaning.specs.Listed.{IsWellFormed}
-use Rattle.meaning.specs.Listing.{Instance, is_atom_in, with_atoms, Listing, heads, list_relation, list_relations, kept_of_relation, one_term, terms_of, context_atoms, moves_of, fixed_listing, listing, role_list, base_list, input_list}
+use Rattle.meaning.specs.Listing.{
+  Instance,
+  is_atom_in,
+  with_atoms,
+  Listing,
+  heads,
+  list_relation,
+  list_relations,
+  kept_of_relation,
+  one_term,
+  terms_of,
+  context_atoms,
+  moves_of,
+  fixed_listing,
+  listing,
+  role_list,
+  base_list,
+  input_list,
+}
 use Rattle.meaning.specs.Gates.{gate}
 use Rattle.meaning.specs.Play as play
 use Rattle.ground.specs.Grounds.{Kept, numbered, texts_at, IsGroundOf, IsSomeGround}
 use Rattle.ground.specs.Fits.{Rise, Differ, count_all, IsInputWithin, IsKindWithin, IsKeptWithin, FitTogether}
-use Rattle.meaning.proofs.Facts.{among_map_out, place_below, order_other, order_map, kind_sound, roles_once, bases_in_order, inputs_in_order, heads_exact, roles_exact, listing_exact, atoms_exact, gate_numbered, role_lawful, term_named, source_under, with_front, steps_front, atom_test, excess_exact}
+use Rattle.meaning.proofs.Facts.{
+  among_map_out,
+  place_below,
+  order_other,
+  order_map,
+  kind_sound,
+  roles_once,
+  bases_in_order,
+  inputs_in_order,
+  heads_exact,
+  roles_exact,
+  listing_exact,
+  atoms_exact,
+  gate_numbered,
+  role_lawful,
+  term_named,
+  source_under,
+  with_front,
+  steps_front,
+  atom_test,
+  excess_exact,
+}
 
 -- Lists by place.
 
@@ -108,7 +180,8 @@ inputs_count rules (r ∷ rs) =
     let c = inputs_count rules rs in
     omega arith
 
-context_count : (rules : List Alternative) → length (context_atoms (fixed_listing rules).atoms) ≡ length (base_list rules) + count_inputs rules (role_list rules)
+context_count : (rules : List Alternative) → length (context_atoms (fixed_listing rules).atoms) ≡ length (base_list rules) + count_inputs rules
+    (role_list rules)
 context_count rules =
     let a = length-append (map (λ (p : Tree). atom1 w_true p) (base_list rules)) (moves_of (fixed_listing rules).atoms (role_list rules)) in
     let b = length-map (base_list rules) (λ (p : Tree). atom1 w_true p) in
@@ -122,7 +195,10 @@ atoms_count rules =
     let a = steps_count rules (record { atoms = []; kept = [] }) (filter (λ p. is_fixed rules p) (relations_in_order rules)) in
     let b = with_count (fixed_listing rules).atoms (context_atoms (fixed_listing rules).atoms) in
     let c = context_count rules in
-    let d = steps_count rules (record { atoms = with_atoms (fixed_listing rules).atoms (context_atoms (fixed_listing rules).atoms); kept = (fixed_listing rules).kept }) (filter (λ p. not (is_fixed rules p)) (relations_in_order rules)) in
+    let d = steps_count rules (record {
+      atoms = with_atoms (fixed_listing rules).atoms (context_atoms (fixed_listing rules).atoms);
+      kept = (fixed_listing rules).kept;
+    }) (filter (λ p. not (is_fixed rules p)) (relations_in_order rules)) in
     omega arith
 
 one_term_count : (ts : Trees) → length (one_term ts) ≤ 1
@@ -142,7 +218,10 @@ pub roles_count : (rules : List Alternative) → length (role_list rules) ≤ le
 roles_count rules =
     let a = terms_count w_role (fixed_listing rules).atoms in
     let b = with_front (fixed_listing rules).atoms (context_atoms (fixed_listing rules).atoms) in
-    let c = steps_front rules (record { atoms = with_atoms (fixed_listing rules).atoms (context_atoms (fixed_listing rules).atoms); kept = (fixed_listing rules).kept }) (filter (λ p. not (is_fixed rules p)) (relations_in_order rules)) in
+    let c = steps_front rules (record {
+      atoms = with_atoms (fixed_listing rules).atoms (context_atoms (fixed_listing rules).atoms);
+      kept = (fixed_listing rules).kept;
+    }) (filter (λ p. not (is_fixed rules p)) (relations_in_order rules)) in
     let d = ap length b.1 ∙ length-append (fixed_listing rules).atoms b.0 in
     let e = ap length c.1 ∙ length-append (with_atoms (fixed_listing rules).atoms (context_atoms (fixed_listing rules).atoms)) c.0 in
     omega arith
@@ -165,7 +244,8 @@ module _ (rules : List Alternative) (w : IsWellFormed rules) where
 
   base_texts : Rise (map text (base_list rules))
   base_texts =
-      pairs_map (λ (t u : Tree). printed_cmp t u ≡ Less) (λ (s t : List ℕ). slice_cmp nat_cmp s t ≡ Less) text (base_list rules) (bases_in_order rules w) (λ t u a b l. l)
+      pairs_map (λ (t u : Tree). printed_cmp t u ≡ Less) (λ (s t : List ℕ). slice_cmp nat_cmp s t ≡ Less) text (base_list rules)
+      (bases_in_order rules w) (λ t u a b l. l)
 
   input_texts : All Rise (map (λ r. map text (input_list rules r)) (role_list rules))
   input_texts =
@@ -176,7 +256,8 @@ module _ (rules : List Alternative) (w : IsWellFormed rules) where
   head_plain : (i : Instance) → IsAmong i (listing rules).kept → source_of i.head ≡ ordinary
   head_plain i a =
       let k = (listing_exact rules w i).0 a in
-      subst (λ (j : Instance). source_of j.head ≡ ordinary) k.same (source_under k.map k.rule.head.word k.rule.head.terms (w.heads k.rule k.kept.is_rule))
+      subst (λ (j : Instance). source_of j.head ≡ ordinary) k.same
+      (source_under k.map k.rule.head.word k.rule.head.terms (w.heads k.rule k.kept.is_rule))
 
   -- the head of an instance has a number
   pub head_listed : (i : Instance) → IsAmong i (listing rules).kept → IsAmong i.head (listing rules).atoms
@@ -186,22 +267,27 @@ module _ (rules : List Alternative) (w : IsWellFormed rules) where
   kept_numbers = all_map (IsKeptWithin (length (listing rules).atoms)) (numbered rules) (listing rules).kept each
     where
       each : (i : Instance) → IsAmong i (listing rules).kept → IsKeptWithin (length (listing rules).atoms) (numbered rules i)
-      each i a =
-          (place_below atom_eq atom_test i.head (listing rules).atoms (head_listed i a), all_among (λ (r : ℕ × Bool). r.0 < length (listing rules).atoms) (gate rules i) (gate_numbered rules w i a))
+      each i a = (
+        place_below atom_eq atom_test i.head (listing rules).atoms (head_listed i a),
+        all_among (λ (r : ℕ × Bool). r.0 < length (listing rules).atoms) (gate rules i) (gate_numbered rules w i a),
+      )
 
-  input_within : (r m : Tree) (k n : ℕ) → place_in r (role_list rules) ≡ Some k → place_in m (input_list rules r) ≡ Some n → IsInputWithin (map (λ (r : Tree). map text (input_list rules r)) (role_list rules)) k n
+  input_within : (r m : Tree) (k n : ℕ) → place_in r (role_list rules) ≡ Some k → place_in m (input_list rules r) ≡ Some n
+      → IsInputWithin (map (λ (r : Tree). map text (input_list rules r)) (role_list rules)) k n
   input_within r m k n e f =
       let p = placed r (role_list rules) k e in
       let q = placed m (input_list rules r) n f in
       let size = length-map (role_list rules) (λ (r : Tree). map text (input_list rules r)) in
       let below = p.0 in
       let here : texts_at (map (λ (r : Tree). map text (input_list rules r)) (role_list rules)) k ≡ map text (input_list rules r)
-      = get_or-map (λ (r : Tree). map text (input_list rules r)) (role_list rules) k r [] below ∙ ap (λ (s : Tree). map text (input_list rules s)) (p.1 r) in
+      = get_or-map (λ (r : Tree). map text (input_list rules r)) (role_list rules) k r [] below
+      ∙ ap (λ (s : Tree). map text (input_list rules s)) (p.1 r) in
       let many = ap length here ∙ length-map (input_list rules r) text in
       let less = q.0 in
       (omega arith, omega arith)
 
-  kind_within : (x : Atom) (k : Kind) → kind_of rules x ≡ k → IsKindWithin (length (base_list rules)) (map (λ (r : Tree). map text (input_list rules r)) (role_list rules)) k
+  kind_within : (x : Atom) (k : Kind) → kind_of rules x ≡ k
+      → IsKindWithin (length (base_list rules)) (map (λ (r : Tree). map text (input_list rules r)) (role_list rules)) k
   kind_within x Fixed h = tt
   kind_within x (Now n) h = (placed _ (base_list rules) n (kind_sound rules w.acyclic x (Now n) h (λ e. absurd cc)).2).0
   kind_within x (Does k n) h = let m = kind_sound rules w.acyclic x (Does k n) h (λ e. absurd cc) in input_within m.0 m.1 k n m.3 m.4
@@ -215,8 +301,10 @@ module _ (rules : List Alternative) (w : IsWellFormed rules) where
   kind_within x Terminal h = tt
   kind_within x Other h = tt
 
-  all_kinds : All (IsKindWithin (length (base_list rules)) (map (λ (r : Tree). map text (input_list rules r)) (role_list rules))) (map (kind_of rules) (listing rules).atoms)
-  all_kinds = all_map (IsKindWithin (length (base_list rules)) (map (λ (r : Tree). map text (input_list rules r)) (role_list rules))) (kind_of rules) (listing rules).atoms (λ x a. kind_within x (kind_of rules x) refl)
+  all_kinds : All (IsKindWithin (length (base_list rules)) (map (λ (r : Tree). map text (input_list rules r)) (role_list rules)))
+      (map (kind_of rules) (listing rules).atoms)
+  all_kinds = all_map (IsKindWithin (length (base_list rules)) (map (λ (r : Tree). map text (input_list rules r)) (role_list rules))) (kind_of rules)
+      (listing rules).atoms (λ x a. kind_within x (kind_of rules x) refl)
 
 -- What is so of the lists of some rules.
 
@@ -270,7 +358,8 @@ module _ (roles base : List (List ℕ)) (inputs : List (List (List ℕ))) (start
     kinds_of =
         subst (λ (n : ℕ). All (IsKindWithin n inputs) kinds) (sym base_size)
         (subst (λ (is : List (List (List ℕ))). All (IsKindWithin (length (base_list rules)) is) kinds) (sym g.inputs_are)
-        (subst (λ (ks : List Kind). All (IsKindWithin (length (base_list rules)) (map (λ (r : Tree). map text (input_list rules r)) (role_list rules))) ks) (sym g.kinds_are) (all_kinds rules w)))
+        (subst (λ (ks : List Kind). All (IsKindWithin (length (base_list rules))
+        (map (λ (r : Tree). map text (input_list rules r)) (role_list rules))) ks) (sym g.kinds_are) (all_kinds rules w)))
 
     few_kept_of : length kept ≤ limits.instances
     few_kept_of = subst (λ (n : ℕ). n ≤ limits.instances) (sym kept_size) within.instances

@@ -1,5 +1,29 @@
 -- Terms that are different trees, as a set.
-use Rattle.std.proofs.Common.{ℕ, ◌≡◌, ◌⊎◌, inl, inr, Bool, true, false, cond, ◌||◌, List, [], ◌∷◌, ◌++◌, map, nat_eq, eqb-true, append_assoc, refl, sym, ap, subst, ◌∙◌}
+use Rattle.std.proofs.Common.{
+  ℕ,
+  ◌≡◌,
+  ◌⊎◌,
+  inl,
+  inr,
+  Bool,
+  true,
+  false,
+  cond,
+  ◌||◌,
+  List,
+  [],
+  ◌∷◌,
+  ◌++◌,
+  map,
+  nat_eq,
+  eqb-true,
+  append_assoc,
+  refl,
+  sym,
+  ap,
+  subst,
+  ◌∙◌,
+}
 use Rattle.std.specs.List.{list_any}
 use Rattle.std.proofs.lemmas.List.{append-nil}
 use Rattle.kif.specs.Tree.{Tree}
@@ -33,7 +57,10 @@ with_new xs (n ∷ ns) apart d =
 
 numbers_distinct : (terms : List Tree) (ns : List ℕ) → AreDistinct (map (term_at terms) ns) → AreDistinct ns
 numbers_distinct terms [] d = tt
-numbers_distinct terms (n ∷ ns) d = ((λ m a e. d.0 (term_at terms m) (among_map_in (term_at terms) m ns a) (ap (term_at terms) e)), numbers_distinct terms ns d.1)
+numbers_distinct terms (n ∷ ns) d = (
+  (λ m a e. d.0 (term_at terms m) (among_map_in (term_at terms) m ns a) (ap (term_at terms) e)),
+  numbers_distinct terms ns d.1,
+)
 
 -- the set of numbers of different trees has them in their order
 pub set_is : (terms : List Tree) (ns : List ℕ) (ts : List Tree) → map (term_at terms) ns ≡ ts → AreDistinct ts → with_numbers [] ns ≡ ns

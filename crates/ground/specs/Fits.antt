@@ -40,7 +40,8 @@ IsKeptWithin n k = (k.head < n) × All (λ (r : ℕ × Bool). r.0 < n) k.body
 
 -- each base proposition has a mark and each role its inputs, texts stand in order, all numbers are of
 -- what is there, and there are no more than the limits say
-pub record FitTogether (roles base : List (List ℕ)) (inputs : List (List (List ℕ))) (starts : List Bool) (kinds : List Kind) (kept : List Kept) : Type 0 where
+pub record FitTogether (roles base : List (List ℕ)) (inputs : List (List (List ℕ))) (starts : List Bool) (kinds : List Kind) (kept : List Kept) : Type
+    0 where
   pub starts_fit : length starts ≡ length base
   pub inputs_fit : length inputs ≡ length roles
   pub roles_differ : Differ roles

@@ -26,7 +26,8 @@ abbrev pub numbered : List Alternative → Instance → Kept
 numbered rules i = record { alternative = i.place; head = number_of i.head (listing rules).atoms; body = gate rules i }
 
 -- the texts, marks, kinds and instances are those of the rules
-pub record IsGroundOf (rules : List Alternative) (roles base : List (List ℕ)) (inputs : List (List (List ℕ))) (starts : List Bool) (kinds : List Kind) (kept : List Kept) (dropped : ℕ) : Type 0 where
+pub record IsGroundOf (rules : List Alternative) (roles base : List (List ℕ)) (inputs : List (List (List ℕ))) (starts : List Bool) (kinds : List Kind)
+    (kept : List Kept) (dropped : ℕ) : Type 0 where
   pub well_formed : IsWellFormed rules
   pub within : excess_in rules ≡ None
   pub roles_are : roles ≡ map text (role_list rules)

@@ -27,6 +27,7 @@ pub fn the_last_pass_is_the_definition()
         → map (starts_in held.keys atoms init) bases ≡ map (starts rules) (base_list rules) }
     ensures dropped { (rules : List Alternative) (words : List (List ℕ)) → AreDifferentWords words
         → (held : Held) (atoms : List ℕ) (found : List Kept) → IsListed rules words held atoms found (listing rules)
-        → (named : Keywords) → AreKeywords words named → (bases roles : List ℕ) (inputs : List (List ℕ)) → AreShown rules (trees words held.keys) bases roles inputs
+        → (named : Keywords) → AreKeywords words named → (bases roles : List ℕ) (inputs : List (List ℕ))
+        → AreShown rules (trees words held.keys) bases roles inputs
         → dropped_in held.keys named bases roles inputs atoms ≡ dropped rules }
 {}

@@ -30,6 +30,7 @@ pub struct Ground {
     pub(crate) kept: Vec<Instance>,
     pub(crate) dropped: usize,
     pub(crate) atom_table: AtomTable,
-    pub ghost sound: { ∥ IsSomeGround (texts_of roles.items) (texts_of base.items) (map (λ v. texts_of v.items) inputs.items) starts.items kinds.items (map kept_of kept.items) dropped ∥₁ },
+    pub ghost sound: { ∥ IsSomeGround (texts_of roles.items) (texts_of base.items) (map (λ v. texts_of v.items) inputs.items) starts.items kinds.items
+        (map kept_of kept.items) dropped ∥₁ },
     pub ghost beside: { length kinds.items ≡ length atom_table },
 }

@@ -24,7 +24,8 @@ pub fn kinds_of_atoms(
 ) -> Result<Vec<Kind>, AllocError>
     requires symbols { length arena.now.sizes ≡ length (lists_of_set rules.now).words }
     requires within { AreBelow (length arena.now.keys) atoms.now }
-    requires tables { AreTables (rules_in rules.now) (trees (lists_of_set rules.now).words arena.now.keys) tables.now.roles.keys tables.now.base.keys (map (λ s. s.keys) tables.now.inputs.items) }
+    requires tables { AreTables (rules_in rules.now) (trees (lists_of_set rules.now).words arena.now.keys) tables.now.roles.keys tables.now.base.keys
+        (map (λ s. s.keys) tables.now.inputs.items) }
     ensures { IfOk result (λ kinds. (xs : List Atom) → map (term_at (trees (lists_of_set rules.now).words arena.now.keys)) atoms.now ≡ map tree_of xs
         → AreMarked (rules_in rules.now) fixed_atoms 0 xs → kinds.items ≡ map (kind_of (rules_in rules.now)) xs) }
 {

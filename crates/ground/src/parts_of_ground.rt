@@ -36,7 +36,8 @@ pub fn parts_of(
     listed: &Listed,
     tables: &Tables,
 ) -> Result<Parts, AllocError>
-    requires listed { IsAllListed (rules_in rules.now) (words_of rules.now) listed.now.arena listed.now.atoms.keys (map numbers_of listed.now.found.items) listed.now.fixed_atoms
+    requires listed { IsAllListed (rules_in rules.now) (words_of rules.now) listed.now.arena listed.now.atoms.keys
+        (map numbers_of listed.now.found.items) listed.now.fixed_atoms
         listed.now.context.roles.items listed.now.context.base.items (items_of listed.now.context.inputs.items) }
     requires within { excess_in (rules_in rules.now) ≡ None }
     requires roles { tables.now.roles.keys ≡ terms_named listed.now.context.roles.items }

@@ -45,7 +45,8 @@ fn sets_of(alloc: Global, lists: &[Vec<Named>]) -> Result<Vec<IndexSet<usize>>, 
 pub fn tables_of(alloc: Global, context: &ContextTerms) -> Result<Tables, AllocError>
     ensures roles { IfOk result (λ t. t.roles.keys ≡ with_numbers [] (terms_named context.now.roles.items)) }
     ensures base { IfOk result (λ t. t.base.keys ≡ with_numbers [] (terms_named context.now.base.items)) }
-    ensures inputs { IfOk result (λ t. map (λ s. s.keys) t.inputs.items ≡ map (λ ns. with_numbers [] (terms_named ns)) (items_of context.now.inputs.items)) }
+    ensures inputs { IfOk result (λ t. map (λ s. s.keys) t.inputs.items ≡ map (λ ns. with_numbers [] (terms_named ns))
+        (items_of context.now.inputs.items)) }
 {
     let roles = set_of(alloc, &context.roles)?;
     let base = set_of(alloc, &context.base)?;

@@ -9,7 +9,8 @@ use Rattle.game.specs.Value.{Answers}
 use Rattle.maximin.proofs.Reply.{least_worth, first_least, find_here, find_behind, test_true, test_false, least_part}
 
 -- a part of the window is enough where no value is outside of it
-pub within_goals : (v : ℕ) (a b low high r : ℤ) → v ≤ 100 → low ≡ int_max a (pos 0) → high ≡ int_min b (pos 100) → Answers v low high r → Answers v a b r
+pub within_goals : (v : ℕ) (a b low high r : ℤ) → v ≤ 100 → low ≡ int_max a (pos 0) → high ≡ int_min b (pos 100) → Answers v low high r
+    → Answers v a b r
 within_goals v a b low high r few l h is =
     let bottom = is.at_least in
     let top = is.at_most in
@@ -51,25 +52,29 @@ pub record IsAhead (worth : Turn → ℕ) (turns : List Turn) (all : ℕ) (left 
   pub reached : least_worth worth left ≡ all
   pub ahead : first_least worth all turns ≡ first_least worth all left
 
-pub ahead_start : (worth : Turn → ℕ) (turns : List Turn) (all : ℕ) (left : List Turn) → turns ≡ left → all ≡ least_worth worth turns → IsAhead worth turns all left
+pub ahead_start : (worth : Turn → ℕ) (turns : List Turn) (all : ℕ) (left : List Turn) → turns ≡ left → all ≡ least_worth worth turns
+    → IsAhead worth turns all left
 ahead_start worth turns all left same e = record {
   reached = ap (least_worth worth) (sym same) ∙ sym e;
   ahead = ap (first_least worth all) same;
 }
 
 -- a turn that is worth more stands before it
-pub ahead_next : (worth : Turn → ℕ) (turns : List Turn) (all : ℕ) (joint next : Turn) (behind rest : List Turn) → behind ≡ next ∷ rest → all < worth joint
+pub ahead_next : (worth : Turn → ℕ) (turns : List Turn) (all : ℕ) (joint next : Turn) (behind rest : List Turn) → behind ≡ next ∷ rest
+    → all < worth joint
     → IsAhead worth turns all (joint ∷ behind) → IsAhead worth turns all (next ∷ rest)
 ahead_next worth turns all joint next behind rest e more h =
     let both : least_worth worth (joint ∷ behind) ≡ min (worth joint) (least_worth worth (next ∷ rest)) = rw e refl in
     let reached = h.reached in
     record {
       reached = omega arith;
-      ahead = h.ahead ∙ find_behind (λ j. worth j == all) joint behind (test_false (worth joint) all (λ same. omega arith)) ∙ ap (first_least worth all) e;
+      ahead = h.ahead ∙ find_behind (λ j. worth j == all) joint behind (test_false (worth joint) all (λ same. omega arith))
+          ∙ ap (first_least worth all) e;
     }
 
 -- a turn that is worth no more is the one
-pub ahead_found : (worth : Turn → ℕ) (turns : List Turn) (all : ℕ) (joint : Turn) (behind : List Turn) → worth joint ≤ all → IsAhead worth turns all (joint ∷ behind)
+pub ahead_found : (worth : Turn → ℕ) (turns : List Turn) (all : ℕ) (joint : Turn) (behind : List Turn) → worth joint ≤ all
+    → IsAhead worth turns all (joint ∷ behind)
     → first_least worth all turns ≡ Some joint
 ahead_found worth turns all joint behind less h =
     let reached = h.reached in
@@ -77,7 +82,8 @@ ahead_found worth turns all joint behind less h =
     h.ahead ∙ find_here (λ j. worth j == all) joint behind (test_true (worth joint) all (omega arith))
 
 -- so is one behind which there is none
-pub ahead_last : (worth : Turn → ℕ) (turns : List Turn) (all : ℕ) (joint : Turn) (behind : List Turn) → behind ≡ [] → IsAhead worth turns all (joint ∷ behind)
+pub ahead_last : (worth : Turn → ℕ) (turns : List Turn) (all : ℕ) (joint : Turn) (behind : List Turn) → behind ≡ []
+    → IsAhead worth turns all (joint ∷ behind)
     → first_least worth all turns ≡ Some joint
 ahead_last worth turns all joint behind e h =
     let one : least_worth worth (joint ∷ behind) ≡ worth joint = rw e refl in

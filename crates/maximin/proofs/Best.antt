@@ -55,7 +55,11 @@ pub best_kept : (worth : ℕ → ℕ) (place : ℕ) (best r : ℤ) (chosen : ℕ
 best_kept worth place best r chosen few h less old =
     let bottom = h.at_least in
     let here : pos (worth place) ≤ℤ best = omega (arith, ints, clamps) in
-    let some : 0 < place = elim (cases_lt 0 place) [ inl above ↦ above | inr not_above ↦ let none = old.none (omega arith) in absurd (omega (arith, ints)) ] in
+    let some : 0 < place = elim (cases_lt 0 place) [
+      | inl above ↦ above
+      | inr not_above ↦ let none = old.none (omega arith) in
+          absurd (omega (arith, ints))
+    ] in
     record {
       seen = λ k lt. elim (cases_lt k place)
           [ inl before ↦ old.seen k before | inr last ↦ let at : k ≡ place = omega arith in rw at here ];
@@ -68,7 +72,8 @@ best_kept worth place best r chosen few h less old =
     }
 
 -- the first element that passes
-pub find_first : (p : ℕ → Bool) (xs : List ℕ) (i : ℕ) → i < length xs → p (get_or xs i 0) ≡ true → ((k : ℕ) → k < i → p (get_or xs k 0) ≡ false) → find p xs ≡ slice_get xs i
+pub find_first : (p : ℕ → Bool) (xs : List ℕ) (i : ℕ) → i < length xs → p (get_or xs i 0) ≡ true → ((k : ℕ) → k < i → p (get_or xs k 0) ≡ false)
+    → find p xs ≡ slice_get xs i
 find_first p [] i inside here before = absurd (omega arith)
 find_first p (x ∷ xs) zero inside here before = rw here refl
 find_first p (x ∷ xs) (suc i) inside here before =
@@ -78,8 +83,10 @@ find_first p (x ∷ xs) (suc i) inside here before =
 abbrev pub worst_at_place : Rules → ℕ → ℕ → AtBound → State → ℕ → ℕ
 worst_at_place g role depth at s k = worst g role (depth - 1) at s (get_or (g.legal s role) k 0)
 
-best_is_value : (g : Rules) (role depth : ℕ) (at : AtBound) (s : State) (place : ℕ) (best : ℤ) (chosen : ℕ) → IsOpen g depth s → role < g.roles → place ≡ length (g.legal s role)
-    → IsBest (worst_at_place g role depth at s) place best chosen → (chosen < length (g.legal s role)) × (worst_at_place g role depth at s chosen ≡ value g role depth at s)
+best_is_value : (g : Rules) (role depth : ℕ) (at : AtBound) (s : State) (place : ℕ) (best : ℤ) (chosen : ℕ) → IsOpen g depth s → role < g.roles
+    → place ≡ length (g.legal s role)
+    → IsBest (worst_at_place g role depth at s) place best chosen → (chosen < length (g.legal s role))
+    × (worst_at_place g role depth at s chosen ≡ value g role depth at s)
 best_is_value g role depth at s place best chosen h known all is =
     let top = value_reached g role depth at s h known in
     let some : 0 < place = omega (arith, top.1) in
@@ -98,7 +105,8 @@ either_true true c x y h = refl
 either_true false true x y h = refl
 either_true false false x y h = elim h [ inl e ↦ cc | inr e ↦ cc ]
 
-pub choice_none : (g : Rules) (role depth : ℕ) (at : AtBound) (s : State) → (g.ended s ≡ true) ⊎ (is_stuck g s ≡ true) → choice_of g role depth at s ≡ None
+pub choice_none : (g : Rules) (role depth : ℕ) (at : AtBound) (s : State) → (g.ended s ≡ true) ⊎ (is_stuck g s ≡ true)
+    → choice_of g role depth at s ≡ None
 choice_none g role zero at s h = refl
 choice_none g role (suc depth) at s h = either_true (g.ended s) (is_stuck g s) None _ h
 
@@ -110,17 +118,21 @@ test_false x y e = grind (arith, nat_tests)
 
 -- the first move that is worth what the state is
 pub choice_here : (g : Rules) (role depth : ℕ) (at : AtBound) (s : State) (chosen : ℕ) → IsOpen g depth s → chosen < length (g.legal s role)
-    → worst_at_place g role depth at s chosen ≡ value g role depth at s → ((k : ℕ) → k < chosen → worst_at_place g role depth at s k < value g role depth at s)
+    → worst_at_place g role depth at s chosen ≡ value g role depth at s
+    → ((k : ℕ) → k < chosen → worst_at_place g role depth at s k < value g role depth at s)
     → choice_of g role depth at s ≡ slice_get (g.legal s role) chosen
 choice_here g role zero at s chosen h inside here before = absurd (h.turn refl)
 choice_here g role (suc depth) at s chosen h inside here before =
     let same : suc depth - 1 ≡ depth = omega arith in
     let attained : worst g role depth at s (get_or (g.legal s role) chosen 0) ≡ value g role (suc depth) at s = rw same at here in
-    let missed : (k : ℕ) → k < chosen → worst g role depth at s (get_or (g.legal s role) k 0) < value g role (suc depth) at s = λ k lt. rw same at (before k lt) in
-    either_false (g.ended s) (is_stuck g s) None _ h.going h.free ∙ (find_first (λ m. worst g role depth at s m == value g role (suc depth) at s) (g.legal s role) chosen inside
+    let missed : (k : ℕ) → k < chosen → worst g role depth at s (get_or (g.legal s role) k 0) < value g role (suc depth) at s = λ k lt. rw same at
+    (before k lt) in
+    either_false (g.ended s) (is_stuck g s) None _ h.going h.free
+    ∙ (find_first (λ m. worst g role depth at s m == value g role (suc depth) at s) (g.legal s role) chosen inside
     (test_true _ _ attained) (λ k lt. test_false _ _ (missed k lt)))
 
-pub choice_found : (g : Rules) (role depth : ℕ) (at : AtBound) (s : State) (place : ℕ) (best : ℤ) (chosen : ℕ) → IsOpen g depth s → role < g.roles → place ≡ length (g.legal s role)
+pub choice_found : (g : Rules) (role depth : ℕ) (at : AtBound) (s : State) (place : ℕ) (best : ℤ) (chosen : ℕ) → IsOpen g depth s → role < g.roles
+    → place ≡ length (g.legal s role)
     → IsBest (worst_at_place g role depth at s) place best chosen → choice_of g role depth at s ≡ slice_get (g.legal s role) chosen
 choice_found g role depth at s place best chosen h known all is =
     let best_one = best_is_value g role depth at s place best chosen h known all is in
@@ -128,7 +140,8 @@ choice_found g role depth at s place best chosen h known all is =
     (λ k lt. let less = is.first k lt in let reached = is.reached (omega (arith, best_one.0)) in let same = best_one.1 in omega (arith, ints))
 
 -- a move behind which there is none is worth it, where those before it are not
-pub choice_last : (g : Rules) (role depth : ℕ) (at : AtBound) (s : State) (chosen : ℕ) → IsOpen g depth s → role < g.roles → chosen < length (g.legal s role)
+pub choice_last : (g : Rules) (role depth : ℕ) (at : AtBound) (s : State) (chosen : ℕ) → IsOpen g depth s → role < g.roles
+    → chosen < length (g.legal s role)
     → length (g.legal s role) ≤ chosen + 1 → ((k : ℕ) → k < chosen → worst_at_place g role depth at s k < value g role depth at s)
     → choice_of g role depth at s ≡ slice_get (g.legal s role) chosen
 choice_last g role depth at s chosen h known inside last before =

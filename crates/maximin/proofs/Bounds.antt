@@ -24,7 +24,8 @@ greatest_at_most f n [] h = omega arith
 greatest_at_most f n (m ∷ moves) h = let rest = greatest_at_most f n moves h in omega (arith, h m)
 
 -- where no goal is above 100, no value is
-pub value_at_most : (g : Rules) (role : ℕ) → ((s : State) (r : ℕ) → g.goal s r ≤ 100) → (depth : ℕ) (at : AtBound) (s : State) → value g role depth at s ≤ 100
+pub value_at_most : (g : Rules) (role : ℕ) → ((s : State) (r : ℕ) → g.goal s r ≤ 100) → (depth : ℕ) (at : AtBound) (s : State)
+    → value g role depth at s ≤ 100
 value_at_most g role goals zero at s =
     if_at_most (g.ended s) (g.goal s role) _ 100 (goals s role)
     (if_at_most (is_stuck g s) 0 _ 100 (omega arith) (bound_at_most at (g.goal s role) 100 (goals s role)))
@@ -32,7 +33,10 @@ value_at_most g role goals (suc depth) at s =
     if_at_most (g.ended s) (g.goal s role) _ 100 (goals s role)
     (if_at_most (is_stuck g s) 0 _ 100 (omega arith)
     (greatest_at_most (λ m. worst g role depth at s m) 100 (g.legal s role)
-    (λ m. least_at_most (λ j. value g role depth at (g.after s j)) 100 (turns_with g s role m) (λ j. value_at_most g role goals depth at (g.after s j)))))
+    (λ m. least_at_most (λ j. value g role depth at (g.after s j)) 100 (turns_with g s role m)
+    (λ j. value_at_most g role goals depth at (g.after s j)))))
 
-pub worst_at_most : (g : Rules) (role : ℕ) → ((s : State) (r : ℕ) → g.goal s r ≤ 100) → (depth : ℕ) (at : AtBound) (s : State) (own : ℕ) → worst g role depth at s own ≤ 100
-worst_at_most g role goals depth at s own = least_at_most (λ j. value g role depth at (g.after s j)) 100 (turns_with g s role own) (λ j. value_at_most g role goals depth at (g.after s j))
+pub worst_at_most : (g : Rules) (role : ℕ) → ((s : State) (r : ℕ) → g.goal s r ≤ 100) → (depth : ℕ) (at : AtBound) (s : State) (own : ℕ)
+    → worst g role depth at s own ≤ 100
+worst_at_most g role goals depth at s own = least_at_most (λ j. value g role depth at (g.after s j)) 100 (turns_with g s role own)
+    (λ j. value_at_most g role goals depth at (g.after s j))

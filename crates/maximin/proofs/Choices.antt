@@ -3,12 +3,13 @@ use Rattle.std.specs.Prelude.{◌==◌, if◌then◌else◌}
 use Rattle.std.proofs.lemmas.Bool.Decides.{nat_tests}
 use Rattle.std.proofs.lemmas.List.FromFn.{get_or-map-range_with_len, length-map-range_with_len}
 use Rattle.game.specs.Rules.{Rules, State, choices, is_stuck}
-use Rattle.game.proofs.Roles.{list_any_range}
+use Rattle.game.proofs.Facts.{list_any_range}
 
 pub length-choices : (g : Rules) (s : State) (role own : ℕ) → length (choices g s role own) ≡ g.roles
 length-choices g s role own = length-map-range_with_len _ 0 g.roles
 
-pub get_or-choices : (g : Rules) (s : State) (role own q : ℕ) → q < g.roles → get_or (choices g s role own) q [] ≡ (if q == role then own ∷ [] else g.legal s q)
+pub get_or-choices : (g : Rules) (s : State) (role own q : ℕ) → q < g.roles
+    → get_or (choices g s role own) q [] ≡ (if q == role then own ∷ [] else g.legal s q)
 get_or-choices g s role own q below = get_or-map-range_with_len _ 0 g.roles q q [] below (omega arith)
 
 -- the role itself plays its own move
@@ -33,7 +34,8 @@ not_empty false h = refl
 -- where no role is stuck, each has a legal move
 pub legal_some : (g : Rules) (s : State) (q : ℕ) → is_stuck g s ≡ false → q < g.roles → 0 < length (g.legal s q)
 legal_some g s q free below =
-    some_if_not_empty (g.legal s q) (not_empty _ (λ e. let stuck : is_stuck g s ≡ true = list_any_range (λ k. length (g.legal s k) == 0) 0 g.roles q (omega arith) (omega arith) e in cc))
+    some_if_not_empty (g.legal s q) (not_empty _
+    (λ e. let stuck : is_stuck g s ≡ true = list_any_range (λ k. length (g.legal s k) == 0) 0 g.roles q (omega arith) (omega arith) e in cc))
 
 -- where no role is stuck, each role has a move to play
 pub choices_some : (g : Rules) (s : State) (role own q : ℕ) → is_stuck g s ≡ false → q < g.roles → 0 < length (get_or (choices g s role own) q [])
@@ -45,7 +47,8 @@ choices_some g s role own q free below =
     either false xs own h = h
 
 -- a role has no more moves to play than there are numbers for them
-pub choices_count : (g : Rules) (s : State) (role own q : ℕ) → length (g.legal s q) ≤ 2 ^ 32 → q < g.roles → length (get_or (choices g s role own) q []) ≤ 2 ^ 32
+pub choices_count : (g : Rules) (s : State) (role own q : ℕ) → length (g.legal s q) ≤ 2 ^ 32 → q < g.roles
+    → length (get_or (choices g s role own) q []) ≤ 2 ^ 32
 choices_count g s role own q h below = rw (get_or-choices g s role own q below) (either (q == role))
   where
     either : (b : Bool) → length (if b then own ∷ [] else g.legal s q) ≤ 2 ^ 32

@@ -1,4 +1,23 @@
-use Rattle.std.proofs.Common.{◌≡◌, ◌≢◌, ℕ, ◌+◌, ◌<◌, ◌≤◌, List, [], ◌∷◌, length, suc, refl, sym, arith, get_or, below_more, get_or-set_same, get_or-set_other}
+use Rattle.std.proofs.Common.{
+  ◌≡◌,
+  ◌≢◌,
+  ℕ,
+  ◌+◌,
+  ◌<◌,
+  ◌≤◌,
+  List,
+  [],
+  ◌∷◌,
+  length,
+  suc,
+  refl,
+  sym,
+  arith,
+  get_or,
+  below_more,
+  get_or-set_same,
+  get_or-set_other,
+}
 use Rattle.std.proofs.Math.ListN.{set, length-set}
 use Rattle.std.proofs.Math.Nat.{eq-or-lt_of_le}
 use Rattle.std.proofs.Common.{inl, inr}
@@ -26,7 +45,8 @@ first_more lists n places joint x new_places new_joint a b p j e h = rw (p, j) r
       (rw get_or-set_same (sym (get_or_from_slice_get (get_or lists n []) 0 x 0 (sym e))));
 }
 
-pub first_stands : (lists : List (List ℕ)) (n : ℕ) (places : List ℕ) (joint : Turn) → length places ≡ length lists → length joint ≡ length lists → length lists ≤ n
+pub first_stands : (lists : List (List ℕ)) (n : ℕ) (places : List ℕ) (joint : Turn) → length places ≡ length lists → length joint ≡ length lists
+    → length lists ≤ n
     → ((q : ℕ) → q < length lists → 0 < length (get_or lists q [])) → IsFirstBelow lists n places joint → StandsAt lists places joint
 first_stands lists n places joint a b all some h = record {
   place_for_each = a;
@@ -47,7 +67,8 @@ pub record IsWrappedFrom (lists : List (List ℕ)) (n : ℕ) (old_places : List 
   pub same_place : (k : ℕ) → k < n → get_or places k 0 ≡ get_or old_places k 0
   pub same_move : (k : ℕ) → k < n → get_or joint k 0 ≡ get_or old_joint k 0
 
-pub wrapped_none : (lists : List (List ℕ)) (n : ℕ) (places : List ℕ) (joint : Turn) → length lists ≤ n → IsWrappedFrom lists n places joint places joint
+pub wrapped_none : (lists : List (List ℕ)) (n : ℕ) (places : List ℕ) (joint : Turn) → length lists ≤ n
+    → IsWrappedFrom lists n places joint places joint
 wrapped_none lists n places joint all = record {
   was_last = λ k from to. absurd (omega arith);
   place = λ k from to. absurd (omega arith);
@@ -57,7 +78,8 @@ wrapped_none lists n places joint all = record {
 }
 
 -- no move is left to the role n
-pub wrapped_more : (lists : List (List ℕ)) (n : ℕ) (old_places : List ℕ) (old_joint : Turn) (places : List ℕ) (joint : Turn) (x : ℕ) (new_places : List ℕ) (new_joint : Turn) (m : ℕ) → n + 1 ≡ m
+pub wrapped_more : (lists : List (List ℕ)) (n : ℕ) (old_places : List ℕ) (old_joint : Turn) (places : List ℕ) (joint : Turn) (x : ℕ)
+    (new_places : List ℕ) (new_joint : Turn) (m : ℕ) → n + 1 ≡ m
     → n < length places → n < length joint → new_places ≡ set places n 0 → new_joint ≡ set joint n x
     → length (get_or lists n []) ≤ get_or places n 0 + 1 → Some x ≡ slice_get (get_or lists n []) 0
     → IsWrappedFrom lists m old_places old_joint places joint → IsWrappedFrom lists n old_places old_joint new_places new_joint
@@ -81,7 +103,8 @@ pub wrapped_all : (lists : List (List ℕ)) (old_places : List ℕ) (old_joint :
 wrapped_all lists old_places old_joint places joint h = later_none lists old_places (λ q below. h.was_last q (omega arith) below)
 
 -- the role n goes on to its next move
-pub up_stands : (lists : List (List ℕ)) (n : ℕ) (old_places : List ℕ) (old_joint : Turn) (places : List ℕ) (joint : Turn) (x : ℕ) (new_places : List ℕ) (new_joint : Turn) (m : ℕ) → n + 1 ≡ m
+pub up_stands : (lists : List (List ℕ)) (n : ℕ) (old_places : List ℕ) (old_joint : Turn) (places : List ℕ) (joint : Turn) (x : ℕ)
+    (new_places : List ℕ) (new_joint : Turn) (m : ℕ) → n + 1 ≡ m
     → length places ≡ length lists → length joint ≡ length lists → n < length lists
     → new_places ≡ set places n (get_or places n 0 + 1) → new_joint ≡ set joint n x
     → Some x ≡ slice_get (get_or lists n []) (get_or places n 0 + 1)
@@ -91,17 +114,21 @@ up_stands lists n old_places old_joint places joint x new_places new_joint m aft
   place_for_each = simp length-set a;
   move_for_each = simp length-set b;
   in_list = λ q lt. elim (cases_order q n) [
-    | inl same ↦ let inside : n < length places = omega arith in rw (same, get_or-set_same) (slice_get_within (get_or lists n []) (get_or places n 0 + 1) x (sym e))
+    | inl same ↦ let inside : n < length places = omega arith in
+        rw (same, get_or-set_same) (slice_get_within (get_or lists n []) (get_or places n 0 + 1) x (sym e))
     | inr apart ↦ elim apart [
       | inl before ↦ let other : q ≢ n = omega arith in rw (get_or-set_other, h.same_place q (omega arith)) (old.in_list q lt)
       | inr behind ↦ let other : q ≢ n = omega arith in rw (get_or-set_other, h.place q (omega arith) lt) (some_at old q lt)
     ]
   ];
   at_place = λ q lt. elim (cases_order q n) [
-    | inl same ↦ let inside : n < length places = omega arith in let within : n < length joint = omega arith in rw (same, get_or-set_same, get_or-set_same) (sym (get_or_from_slice_get (get_or lists n []) (get_or places n 0 + 1) x 0 (sym e)))
+    | inl same ↦ let inside : n < length places = omega arith in let within : n < length joint = omega arith in
+        rw (same, get_or-set_same, get_or-set_same) (sym (get_or_from_slice_get (get_or lists n []) (get_or places n 0 + 1) x 0 (sym e)))
     | inr apart ↦ elim apart [
-      | inl before ↦ let other : q ≢ n = omega arith in rw (get_or-set_other, get_or-set_other, h.same_place q (omega arith), h.same_move q (omega arith)) (old.at_place q lt)
-      | inr behind ↦ let other : q ≢ n = omega arith in rw (get_or-set_other, get_or-set_other, h.place q (omega arith) lt) (h.move q (omega arith) lt)
+      | inl before ↦ let other : q ≢ n = omega arith in
+          rw (get_or-set_other, get_or-set_other, h.same_place q (omega arith), h.same_move q (omega arith)) (old.at_place q lt)
+      | inr behind ↦ let other : q ≢ n = omega arith in
+          rw (get_or-set_other, get_or-set_other, h.place q (omega arith) lt) (h.move q (omega arith) lt)
     ]
   ];
 }
@@ -109,7 +136,8 @@ up_stands lists n old_places old_joint places joint x new_places new_joint m aft
     some_at : StandsAt lists old_places old_joint → (q : ℕ) → q < length lists → 0 < length (get_or lists q [])
     some_at old q lt = let inside = old.in_list q lt in omega arith
 
-pub up_later : (lists : List (List ℕ)) (n : ℕ) (old_places : List ℕ) (old_joint : Turn) (places : List ℕ) (joint : Turn) (x : ℕ) (new_places : List ℕ) (new_joint : Turn) (m : ℕ) → n + 1 ≡ m
+pub up_later : (lists : List (List ℕ)) (n : ℕ) (old_places : List ℕ) (old_joint : Turn) (places : List ℕ) (joint : Turn) (x : ℕ) (new_places : List ℕ)
+    (new_joint : Turn) (m : ℕ) → n + 1 ≡ m
     → length places ≡ length lists → n < length lists → new_places ≡ set places n (get_or places n 0 + 1)
     → StandsAt lists old_places old_joint → StandsAt lists new_places new_joint
     → IsWrappedFrom lists m old_places old_joint places joint

@@ -1,13 +1,14 @@
-pub mod TurnLemmas
-pub mod Choices
-pub mod CursorSteps
-pub mod Windows
-pub mod Values
-pub mod Parts
-pub mod Best
-pub mod Bounds
-pub mod Reply
-pub mod Beside
-pub mod Stays
-pub mod OwnTurns
-pub mod Runs
+mod TurnLemmas
+mod Choices
+mod CursorSteps
+mod Windows
+mod Values
+mod Parts
+mod Best
+mod Bounds
+mod Reply
+mod Beside
+mod Stays
+mod OwnTurns
+mod Runs
+pub mod Facts

@@ -1,5 +1,31 @@
 -- The own moves of a role where no other role has a choice.
-use Rattle.std.proofs.Common.{◌≡◌, ℕ, ◌+◌, ◌-◌, ◌<◌, ◌≤◌, ◌++◌, List, [], ◌∷◌, length, take, drop, get_or, zero, suc, refl, sym, ap, ◌∙◌, arith, inl, inr, get_or-set_same, get_or-set_other}
+use Rattle.std.proofs.Common.{
+  ◌≡◌,
+  ℕ,
+  ◌+◌,
+  ◌-◌,
+  ◌<◌,
+  ◌≤◌,
+  ◌++◌,
+  List,
+  [],
+  ◌∷◌,
+  length,
+  take,
+  drop,
+  get_or,
+  zero,
+  suc,
+  refl,
+  sym,
+  ap,
+  ◌∙◌,
+  arith,
+  inl,
+  inr,
+  get_or-set_same,
+  get_or-set_other,
+}
 use Rattle.std.proofs.Math.ListN.{set, length-set}
 use Rattle.std.proofs.lemmas.Bool.{cases_eq, cases_lt}
 use Rattle.std.proofs.lemmas.Int.{ints, clamps}
@@ -25,7 +51,8 @@ own_turn g j role own below known h = record {
 }
 
 -- one own move more
-pub own_more : (f : ℕ → Turn) (legal : List ℕ) (p n n' own : ℕ) (old new : List Turn) → p + n < length legal → get_or legal (p + n) 0 ≡ own → n' ≡ n + 1
+pub own_more : (f : ℕ → Turn) (legal : List ℕ) (p n n' own : ℕ) (old new : List Turn) → p + n < length legal → get_or legal (p + n) 0 ≡ own
+    → n' ≡ n + 1
     → old ≡ map f (take n (drop p legal)) → new ≡ old ++ f own ∷ [] → new ≡ map f (take n' (drop p legal))
 own_more f legal p n n' own old new inside here next before added =
     let rest = length-drop p legal in
@@ -35,7 +62,8 @@ own_more f legal p n n' own old new inside here next before added =
     added ∙ ap (λ (ts : List Turn). ts ++ f own ∷ []) before ∙ sym (ap (map f) more ∙ map-append f (take n (drop p legal)) (own ∷ []))
 
 -- where each list has one element, there is one pick
-picks_single : (lists : List (List ℕ)) (joint : Turn) → length joint ≡ length lists → ((q : ℕ) → q < length lists → get_or lists q [] ≡ get_or joint q 0 ∷ [])
+picks_single : (lists : List (List ℕ)) (joint : Turn) → length joint ≡ length lists
+    → ((q : ℕ) → q < length lists → get_or lists q [] ≡ get_or joint q 0 ∷ [])
     → picks lists ≡ joint ∷ []
 picks_single [] [] size each = refl
 picks_single [] (x ∷ j) size each = absurd (omega arith)
@@ -52,7 +80,8 @@ one_element (x ∷ []) (suc k) inside few = absurd (omega arith)
 one_element (x ∷ y ∷ ys) k inside few = absurd (omega arith)
 
 -- each own move is in one joint move, with the moves that the others have at any cursor
-alone_turns : (g : Rules) (s : State) (role own : ℕ) (places : List ℕ) (joint : Turn) → role < g.roles → IsAlone g s role → StandsAt (choices g s role own) places joint
+alone_turns : (g : Rules) (s : State) (role own : ℕ) (places : List ℕ) (joint : Turn) → role < g.roles → IsAlone g s role
+    → StandsAt (choices g s role own) places joint
     → (m : ℕ) → turns_with g s role m ≡ set joint role m ∷ []
 alone_turns g s role own places joint known alone h m =
     let count = length-choices g s role own in
@@ -71,7 +100,8 @@ alone_turns g s role own places joint known alone h m =
     ])
 
 -- it is worth what the state after that is
-pub alone_worst : (g : Rules) (role depth : ℕ) (at : AtBound) (s : State) (own : ℕ) (places : List ℕ) (joint : Turn) → role < g.roles → IsAlone g s role
+pub alone_worst : (g : Rules) (role depth : ℕ) (at : AtBound) (s : State) (own : ℕ) (places : List ℕ) (joint : Turn) → role < g.roles
+    → IsAlone g s role
     → StandsAt (choices g s role own) places joint → (m : ℕ) → worst g role depth at s m ≡ value g role depth at (g.after s (set joint role m))
 alone_worst g role depth at s own places joint known alone h m =
     ap (λ (ts : List Turn). least (map (λ j. value g role depth at (g.after s j)) ts)) (alone_turns g s role own places joint known alone h m)
@@ -99,7 +129,8 @@ part_at_most xs p n some within =
     let rest = length-drop p xs in
     let size = length-take-le n (drop p xs) (omega arith) in
     let top = greatest_reached (take n (drop p xs)) (omega arith) in
-    let there : get_or (take n (drop p xs)) top.0 0 ≡ get_or xs (p + top.0) 0 = get_or-take n (drop p xs) top.0 0 (omega (arith, top.1)) ∙ get_or-drop p xs top.0 0 in
+    let there : get_or (take n (drop p xs)) top.0 0 ≡ get_or xs (p + top.0) 0 = get_or-take n (drop p xs) top.0 0 (omega (arith, top.1))
+    ∙ get_or-drop p xs top.0 0 in
     let part = le_greatest xs (p + top.0) (omega (arith, top.1)) in
     let same = top.2 in
     omega arith
@@ -128,7 +159,8 @@ run_end xs p b best some all seen =
     rw top.2 at (seen top.0 (omega (arith, top.1)))
 
 -- the same of what states are worth
-pub greatest_worth_above : (worth : List ℕ → ℕ) (states : List (List ℕ)) (k : ℕ) → k < length states → worth (get_or states k []) ≤ greatest (map worth states)
+pub greatest_worth_above : (worth : List ℕ → ℕ) (states : List (List ℕ)) (k : ℕ) → k < length states
+    → worth (get_or states k []) ≤ greatest (map worth states)
 greatest_worth_above worth states k below =
     let size = length-map states worth in
     rw (get_or-map worth states k [] 0 below) at (le_greatest (map worth states) k (omega arith))

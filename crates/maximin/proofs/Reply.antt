@@ -14,7 +14,8 @@ least_worth worth turns = least (map worth turns)
 abbrev pub first_least : (Turn → ℕ) → ℕ → List Turn → Option Turn
 first_least worth all turns = find (λ j. worth j == all) turns
 
--- `all`, the least worth, is upper's or that of what is left; where it is upper's, the first joint move that has it is out, and else it is among what is left
+-- `all`, the least worth, is upper's or that of what is left; where it is upper's, the first joint move that has it is out, and else it is among what
+-- is left
 pub record IsFirst (worth : Turn → ℕ) (turns : List Turn) (all : ℕ) (left : List Turn) (upper : ℤ) (out : Turn) : Type 0 where
   pub reached : int_min upper (pos (least_worth worth left)) ≡ pos all
   pub found : upper ≡ pos all → first_least worth all turns ≡ Some out
@@ -22,7 +23,8 @@ pub record IsFirst (worth : Turn → ℕ) (turns : List Turn) (all : ℕ) (left 
   pub low : negsuc 0 <ℤ upper
   pub high : upper ≤ℤ pos 101
 
-pub first_start : (worth : Turn → ℕ) (turns : List Turn) (all : ℕ) (left : List Turn) (out : Turn) → turns ≡ left → all ≡ least_worth worth turns → all ≤ 100
+pub first_start : (worth : Turn → ℕ) (turns : List Turn) (all : ℕ) (left : List Turn) (out : Turn) → turns ≡ left → all ≡ least_worth worth turns
+    → all ≤ 100
     → IsFirst worth turns all left (pos 101) out
 first_start worth turns all left out same e few =
     let left_least : least_worth worth left ≡ all = ap (least_worth worth) (sym same) ∙ sym e in
@@ -60,7 +62,8 @@ least_part x [] = omega arith
 least_part x (y ∷ ys) = omega arith
 
 -- it is worth less than any before it
-pub first_lowered : (worth : Turn → ℕ) (turns : List Turn) (all : ℕ) (joint : Turn) (behind : List Turn) (upper r : ℤ) (out : Turn) → Answers (worth joint) (negsuc 0) upper r → r <ℤ upper
+pub first_lowered : (worth : Turn → ℕ) (turns : List Turn) (all : ℕ) (joint : Turn) (behind : List Turn) (upper r : ℤ) (out : Turn)
+    → Answers (worth joint) (negsuc 0) upper r → r <ℤ upper
     → IsFirst worth turns all (joint ∷ behind) upper out → IsFirstAt worth turns all joint behind r joint
 first_lowered worth turns all joint behind upper r out x less h =
     let bottom = x.at_least in
@@ -80,7 +83,8 @@ first_lowered worth turns all joint behind upper r out x less h =
     }
 
 -- it is not
-pub first_kept : (worth : Turn → ℕ) (turns : List Turn) (all : ℕ) (joint : Turn) (behind : List Turn) (upper r : ℤ) (out : Turn) → Answers (worth joint) (negsuc 0) upper r → upper ≤ℤ r
+pub first_kept : (worth : Turn → ℕ) (turns : List Turn) (all : ℕ) (joint : Turn) (behind : List Turn) (upper r : ℤ) (out : Turn)
+    → Answers (worth joint) (negsuc 0) upper r → upper ≤ℤ r
     → IsFirst worth turns all (joint ∷ behind) upper out → IsFirstAt worth turns all joint behind upper out
 first_kept worth turns all joint behind upper r out x less h =
     let bottom = x.at_least in
@@ -96,7 +100,8 @@ first_kept worth turns all joint behind upper r out x less h =
       high = h.high;
     }
 
-pub first_next : (worth : Turn → ℕ) (turns : List Turn) (all : ℕ) (joint : Turn) (behind : List Turn) (upper : ℤ) (out next : Turn) (rest : List Turn) → behind ≡ next ∷ rest
+pub first_next : (worth : Turn → ℕ) (turns : List Turn) (all : ℕ) (joint : Turn) (behind : List Turn) (upper : ℤ) (out next : Turn) (rest : List Turn)
+    → behind ≡ next ∷ rest
     → IsFirstAt worth turns all joint behind upper out → IsFirst worth turns all (next ∷ rest) upper out
 first_next worth turns all joint behind upper out next rest e h =
     let bound = h.bound in

@@ -1,5 +1,28 @@
 -- Runs of joint moves, and the least of what they are worth.
-use Rattle.std.proofs.Common.{◌≡◌, ℕ, ◌<◌, ◌≤◌, ◌++◌, Bool, true, false, List, [], ◌∷◌, length, take, zero, suc, refl, ap, ◌∙◌, arith, get_or, inl, inr}
+use Rattle.std.proofs.Common.{
+  ◌≡◌,
+  ℕ,
+  ◌<◌,
+  ◌≤◌,
+  ◌++◌,
+  Bool,
+  true,
+  false,
+  List,
+  [],
+  ◌∷◌,
+  length,
+  take,
+  zero,
+  suc,
+  refl,
+  ap,
+  ◌∙◌,
+  arith,
+  get_or,
+  inl,
+  inr,
+}
 use Rattle.std.proofs.Common.{length-append}
 use Rattle.std.proofs.lemmas.Bool.{cases_lt}
 use Rattle.std.proofs.lemmas.List.{map-append, length-map, get_or-map}
@@ -45,7 +68,8 @@ least_reached (x ∷ y ∷ ys) some =
     ]
 
 -- the same of what states are worth
-pub least_worth_below : (worth : List ℕ → ℕ) (states : List (List ℕ)) (k : ℕ) → k < length states → least (map worth states) ≤ worth (get_or states k [])
+pub least_worth_below : (worth : List ℕ → ℕ) (states : List (List ℕ)) (k : ℕ) → k < length states
+    → least (map worth states) ≤ worth (get_or states k [])
 least_worth_below worth states k below =
     let size = length-map states worth in
     rw (get_or-map worth states k [] 0 below) at (least_below (map worth states) k (omega arith))
@@ -79,5 +103,6 @@ least_of_run worth all run next behind true h k some = omega (arith, least_behin
 least_of_run worth all run next behind false h k some = omega (arith, ap (λ (turns : List Turn). least (map worth turns)) k)
 
 -- behind a run fewer turns are left
-pub fewer_behind : (now next : Turn) (later run behind : List Turn) → now ∷ later ≡ run ++ next ∷ behind → 0 < length run → length behind < length later
+pub fewer_behind : (now next : Turn) (later run behind : List Turn) → now ∷ later ≡ run ++ next ∷ behind → 0 < length run
+    → length behind < length later
 fewer_behind now next later run behind e some = omega (arith, ap length e, length-append run (next ∷ behind))

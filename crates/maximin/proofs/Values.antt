@@ -20,7 +20,8 @@ pub record IsOpen (g : Rules) (depth : ℕ) (s : State) : Type 0 where
 abbrev pub worsts : Rules → ℕ → ℕ → AtBound → State → List ℕ
 worsts g role depth at s = map (λ m. worst g role (depth - 1) at s m) (g.legal s role)
 
-pub value_open : (g : Rules) (role depth : ℕ) (at : AtBound) (s : State) → IsOpen g depth s → value g role depth at s ≡ greatest (worsts g role depth at s)
+pub value_open : (g : Rules) (role depth : ℕ) (at : AtBound) (s : State) → IsOpen g depth s
+    → value g role depth at s ≡ greatest (worsts g role depth at s)
 value_open g role zero at s h = absurd (h.turn refl)
 value_open g role (suc depth) at s h =
     let same : suc depth - 1 ≡ depth = omega arith in
@@ -49,8 +50,12 @@ value_reached g role depth at s h known =
     let count = length-map-all (λ m. worst g role (depth - 1) at s m) (g.legal s role) in
     let some : 0 < length (g.legal s role) = legal_some g s role h.free known in
     let top = greatest_reached (worsts g role depth at s) (omega arith) in
-    let inside : top.0 < length (g.legal s role) = omega (arith, top.1) in
-    (top.0, inside, rw (value_open g role depth at s h) (rw (get_or-map (λ m. worst g role (depth - 1) at s m) (g.legal s role) top.0 0 0 inside) at top.2))
+    let inside : top.0 < length (g.legal s role) = omega (arith, top.1) in (
+      top.0,
+      inside,
+      rw (value_open g role depth at s h)
+          (rw (get_or-map (λ m. worst g role (depth - 1) at s m) (g.legal s role) top.0 0 0 inside) at top.2),
+    )
 
 -- a cursor's joint move is a move of each role
 pub turn_known : (g : Rules) (s : State) (role own : ℕ) (places : List ℕ) (joint : Turn) → StandsAt (choices g s role own) places joint
@@ -64,7 +69,8 @@ turn_known g s role own places joint h known within = record {
       rw at (either q below (get_or places q 0) inside);
 }
   where
-    either : (q : ℕ) → q < g.roles → (k : ℕ) → k < length (get_or (choices g s role own) q []) → get_or (get_or (choices g s role own) q []) k 0 < g.moves q
+    either : (q : ℕ) → q < g.roles → (k : ℕ) → k < length (get_or (choices g s role own) q [])
+        → get_or (get_or (choices g s role own) q []) k 0 < g.moves q
     either q below k inside = elim (cases_eq q role) [
       | inl same ↦
           let list = choices_own g s role own q below same in

@@ -24,13 +24,16 @@ pub cut_above : (v : ℕ) (a b best : ℤ) → b ≤ℤ best → best ≤ℤ int
 cut_above v a b best cut most = record { at_least = omega (arith, ints, clamps); at_most = most }
 
 -- the reply that is worth x, of replies that are worth `part` at least, lowers the upper bound
-pub lowered_least : (all here : ℕ) (a b upper r : ℤ) → all ≤ here → int_min (pos all) b ≤ℤ upper → upper ≤ℤ b → Answers here a upper r → int_min (pos all) b ≤ℤ int_min upper r
+pub lowered_least : (all here : ℕ) (a b upper r : ℤ) → all ≤ here → int_min (pos all) b ≤ℤ upper → upper ≤ℤ b → Answers here a upper r
+    → int_min (pos all) b ≤ℤ int_min upper r
 lowered_least all here a b upper r part h below x = let bottom = x.at_least in omega (arith, ints, clamps)
 
-pub lowered_most : (all here left : ℕ) (a upper r : ℤ) → int_min upper (pos (min here left)) ≤ℤ int_max (pos all) a → Answers here a upper r → int_min (int_min upper r) (pos left) ≤ℤ int_max (pos all) a
+pub lowered_most : (all here left : ℕ) (a upper r : ℤ) → int_min upper (pos (min here left)) ≤ℤ int_max (pos all) a → Answers here a upper r
+    → int_min (int_min upper r) (pos left) ≤ℤ int_max (pos all) a
 lowered_most all here left a upper r h x = let top = x.at_most in omega (arith, ints, clamps)
 
-pub lowered_end : (all here : ℕ) (a upper r : ℤ) → int_min upper (pos here) ≤ℤ int_max (pos all) a → Answers here a upper r → int_min upper r ≤ℤ int_max (pos all) a
+pub lowered_end : (all here : ℕ) (a upper r : ℤ) → int_min upper (pos here) ≤ℤ int_max (pos all) a → Answers here a upper r
+    → int_min upper r ≤ℤ int_max (pos all) a
 lowered_end all here a upper r h x = let top = x.at_most in omega (arith, ints, clamps)
 
 -- no state so far is worth less than the upper bound, unless that is a or less

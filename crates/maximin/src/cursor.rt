@@ -102,7 +102,8 @@ pub fn next_turn<G: Game>(
     requires stands { StandsAt (choices (G.rules game.now) (G.state game.now from.now) role own) cursor.old.places.items cursor.old.joint.items }
     ensures cursor { IsCursorOf (G.rules game.now).roles cursor.new }
     ensures capacities { cursor_capacities cursor.new ≡ cursor_capacities cursor.old }
-    ensures stands { OnTrue result (StandsAt (choices (G.rules game.now) (G.state game.now from.now) role own) cursor.new.places.items cursor.new.joint.items) }
+    ensures stands { OnTrue result (StandsAt (choices (G.rules game.now) (G.state game.now from.now) role own) cursor.new.places.items
+        cursor.new.joint.items) }
     ensures next { OnTrue result (later (choices (G.rules game.now) (G.state game.now from.now) role own) cursor.old.places.items
         ≡ cursor.new.joint.items ∷ later (choices (G.rules game.now) (G.state game.now from.now) role own) cursor.new.places.items) }
     ensures none { OnFalse result (later (choices (G.rules game.now) (G.state game.now from.now) role own) cursor.old.places.items ≡ []) }

@@ -11,7 +11,8 @@ pub fn told_worth<G: Game>(game: &G, many: &G::Many, place: usize, asked: Asked)
     requires many { G.fits_many game.now many.now }
     requires place { place < length (G.states game.now many.now) }
     requires role { asked.role < (G.rules game.now).roles }
-    ensures { IfSome result (λ worth. worth ≡ pos (value (G.rules game.now) asked.role asked.depth asked.at (get_or (G.states game.now many.now) place []))) }
+    ensures { IfSome result (λ worth. worth ≡ pos
+        (value (G.rules game.now) asked.role asked.depth asked.at (get_or (G.states game.now many.now) place []))) }
 {
     match (game.told(many, place, asked.role), asked.depth, asked.at) {
         (Told::Ended(goal), _, _) => Some(i16::from(goal)),
@@ -42,7 +43,8 @@ pub fn greatest_told<G: Game>(game: &G, many: &G::Many, count: usize, asked: Ask
     requires count { count ≡ length (G.states game.now many.now) }
     requires role { asked.role < (G.rules game.now).roles }
     ensures at_least { a ≤ℤ result }
-    ensures at_most { result ≤ℤ int_max (pos (greatest (map (value (G.rules game.now) asked.role asked.depth asked.at) (G.states game.now many.now)))) a }
+    ensures at_most { result ≤ℤ int_max (pos (greatest (map (value (G.rules game.now) asked.role asked.depth asked.at) (G.states game.now many.now))))
+        a }
 {
     let mut lower = a;
     for place in 0..count {

@@ -5,9 +5,62 @@ use Rattle.kif.proofs.Facts.{both}
 use Rattle.profile.specs.Words.{w_base, w_input, w_init, w_legal, w_goal, w_terminal}
 use Rattle.profile.specs.Clause.{Atom, Alternative, Relation, relation_of, is_word}
 use Rattle.profile.specs.Dependence.{IsAmong, Edge, dependences, is_distinct, is_moving, DependsDirectly, DependsIn, IsFixed, is_fixed}
-use Rattle.profile.specs.Items.{is_constant, is_connective, is_atom, atom_in, are_terms, are_literals, is_item, item_head, item_alternatives, head_tree, body_trees, alternatives}
-use Rattle.profile.specs.Profile.{Fault, or_else, first_failing, bad_form, bad_keyword, not_safe, recursive, bad_dependence, first_too_many, is_unsafe, is_recursive, depends_badly, rests_on_move, some_body, none_of, roles, misuses_word, uses, heads_well, bodies_stand_well, is_role_well, HasNoFault}
-use Rattle.profile.proofs.Facts.{or_none, none_fails, not_not, rule_item, same_head, body_found, accepted_acyclic, accepted_safe, fixed_tested, not_false, IsOwn, accepted_heads, accepted_terms, role_fixed, base_fixed, input_fixed}
+use Rattle.profile.specs.Items.{
+  is_constant,
+  is_connective,
+  is_atom,
+  atom_in,
+  are_terms,
+  are_literals,
+  is_item,
+  item_head,
+  item_alternatives,
+  head_tree,
+  body_trees,
+  alternatives,
+}
+use Rattle.profile.specs.Profile.{
+  Fault,
+  or_else,
+  first_failing,
+  bad_form,
+  bad_keyword,
+  not_safe,
+  recursive,
+  bad_dependence,
+  first_too_many,
+  is_unsafe,
+  is_recursive,
+  depends_badly,
+  rests_on_move,
+  some_body,
+  none_of,
+  roles,
+  misuses_word,
+  uses,
+  heads_well,
+  bodies_stand_well,
+  is_role_well,
+  HasNoFault,
+}
+use Rattle.profile.proofs.Facts.{
+  or_none,
+  none_fails,
+  not_not,
+  rule_item,
+  same_head,
+  body_found,
+  accepted_acyclic,
+  accepted_safe,
+  fixed_tested,
+  not_false,
+  IsOwn,
+  accepted_heads,
+  accepted_terms,
+  role_fixed,
+  base_fixed,
+  input_fixed,
+}
 use Rattle.meaning.specs.Meaning.{ordinary, source_at}
 use Rattle.meaning.specs.Listed.{IsWellFormed}
 
@@ -21,7 +74,8 @@ atom_word : (t : Tree) → is_atom t ≡ true → is_constant (atom_in t).word �
 atom_word (name c) h = (both (is_constant c) (not (is_connective c)) h).0
 atom_word (list no_trees) h = absurd cc
 atom_word (list (tree (list us) ts)) h = absurd cc
-atom_word (list (tree (name c) ts)) h = (both (is_constant c) (not (is_connective c)) (both (is_constant c && not (is_connective c)) (are_terms ts) h).0).0
+atom_word (list (tree (name c) ts)) h = (both (is_constant c) (not (is_connective c))
+    (both (is_constant c && not (is_connective c)) (are_terms ts) h).0).0
 
 -- each item has its form
 items_formed : (items : List Tree) → HasNoFault items → (t : Tree) → IsAmong t items → is_item t ≡ true
@@ -60,7 +114,8 @@ accepted_words items e rule a =
     subst (λ (x : Atom). is_constant x.word ≡ true) (sym h) k
 
 -- no head depends on what it may not
-depends_well : (items : List Tree) → HasNoFault items → (t : Tree) → IsAmong t items → depends_badly (dependences (alternatives items)) (alternatives items) t ≡ false
+depends_well : (items : List Tree) → HasNoFault items → (t : Tree) → IsAmong t items
+    → depends_badly (dependences (alternatives items)) (alternatives items) t ≡ false
 depends_well items e t a =
     let form : Option Fault = first_failing bad_form (λ (u : Tree). not (is_item u)) 1 items in
     let words : Option Fault = first_failing bad_keyword misuses_word 1 items in
@@ -78,14 +133,18 @@ depends_well items e t a =
     none_fails bad_dependence (depends_badly (dependences (alternatives items)) (alternatives items)) 1 items k.0 t a
 
 -- a head `init` has only fixed relations in its bodies
-init_bodies : (table : List Edge) (rules : List Alternative) (t : Tree) → relation_of (item_head t) ≡ record { word = w_init; arity = 1 } → depends_badly table rules t ≡ false
+init_bodies : (table : List Edge) (rules : List Alternative) (t : Tree) → relation_of (item_head t) ≡ record { word = w_init; arity = 1 }
+    → depends_badly table rules t ≡ false
     → some_body (λ (r : Relation). not (is_fixed rules r)) (item_alternatives t) ≡ false
-init_bodies table rules t same h = go (relation_of (item_head t)) same (some_body (rests_on_move table) (item_alternatives t)) (some_body (λ (r : Relation). not (is_fixed rules r)) (item_alternatives t)) h
+init_bodies table rules t same h = go (relation_of (item_head t)) same (some_body (rests_on_move table) (item_alternatives t))
+    (some_body (λ (r : Relation). not (is_fixed rules r)) (item_alternatives t)) h
   where
     go : (p : Relation) → p ≡ record { word = w_init; arity = 1 } → (a b : Bool)
-        → (((is_word w_legal 2 p || (is_word w_goal 2 p || is_word w_terminal 0 p)) && a) || ((is_word w_base 1 p || (is_word w_input 2 p || is_word w_init 1 p)) && b)) ≡ false → b ≡ false
+        → (((is_word w_legal 2 p || (is_word w_goal 2 p || is_word w_terminal 0 p)) && a) ||
+        ((is_word w_base 1 p || (is_word w_input 2 p || is_word w_init 1 p)) && b)) ≡ false → b ≡ false
     go p e a b k =
-        subst (λ (q : Relation). (((is_word w_legal 2 q || (is_word w_goal 2 q || is_word w_terminal 0 q)) && a) || ((is_word w_base 1 q || (is_word w_input 2 q || is_word w_init 1 q)) && b)) ≡ false) e k
+        subst (λ (q : Relation). (((is_word w_legal 2 q || (is_word w_goal 2 q || is_word w_terminal 0 q)) && a) ||
+        ((is_word w_base 1 q || (is_word w_input 2 q || is_word w_init 1 q)) && b)) ≡ false) e k
 
 init_fixed : (items : List Tree) → HasNoFault items → IsFixed (alternatives items) (record { word = w_init; arity = 1 })
 init_fixed items e = record { itself = refl; below = λ q chain. go q chain.0 chain.1 }
@@ -98,7 +157,8 @@ init_fixed items e = record { itself = refl; below = λ q chain. go q chain.0 ch
         let none = init_bodies (dependences (alternatives items)) (alternatives items) i.0 same (depends_well items e i.0 i.1) in
         pick (is_fixed (alternatives items) q) refl i.0 none i.2
       where
-        pick : (b : Bool) → is_fixed (alternatives items) q ≡ b → (t : Tree) → some_body (λ (r : Relation). not (is_fixed (alternatives items) r)) (item_alternatives t) ≡ false → IsAmong d.rule (item_alternatives t) → IsFixed (alternatives items) q
+        pick : (b : Bool) → is_fixed (alternatives items) q ≡ b → (t : Tree) → some_body (λ (r : Relation). not (is_fixed (alternatives items) r))
+            (item_alternatives t) ≡ false → IsAmong d.rule (item_alternatives t) → IsFixed (alternatives items) q
         pick true f t n a = (fixed_tested (alternatives items) (accepted_acyclic items e) q).0 f
         pick false f t n a =
             let yes = body_found (λ (r : Relation). not (is_fixed (alternatives items) r)) (item_alternatives t) d.rule d.literal a d.in_body

@@ -41,7 +41,8 @@ value_complete (suc n) v a b = go (name_eq (decimal v) (decimal (suc n))) refl (
     go false e more = more (omega (arith, differ)) (omega arith)
       where
         differ : v ≡ suc n → ⊥
-        differ s = let f : name_eq (decimal v) (decimal (suc n)) ≡ true = subst (λ (u : ℕ). name_eq (decimal v) (decimal u) ≡ true) s (name_eq_self (decimal v)) in cc
+        differ s = let f : name_eq (decimal v) (decimal (suc n)) ≡ true = subst (λ (u : ℕ). name_eq (decimal v) (decimal u) ≡ true) s
+            (name_eq_self (decimal v)) in cc
 
 module _ (rules : List Alternative) (acyclic : IsAcyclic rules) where
   -- an atom is of the kind that it is given
@@ -51,37 +52,48 @@ module _ (rules : List Alternative) (acyclic : IsAcyclic rules) where
       word : (w v : List ℕ) (ts : Trees) → name_eq w v ≡ true → ◌≡◌ {A = Atom} (record { word = w; terms = ts }) (record { word = v; terms = ts })
       word w v ts e = let f = name_eq_yes w v e in λ i. record { word = f i; terms = ts }
 
-      no_terms : (w : List ℕ) (b : Bool) → name_eq w w_terminal ≡ b → cond b Terminal Other ≡ k → MeansKind rules (record { word = w; terms = no_trees }) k
+      no_terms : (w : List ℕ) (b : Bool) → name_eq w w_terminal ≡ b → cond b Terminal Other ≡ k
+          → MeansKind rules (record { word = w; terms = no_trees }) k
       no_terms w true e f = subst (λ (j : Kind). MeansKind rules (record { word = w; terms = no_trees }) j) f (word w w_terminal no_trees e)
       no_terms w false e f = absurd (other (sym f))
 
-      now_term : (w : List ℕ) (p : Tree) (o : Option ℕ) → name_eq w w_true ≡ true → place_in p (base_list rules) ≡ o → one_number Now o ≡ k → MeansKind rules (record { word = w; terms = tree p no_trees }) k
+      now_term : (w : List ℕ) (p : Tree) (o : Option ℕ) → name_eq w w_true ≡ true → place_in p (base_list rules) ≡ o → one_number Now o ≡ k
+          → MeansKind rules (record { word = w; terms = tree p no_trees }) k
       now_term w p None e f g = absurd (other (sym g))
-      now_term w p (Some n) e f g = subst (λ (j : Kind). MeansKind rules (record { word = w; terms = tree p no_trees }) j) g (p, word w w_true (tree p no_trees) e, f)
+      now_term w p (Some n) e f g = subst (λ (j : Kind). MeansKind rules (record { word = w; terms = tree p no_trees }) j) g
+          (p, word w w_true (tree p no_trees) e, f)
 
-      next_term : (w : List ℕ) (p : Tree) (o : Option ℕ) → name_eq w w_next ≡ true → place_in p (base_list rules) ≡ o → one_number Next o ≡ k → MeansKind rules (record { word = w; terms = tree p no_trees }) k
+      next_term : (w : List ℕ) (p : Tree) (o : Option ℕ) → name_eq w w_next ≡ true → place_in p (base_list rules) ≡ o → one_number Next o ≡ k
+          → MeansKind rules (record { word = w; terms = tree p no_trees }) k
       next_term w p None e f g = absurd (other (sym g))
-      next_term w p (Some n) e f g = subst (λ (j : Kind). MeansKind rules (record { word = w; terms = tree p no_trees }) j) g (p, word w w_next (tree p no_trees) e, f)
+      next_term w p (Some n) e f g = subst (λ (j : Kind). MeansKind rules (record { word = w; terms = tree p no_trees }) j) g
+          (p, word w w_next (tree p no_trees) e, f)
 
       one_term : (w : List ℕ) (p : Tree) (a b : Bool) → name_eq w w_true ≡ a → name_eq w w_next ≡ b
-          → cond a (one_number Now (place_in p (base_list rules))) (cond b (one_number Next (place_in p (base_list rules))) Other) ≡ k → MeansKind rules (record { word = w; terms = tree p no_trees }) k
+          → cond a (one_number Now (place_in p (base_list rules))) (cond b (one_number Next (place_in p (base_list rules))) Other) ≡ k
+          → MeansKind rules (record { word = w; terms = tree p no_trees }) k
       one_term w p true b e f g = now_term w p (place_in p (base_list rules)) e refl g
       one_term w p false true e f g = next_term w p (place_in p (base_list rules)) f refl g
       one_term w p false false e f g = absurd (other (sym g))
 
-      does_terms : (w : List ℕ) (r m : Tree) (o u : Option ℕ) → name_eq w w_does ≡ true → place_in r (role_list rules) ≡ o → place_in m (input_list rules r) ≡ u → two_numbers Does o u ≡ k
+      does_terms : (w : List ℕ) (r m : Tree) (o u : Option ℕ) → name_eq w w_does ≡ true → place_in r (role_list rules) ≡ o
+          → place_in m (input_list rules r) ≡ u → two_numbers Does o u ≡ k
           → MeansKind rules (record { word = w; terms = tree r (tree m no_trees) }) k
       does_terms w r m None u e f g h = absurd (other (sym h))
       does_terms w r m (Some a) None e f g h = absurd (other (sym h))
-      does_terms w r m (Some a) (Some n) e f g h = subst (λ (j : Kind). MeansKind rules (record { word = w; terms = tree r (tree m no_trees) }) j) h (r, m, word w w_does (tree r (tree m no_trees)) e, f, g)
+      does_terms w r m (Some a) (Some n) e f g h = subst (λ (j : Kind). MeansKind rules (record { word = w; terms = tree r (tree m no_trees) }) j) h
+          (r, m, word w w_does (tree r (tree m no_trees)) e, f, g)
 
-      legal_terms : (w : List ℕ) (r m : Tree) (o u : Option ℕ) → name_eq w w_legal ≡ true → place_in r (role_list rules) ≡ o → place_in m (input_list rules r) ≡ u → two_numbers Legal o u ≡ k
+      legal_terms : (w : List ℕ) (r m : Tree) (o u : Option ℕ) → name_eq w w_legal ≡ true → place_in r (role_list rules) ≡ o
+          → place_in m (input_list rules r) ≡ u → two_numbers Legal o u ≡ k
           → MeansKind rules (record { word = w; terms = tree r (tree m no_trees) }) k
       legal_terms w r m None u e f g h = absurd (other (sym h))
       legal_terms w r m (Some a) None e f g h = absurd (other (sym h))
-      legal_terms w r m (Some a) (Some n) e f g h = subst (λ (j : Kind). MeansKind rules (record { word = w; terms = tree r (tree m no_trees) }) j) h (r, m, word w w_legal (tree r (tree m no_trees)) e, f, g)
+      legal_terms w r m (Some a) (Some n) e f g h = subst (λ (j : Kind). MeansKind rules (record { word = w; terms = tree r (tree m no_trees) }) j) h
+          (r, m, word w w_legal (tree r (tree m no_trees)) e, f, g)
 
-      goal_terms : (w : List ℕ) (r m : Tree) (o u : Option ℕ) → name_eq w w_goal ≡ true → place_in r (role_list rules) ≡ o → value_of m ≡ u → two_numbers Goal o u ≡ k
+      goal_terms : (w : List ℕ) (r m : Tree) (o u : Option ℕ) → name_eq w w_goal ≡ true → place_in r (role_list rules) ≡ o → value_of m ≡ u
+          → two_numbers Goal o u ≡ k
           → MeansKind rules (record { word = w; terms = tree r (tree m no_trees) }) k
       goal_terms w r m None u e f g h = absurd (other (sym h))
       goal_terms w r m (Some a) None e f g h = absurd (other (sym h))
@@ -93,7 +105,8 @@ module _ (rules : List Alternative) (acyclic : IsAcyclic rules) where
 
       two_terms : (w : List ℕ) (r m : Tree) (a b c : Bool) → name_eq w w_does ≡ a → name_eq w w_legal ≡ b → name_eq w w_goal ≡ c
           → cond a (two_numbers Does (place_in r (role_list rules)) (place_in m (input_list rules r)))
-          (cond b (two_numbers Legal (place_in r (role_list rules)) (place_in m (input_list rules r))) (cond c (two_numbers Goal (place_in r (role_list rules)) (value_of m)) Other)) ≡ k
+          (cond b (two_numbers Legal (place_in r (role_list rules)) (place_in m (input_list rules r)))
+          (cond c (two_numbers Goal (place_in r (role_list rules)) (value_of m)) Other)) ≡ k
           → MeansKind rules (record { word = w; terms = tree r (tree m no_trees) }) k
       two_terms w r m true b c e f g h = does_terms w r m (place_in r (role_list rules)) (place_in m (input_list rules r)) e refl refl h
       two_terms w r m false true c e f g h = legal_terms w r m (place_in r (role_list rules)) (place_in m (input_list rules r)) f refl refl h
@@ -124,13 +137,16 @@ module _ (rules : List Alternative) (acyclic : IsAcyclic rules) where
   kind_complete x (Next n) h = ap (kind_of rules) h.1 ∙ (let e = not_fixed (relation_of (atom1 w_next h.0)) refl in rw e (ap (one_number Next) h.2))
   kind_complete x (Does k n) h =
       ap (kind_of rules) h.2
-      ∙ (let e = not_fixed (relation_of (atom2 w_does h.0 h.1)) refl in rw e (ap (λ (o : Option ℕ). two_numbers Does o (place_in h.1 (input_list rules h.0))) h.3 ∙ ap (two_numbers Does (Some k)) h.4))
+      ∙ (let e = not_fixed (relation_of (atom2 w_does h.0 h.1)) refl in
+      rw e (ap (λ (o : Option ℕ). two_numbers Does o (place_in h.1 (input_list rules h.0))) h.3 ∙ ap (two_numbers Does (Some k)) h.4))
   kind_complete x (Legal k n) h =
       ap (kind_of rules) h.2
-      ∙ (let e = not_fixed (relation_of (atom2 w_legal h.0 h.1)) refl in rw e (ap (λ (o : Option ℕ). two_numbers Legal o (place_in h.1 (input_list rules h.0))) h.3 ∙ ap (two_numbers Legal (Some k)) h.4))
+      ∙ (let e = not_fixed (relation_of (atom2 w_legal h.0 h.1)) refl in
+      rw e (ap (λ (o : Option ℕ). two_numbers Legal o (place_in h.1 (input_list rules h.0))) h.3 ∙ ap (two_numbers Legal (Some k)) h.4))
   kind_complete x (Goal k v) h =
       ap (kind_of rules) h.1
       ∙ (let e = not_fixed (relation_of (atom2 w_goal h.0 (name (decimal v)))) refl in
-      rw e (ap (λ (o : Option ℕ). two_numbers Goal o (value_up_to 100 (decimal v))) h.2 ∙ ap (two_numbers Goal (Some k)) (value_complete 100 v h.3 (omega arith))))
+      rw e (ap (λ (o : Option ℕ). two_numbers Goal o (value_up_to 100 (decimal v))) h.2
+      ∙ ap (two_numbers Goal (Some k)) (value_complete 100 v h.3 (omega arith))))
   kind_complete x Terminal h = ap (kind_of rules) h ∙ (let e = not_fixed (relation_of (atom0 w_terminal)) refl in rw e refl)
   kind_complete x Other h = absurd h

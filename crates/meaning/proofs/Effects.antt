@@ -42,7 +42,8 @@ module _ (rules : List Alternative) (w : IsWellFormed rules) where
     where
       there : not (is_tree_among r (role_list rules) && is_tree_among m (input_list rules r)) ≡ true → IsInput rules r m → ⊥
       there e h =
-          let f = true_and _ _ (yes_tree_among r (role_list rules) ((roles_exact rules w r).1 h.0)) (yes_tree_among m (input_list rules r) ((inputs_exact rules w r m h.0).1 h)) in
+          let f = true_and _ _ (yes_tree_among r (role_list rules) ((roles_exact rules w r).1 h.0))
+          (yes_tree_among m (input_list rules r) ((inputs_exact rules w r m h.0).1 h)) in
           let g = not_true _ e in cc
 
       back : (IsInput rules r m → ⊥) → (is_tree_among r (role_list rules) && is_tree_among m (input_list rules r)) ≡ true → ⊥
@@ -58,28 +59,39 @@ module _ (rules : List Alternative) (w : IsWellFormed rules) where
   dropped_sound : (x : Atom) → is_dropped rules x ≡ true → HasNoEffect rules x
   dropped_sound x h = go x.word x.terms h
     where
-      bases : (c : List ℕ) (ts : Trees) → (is_word w_init 1 (relation_of (record { word = c; terms = ts })) || is_word w_next 1 (relation_of (record { word = c; terms = ts }))) ≡ true
+      bases : (c : List ℕ) (ts : Trees) → (is_word w_init 1 (relation_of (record { word = c; terms = ts })) || is_word w_next 1
+          (relation_of (record { word = c; terms = ts }))) ≡ true
           → misses_base rules ts ≡ true → HasNoEffect rules (record { word = c; terms = ts })
       bases c no_trees e f = absurd cc
       bases c (tree p (tree t ts)) e f = absurd cc
       bases c (tree p no_trees) e f = inl (p, word (or_cases _ _ e), (base_missed p).0 f)
         where
-          word : (is_word w_init 1 (relation_of (atom1 c p)) ≡ true) ⊎ (is_word w_next 1 (relation_of (atom1 c p)) ≡ true) → (atom1 c p ≡ atom1 w_init p) ⊎ (atom1 c p ≡ atom1 w_next p)
+          word : (is_word w_init 1 (relation_of (atom1 c p)) ≡ true) ⊎ (is_word w_next 1 (relation_of (atom1 c p)) ≡ true)
+              → (atom1 c p ≡ atom1 w_init p) ⊎ (atom1 c p ≡ atom1 w_next p)
           word (inl k) = inl (word_is c w_init (tree p no_trees) (both (name_eq c w_init) _ k).0)
           word (inr k) = inr (word_is c w_next (tree p no_trees) (both (name_eq c w_next) _ k).0)
 
-      inputs : (c : List ℕ) (ts : Trees) → is_word w_legal 2 (relation_of (record { word = c; terms = ts })) ≡ true → misses_input rules ts ≡ true → HasNoEffect rules (record { word = c; terms = ts })
+      inputs : (c : List ℕ) (ts : Trees) → is_word w_legal 2 (relation_of (record { word = c; terms = ts })) ≡ true → misses_input rules ts ≡ true
+          → HasNoEffect rules (record { word = c; terms = ts })
       inputs c no_trees e f = absurd cc
       inputs c (tree r no_trees) e f = absurd cc
       inputs c (tree r (tree m (tree t ts))) e f = absurd cc
-      inputs c (tree r (tree m no_trees)) e f = inr (r, m, word_is c w_legal (tree r (tree m no_trees)) (both (name_eq c w_legal) _ e).0, (input_missed r m).0 f)
+      inputs c (tree r (tree m no_trees)) e f = inr (
+        r,
+        m,
+        word_is c w_legal (tree r (tree m no_trees)) (both (name_eq c w_legal) _ e).0,
+        (input_missed r m).0 f,
+      )
 
       go : (c : List ℕ) (ts : Trees) → is_dropped rules (record { word = c; terms = ts }) ≡ true → HasNoEffect rules (record { word = c; terms = ts })
-      go c ts e = pick (or_cases ((is_word w_init 1 (relation_of (record { word = c; terms = ts })) || is_word w_next 1 (relation_of (record { word = c; terms = ts }))) && misses_base rules ts)
+      go c ts e = pick (or_cases ((is_word w_init 1 (relation_of (record { word = c; terms = ts })) || is_word w_next 1
+          (relation_of (record { word = c; terms = ts }))) && misses_base rules ts)
           (is_word w_legal 2 (relation_of (record { word = c; terms = ts })) && misses_input rules ts) e)
         where
-          pick : (((is_word w_init 1 (relation_of (record { word = c; terms = ts })) || is_word w_next 1 (relation_of (record { word = c; terms = ts }))) && misses_base rules ts) ≡ true)
-              ⊎ ((is_word w_legal 2 (relation_of (record { word = c; terms = ts })) && misses_input rules ts) ≡ true) → HasNoEffect rules (record { word = c; terms = ts })
+          pick : (((is_word w_init 1 (relation_of (record { word = c; terms = ts })) || is_word w_next 1
+              (relation_of (record { word = c; terms = ts }))) && misses_base rules ts) ≡ true)
+              ⊎ ((is_word w_legal 2 (relation_of (record { word = c; terms = ts })) && misses_input rules ts) ≡ true)
+              → HasNoEffect rules (record { word = c; terms = ts })
           pick (inl k) = let b = both _ (misses_base rules ts) k in bases c ts b.0 b.1
           pick (inr k) = let b = both _ (misses_input rules ts) k in inputs c ts b.0 b.1
 

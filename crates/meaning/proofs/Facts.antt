@@ -1,7 +1,20 @@
 -- The facts of this crate that proofs of the crates above may rest on. All other modules of proofs are its own.
 
 -- Lists in order: their parts, and that their members determine them.
-pub use Rattle.meaning.proofs.Ordered.{order_other, among_map_out, among_map_in, order_map, among_filter, among_filter_in, order_filter, order_cases, place_here, place_later, place_in_front, place_below}
+pub use Rattle.meaning.proofs.Ordered.{
+  order_other,
+  among_map_out,
+  among_map_in,
+  order_map,
+  among_filter,
+  among_filter_in,
+  order_filter,
+  order_cases,
+  place_here,
+  place_later,
+  place_in_front,
+  place_below,
+}
 -- What holds by derivations of bounded length: their bound doesn't matter past the number of rules.
 pub use Rattle.meaning.proofs.Derivations.{relation-under, relation-literal_under, ordinary_not_distinct}
 -- Matching finds exactly the maps that make an atom a given one.
@@ -13,7 +26,20 @@ pub use Rattle.meaning.proofs.Possible.{now_is, does_is, always_kept, kept_alway
 -- One step of the listing: the kept instances of one relation.
 pub use Rattle.meaning.proofs.Steps.{possible_plain}
 -- The listing, relation by relation.
-pub use Rattle.meaning.proofs.Fold.{with_left, with_right, fixed_place_below, printed_in, printed_out, always_listed, context_there, listing_exact, atoms_exact, roles_exact, bases_exact, inputs_exact}
+pub use Rattle.meaning.proofs.Fold.{
+  with_left,
+  with_right,
+  fixed_place_below,
+  printed_in,
+  printed_out,
+  always_listed,
+  context_there,
+  listing_exact,
+  atoms_exact,
+  roles_exact,
+  bases_exact,
+  inputs_exact,
+}
 -- An accepted list of items is well formed.
 pub use Rattle.meaning.proofs.Accepted.{accepted_well_formed}
 -- Going through the kept instances in order finds exactly what holds.

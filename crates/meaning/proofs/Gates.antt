@@ -1,5 +1,33 @@
 -- What an and gate reads is right exactly when the whole body is.
-use Rattle.std.proofs.Common.{ℕ, zero, suc, ◌<◌, Bool, true, false, not, cond, ◌&&◌, ◌≡◌, ◌⊎◌, ◌↔◌, inl, inr, List, [], ◌∷◌, length, map, refl, sym, ap, subst, ◌∙◌, eqb, eqb-true}
+use Rattle.std.proofs.Common.{
+  ℕ,
+  zero,
+  suc,
+  ◌<◌,
+  Bool,
+  true,
+  false,
+  not,
+  cond,
+  ◌&&◌,
+  ◌≡◌,
+  ◌⊎◌,
+  ◌↔◌,
+  inl,
+  inr,
+  List,
+  [],
+  ◌∷◌,
+  length,
+  map,
+  refl,
+  sym,
+  ap,
+  subst,
+  ◌∙◌,
+  eqb,
+  eqb-true,
+}
 use Rattle.std.specs.Prelude.{filter}
 use Rattle.kif.specs.Tree.{Tree, name_eq}
 use Rattle.kif.proofs.Facts.{both, name_eq_yes}
@@ -8,7 +36,24 @@ use Rattle.profile.specs.Words.{w_distinct}
 use Rattle.profile.specs.Dependence.{IsAmong, is_moving, is_distinct, DependsDirectly, DependsIn, IsFixed, is_fixed}
 use Rattle.profile.proofs.Facts.{IsHead, fixed_tested, not_true}
 use Rattle.meaning.specs.Substitution.{literal_under}
-use Rattle.meaning.specs.Meaning.{State, Joint, Source, now, does, distinct, ordinary, source_of, RightAs, IsRight, Holds, HoldsAlways, nothing, nobody, IsWithinBase, IsWithinInput}
+use Rattle.meaning.specs.Meaning.{
+  State,
+  Joint,
+  Source,
+  now,
+  does,
+  distinct,
+  ordinary,
+  source_of,
+  RightAs,
+  IsRight,
+  Holds,
+  HoldsAlways,
+  nothing,
+  nobody,
+  IsWithinBase,
+  IsWithinInput,
+}
 use Rattle.meaning.specs.Kept.{PossibleAs, Keeps, HeadsKept, PossibleIf, IsPossible}
 use Rattle.meaning.specs.InOrder.{first_place}
 use Rattle.meaning.specs.Numbers.{number_of}
@@ -29,7 +74,8 @@ pub atom_found : (x : Atom) (atoms : List Atom) → IsAmong x atoms → atom_at 
 atom_found x [] a = absurd a
 atom_found x (y ∷ ys) a = go (atom_eq x y) refl a (atom_found x ys)
   where
-    go : (b : Bool) → atom_eq x y ≡ b → (x ≡ y) ⊎ IsAmong x ys → (IsAmong x ys → atom_at ys (number_of x ys) ≡ x) → atom_at (y ∷ ys) (cond b zero (suc (first_place (atom_eq x) ys))) ≡ x
+    go : (b : Bool) → atom_eq x y ≡ b → (x ≡ y) ⊎ IsAmong x ys → (IsAmong x ys → atom_at ys (number_of x ys) ≡ x)
+        → atom_at (y ∷ ys) (cond b zero (suc (first_place (atom_eq x) ys))) ≡ x
     go true e k more = sym ((atom_test x y).0 e)
     go false e (inl s) more = let f = (atom_test x y).1 s in absurd cc
     go false e (inr k) more = more k
@@ -39,7 +85,8 @@ literal_found atoms (positive x) a = ap positive (atom_found x atoms a)
 literal_found atoms (negative x) a = ap negative (atom_found x atoms a)
 
 -- each literal of a kept instance keeps it
-pub body_keeps : (rules : List Alternative) (i : Instance) → IsKeptInstance rules i → (l : Literal) → IsAmong l i.body → Keeps rules (HeadsKept rules) l
+pub body_keeps : (rules : List Alternative) (i : Instance) → IsKeptInstance rules i → (l : Literal) → IsAmong l i.body
+    → Keeps rules (HeadsKept rules) l
 body_keeps rules i k l a =
     let o = among_map_out (literal_under k.map) l k.rule.body (subst (λ (j : Instance). IsAmong l j.body) (sym k.same) a) in
     subst (λ (n : Literal). Keeps rules (HeadsKept rules) n) (sym o.2) (k.kept.keeps o.0 o.1)
@@ -81,19 +128,23 @@ module _ (rules : List Alternative) (w : IsWellFormed rules) where
   kept_possible : (x : Atom) → is_fixed rules (relation_of x) ≡ false → Keeps rules (HeadsKept rules) (positive x) → IsPossible rules x
   kept_possible x e h = go (source_of x) refl h
     where
-      go : (s : Source) → source_of x ≡ s → PossibleAs rules (IsFixed rules (relation_of x)) (HoldsAlways rules x) (HeadsKept rules x) s → PossibleIf rules (HeadsKept rules x) s
+      go : (s : Source) → source_of x ≡ s → PossibleAs rules (IsFixed rules (relation_of x)) (HoldsAlways rules x) (HeadsKept rules x) s
+          → PossibleIf rules (HeadsKept rules x) s
       go (now p) z k = k
       go (does r m) z k = k
       go (distinct s t) z k = absurd (fixed_no (relation_of x) e (distinct_fixed x s t z))
       go ordinary z k = k.1 (fixed_no (relation_of x) e)
 
-  pub read_there : (l : Literal) → is_read rules (listing rules).atoms l ≡ true → Keeps rules (HeadsKept rules) l → IsAmong (atom_of l) (listing rules).atoms
+  pub read_there : (l : Literal) → is_read rules (listing rules).atoms l ≡ true → Keeps rules (HeadsKept rules) l
+      → IsAmong (atom_of l) (listing rules).atoms
   read_there (positive x) e k = (numbered_exact rules w x).1 (kept_possible x (not_true _ e) k)
-  read_there (negative x) e k = is_atom_yes x (listing rules).atoms (both (not (is_fixed rules (relation_of x))) (is_atom_in x (listing rules).atoms) e).1
+  read_there (negative x) e k = is_atom_yes x (listing rules).atoms
+      (both (not (is_fixed rules (relation_of x))) (is_atom_in x (listing rules).atoms) e).1
 
   module _ (S : State) (J : Joint) where
     -- an atom of a fixed relation is right in a context exactly when it is in the empty one
-    fixed_right : (x : Atom) → IsFixed rules (relation_of x) → RightAs S J (Holds rules S J x) (source_of x) ↔ RightAs nothing nobody (HoldsAlways rules x) (source_of x)
+    fixed_right : (x : Atom) → IsFixed rules (relation_of x) → RightAs S J (Holds rules S J x) (source_of x) ↔ RightAs nothing nobody
+        (HoldsAlways rules x) (source_of x)
     fixed_right x fixed =
         right_elsewhere S nothing J nobody (Holds rules S J x) (HoldsAlways rules x) (source_of x) (relation_of x) (sorted_at x.word x.terms)
         (λ other. fixed.itself)
@@ -125,7 +176,8 @@ module _ (rules : List Alternative) (w : IsWellFormed rules) where
           not_not false h = absurd cc
       unread (negative x) e k = go (is_fixed rules (relation_of x)) refl e
         where
-          go : (b : Bool) → is_fixed rules (relation_of x) ≡ b → (not b && is_atom_in x (listing rules).atoms) ≡ false → IsRight S J (Holds rules S J) (negative x)
+          go : (b : Bool) → is_fixed rules (relation_of x) ≡ b → (not b && is_atom_in x (listing rules).atoms) ≡ false
+              → IsRight S J (Holds rules S J) (negative x)
           go true f h = fixed_literal (negative x) (fixed_yes (relation_of x) f) k
           go false f h = λ right.
               let there = (numbered_exact rules w x).1 (right_possible x f right) in
@@ -144,8 +196,10 @@ module _ (rules : List Alternative) (w : IsWellFormed rules) where
               go : (t : Bool) → is_read rules (listing rules).atoms l ≡ t → IsRight S J (Holds rules S J) l
               go false e = unread l e (keeps l b)
               go true e =
-                  let r = among_map_in (reading (listing rules).atoms) l (filter (is_read rules (listing rules).atoms) i.body) (among_filter_in (is_read rules (listing rules).atoms) l i.body b e) in
-                  subst (λ (n : Literal). IsRight S J (Holds rules S J) n) (literal_found (listing rules).atoms l (read_there l e (keeps l b))) (h (reading (listing rules).atoms l) r)
+                  let r = among_map_in (reading (listing rules).atoms) l (filter (is_read rules (listing rules).atoms) i.body)
+                  (among_filter_in (is_read rules (listing rules).atoms) l i.body b e) in
+                  subst (λ (n : Literal). IsRight S J (Holds rules S J) n) (literal_found (listing rules).atoms l (read_there l e (keeps l b)))
+                  (h (reading (listing rules).atoms l) r)
 
           back : IsBodyRight rules S J i → IsGateRight rules S J i
           back h r b =
@@ -156,7 +210,8 @@ module _ (rules : List Alternative) (w : IsWellFormed rules) where
               (subst (λ (n : Literal). IsRight S J (Holds rules S J) n) (sym e) (h o.0 k.0))
 
   -- the body of an instance whose head is of a fixed relation is all fixed
-  body_fixed : (i : Instance) → IsKeptInstance rules i → IsFixed rules (relation_of i.head) → (l : Literal) → IsAmong l i.body → IsFixed rules (relation_of (atom_of l))
+  body_fixed : (i : Instance) → IsKeptInstance rules i → IsFixed rules (relation_of i.head) → (l : Literal) → IsAmong l i.body
+      → IsFixed rules (relation_of (atom_of l))
   body_fixed i k fixed l a = go (is_distinct (relation_of (atom_of l))) refl
     where
       go : (b : Bool) → is_distinct (relation_of (atom_of l)) ≡ b → IsFixed rules (relation_of (atom_of l))

@@ -7,7 +7,25 @@ use Rattle.profile.specs.Clause.{Atom, Literal, positive, negative, Alternative,
 use Rattle.profile.specs.Dependence.{is_distinct, is_moving, DependsDirectly, IsAcyclic, IsFixed}
 use Rattle.profile.proofs.Facts.{IsHead, along_dependence}
 use Rattle.meaning.specs.Substitution.{literal_under}
-use Rattle.meaning.specs.Meaning.{State, Joint, Source, now, does, distinct, ordinary, source_at, source_of, RightAs, IsRight, IsDerived, Holds, nothing, nobody, IsWithinBase, IsWithinInput}
+use Rattle.meaning.specs.Meaning.{
+  State,
+  Joint,
+  Source,
+  now,
+  does,
+  distinct,
+  ordinary,
+  source_at,
+  source_of,
+  RightAs,
+  IsRight,
+  IsDerived,
+  Holds,
+  nothing,
+  nobody,
+  IsWithinBase,
+  IsWithinInput,
+}
 use Rattle.meaning.specs.Kept.{PossibleAs, UndecidedAs, Keeps, HeadsKept, HasRightInstance}
 use Rattle.meaning.proofs.Derivations.{IsLocal, IsRight-local, derived_by_a_rule, derived_heads, derivation_again, ordinary_at, ordinary_not_distinct}
 
@@ -36,7 +54,8 @@ sorted_at w (tree t no_trees) = go (name_eq w w_true) refl
         plain false = refl
 sorted_at w (tree t (tree u no_trees)) = go (name_eq w w_does) (name_eq w w_distinct) refl refl
   where
-    go : (a b : Bool) → name_eq w w_does ≡ a → name_eq w w_distinct ≡ b → IsSorted (cond a (does t u) (cond b (distinct t u) ordinary)) (record { word = w; arity = 2 })
+    go : (a b : Bool) → name_eq w w_does ≡ a → name_eq w w_distinct ≡ b
+        → IsSorted (cond a (does t u) (cond b (distinct t u) ordinary)) (record { word = w; arity = 2 })
     go true b e f =
         let same = name_eq_yes w w_does e in
         inr (
@@ -105,7 +124,8 @@ module _ (rules : List Alternative) (acyclic : IsAcyclic rules) where
                 (λ l direct. (literal k p below fixed l (λ other. moved _ (direct other))).1) ((by_rule S' J' x).0 h))),
           )
 
-possible_local : (rules : List Alternative) (fixed holds A B : Type 0) (k : Source) → (k ≡ ordinary → A ↔ B) → PossibleAs rules fixed holds A k → PossibleAs rules fixed holds B k
+possible_local : (rules : List Alternative) (fixed holds A B : Type 0) (k : Source) → (k ≡ ordinary → A ↔ B) → PossibleAs rules fixed holds A k
+    → PossibleAs rules fixed holds B k
 possible_local rules fixed holds A B (now p) e h = h
 possible_local rules fixed holds A B (does r m) e h = h
 possible_local rules fixed holds A B (distinct s t) e h = h
@@ -119,74 +139,78 @@ Keeps-local rules H G (negative x) e h = h
 pub kept_by_a_rule : (rules : List Alternative) → IsAcyclic rules → (x : Atom) → HeadsKept rules x ↔ IsDerived rules (Keeps rules (HeadsKept rules)) x
 kept_by_a_rule rules acyclic x = derived_by_a_rule rules acyclic (Keeps rules) (Keeps-local rules) x
 
-module _ (rules : List Alternative) (acyclic : IsAcyclic rules) (S : State) (J : Joint) (base : IsWithinBase rules S) (input : IsWithinInput rules J) where
-  possible : (fixed holds heads A : Type 0) (k : Source) → (k ≡ ordinary → (fixed → A → holds) × (A → heads)) → RightAs S J A k → PossibleAs rules fixed holds heads k
-  possible fixed holds heads A (now p) e h = base p h
-  possible fixed holds heads A (does r m) e h = input r m h
-  possible fixed holds heads A (distinct s t) e h = h
-  possible fixed holds heads A ordinary e h = ((λ f. (e refl).0 f h), (λ moves. (e refl).1 h))
+module _ (rules : List Alternative) (acyclic : IsAcyclic rules) (S : State) (J : Joint) (base : IsWithinBase rules S) (input : IsWithinInput rules J)
+  where
+    possible : (fixed holds heads A : Type 0) (k : Source) → (k ≡ ordinary → (fixed → A → holds) × (A → heads)) → RightAs S J A k
+        → PossibleAs rules fixed holds heads k
+    possible fixed holds heads A (now p) e h = base p h
+    possible fixed holds heads A (does r m) e h = input r m h
+    possible fixed holds heads A (distinct s t) e h = h
+    possible fixed holds heads A ordinary e h = ((λ f. (e refl).0 f h), (λ moves. (e refl).1 h))
 
-  undecided : (fixed holds A : Type 0) (k : Source) → (k ≡ ordinary → fixed → holds → A) → (RightAs S J A k → ⊥) → UndecidedAs fixed holds k
-  undecided fixed holds A (now p) e h = tt
-  undecided fixed holds A (does r m) e h = tt
-  undecided fixed holds A (distinct s t) e h = h
-  undecided fixed holds A ordinary e h = λ f a. h (e refl f a)
+    undecided : (fixed holds A : Type 0) (k : Source) → (k ≡ ordinary → fixed → holds → A) → (RightAs S J A k → ⊥) → UndecidedAs fixed holds k
+    undecided fixed holds A (now p) e h = tt
+    undecided fixed holds A (does r m) e h = tt
+    undecided fixed holds A (distinct s t) e h = h
+    undecided fixed holds A ordinary e h = λ f a. h (e refl f a)
 
-  -- a literal that is right keeps its instance
-  pub right_keeps : (l : Literal) → (source_of (atom_of l) ≡ ordinary → Holds rules S J (atom_of l) → HeadsKept rules (atom_of l)) → IsRight S J (Holds rules S J) l → Keeps rules (HeadsKept rules) l
-  right_keeps (positive y) heads right =
-      possible _ _ _ (Holds rules S J y) (source_of y)
-      (λ plain. ((λ fixed. (fixed_alike rules acyclic S nothing J nobody (relation_of y) fixed y refl).0), heads plain)) right
-  right_keeps (negative y) heads wrong =
-      undecided _ _ (Holds rules S J y) (source_of y)
-      (λ plain fixed. (fixed_alike rules acyclic S nothing J nobody (relation_of y) fixed y refl).1) wrong
+    -- a literal that is right keeps its instance
+    pub right_keeps : (l : Literal) → (source_of (atom_of l) ≡ ordinary → Holds rules S J (atom_of l) → HeadsKept rules (atom_of l))
+        → IsRight S J (Holds rules S J) l → Keeps rules (HeadsKept rules) l
+    right_keeps (positive y) heads right =
+        possible _ _ _ (Holds rules S J y) (source_of y)
+        (λ plain. ((λ fixed. (fixed_alike rules acyclic S nothing J nobody (relation_of y) fixed y refl).0), heads plain)) right
+    right_keeps (negative y) heads wrong =
+        undecided _ _ (Holds rules S J y) (source_of y)
+        (λ plain fixed. (fixed_alike rules acyclic S nothing J nobody (relation_of y) fixed y refl).1) wrong
 
-  abbrev Heads : ℕ → Relation → Type 0
-  Heads k p = (x : Atom) → relation_of x ≡ p → Holds rules S J x → HeadsKept rules x
+    abbrev Heads : ℕ → Relation → Type 0
+    Heads k p = (x : Atom) → relation_of x ≡ p → Holds rules S J x → HeadsKept rules x
 
-  by_rule : (x : Atom) → Holds rules S J x ↔ IsDerived rules (IsRight S J (Holds rules S J)) x
-  by_rule x = derived_by_a_rule rules acyclic (IsRight S J) (IsRight-local S J) x
+    by_rule : (x : Atom) → Holds rules S J x ↔ IsDerived rules (IsRight S J (Holds rules S J)) x
+    by_rule x = derived_by_a_rule rules acyclic (IsRight S J) (IsRight-local S J) x
 
-  -- what holds is the head of a kept instance
-  pub holds_heads : (p : Relation) → Heads (length rules) p
-  holds_heads = along_dependence rules acyclic Heads none step
-    where
-      none : (p : Relation) → (IsHead rules p → ⊥) → Heads zero p
-      none p headless x e h = absurd (headless (subst (λ (q : Relation). IsHead rules q) e (derived_heads rules _ x ((by_rule x).0 h))))
+    -- what holds is the head of a kept instance
+    pub holds_heads : (p : Relation) → Heads (length rules) p
+    holds_heads = along_dependence rules acyclic Heads none step
+      where
+        none : (p : Relation) → (IsHead rules p → ⊥) → Heads zero p
+        none p headless x e h = absurd (headless (subst (λ (q : Relation). IsHead rules q) e (derived_heads rules _ x ((by_rule x).0 h))))
 
-      step : (k : ℕ) (p : Relation) → ((q : Relation) → DependsDirectly rules p q → Heads k q) → Heads (suc k) p
-      step k p below x e h =
-          (kept_by_a_rule rules acyclic x).1 (derivation_again rules (IsRight S J (Holds rules S J)) (Keeps rules (HeadsKept rules)) x
-          (λ l direct. right_keeps l (λ plain.
-          below (relation_of (atom_of l))
-          (subst (λ (q : Relation). DependsDirectly rules q (relation_of (atom_of l))) e (direct (ordinary_not_distinct (atom_of l) plain)))
-          (atom_of l) refl))
-          ((by_rule x).0 h))
+        step : (k : ℕ) (p : Relation) → ((q : Relation) → DependsDirectly rules p q → Heads k q) → Heads (suc k) p
+        step k p below x e h =
+            (kept_by_a_rule rules acyclic x).1 (derivation_again rules (IsRight S J (Holds rules S J)) (Keeps rules (HeadsKept rules)) x
+            (λ l direct. right_keeps l (λ plain.
+            below (relation_of (atom_of l))
+            (subst (λ (q : Relation). DependsDirectly rules q (relation_of (atom_of l))) e (direct (ordinary_not_distinct (atom_of l) plain)))
+            (atom_of l) refl))
+            ((by_rule x).0 h))
 
-  pub kept_suffice : (x : Atom) → Holds rules S J x ↔ HasRightInstance rules S J x
-  kept_suffice x = (there, back)
-    where
-      there : Holds rules S J x → HasRightInstance rules S J x
-      there h =
-          let d = (by_rule x).0 h in
-          record {
-            rule = d.rule;
-            map = d.map;
-            kept = record {
-              is_rule = d.is_rule;
-              maps_to_ground = d.maps_to_ground;
-              keeps = λ l in_body. right_keeps (literal_under d.map l) (λ plain. holds_heads (relation_of (atom_of (literal_under d.map l))) (atom_of (literal_under d.map l)) refl) (d.fits l in_body);
-            };
-            heads = d.heads;
-            right = d.fits;
-          }
+    pub kept_suffice : (x : Atom) → Holds rules S J x ↔ HasRightInstance rules S J x
+    kept_suffice x = (there, back)
+      where
+        there : Holds rules S J x → HasRightInstance rules S J x
+        there h =
+            let d = (by_rule x).0 h in
+            record {
+              rule = d.rule;
+              map = d.map;
+              kept = record {
+                is_rule = d.is_rule;
+                maps_to_ground = d.maps_to_ground;
+                keeps = λ l in_body. right_keeps (literal_under d.map l)
+                    (λ plain. holds_heads (relation_of (atom_of (literal_under d.map l))) (atom_of (literal_under d.map l)) refl) (d.fits l in_body);
+              };
+              heads = d.heads;
+              right = d.fits;
+            }
 
-      back : HasRightInstance rules S J x → Holds rules S J x
-      back i = (by_rule x).1 (record {
-        rule = i.rule;
-        map = i.map;
-        is_rule = i.kept.is_rule;
-        maps_to_ground = i.kept.maps_to_ground;
-        heads = i.heads;
-        fits = i.right;
-      })
+        back : HasRightInstance rules S J x → Holds rules S J x
+        back i = (by_rule x).1 (record {
+          rule = i.rule;
+          map = i.map;
+          is_rule = i.kept.is_rule;
+          maps_to_ground = i.kept.maps_to_ground;
+          heads = i.heads;
+          fits = i.right;
+        })

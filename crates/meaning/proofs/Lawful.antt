@@ -10,7 +10,26 @@ use Rattle.profile.specs.Dependence.{IsAmong, is_distinct, DependsDirectly, IsFi
 use Rattle.profile.specs.Safety.{variables, variables_in, is_binding}
 use Rattle.profile.proofs.Facts.{not_true, IsAmong-append, IsAmong-append_left, IsAmong-append_right, IsHead, along_dependence}
 use Rattle.meaning.specs.Substitution.{Map, is_ground, are_ground, substitute, substitute_all, atom_under, IsLawful, IsLawfulTerm}
-use Rattle.meaning.specs.Meaning.{Source, now, does, distinct, ordinary, source_of, atom1, atom2, HoldsAlways, IsRole, IsBase, IsInput, IsDerived, State, Joint, Holds, IsWithinBase, IsWithinInput}
+use Rattle.meaning.specs.Meaning.{
+  Source,
+  now,
+  does,
+  distinct,
+  ordinary,
+  source_of,
+  atom1,
+  atom2,
+  HoldsAlways,
+  IsRole,
+  IsBase,
+  IsInput,
+  IsDerived,
+  State,
+  Joint,
+  Holds,
+  IsWithinBase,
+  IsWithinInput,
+}
 use Rattle.meaning.specs.Kept.{Keeps, HeadsKept, PossibleIf, IsPossible}
 use Rattle.meaning.specs.Listed.{IsWellFormed}
 use Rattle.meaning.proofs.Derivations.{relation-under, derived_direct, derived_heads}
@@ -29,7 +48,8 @@ compound_term m (tree (name c) (tree t ts)) h =
     subst (λ (x : Tree). begins_compound (tree x (tree (substitute m t) (substitute_all m ts))) ≡ true) (sym e) h
 
 mutual
-  term_under : (m : Map) (t : Tree) → is_term t ≡ true → ((v : List ℕ) → IsAmong v (variables t) → is_term (m v) ≡ true) → is_term (substitute m t) ≡ true
+  term_under : (m : Map) (t : Tree) → is_term t ≡ true → ((v : List ℕ) → IsAmong v (variables t) → is_term (m v) ≡ true)
+      → is_term (substitute m t) ≡ true
   term_under m (name n) h k = go (is_variable n) k
     where
       go : (b : Bool) → ((v : List ℕ) → IsAmong v (cond b (n ∷ []) []) → is_term (m v) ≡ true) → is_term (cond b (m n) (name n)) ≡ true
@@ -39,7 +59,8 @@ mutual
       let b = both (begins_compound ts) (are_terms ts) h in
       true_and _ _ (compound_term m ts b.0) (terms_under m ts b.1 k)
 
-  terms_under : (m : Map) (ts : Trees) → are_terms ts ≡ true → ((v : List ℕ) → IsAmong v (variables_in ts) → is_term (m v) ≡ true) → are_terms (substitute_all m ts) ≡ true
+  terms_under : (m : Map) (ts : Trees) → are_terms ts ≡ true → ((v : List ℕ) → IsAmong v (variables_in ts) → is_term (m v) ≡ true)
+      → are_terms (substitute_all m ts) ≡ true
   terms_under m no_trees h k = refl
   terms_under m (tree t ts) h k =
       let b = both (is_term t) (are_terms ts) h in
@@ -62,7 +83,8 @@ mutual
       let b = both (is_term (substitute m t)) (are_terms (substitute_all m ts)) h in
       pick (IsAmong-append v (variables t) (variables_in ts) a) (λ k. part_term m t v k b.0) (λ k. part_terms m ts v k b.1)
     where
-      pick : IsAmong v (variables t) ⊎ IsAmong v (variables_in ts) → (IsAmong v (variables t) → is_term (m v) ≡ true) → (IsAmong v (variables_in ts) → is_term (m v) ≡ true) → is_term (m v) ≡ true
+      pick : IsAmong v (variables t) ⊎ IsAmong v (variables_in ts) → (IsAmong v (variables t) → is_term (m v) ≡ true)
+          → (IsAmong v (variables_in ts) → is_term (m v) ≡ true) → is_term (m v) ≡ true
       pick (inl k) f g = f k
       pick (inr k) f g = g k
 
@@ -74,7 +96,8 @@ module _ (rules : List Alternative) (w : IsWellFormed rules) where
   terms_above : (p : Relation) → ((y : Atom) → DependsDirectly rules p (relation_of y) → IsPossible rules y → are_terms y.terms ≡ true) → HasTerms p
   terms_above p below x e h = go ((kept_by_a_rule rules w.acyclic x).0 h)
     where
-      bound : (d : IsDerived rules (Keeps rules (HeadsKept rules)) x) (v : List ℕ) (l : Literal) → IsAmong l d.rule.body → is_binding l ≡ true → IsAmong v (variables_in (atom_of l).terms) → is_term (d.map v) ≡ true
+      bound : (d : IsDerived rules (Keeps rules (HeadsKept rules)) x) (v : List ℕ) (l : Literal) → IsAmong l d.rule.body → is_binding l ≡ true
+          → IsAmong v (variables_in (atom_of l).terms) → is_term (d.map v) ≡ true
       bound d v (negative a) b c k = absurd cc
       bound d v (positive a) b c k =
           let other : is_distinct (relation_of (atom_under d.map a)) ≡ false = ap is_distinct (relation-under d.map a) ∙ not_true _ c in
@@ -90,7 +113,8 @@ module _ (rules : List Alternative) (w : IsWellFormed rules) where
           (λ v a. let b = safe_head d.rule (w.safe d.rule d.is_rule) v a in bound d v b.0 b.1 b.2 b.3))
 
   headless : (p : Relation) → (IsHead rules p → ⊥) → HasTerms p
-  headless p none x e h = absurd (none (subst (λ (q : Relation). IsHead rules q) e (derived_heads rules _ x ((kept_by_a_rule rules w.acyclic x).0 h))))
+  headless p none x e h = absurd (none (subst (λ (q : Relation). IsHead rules q) e
+      (derived_heads rules _ x ((kept_by_a_rule rules w.acyclic x).0 h))))
 
   abbrev HasTermsIfFixed : ℕ → Relation → Type 0
   HasTermsIfFixed k p = IsFixed rules p → HasTerms p
@@ -109,7 +133,8 @@ module _ (rules : List Alternative) (w : IsWellFormed rules) where
 
               pick : (s : Source) → source_of y ≡ s → IsSorted s (relation_of y) → PossibleIf rules (HeadsKept rules y) s → are_terms y.terms ≡ true
               pick s f (inl z) h = absurd (subst (λ (u : Source). PossibleIf rules (HeadsKept rules y) u) z.2 h)
-              pick s f (inr (a, inl plain)) h = below (relation_of y) direct also y refl (subst (λ (u : Source). PossibleIf rules (HeadsKept rules y) u) plain h)
+              pick s f (inr (a, inl plain)) h = below (relation_of y) direct also y refl
+                  (subst (λ (u : Source). PossibleIf rules (HeadsKept rules y) u) plain h)
               pick s f (inr (a, inr moves)) h = let still = also.itself in absurd cc
 
   always_terms : (x : Atom) → IsFixed rules (relation_of x) → HoldsAlways rules x → are_terms x.terms ≡ true
@@ -129,7 +154,8 @@ module _ (rules : List Alternative) (w : IsWellFormed rules) where
             where
               pick : (s : Source) → source_of y ≡ s → PossibleIf rules (HeadsKept rules y) s → are_terms y.terms ≡ true
               pick (now t) f h = subst (λ (z : Atom). are_terms z.terms ≡ true) (sym (now_is y t f)) (always_terms (atom1 w_base t) w.base h)
-              pick (does r m) f h = subst (λ (z : Atom). are_terms z.terms ≡ true) (sym (does_is y r m f)) (always_terms (atom2 w_input r m) w.input h.1)
+              pick (does r m) f h = subst (λ (z : Atom). are_terms z.terms ≡ true) (sym (does_is y r m f))
+                  (always_terms (atom2 w_input r m) w.input h.1)
               pick (distinct s t) f h = absurd h
               pick ordinary f h = below (relation_of y) direct y refl h
 
@@ -140,7 +166,8 @@ module _ (rules : List Alternative) (w : IsWellFormed rules) where
       record {
         word = subst (λ (y : Atom). is_constant y.word ≡ true) d.heads (w.words d.rule d.is_rule);
         terms = all_terms (relation_of x) x refl h;
-        no_variable = subst (λ (y : Atom). are_ground y.terms ≡ true) d.heads (ground_all_under d.map d.maps_to_ground d.rule.head.terms (w.terms d.rule d.is_rule));
+        no_variable = subst (λ (y : Atom). are_ground y.terms ≡ true) d.heads
+            (ground_all_under d.map d.maps_to_ground d.rule.head.terms (w.terms d.rule d.is_rule));
       }
 
   pub holding_lawful : (S : State) (J : Joint) → IsWithinBase rules S → IsWithinInput rules J → (x : Atom) → Holds rules S J x → IsLawful x
@@ -161,7 +188,8 @@ module _ (rules : List Alternative) (w : IsWellFormed rules) where
   pub input_lawful : (r m : Tree) → IsInput rules r m → IsLawfulTerm m
   input_lawful r m h =
       let l = always_lawful (atom2 w_input r m) h.1 in
-      first_lawful m no_trees (both (is_term r) (are_terms (tree m no_trees)) l.terms).1 (both (is_ground r) (are_ground (tree m no_trees)) l.no_variable).1
+      first_lawful m no_trees (both (is_term r) (are_terms (tree m no_trees)) l.terms).1
+      (both (is_ground r) (are_ground (tree m no_trees)) l.no_variable).1
 
 -- Lawful names are those that texts have.
 

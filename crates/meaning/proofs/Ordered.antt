@@ -1,5 +1,30 @@
 -- Lists in order: their parts, and that their members determine them.
-use Rattle.std.proofs.Common.{ℕ, suc, ◌<◌, Bool, true, false, cond, ◌≡◌, ◌⊎◌, ◌↔◌, inl, inr, List, [], ◌∷◌, ◌++◌, length, map, refl, sym, ap, subst, ◌∙◌, arith}
+use Rattle.std.proofs.Common.{
+  ℕ,
+  suc,
+  ◌<◌,
+  Bool,
+  true,
+  false,
+  cond,
+  ◌≡◌,
+  ◌⊎◌,
+  ◌↔◌,
+  inl,
+  inr,
+  List,
+  [],
+  ◌∷◌,
+  ◌++◌,
+  length,
+  map,
+  refl,
+  sym,
+  ap,
+  subst,
+  ◌∙◌,
+  arith,
+}
 use Rattle.std.specs.Prelude.{filter}
 use Rattle.profile.specs.Dependence.{IsAmong}
 use Rattle.profile.proofs.Facts.{IsAmong-append, IsAmong-append_left}
@@ -16,7 +41,8 @@ less_trans (l ∷ ls) [] ns h k = absurd h
 less_trans (l ∷ ls) (m ∷ ms) [] h k = absurd k
 less_trans (l ∷ ls) (m ∷ ms) (n ∷ ns) h k = go h k (less_trans ls ms ns)
   where
-    go : (l < m) ⊎ ((l ≡ m) × IsLess ls ms) → (m < n) ⊎ ((m ≡ n) × IsLess ms ns) → (IsLess ls ms → IsLess ms ns → IsLess ls ns) → (l < n) ⊎ ((l ≡ n) × IsLess ls ns)
+    go : (l < m) ⊎ ((l ≡ m) × IsLess ls ms) → (m < n) ⊎ ((m ≡ n) × IsLess ms ns) → (IsLess ls ms → IsLess ms ns → IsLess ls ns) → (l < n)
+        ⊎ ((l ≡ n) × IsLess ls ns)
     go (inl a) (inl b) more = inl (omega arith)
     go (inl a) (inr b) more = let e = b.0 in inl (omega arith)
     go (inr a) (inl b) more = let e = a.0 in inl (omega arith)
@@ -35,7 +61,8 @@ order_append {A} B (x ∷ xs) ys h k cross = (
     pick y (inr a) = cross x y (inl refl) a
 
 -- another order that has each pair that the first has
-pub order_other : {A : Type 0} (B C : A → A → Type 0) (xs : List A) → ((x y : A) → IsAmong x xs → IsAmong y xs → B x y → C x y) → AreInOrder B xs → AreInOrder C xs
+pub order_other : {A : Type 0} (B C : A → A → Type 0) (xs : List A) → ((x y : A) → IsAmong x xs → IsAmong y xs → B x y → C x y) → AreInOrder B xs
+    → AreInOrder C xs
 order_other B C [] h k = tt
 order_other B C (x ∷ xs) h k = (
   (λ y a. h x y (inl refl) (inr a) (k.0 y a)),
@@ -63,7 +90,8 @@ pub among_filter : {A : Type 0} (f : A → Bool) (x : A) (xs : List A) → IsAmo
 among_filter f x [] a = absurd a
 among_filter {A} f x (y ∷ ys) a = go (f y) refl a (among_filter f x ys)
   where
-    go : (t : Bool) → f y ≡ t → IsAmong x (cond t (y ∷ filter f ys) (filter f ys)) → (IsAmong x (filter f ys) → IsAmong x ys × (f x ≡ true)) → IsAmong x (y ∷ ys) × (f x ≡ true)
+    go : (t : Bool) → f y ≡ t → IsAmong x (cond t (y ∷ filter f ys) (filter f ys)) → (IsAmong x (filter f ys) → IsAmong x ys × (f x ≡ true))
+        → IsAmong x (y ∷ ys) × (f x ≡ true)
     go true e (inl s) more = (inl s, subst (λ (z : A). f z ≡ true) (sym s) e)
     go true e (inr k) more = let r = more k in (inr r.0, r.1)
     go false e k more = let r = more k in (inr r.0, r.1)
@@ -81,7 +109,8 @@ pub filter_append : {A : Type 0} (f : A → Bool) (is js : List A) → filter f 
 filter_append f [] js = refl
 filter_append {A} f (i ∷ is) js = go (f i) (filter_append f is js)
   where
-    go : (b : Bool) → filter f (is ++ js) ≡ filter f is ++ filter f js → cond b (i ∷ filter f (is ++ js)) (filter f (is ++ js)) ≡ cond b (i ∷ filter f is) (filter f is) ++ filter f js
+    go : (b : Bool) → filter f (is ++ js) ≡ filter f is ++ filter f js
+        → cond b (i ∷ filter f (is ++ js)) (filter f (is ++ js)) ≡ cond b (i ∷ filter f is) (filter f is) ++ filter f js
     go true h = ap (λ (l : List A). i ∷ l) h
     go false h = h
 
@@ -102,7 +131,8 @@ order_filter B f (x ∷ xs) h = go (f x) (order_filter B f xs h.1)
     go false k = k
 
 -- of two members, one stands before the other, or they are one
-pub order_cases : {A : Type 0} (B : A → A → Type 0) (xs : List A) → AreInOrder B xs → (x y : A) → IsAmong x xs → IsAmong y xs → (x ≡ y) ⊎ (B x y ⊎ B y x)
+pub order_cases : {A : Type 0} (B : A → A → Type 0) (xs : List A) → AreInOrder B xs → (x y : A) → IsAmong x xs → IsAmong y xs → (x ≡ y)
+    ⊎ (B x y ⊎ B y x)
 order_cases B [] h x y a b = absurd a
 order_cases B (z ∷ xs) h x y (inl a) (inl b) = inl (a ∙ sym b)
 order_cases {A} B (z ∷ xs) h x y (inl a) (inr b) = inr (inl (subst (λ (u : A). B u y) (sym a) (h.0 y b)))
@@ -147,7 +177,8 @@ IsTest {A} test = (x y : A) → (test x y ≡ true) ↔ (x ≡ y)
 pub place_here : {A : Type 0} (test : A → A → Bool) → IsTest test → (x : A) (xs : List A) → first_place (test x) (x ∷ xs) ≡ 0
 place_here test t x xs = let e = (t x x).1 refl in rw e refl
 
-pub place_later : {A : Type 0} (test : A → A → Bool) → IsTest test → (x y : A) (xs : List A) → (x ≡ y → ⊥) → first_place (test y) (x ∷ xs) ≡ suc (first_place (test y) xs)
+pub place_later : {A : Type 0} (test : A → A → Bool) → IsTest test → (x y : A) (xs : List A) → (x ≡ y → ⊥)
+    → first_place (test y) (x ∷ xs) ≡ suc (first_place (test y) xs)
 place_later test t x y xs differ = go (test y x) refl
   where
     go : (b : Bool) → test y x ≡ b → cond b 0 (suc (first_place (test y) xs)) ≡ suc (first_place (test y) xs)
@@ -178,13 +209,15 @@ places_up test t (x ∷ xs) d = (
 )
 
 -- a member has its place in a longer list too
-pub place_in_front : {A : Type 0} (test : A → A → Bool) → IsTest test → (x : A) (xs more : List A) → IsAmong x xs → first_place (test x) (xs ++ more) ≡ first_place (test x) xs
+pub place_in_front : {A : Type 0} (test : A → A → Bool) → IsTest test → (x : A) (xs more : List A) → IsAmong x xs
+    → first_place (test x) (xs ++ more) ≡ first_place (test x) xs
 place_in_front test t x [] more a = absurd a
 place_in_front {A} test t x (y ∷ xs) more (inl s) =
     let e : test x y ≡ true = (t x y).1 s in rw e refl
 place_in_front test t x (y ∷ xs) more (inr a) = go (test x y) (place_in_front test t x xs more a)
   where
-    go : (b : Bool) → first_place (test x) (xs ++ more) ≡ first_place (test x) xs → cond b 0 (suc (first_place (test x) (xs ++ more))) ≡ cond b 0 (suc (first_place (test x) xs))
+    go : (b : Bool) → first_place (test x) (xs ++ more) ≡ first_place (test x) xs
+        → cond b 0 (suc (first_place (test x) (xs ++ more))) ≡ cond b 0 (suc (first_place (test x) xs))
     go true e = refl
     go false e = ap suc e
 
@@ -196,7 +229,8 @@ pub place_below : {A : Type 0} (test : A → A → Bool) → IsTest test → (x 
 place_below test t x [] a = absurd a
 place_below test t x (y ∷ xs) a = go (test x y) refl a (place_below test t x xs)
   where
-    go : (b : Bool) → test x y ≡ b → (x ≡ y) ⊎ IsAmong x xs → (IsAmong x xs → first_place (test x) xs < length xs) → cond b 0 (suc (first_place (test x) xs)) < suc (length xs)
+    go : (b : Bool) → test x y ≡ b → (x ≡ y) ⊎ IsAmong x xs → (IsAmong x xs → first_place (test x) xs < length xs)
+        → cond b 0 (suc (first_place (test x) xs)) < suc (length xs)
     go true e k more = omega arith
     go false e (inl s) more = let f = (t x y).1 s in absurd cc
     go false e (inr k) more = let h = more k in omega arith

@@ -47,7 +47,8 @@ less_yes Less h = refl
 less_yes Equal h = absurd cc
 less_yes Greater h = absurd cc
 
-into_printed : (t : Tree) (ts : List Tree) → HasNames t → ((u : Tree) → IsAmong u ts → HasNames u) → (IsAmong t ts → ⊥) → AreInPrintedOrder ts → AreInPrintedOrder (into_printed_order t ts)
+into_printed : (t : Tree) (ts : List Tree) → HasNames t → ((u : Tree) → IsAmong u ts → HasNames u) → (IsAmong t ts → ⊥) → AreInPrintedOrder ts
+    → AreInPrintedOrder (into_printed_order t ts)
 into_printed t [] h k new order = ((λ u a. absurd a), tt)
 into_printed t (v ∷ ts) h k new order = go (is_less (printed_cmp t v)) refl (into_printed t ts h (λ u a. k u (inr a)) (λ a. new (inr a)) order.1)
   where
@@ -59,7 +60,8 @@ into_printed t (v ∷ ts) h k new order = go (is_less (printed_cmp t v)) refl (i
     later e u (inl s) = subst (λ (x : Tree). printed_cmp v x ≡ Less) (sym s) e
     later e u (inr a) = order.0 u a
 
-    go : (b : Bool) → is_less (printed_cmp t v) ≡ b → AreInPrintedOrder (into_printed_order t ts) → AreInPrintedOrder (cond b (t ∷ (v ∷ ts)) (v ∷ into_printed_order t ts))
+    go : (b : Bool) → is_less (printed_cmp t v) ≡ b → AreInPrintedOrder (into_printed_order t ts)
+        → AreInPrintedOrder (cond b (t ∷ (v ∷ ts)) (v ∷ into_printed_order t ts))
     go true e more = (first (less_yes _ e), order)
     go false e more = ((λ u a. later (turned t v h (k v (inl refl)) (λ s. new (inl s)) e) u (printed_from t u ts a)), more)
 
@@ -93,7 +95,8 @@ if_distinct false ts h = tt
 pub terms_distinct : (w : List ℕ) (xs : List Atom) → AreDistinct xs → AreDistinct (terms_of w xs)
 terms_distinct w [] d = tt
 terms_distinct w (x ∷ xs) d =
-    order_append (λ (t u : Tree). t ≡ u → ⊥) _ (terms_of w xs) (if_distinct (is_word w 1 (relation_of x)) (one_term x.terms) (one_distinct x.terms)) (terms_distinct w xs d.1) apart
+    order_append (λ (t u : Tree). t ≡ u → ⊥) _ (terms_of w xs) (if_distinct (is_word w 1 (relation_of x)) (one_term x.terms) (one_distinct x.terms))
+    (terms_distinct w xs d.1) apart
   where
     own : (t : Tree) → IsAmong (atom1 w t) (x ∷ []) → x ≡ atom1 w t
     own t (inl e) = sym e
@@ -108,7 +111,8 @@ terms_distinct w (x ∷ xs) d =
 pub seconds_distinct : (w : List ℕ) (r : Tree) (xs : List Atom) → AreDistinct xs → AreDistinct (terms_with w r xs)
 seconds_distinct w r [] d = tt
 seconds_distinct w r (x ∷ xs) d =
-    order_append (λ (t u : Tree). t ≡ u → ⊥) _ (terms_with w r xs) (if_distinct (is_word w 2 (relation_of x)) (second_of r x.terms) (second_distinct r x.terms)) (seconds_distinct w r xs d.1) apart
+    order_append (λ (t u : Tree). t ≡ u → ⊥) _ (terms_with w r xs)
+    (if_distinct (is_word w 2 (relation_of x)) (second_of r x.terms) (second_distinct r x.terms)) (seconds_distinct w r xs d.1) apart
   where
     own : (t : Tree) → IsAmong (atom2 w r t) (x ∷ []) → x ≡ atom2 w r t
     own t (inl e) = sym e

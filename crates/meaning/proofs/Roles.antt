@@ -1,5 +1,33 @@
 -- The listed roles are the roles that the items state, in their order.
-use Rattle.std.proofs.Common.{ℕ, zero, suc, Bool, true, false, not, cond, ◌&&◌, ◌≡◌, ◌⊎◌, inl, inr, List, [], ◌∷◌, ◌++◌, map, append_assoc, refl, sym, ap, subst, ◌∙◌, arith, eqb, eqb-true}
+use Rattle.std.proofs.Common.{
+  ℕ,
+  zero,
+  suc,
+  Bool,
+  true,
+  false,
+  not,
+  cond,
+  ◌&&◌,
+  ◌≡◌,
+  ◌⊎◌,
+  inl,
+  inr,
+  List,
+  [],
+  ◌∷◌,
+  ◌++◌,
+  map,
+  append_assoc,
+  refl,
+  sym,
+  ap,
+  subst,
+  ◌∙◌,
+  arith,
+  eqb,
+  eqb-true,
+}
 use Rattle.std.specs.Prelude.{filter}
 use Rattle.kif.specs.Tree.{Tree, name, list, Trees, no_trees, tree, name_eq, tree_eq}
 use Rattle.kif.proofs.Facts.{both, name_eq_yes, tree_eq_yes, tree_eq_self}
@@ -15,7 +43,20 @@ use Rattle.meaning.specs.Substitution.{Map, substitute, substitute_all}
 use Rattle.meaning.specs.Meaning.{atom1}
 use Rattle.meaning.specs.InOrder.{AreDistinct}
 use Rattle.meaning.specs.Matching.{map_of}
-use Rattle.meaning.specs.Listing.{Instance, is_atom_in, kept_of, kept_of_relation, with_atoms, Listing, heads, list_relation, list_relations, one_term, terms_of, role_list}
+use Rattle.meaning.specs.Listing.{
+  Instance,
+  is_atom_in,
+  kept_of,
+  kept_of_relation,
+  with_atoms,
+  Listing,
+  heads,
+  list_relation,
+  list_relations,
+  one_term,
+  terms_of,
+  role_list,
+}
 use Rattle.meaning.proofs.Accepted.{words_well, accepted_well_formed}
 use Rattle.meaning.proofs.ListedLaw.{is_atom_yes, is_atom_in_yes}
 use Rattle.meaning.proofs.Fold.{terms_in, terms_out}
@@ -64,7 +105,8 @@ terms_append (x ∷ xs) ys = ap (λ (l : List Tree). here ++ l) (terms_append xs
 own_terms : (y : Atom) → (terms_of w_role (y ∷ []) ≡ []) ⊎ ((t : Tree) × (y ≡ atom1 w_role t))
 own_terms y = go (is_word w_role 1 (relation_of y)) refl y.terms refl
   where
-    go : (b : Bool) → is_word w_role 1 (relation_of y) ≡ b → (ts : Trees) → y.terms ≡ ts → (cond b (one_term y.terms) [] ++ [] ≡ []) ⊎ ((t : Tree) × (y ≡ atom1 w_role t))
+    go : (b : Bool) → is_word w_role 1 (relation_of y) ≡ b → (ts : Trees) → y.terms ≡ ts → (cond b (one_term y.terms) [] ++ [] ≡ [])
+        ⊎ ((t : Tree) × (y ≡ atom1 w_role t))
     go false e ts f = inl refl
     go true e no_trees f = inl (ap (λ (us : Trees). one_term us ++ []) f)
     go true e (tree t (tree u us)) f = inl (ap (λ (vs : Trees). one_term vs ++ []) f)
@@ -108,11 +150,13 @@ terms_with_atoms xs (y ∷ ys) =
 
 -- Relations other than `role` add none.
 
-no_role : (p : Relation) → (p ≡ role_relation → ⊥) → (is : List Instance) → ((i : Instance) → IsAmong i is → relation_of i.head ≡ p) → terms_of w_role (heads is) ≡ []
+no_role : (p : Relation) → (p ≡ role_relation → ⊥) → (is : List Instance) → ((i : Instance) → IsAmong i is → relation_of i.head ≡ p)
+    → terms_of w_role (heads is) ≡ []
 no_role p other [] h = refl
 no_role p other (i ∷ is) h = go (is_word w_role 1 (relation_of i.head)) refl (no_role p other is (λ j a. h j (inr a)))
   where
-    go : (b : Bool) → is_word w_role 1 (relation_of i.head) ≡ b → terms_of w_role (heads is) ≡ [] → cond b (one_term i.head.terms) [] ++ terms_of w_role (heads is) ≡ []
+    go : (b : Bool) → is_word w_role 1 (relation_of i.head) ≡ b → terms_of w_role (heads is) ≡ []
+        → cond b (one_term i.head.terms) [] ++ terms_of w_role (heads is) ≡ []
     go false e k = k
     go true e k = absurd (other (sym (h i (inl refl)) ∙ relation_eq_yes (relation_of i.head) (role_relation) e))
 
@@ -131,7 +175,8 @@ among_relation p (q ∷ qs) h = go (or_cases _ _ h) (among_relation p qs)
 
 -- Stated roles.
 
-module _ (rules : List Alternative) (stated : List Tree) (same : (atoms : List Atom) → terms_of w_role (heads (kept_of_relation rules atoms (role_relation) zero rules)) ≡ stated) where
+module _ (rules : List Alternative) (stated : List Tree)
+    (same : (atoms : List Atom) → terms_of w_role (heads (kept_of_relation rules atoms (role_relation) zero rules)) ≡ stated) where
   step_roles : (g : Listing) (p : Relation) → (b : Bool) → relation_eq p (role_relation) ≡ b
       → terms_of w_role (list_relation rules g p).atoms ≡ cond b (with_new (terms_of w_role g.atoms) stated) (terms_of w_role g.atoms)
   step_roles g p true e =
@@ -144,7 +189,8 @@ module _ (rules : List Alternative) (stated : List Tree) (same : (atoms : List A
       ∙ ap (with_new (terms_of w_role g.atoms))
       (no_role p (λ f. let k = (relation_test p (role_relation)).1 f in cc) _ (λ i a. new_relation rules g.atoms p zero rules i a))
 
-  others_add_none : (g : Listing) (ps : List Relation) → ((p : Relation) → IsAmong p ps → p ≡ role_relation → ⊥) → terms_of w_role (list_relations rules g ps).atoms ≡ terms_of w_role g.atoms
+  others_add_none : (g : Listing) (ps : List Relation) → ((p : Relation) → IsAmong p ps → p ≡ role_relation → ⊥)
+      → terms_of w_role (list_relations rules g ps).atoms ≡ terms_of w_role g.atoms
   others_add_none g [] other = refl
   others_add_none g (p ∷ ps) other = others_add_none (list_relation rules g p) ps (λ q a. other q (inr a)) ∙ go (relation_eq p (role_relation)) refl
     where
@@ -199,7 +245,8 @@ mutual
 -- an item that states a role stands for one alternative, whose head is the fact
 fact_kept : (rules : List Alternative) (atoms : List Atom) (n : ℕ) (h : Atom) → is_empty (variables_in h.terms) ≡ true
     → kept_of rules atoms n (record { head = h; body = [] }) ≡ record { place = n; head = h; body = [] } ∷ []
-fact_kept rules atoms n h e = let f = all_same_without (map_of []) h.terms e in λ i. record { place = n; head = record { word = h.word; terms = f i }; body = [] } ∷ []
+fact_kept rules atoms n h e = let f = all_same_without (map_of []) h.terms e in
+    λ i. record { place = n; head = record { word = h.word; terms = f i }; body = [] } ∷ []
 
 first_one : (h : Atom) → is_word w_role 1 (relation_of h) ≡ true → first_of h.terms ≡ one_term h.terms
 first_one h e = go h.terms (both (name_eq h.word w_role) (eqb (count_trees h.terms) 1) e).1
@@ -210,23 +257,27 @@ first_one h e = go h.terms (both (name_eq h.word w_role) (eqb (count_trees h.ter
     go (tree t (tree u us)) k = let f = eqb-true (suc (suc (count_trees us))) 1 k in absurd (omega arith)
 
 -- alternatives of other relations give none
-skip : (rules : List Alternative) (atoms : List Atom) (rest some : List Alternative) (n : ℕ) → ((a : Alternative) → IsAmong a some → relation_eq (relation_of a.head) role_relation ≡ false)
+skip : (rules : List Alternative) (atoms : List Atom) (rest some : List Alternative) (n : ℕ)
+    → ((a : Alternative) → IsAmong a some → relation_eq (relation_of a.head) role_relation ≡ false)
     → (k : ℕ) × (kept_of_relation rules atoms role_relation n (some ++ rest) ≡ kept_of_relation rules atoms role_relation k rest)
 skip rules atoms rest [] n h = (n, refl)
 skip rules atoms rest (a ∷ more) n h =
     let e = h a (inl refl) in
     let r = skip rules atoms rest more (suc n) (λ b k. h b (inr k)) in (r.0, rw e r.1)
 
-first_fact : (rules : List Alternative) (atoms : List Atom) (n : ℕ) (h : Atom) (rest : List Alternative) → is_word w_role 1 (relation_of h) ≡ true → is_empty (variables_in h.terms) ≡ true
+first_fact : (rules : List Alternative) (atoms : List Atom) (n : ℕ) (h : Atom) (rest : List Alternative) → is_word w_role 1 (relation_of h) ≡ true
+    → is_empty (variables_in h.terms) ≡ true
     → terms_of w_role (heads (kept_of_relation rules atoms role_relation n (record { head = h; body = [] } ∷ rest)))
-    ≡ cond (is_word w_role 1 (relation_of h) && true) (first_of h.terms) [] ++ terms_of w_role (heads (kept_of_relation rules atoms role_relation (suc n) rest))
+    ≡ cond (is_word w_role 1 (relation_of h) && true) (first_of h.terms) [] ++ terms_of w_role
+    (heads (kept_of_relation rules atoms role_relation (suc n) rest))
 first_fact rules atoms n h rest e g = go (is_word w_role 1 (relation_of h)) e
   where
     more : List Instance
     more = kept_of_relation rules atoms role_relation (suc n) rest
 
     go : (b : Bool) → b ≡ true
-        → terms_of w_role (heads (cond b (kept_of rules atoms n (record { head = h; body = [] })) [] ++ kept_of_relation rules atoms role_relation (suc n) rest))
+        → terms_of w_role (heads (cond b (kept_of rules atoms n (record { head = h; body = [] })) [] ++ kept_of_relation rules atoms role_relation
+        (suc n) rest))
         ≡ cond (b && true) (first_of h.terms) [] ++ terms_of w_role (heads (kept_of_relation rules atoms role_relation (suc n) rest))
     go false k = absurd cc
     go true k =
@@ -240,21 +291,30 @@ item_roles : (rules : List Alternative) (atoms : List Atom) (n : ℕ) (t : Tree)
     ≡ role_in t ++ terms_of w_role (heads (kept_of_relation rules atoms role_relation k rest)))
 item_roles rules atoms n t rest well = go (is_word w_role 1 (relation_of (item_head t))) refl
   where
-    fact : is_word w_role 1 (relation_of (item_head t)) ≡ true → (bs : Trees) → not (is_some bs) ≡ true → is_empty (variables_in (item_head t).terms) ≡ true
-        → terms_of w_role (heads (kept_of_relation rules atoms role_relation n (map (λ b. record { head = item_head t; body = b }) (readings_of_all bs) ++ rest)))
-        ≡ cond (is_word w_role 1 (relation_of (item_head t)) && not (is_some bs)) (first_of (item_head t).terms) [] ++ terms_of w_role (heads (kept_of_relation rules atoms role_relation (suc n) rest))
+    fact : is_word w_role 1 (relation_of (item_head t)) ≡ true → (bs : Trees) → not (is_some bs) ≡ true
+        → is_empty (variables_in (item_head t).terms) ≡ true
+        → terms_of w_role (heads (kept_of_relation rules atoms role_relation n
+        (map (λ b. record { head = item_head t; body = b }) (readings_of_all bs) ++ rest)))
+        ≡ cond (is_word w_role 1 (relation_of (item_head t)) && not (is_some bs)) (first_of (item_head t).terms) [] ++ terms_of w_role
+        (heads (kept_of_relation rules atoms role_relation (suc n) rest))
     fact e (tree b bs) f g = absurd cc
     fact e no_trees f g = first_fact rules atoms n (item_head t) rest e g
 
     go : (b : Bool) → is_word w_role 1 (relation_of (item_head t)) ≡ b
         → (k : ℕ) × (terms_of w_role (heads (kept_of_relation rules atoms role_relation n (item_alternatives t ++ rest)))
-        ≡ cond (is_word w_role 1 (relation_of (item_head t)) && not (is_some (body_trees t))) (first_of (item_head t).terms) [] ++ terms_of w_role (heads (kept_of_relation rules atoms role_relation k rest)))
+        ≡ cond (is_word w_role 1 (relation_of (item_head t)) && not (is_some (body_trees t))) (first_of (item_head t).terms) [] ++ terms_of w_role
+        (heads (kept_of_relation rules atoms role_relation k rest)))
     go false e =
-        let s = skip rules atoms rest (item_alternatives t) n (λ a k. subst (λ (h : Atom). relation_eq (relation_of h) role_relation ≡ false) (sym (same_head (item_head t) _ a k)) e) in
-        (s.0, ap (λ (is : List Instance). terms_of w_role (heads is)) s.1 ∙ none (is_word w_role 1 (relation_of (item_head t))) e (not (is_some (body_trees t))) s.0)
+        let s = skip rules atoms rest (item_alternatives t) n
+        (λ a k. subst (λ (h : Atom). relation_eq (relation_of h) role_relation ≡ false) (sym (same_head (item_head t) _ a k)) e) in (
+          s.0,
+          ap (λ (is : List Instance). terms_of w_role (heads is)) s.1
+              ∙ none (is_word w_role 1 (relation_of (item_head t))) e (not (is_some (body_trees t))) s.0,
+        )
       where
         none : (b : Bool) → b ≡ false → (c : Bool) (k : ℕ)
-            → terms_of w_role (heads (kept_of_relation rules atoms role_relation k rest)) ≡ cond (b && c) (first_of (item_head t).terms) [] ++ terms_of w_role (heads (kept_of_relation rules atoms role_relation k rest))
+            → terms_of w_role (heads (kept_of_relation rules atoms role_relation k rest)) ≡ cond (b && c) (first_of (item_head t).terms) [] ++
+            terms_of w_role (heads (kept_of_relation rules atoms role_relation k rest))
         none false f c k = refl
         none true f c k = absurd cc
     go true e =
@@ -270,7 +330,8 @@ items_roles rules atoms n (t ∷ ts) well =
     let r = item_roles rules atoms n t (alternatives ts) (well t (inl refl)) in
     r.1 ∙ ap (λ (l : List Tree). role_in t ++ l) (items_roles rules atoms r.0 ts (λ u a. well u (inr a)))
 
-none_kept : (rules : List Alternative) (atoms : List Atom) (n : ℕ) (some : List Alternative) → ((a : Alternative) → IsAmong a some → relation_eq (relation_of a.head) role_relation ≡ false)
+none_kept : (rules : List Alternative) (atoms : List Atom) (n : ℕ) (some : List Alternative)
+    → ((a : Alternative) → IsAmong a some → relation_eq (relation_of a.head) role_relation ≡ false)
     → kept_of_relation rules atoms role_relation n some ≡ []
 none_kept rules atoms n [] h = refl
 none_kept rules atoms n (a ∷ more) h = let e = h a (inl refl) in rw e (none_kept rules atoms (suc n) more (λ b k. h b (inr k)))
@@ -282,30 +343,39 @@ roles_stated items e = go (is_among role_relation (relations_in_order (alternati
     firsts : List Relation
     firsts = filter (λ p. is_fixed (alternatives items) p) (relations_in_order (alternatives items))
 
-    same : (atoms : List Atom) → terms_of w_role (heads (kept_of_relation (alternatives items) atoms role_relation zero (alternatives items))) ≡ stated_roles items
+    same : (atoms : List Atom) → terms_of w_role (heads (kept_of_relation (alternatives items) atoms role_relation zero (alternatives items))) ≡
+        stated_roles items
     same atoms = items_roles (alternatives items) atoms zero items (λ t a. words_well items e t a)
 
     distinct : AreDistinct firsts
-    distinct = order_filter (λ (p q : Relation). p ≡ q → ⊥) (λ p. is_fixed (alternatives items) p) (relations_in_order (alternatives items)) (relations_distinct (alternatives items))
+    distinct = order_filter (λ (p q : Relation). p ≡ q → ⊥) (λ p. is_fixed (alternatives items) p) (relations_in_order (alternatives items))
+        (relations_distinct (alternatives items))
 
     fixed : is_fixed (alternatives items) role_relation ≡ true
     fixed = (fixed_tested (alternatives items) (accepted_well_formed items e).acyclic role_relation).1 (accepted_well_formed items e).role
 
-    absent : is_among role_relation (relations_in_order (alternatives items)) ≡ false → (p : Relation) → IsAmong p (relations_in_order (alternatives items)) → p ≡ role_relation → ⊥
+    absent : is_among role_relation (relations_in_order (alternatives items)) ≡ false → (p : Relation)
+        → IsAmong p (relations_in_order (alternatives items)) → p ≡ role_relation → ⊥
     absent f p a s =
-        let k = relation_among role_relation (relations_in_order (alternatives items)) (subst (λ (q : Relation). IsAmong q (relations_in_order (alternatives items))) s a) in cc
+        let k = relation_among role_relation (relations_in_order (alternatives items))
+        (subst (λ (q : Relation). IsAmong q (relations_in_order (alternatives items))) s a) in cc
 
-    not_role : is_among role_relation (relations_in_order (alternatives items)) ≡ false → (a : Alternative) → IsAmong a (alternatives items) → (b : Bool) → relation_eq (relation_of a.head) role_relation ≡ b → b ≡ false
-    not_role f a k true h = absurd (absent f (relation_of a.head) (relations_complete (alternatives items) a k) (relation_eq_yes (relation_of a.head) role_relation h))
+    not_role : is_among role_relation (relations_in_order (alternatives items)) ≡ false → (a : Alternative) → IsAmong a (alternatives items)
+        → (b : Bool) → relation_eq (relation_of a.head) role_relation ≡ b → b ≡ false
+    not_role f a k true h = absurd (absent f (relation_of a.head) (relations_complete (alternatives items) a k)
+        (relation_eq_yes (relation_of a.head) role_relation h))
     not_role f a k false h = refl
 
-    go : (b : Bool) → is_among role_relation (relations_in_order (alternatives items)) ≡ b → role_list (alternatives items) ≡ with_new [] (stated_roles items)
+    go : (b : Bool) → is_among role_relation (relations_in_order (alternatives items)) ≡ b
+        → role_list (alternatives items) ≡ with_new [] (stated_roles items)
     go true f =
         steps_roles (alternatives items) (stated_roles items) same (record { atoms = []; kept = [] }) firsts distinct
-        (among_filter_in (λ p. is_fixed (alternatives items) p) role_relation (relations_in_order (alternatives items)) (among_relation role_relation (relations_in_order (alternatives items)) f) fixed)
+        (among_filter_in (λ p. is_fixed (alternatives items) p) role_relation (relations_in_order (alternatives items))
+        (among_relation role_relation (relations_in_order (alternatives items)) f) fixed)
     go false f =
         let none : stated_roles items ≡ []
-        = sym (same []) ∙ ap (λ (is : List Instance). terms_of w_role (heads is)) (none_kept (alternatives items) [] zero (alternatives items) (λ a k. not_role f a k _ refl)) in
+        = sym (same []) ∙ ap (λ (is : List Instance). terms_of w_role (heads is))
+        (none_kept (alternatives items) [] zero (alternatives items) (λ a k. not_role f a k _ refl)) in
         others_add_none (alternatives items) (stated_roles items) same (record { atoms = []; kept = [] }) firsts
         (λ p a s. absent f p (among_filter (λ q. is_fixed (alternatives items) q) p (relations_in_order (alternatives items)) a).0 s)
         ∙ ap (with_new []) (sym none)

@@ -1,5 +1,33 @@
 -- The first limit passed is none exactly where all limits are kept.
-use Rattle.std.proofs.Common.{ℕ, zero, ◌≤◌, ◌+◌, Bool, true, false, not, ◌≡◌, ◌⊎◌, ◌↔◌, inl, inr, List, [], ◌∷◌, length, length-append, refl, sym, ap, subst, ◌∙◌, arith, Option, Some, None}
+use Rattle.std.proofs.Common.{
+  ℕ,
+  zero,
+  ◌≤◌,
+  ◌+◌,
+  Bool,
+  true,
+  false,
+  not,
+  ◌≡◌,
+  ◌⊎◌,
+  ◌↔◌,
+  inl,
+  inr,
+  List,
+  [],
+  ◌∷◌,
+  length,
+  length-append,
+  refl,
+  sym,
+  ap,
+  subst,
+  ◌∙◌,
+  arith,
+  Option,
+  Some,
+  None,
+}
 use Rattle.std.specs.Prelude.{nat_lt, filter, ◌||◌}
 use Rattle.std.proofs.lemmas.Bool.Decides.{nat_tests}
 use Rattle.kif.specs.Tree.{text}
@@ -9,7 +37,19 @@ use Rattle.profile.specs.Order.{relations_in_order}
 use Rattle.profile.proofs.Facts.{IsAmong-append, IsAmong-append_left, IsAmong-append_right}
 use Rattle.meaning.specs.declared.excess.Excess.{Excess}
 use Rattle.meaning.specs.declared.excess.Excess.TheVariants.{Base, Inputs, Instances, Text}
-use Rattle.meaning.specs.Listing.{Instance, kept_of_relation, with_atoms, Listing, heads, list_relation, list_relations, context_atoms, fixed_listing, role_list, base_list}
+use Rattle.meaning.specs.Listing.{
+  Instance,
+  kept_of_relation,
+  with_atoms,
+  Listing,
+  heads,
+  list_relation,
+  list_relations,
+  context_atoms,
+  fixed_listing,
+  role_list,
+  base_list,
+}
 use Rattle.meaning.specs.Limits.{or_else, where_true, has_long_text, first_excess, count_inputs, excess_by}
 use Rattle.meaning.specs.Most.{Limits}
 use Rattle.meaning.specs.Effects.{IsWithin}
@@ -51,7 +91,8 @@ AreShort n is = (i : Instance) → IsAmong i is → length (text (tree_of i.head
 short_heads : (n : ℕ) (is : List Instance) → has_long_text n (heads is) ≡ false → AreShort n is
 short_heads n [] h i a = absurd a
 short_heads n (j ∷ is) h i (inl e) =
-    subst (λ (k : Instance). length (text (tree_of k.head)) ≤ n) (sym e) (not_above n (length (text (tree_of j.head))) (or_false (nat_lt n (length (text (tree_of j.head)))) (has_long_text n (heads is)) h).0)
+    subst (λ (k : Instance). length (text (tree_of k.head)) ≤ n) (sym e)
+    (not_above n (length (text (tree_of j.head))) (or_false (nat_lt n (length (text (tree_of j.head)))) (has_long_text n (heads is)) h).0)
 short_heads n (j ∷ is) h i (inr a) = short_heads n is (or_false (nat_lt n (length (text (tree_of j.head)))) (has_long_text n (heads is)) h).1 i a
 
 heads_short : (n : ℕ) (is : List Instance) → AreShort n is → has_long_text n (heads is) ≡ false
@@ -67,12 +108,17 @@ module _ (most : Limits) (rules : List Alternative) where
   relations_within g [] h w = w
   relations_within g (p ∷ ps) h w =
       let a = both_none (nat_lt most.instances (length (list_relation rules g p).kept)) Instances
-      (or_else (where_true (has_long_text most.text (heads (kept_of_relation rules g.atoms p zero rules))) Text) (first_excess most rules (list_relation rules g p) ps)) h in
-      let b = both_none (has_long_text most.text (heads (kept_of_relation rules g.atoms p zero rules))) Text (first_excess most rules (list_relation rules g p) ps) a.1 in
-      relations_within (list_relation rules g p) ps b.1
-      (not_above most.instances (length (list_relation rules g p).kept) a.0, (λ i k. either i (short_heads most.text (kept_of_relation rules g.atoms p zero rules) b.0) (IsAmong-append i g.kept _ k)))
+      (or_else (where_true (has_long_text most.text (heads (kept_of_relation rules g.atoms p zero rules))) Text)
+      (first_excess most rules (list_relation rules g p) ps)) h in
+      let b = both_none (has_long_text most.text (heads (kept_of_relation rules g.atoms p zero rules))) Text
+      (first_excess most rules (list_relation rules g p) ps) a.1 in
+      relations_within (list_relation rules g p) ps b.1 (
+        not_above most.instances (length (list_relation rules g p).kept) a.0,
+        (λ i k. either i (short_heads most.text (kept_of_relation rules g.atoms p zero rules) b.0) (IsAmong-append i g.kept _ k)),
+      )
     where
-      either : (i : Instance) → AreShort most.text (kept_of_relation rules g.atoms p zero rules) → IsAmong i g.kept ⊎ IsAmong i (kept_of_relation rules g.atoms p zero rules) → length (text (tree_of i.head)) ≤ most.text
+      either : (i : Instance) → AreShort most.text (kept_of_relation rules g.atoms p zero rules) → IsAmong i g.kept
+          ⊎ IsAmong i (kept_of_relation rules g.atoms p zero rules) → length (text (tree_of i.head)) ≤ most.text
       either i short (inl k) = w.1 i k
       either i short (inr k) = short i k
 
@@ -81,16 +127,19 @@ module _ (most : Limits) (rules : List Alternative) where
   less_within g ps w =
       let r = added rules g ps in
       let e = r.kept in
-      let size : length g.kept + length r.more ≤ most.instances = subst (λ (n : ℕ). n ≤ most.instances) (ap length e ∙ length-append g.kept r.more) w.0 in
+      let size : length g.kept + length r.more ≤ most.instances = subst (λ (n : ℕ). n ≤ most.instances) (ap length e ∙ length-append g.kept r.more)
+      w.0 in
       (omega arith, (λ i a. w.1 i (subst (λ (is : List Instance). IsAmong i is) (sym e) (IsAmong-append_left i g.kept r.more a))))
 
   within_relations : (g : Listing) (ps : List Relation) → AreWithin (list_relations rules g ps) → first_excess most rules g ps ≡ None
   within_relations g [] w = refl
   within_relations g (p ∷ ps) w =
       let here = less_within (list_relation rules g p) ps w in
-      none_both (nat_lt most.instances (length (list_relation rules g p).kept)) Instances _ (above_not most.instances (length (list_relation rules g p).kept) here.0)
+      none_both (nat_lt most.instances (length (list_relation rules g p).kept)) Instances _
+      (above_not most.instances (length (list_relation rules g p).kept) here.0)
       (none_both (has_long_text most.text (heads (kept_of_relation rules g.atoms p zero rules))) Text _
-      (heads_short most.text (kept_of_relation rules g.atoms p zero rules) (λ i a. here.1 i (IsAmong-append_right i g.kept (kept_of_relation rules g.atoms p zero rules) a)))
+      (heads_short most.text (kept_of_relation rules g.atoms p zero rules)
+      (λ i a. here.1 i (IsAmong-append_right i g.kept (kept_of_relation rules g.atoms p zero rules) a)))
       (within_relations (list_relation rules g p) ps w))
 
   pub excess_exact : (excess_by most rules ≡ None) ↔ IsWithin most rules
@@ -113,8 +162,10 @@ module _ (most : Limits) (rules : List Alternative) where
 
       there : excess_by most rules ≡ None → IsWithin most rules
       there h =
-          let a = or_else_none first (or_else (where_true (nat_lt most.base (length (base_list rules))) Base) (or_else (where_true (nat_lt most.inputs (count_inputs rules (role_list rules))) Inputs) last)) h in
-          let b = both_none (nat_lt most.base (length (base_list rules))) Base (or_else (where_true (nat_lt most.inputs (count_inputs rules (role_list rules))) Inputs) last) a.1 in
+          let a = or_else_none first (or_else (where_true (nat_lt most.base (length (base_list rules))) Base)
+          (or_else (where_true (nat_lt most.inputs (count_inputs rules (role_list rules))) Inputs) last)) h in
+          let b = both_none (nat_lt most.base (length (base_list rules))) Base
+          (or_else (where_true (nat_lt most.inputs (count_inputs rules (role_list rules))) Inputs) last) a.1 in
           let c = both_none (nat_lt most.inputs (count_inputs rules (role_list rules))) Inputs last b.1 in
           let fixed = relations_within empty (filter (λ p. is_fixed rules p) (relations_in_order rules)) a.0 (omega arith, (λ i k. absurd k)) in
           let whole = relations_within start rests c.1 fixed in
@@ -131,5 +182,6 @@ module _ (most : Limits) (rules : List Alternative) where
           let fixed : AreWithin start = less_within start rests whole in
           none_or_else first _ (within_relations empty (filter (λ p. is_fixed rules p) (relations_in_order rules)) fixed)
           (none_both (nat_lt most.base (length (base_list rules))) Base _ (above_not most.base (length (base_list rules)) w.base)
-          (none_both (nat_lt most.inputs (count_inputs rules (role_list rules))) Inputs _ (above_not most.inputs (count_inputs rules (role_list rules)) w.inputs)
+          (none_both (nat_lt most.inputs (count_inputs rules (role_list rules))) Inputs _
+          (above_not most.inputs (count_inputs rules (role_list rules)) w.inputs)
           (within_relations start rests whole)))

@@ -7,7 +7,18 @@ use Rattle.profile.specs.Order.{relations_in_order}
 use Rattle.meaning.specs.declared.excess.Excess.{Excess}
 use Rattle.meaning.specs.declared.excess.Excess.TheVariants.{Base, Inputs, Instances, Text}
 use Rattle.meaning.specs.Most.{Limits, limits}
-use Rattle.meaning.specs.Listing.{Listing, heads, kept_of_relation, list_relation, with_atoms, context_atoms, fixed_listing, role_list, base_list, input_list}
+use Rattle.meaning.specs.Listing.{
+  Listing,
+  heads,
+  kept_of_relation,
+  list_relation,
+  with_atoms,
+  context_atoms,
+  fixed_listing,
+  role_list,
+  base_list,
+  input_list,
+}
 
 abbrev pub or_else : Option Excess → Option Excess → Option Excess
 or_else (Some e) other = Some e

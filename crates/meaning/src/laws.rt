@@ -37,7 +37,8 @@ pub fn kept_instances_suffice()
 /// For an atom of a fixed relation, to head a kept instance is to hold, and so is to be possible where the
 /// relation is not `distinct`.
 pub fn what_is_possible_and_fixed_holds()
-    ensures heads { (rules : List Alternative) → IsAcyclic rules → (x : Atom) → IsFixed rules (relation_of x) → HeadsKept rules x ↔ HoldsAlways rules x }
+    ensures heads { (rules : List Alternative) → IsAcyclic rules → (x : Atom) → IsFixed rules (relation_of x)
+        → HeadsKept rules x ↔ HoldsAlways rules x }
     ensures possible { (rules : List Alternative) → IsAcyclic rules → (x : Atom) → IsFixed rules (relation_of x) → is_distinct (relation_of x) ≡ false
         → IsPossible rules x ↔ HoldsAlways rules x }
 {}

@@ -7,7 +7,19 @@ ghost use Rattle.profile.specs.Items.{alternatives};
 ghost use Rattle.profile.specs.Profile.{HasNoFault, roles};
 ghost use Rattle.meaning.specs.Meaning.{State, Joint, Holds, IsWithinBase, IsWithinInput, IsRole, IsBase, IsInput};
 ghost use Rattle.meaning.specs.Kept.{HeadsKept, IsPossible};
-ghost use Rattle.meaning.specs.Listing.{Instance, listing, fixed_listing, context_atoms, with_atoms, heads, fixed_part, other_part, role_list, base_list, input_list};
+ghost use Rattle.meaning.specs.Listing.{
+  Instance,
+  listing,
+  fixed_listing,
+  context_atoms,
+  with_atoms,
+  heads,
+  fixed_part,
+  other_part,
+  role_list,
+  base_list,
+  input_list,
+};
 ghost use Rattle.meaning.specs.Substitution.{are_ground};
 ghost use Rattle.meaning.specs.Matching.{rows};
 ghost use Rattle.meaning.specs.InOrder.{AreDistinct, AreInOrder};
@@ -41,7 +53,8 @@ pub fn atoms_are_numbered_in_order()
     ensures once { (rules : List Alternative) → AreDistinct (listing rules).atoms }
     ensures appearance { (rules : List Alternative)
         → (listing rules).atoms
-        ≡ with_atoms [] (heads (fixed_part rules (listing rules).kept) ++ (context_atoms (fixed_listing rules).atoms ++ heads (other_part rules (listing rules).kept))) }
+        ≡ with_atoms [] (heads (fixed_part rules (listing rules).kept) ++
+        (context_atoms (fixed_listing rules).atoms ++ heads (other_part rules (listing rules).kept))) }
 {}
 
 /// For a state within `Base` and a joint move within `Input`, an atom holds exactly when some instance

@@ -21,7 +21,8 @@ module _ (g : Ground) (net : Net) (made : ∥ IsNetOf g net ∥₁) where
       let size = length-map-range_with_len (λ (p : ℕ). get_or net.transitions.items p 0) 0 n in
       let lk : k < n = omega arith in
       let z : 0 + k ≡ k = omega arith in
-      subst (λ (v : ℕ). v < length (gates_of net)) (sym (get_or-map-range_with_len (λ p. get_or net.transitions.items p 0) 0 n k k d lk z)) (transition_below g net made k lk)
+      subst (λ (v : ℕ). v < length (gates_of net)) (sym (get_or-map-range_with_len (λ p. get_or net.transitions.items p 0) 0 n k k d lk z))
+      (transition_below g net made k lk)
 
   pub asked_within : All (λ (n : ℕ). n < length (gates_of net)) (asked_nodes net.views.items (kinds_of g))
   asked_within =

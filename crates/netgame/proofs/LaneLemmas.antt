@@ -1,5 +1,29 @@
 -- What words of lanes tell of many states.
-use Rattle.std.proofs.Common.{◌≡◌, ℕ, ◌+◌, ◌<◌, Bool, true, false, cond, ◌||◌, List, [], ◌∷◌, ◌++◌, length, take, refl, sym, ap, ◌∙◌, arith, max, zero, suc}
+use Rattle.std.proofs.Common.{
+  ◌≡◌,
+  ℕ,
+  ◌+◌,
+  ◌<◌,
+  Bool,
+  true,
+  false,
+  cond,
+  ◌||◌,
+  List,
+  [],
+  ◌∷◌,
+  ◌++◌,
+  length,
+  take,
+  refl,
+  sym,
+  ap,
+  ◌∙◌,
+  arith,
+  max,
+  zero,
+  suc,
+}
 use Rattle.std.specs.Prelude.{◌==◌}
 use Rattle.std.specs.Int.{bit_at}
 use Rattle.std.specs.Int.Bits.{bit_or}
@@ -19,7 +43,8 @@ either_bit (suc zero) (suc (suc b)) la lb = absurd (omega arith)
 pub either_on : (a b k : ℕ) → (bit_at (bit_or a b) k == 1) ≡ ((bit_at a k == 1) || (bit_at b k == 1))
 either_on a b k = ap (λ (v : ℕ). v == 1) (bit_at_or a b k) ∙ either_bit (bit_at a k) (bit_at b k) (bit_at-lt a k) (bit_at-lt b k)
 
-pub put_behind : (b : Bool) (xs : List ℕ) (count x : ℕ) → count < length xs → take (count + cond b 1 0) (set xs count x) ≡ take count xs ++ cond b (x ∷ []) []
+pub put_behind : (b : Bool) (xs : List ℕ) (count x : ℕ) → count < length xs → take (count + cond b 1 0) (set xs count x) ≡ take count xs ++ cond b
+    (x ∷ []) []
 put_behind true xs count x lt = take_more_set xs count x lt
 put_behind false xs count x lt =
     let e : count + 0 ≡ count = omega arith in

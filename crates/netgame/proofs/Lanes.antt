@@ -1,5 +1,36 @@
 -- Many states by lanes.
-use Rattle.std.proofs.Common.{◌≡◌, ℕ, zero, suc, ◌+◌, ◌<◌, ◌≤◌, Bool, true, false, cond, ◌&&◌, le-ltb, List, [], ◌∷◌, length, map, get_or, refl, sym, ap, ◌∙◌, arith, Option, Some, slice_get, ◌⊎◌, inl, inr}
+use Rattle.std.proofs.Common.{
+  ◌≡◌,
+  ℕ,
+  zero,
+  suc,
+  ◌+◌,
+  ◌<◌,
+  ◌≤◌,
+  Bool,
+  true,
+  false,
+  cond,
+  ◌&&◌,
+  le-ltb,
+  List,
+  [],
+  ◌∷◌,
+  length,
+  map,
+  get_or,
+  refl,
+  sym,
+  ap,
+  ◌∙◌,
+  arith,
+  Option,
+  Some,
+  slice_get,
+  ◌⊎◌,
+  inl,
+  inr,
+}
 use Rattle.std.specs.Prelude.{All, ◌==◌, nat_lt}
 use Rattle.std.specs.Int.{bit_at}
 use Rattle.std.specs.List.{range_with_len}
@@ -37,7 +68,8 @@ use Rattle.netgame.proofs.NetReads.{view_told, transition_told}
 use Rattle.netgame.proofs.Places.{asked_count, asked_node}
 use Rattle.netgame.proofs.Shown.{filter_all}
 
-turn_at : (P : List ℕ → Type 0) (joints : List (SmallVec ℕ)) → All (λ (j : SmallVec ℕ). P j.items) joints → (k : ℕ) → k < length joints → P (joint_at joints k)
+turn_at : (P : List ℕ → Type 0) (joints : List (SmallVec ℕ)) → All (λ (j : SmallVec ℕ). P j.items) joints → (k : ℕ) → k < length joints
+    → P (joint_at joints k)
 turn_at P [] h k lt = absurd (omega arith)
 turn_at P (j ∷ js) h zero lt = h 0 j (omega arith)
 turn_at P (j ∷ js) h (suc k) lt = turn_at P js (λ i d l. h (suc i) d (omega arith)) k (omega arith)
@@ -57,16 +89,20 @@ lane_alone net states l size = record {
 }
 
 -- an atom at a place among those that are asked is asked
-asked_shown : (kinds : List Kind) (p : ℕ) → p < length (shown_below kinds (length kinds)) → (asked_at kinds p < length kinds) × (is_shown (kind_at kinds (asked_at kinds p)) ≡ true)
+asked_shown : (kinds : List Kind) (p : ℕ) → p < length (shown_below kinds (length kinds)) → (asked_at kinds p < length kinds)
+    × (is_shown (kind_at kinds (asked_at kinds p)) ≡ true)
 asked_shown kinds p lt =
-    filter_all (λ a. is_shown (kind_at kinds a)) (λ a. (a < length kinds) × (is_shown (kind_at kinds a) ≡ true)) 0 (length kinds) (λ k from to e. (omega arith, e)) p 0 lt
+    filter_all (λ a. is_shown (kind_at kinds a)) (λ a. (a < length kinds) × (is_shown (kind_at kinds a) ≡ true)) 0 (length kinds)
+    (λ k from to e. (omega arith, e)) p 0 lt
 
 -- the tape of what is asked keeps a node for each atom that is asked
-pub kept_count : (g : Ground) (net : Net) (plan : LanePlan) → IsLanePlanOf g net plan → kept_in plan.asked ≡ length (shown_below (kinds_of g) (length (kinds_of g)))
+pub kept_count : (g : Ground) (net : Net) (plan : LanePlan) → IsLanePlanOf g net plan
+    → kept_in plan.asked ≡ length (shown_below (kinds_of g) (length (kinds_of g)))
 kept_count g net plan laned = ∥∥₁_elim laned.asked (Prim.hlevel props) (λ of. of.size ∙ asked_count net.views.items (kinds_of g))
 
 -- what a pass over the tape of what is asked tells
-pub tells_asked : (g : Ground) (net : Net) → ∥ IsNetOf g net ∥₁ → (plan : LanePlan) → IsLanePlanOf g net plan → (states room : List ℕ) (k : ℕ) → length states ≡ length g.starts.items
+pub tells_asked : (g : Ground) (net : Net) → ∥ IsNetOf g net ∥₁ → (plan : LanePlan) → IsLanePlanOf g net plan → (states room : List ℕ) (k : ℕ)
+    → length states ≡ length g.starts.items
     → HasRun plan.asked states room → k < 64 → Tells plan.asked room k (λ p. holds_lane g states k (asked_at (kinds_of g) p))
 tells_asked g net made plan laned states room k size ran lk p w below h =
     ∥∥₁_elim laned.asked (Prim.hlevel props) (λ of.
@@ -80,7 +116,8 @@ tells_asked g net made plan laned states room k size ran lk p w below h =
     let node = asked_node views kinds p here in
     let shown = asked_shown kinds p here in
     let bit : bit_at w k ≡ value (gates_of net) (lane states k) no_turn (view_of views (asked_at kinds p)) =
-    h net (asked_nodes views kinds) states of ran k (lane states k) no_turn lk (lane_alone net states k whole) ∙ ap (value (gates_of net) (lane states k) no_turn) node in
+    h net (asked_nodes views kinds) states of ran k (lane states k) no_turn lk (lane_alone net states k whole)
+    ∙ ap (value (gates_of net) (lane states k) no_turn) node in
     ap (λ (v : ℕ). v == 1) bit ∙ (view_told g net made (lane states k) (λ n. bit_at-lt _ _) (asked_at kinds p) shown.0 shown.1).told)
 
 -- states whose bits agree
@@ -98,13 +135,15 @@ spread_words words n v size h p k lt = go (cases_lt p n)
         ap (λ (w : ℕ). bit_at w k) none ∙ bit_at-zero k ∙ sym (ap (λ (w : ℕ). bit_at w 0) none ∙ bit_at-zero 0)
 
 -- a list by the numbers of its places
-pub range_map : {A B : Type 0} (f : ℕ → B) (h : A → B) (xs : List A) (a n : ℕ) → n ≡ length xs → ((k : ℕ) (x : A) → k < length xs → slice_get xs k ≡ Some x → f (a + k) ≡ h x) → map f (range_with_len a n) ≡ map h xs
+pub range_map : {A B : Type 0} (f : ℕ → B) (h : A → B) (xs : List A) (a n : ℕ) → n ≡ length xs
+    → ((k : ℕ) (x : A) → k < length xs → slice_get xs k ≡ Some x → f (a + k) ≡ h x) → map f (range_with_len a n) ≡ map h xs
 range_map f h [] a zero e same = refl
 range_map f h [] a (suc n) e same = absurd (omega arith)
 range_map f h (x ∷ xs) a zero e same = absurd (omega arith)
 range_map {A} {B} f h (x ∷ xs) a (suc n) e same =
     let here : f a ≡ h x = ap f (omega arith) ∙ same 0 x (omega arith) refl in
-    let rest : map f (range_with_len (a + 1) n) ≡ map h xs = range_map f h xs (a + 1) n (omega arith) (λ k y lt s. ap f (omega arith) ∙ same (suc k) y (omega arith) s) in
+    let rest : map f (range_with_len (a + 1) n) ≡ map h xs = range_map f h xs (a + 1) n (omega arith)
+    (λ k y lt s. ap f (omega arith) ∙ same (suc k) y (omega arith) s) in
     ap (λ (y : B). y ∷ map f (range_with_len (a + 1) n)) here ∙ ap (λ (ys : List B). h x ∷ ys) rest
 
 -- a joint move of the game has an input of each role
@@ -113,16 +152,19 @@ turn_joint g net made joint turn r lt =
     let counts = inputs_count g net made in
     let size : length net.inputs.items ≡ length (inputs_of g) = ap length counts ∙ length-map (inputs_of g) (λ (ts : List (List ℕ)). length ts) in
     let inside : r < length (inputs_of g) = omega arith in
-    let own : get_or net.inputs.items r 0 ≡ length (texts_at (inputs_of g) r) = ap (λ (ns : List ℕ). get_or ns r 0) counts ∙ get_or-map (λ (ts : List (List ℕ)). length ts) (inputs_of g) r [] 0 inside in
+    let own : get_or net.inputs.items r 0 ≡ length (texts_at (inputs_of g) r) = ap (λ (ns : List ℕ). get_or ns r 0) counts
+    ∙ get_or-map (λ (ts : List (List ℕ)). length ts) (inputs_of g) r [] 0 inside in
     let known = turn.each_known r inside in
     let each = turn.of_each_role in
     (omega arith, omega arith)
 
 -- what a pass over the tape of the next state writes
-pub tells_next_states : (g : Ground) (net : Net) → ∥ IsNetOf g net ∥₁ → (plan : LanePlan) → IsLanePlanOf g net plan → (from words states : List ℕ) (joints : List (SmallVec ℕ)) → length joints ≤ 64
+pub tells_next_states : (g : Ground) (net : Net) → ∥ IsNetOf g net ∥₁ → (plan : LanePlan) → IsLanePlanOf g net plan
+    → (from words states : List ℕ) (joints : List (SmallVec ℕ)) → length joints ≤ 64
     → All (λ (j : SmallVec ℕ). IsTurn (rules_of g) j.items) joints → AreSpread from → length states ≡ length g.starts.items
     → ((p : ℕ) → p < net.base → get_or words p 0 ≡ get_or from p 0) → AreGiven net.base net.inputs.items joints words
-    → ((made_of : Net) (kept : List ℕ) (i : ℕ) → IsTurnTapeOf made_of kept plan.next → i < length states → IsTurnWordOf made_of words (get_or kept i 0) (get_or states i 0)) → AreAfter g from joints states
+    → ((made_of : Net) (kept : List ℕ) (i : ℕ) → IsTurnTapeOf made_of kept plan.next → i < length states
+    → IsTurnWordOf made_of words (get_or kept i 0) (get_or states i 0)) → AreAfter g from joints states
 tells_next_states g net made plan laned from words states joints few turns spread size base given_words h =
     let n = length g.starts.items in
     let s = lane_state from n 0 in
@@ -141,7 +183,8 @@ tells_next_states g net made plan laned from words states joints few turns sprea
     let node = get_or net.transitions.items p 0 in
     let kept : get_or (next_below net n) p 0 ≡ node = get_or-map-range_with_len (λ q. get_or net.transitions.items q 0) 0 n p p 0 lp (omega arith) in
     let bit : lane states k p ≡ value (gates_of net) (lane from k) (joint_at joints k) node =
-    ∥∥₁_elim laned.next (Prim.hlevel props) (λ of. h net (next_below net n) p of inside k (lane from k) (joint_at joints k) (omega arith) (turn_joint g net made (joint_at joints k) turn) told ∙ ap (value (gates_of net) (lane from k) (joint_at joints k)) kept) in
+    ∥∥₁_elim laned.next (Prim.hlevel props) (λ of. h net (next_below net n) p of inside k (lane from k) (joint_at joints k) (omega arith)
+    (turn_joint g net made (joint_at joints k) turn) told ∙ ap (value (gates_of net) (lane from k) (joint_at joints k)) kept) in
     ap (λ (v : ℕ). v == 1) bit
     ∙ (transition_told g net made (lane from k) (λ q. bit_at-lt _ _) (joint_at joints k) turn p lp).told
     ∙ ap (λ (t : State). is_named (kinds_of g) (holds (kinds_of g) (instances_of g) t (joint_at joints k)) ByNext p) same

@@ -1,5 +1,32 @@
 -- The values of a network tell what the game of the instantiation tells.
-use Rattle.std.proofs.Common.{◌≡◌, ℕ, ◌<◌, Bool, true, false, cond, ◌&&◌, List, length, map, get_or, refl, sym, ◌∙◌, ap, subst, arith, Option, Some, None, ◌↔◌, le-ltb, lt-ltb, eqb-true, eq-eqb}
+use Rattle.std.proofs.Common.{
+  ◌≡◌,
+  ℕ,
+  ◌<◌,
+  Bool,
+  true,
+  false,
+  cond,
+  ◌&&◌,
+  List,
+  length,
+  map,
+  get_or,
+  refl,
+  sym,
+  ◌∙◌,
+  ap,
+  subst,
+  arith,
+  Option,
+  Some,
+  None,
+  ◌↔◌,
+  le-ltb,
+  lt-ltb,
+  eqb-true,
+  eq-eqb,
+}
 use Rattle.std.specs.Prelude.{◌==◌, nat_lt, slice_index, unwrap_or, IsTrue}
 use Rattle.std.proofs.Math.Logic.{∥∥₁_elim}
 use Rattle.std.proofs.Props.{props}
@@ -32,8 +59,7 @@ use Rattle.propnet.specs.Bodies.{needs_view}
 use Rattle.propnet.specs.Builders.{IsNetOf}
 use Rattle.propnet.specs.Nets.{gates_of}
 use Rattle.propnet.specs.Network.{given, value}
-use Rattle.propnet.proofs.BuildLemmas.{stands_below}
-use Rattle.propnet.proofs.NetLaw.{view_law, transition_law, told_law}
+use Rattle.propnet.proofs.Facts.{stands_below, view_law, transition_law, told_law}
 use Rattle.rulegame.specs.declared.naming.Naming.TheVariants.{ByNext}
 use Rattle.game.specs.Rules.{State, Turn, IsTurn}
 use Rattle.game.specs.Played.{tree_at}
@@ -41,7 +67,28 @@ use Rattle.rulegame.specs.RuleMeaning.{stands_at, state_of, chosen_at, joint_of}
 use Rattle.rulegame.specs.RulePlay.{no_turn, kind_at, holds, is_named}
 use Rattle.rulegame.specs.RuleState.{rules_of, holds_in}
 use Rattle.netgame.specs.NetState.{is_shown, told_state, view_of}
-use Rattle.rulegame.proofs.Facts.{place_within, within_input, next_holds, numbers_exact, right_there, among_atom, number_at, kind_at_number, moving_kind, place_among, within_base, no_move, agree_now, game_of_ground, same_answer, in_order_once, inside, placed, place_at, among_tree}
+use Rattle.rulegame.proofs.Facts.{
+  place_within,
+  within_input,
+  next_holds,
+  numbers_exact,
+  right_there,
+  among_atom,
+  number_at,
+  kind_at_number,
+  moving_kind,
+  place_among,
+  within_base,
+  no_move,
+  agree_now,
+  game_of_ground,
+  same_answer,
+  in_order_once,
+  inside,
+  placed,
+  place_at,
+  among_tree,
+}
 
 -- a number is 1 where a test says so
 one_told : (n : ℕ) (X : Type 0) → (n ≡ 1) ↔ X → ((n == 1) ≡ true) ↔ X
@@ -89,7 +136,8 @@ module _ (rules : List Alternative) (w : IsWellFormed rules) where
     bits_now : (p : Tree) (n : ℕ) → place_in p (base_list rules) ≡ Some n → (state n ≡ 1) ↔ IsTrue (state_of rules s p)
     bits_now p n e =
         let same : state_of rules s p ≡ (state n == 1) =
-        ap (stands_at s) e ∙ inside (λ i. state i == 1) 0 (length (base_list rules)) n (omega arith) (let lt = place_within p (base_list rules) n e in omega arith) in
+        ap (stands_at s) e ∙ inside (λ i. state i == 1) 0 (length (base_list rules)) n (omega arith) (let lt = place_within p (base_list rules) n e in
+        omega arith) in
         ((λ h. same ∙ eq-eqb (state n) 1 h), (λ h. eqb-true (state n) 1 (sym same ∙ h)))
 
     agree_bits_now : agreement.Agree rules (state_of rules s) nobody state no_turn
@@ -108,7 +156,8 @@ module _ (rules : List Alternative) (w : IsWellFormed rules) where
 
     module _ (j : Turn) (many : length j ≡ length (role_list rules))
         (below : (q : ℕ) → q < length (role_list rules) → slice_index j q < length (input_list rules (tree_at (role_list rules) q))) where
-      given_told : (r m : Tree) (k n : ℕ) → place_in r (role_list rules) ≡ Some k → place_in m (input_list rules r) ≡ Some n → (given j k n ≡ 1) ↔ (joint_of rules j r ≡ Some m)
+      given_told : (r m : Tree) (k n : ℕ) → place_in r (role_list rules) ≡ Some k → place_in m (input_list rules r) ≡ Some n
+          → (given j k n ≡ 1) ↔ (joint_of rules j r ≡ Some m)
       given_told r m k n e f = (there, back)
         where
           role : IsRole rules r
@@ -130,12 +179,15 @@ module _ (rules : List Alternative) (w : IsWellFormed rules) where
 
           back : joint_of rules j r ≡ Some m → given j k n ≡ 1
           back h =
-              let tree : tree_at (input_list rules r) (slice_index j k) ≡ m = let z : Some (tree_at (input_list rules r) (slice_index j k)) ≡ Some m = sym same ∙ h in cc in
+              let tree : tree_at (input_list rules r) (slice_index j k) ≡ m = let z : Some (tree_at (input_list rules r) (slice_index j k)) ≡ Some
+              m = sym same ∙ h in cc in
               let once = in_order_once (input_list rules r) (inputs_in_order rules w r role) in
               let lt : slice_index j k < length (input_list rules r) =
-              subst (λ (t : Tree). slice_index j k < length (input_list rules t)) (placed r (role_list rules) k e) (below k (place_within r (role_list rules) k e)) in
+              subst (λ (t : Tree). slice_index j k < length (input_list rules t)) (placed r (role_list rules) k e)
+              (below k (place_within r (role_list rules) k e)) in
               let place : place_in m (input_list rules r) ≡ Some (slice_index j k) =
-              subst (λ (t : Tree). place_in t (input_list rules r) ≡ Some (slice_index j k)) tree (place_at (input_list rules r) once (slice_index j k) lt) in
+              subst (λ (t : Tree). place_in t (input_list rules r) ≡ Some (slice_index j k)) tree
+              (place_at (input_list rules r) once (slice_index j k) lt) in
               let i : slice_index j k ≡ n = let z : Some (slice_index j k) ≡ Some n = sym place ∙ f in cc in
               test ∙ if_one (slice_index j k == n) (eq-eqb (slice_index j k) n i)
 
@@ -153,7 +205,8 @@ pub record IsTransitionTold (g : Ground) (net : Net) (state : ℕ → ℕ) (j : 
   pub told : (value (gates_of net) state j (get_or net.transitions.items p 0) == 1)
       ≡ is_named (kinds_of g) (holds (kinds_of g) (instances_of g) (told_state state (length g.starts.items)) j) ByNext p
 
-module _ (rules : List Alternative) (g : Ground) (is : IsGround rules g) (net : Net) (of : IsNetOf g net) (state : ℕ → ℕ) (is_bit : (n : ℕ) → state n < 2) where
+module _ (rules : List Alternative) (g : Ground) (is : IsGround rules g) (net : Net) (of : IsNetOf g net) (state : ℕ → ℕ)
+    (is_bit : (n : ℕ) → state n < 2) where
   abbrev kinds : List Kind
   kinds = map (kind_of rules) (listing rules).atoms
 
@@ -189,7 +242,8 @@ module _ (rules : List Alternative) (g : Ground) (is : IsGround rules g) (net : 
     number = number_at (listing rules).atoms (one_number rules) a within
 
     kind_shown : is_shown (kind_of rules x) ≡ true
-    kind_shown = ap is_shown (sym (ap (λ (ks : List Kind). kind_at ks a) is.kinds_are ∙ kind_at_number (kind_of rules) (listing rules).atoms a within)) ∙ shown
+    kind_shown = ap is_shown (sym (ap (λ (ks : List Kind). kind_at ks a) is.kinds_are
+        ∙ kind_at_number (kind_of rules) (listing rules).atoms a within)) ∙ shown
 
     moving : is_fixed rules (relation_of x) ≡ false
     moving = shown_moving rules is.well_formed x (kind_of rules x) refl kind_shown
@@ -199,16 +253,22 @@ module _ (rules : List Alternative) (g : Ground) (is : IsGround rules g) (net : 
         let w = is.well_formed in
         let r = told_law rules g is net of x listed moving (shown_view (kind_of rules x) kind_shown) in
         let S = state_of rules kept_words in
-        let node : view_of net.views.items a ≡ r.0 = ap (λ (o : Option ℕ). unwrap_or o 0) (ap (λ (i : ℕ). get_or net.views.items i None) (sym number) ∙ r.1) in
-        let law = view_law rules g is net of S nobody (within_base rules w kept_words) (no_move rules w kept_words) state no_turn (agree_bits_now rules w state is_bit) x listed moving r.0 r.2 in
-        let found = numbers_exact rules w S nobody (within_base rules w kept_words) (no_move rules w kept_words) kept_words no_turn (agree_now rules w kept_words) x listed moving in
+        let node : view_of net.views.items a ≡ r.0 = ap (λ (o : Option ℕ). unwrap_or o 0) (ap (λ (i : ℕ). get_or net.views.items i None) (sym number)
+        ∙ r.1) in
+        let law = view_law rules g is net of S nobody (within_base rules w kept_words) (no_move rules w kept_words) state no_turn
+        (agree_bits_now rules w state is_bit) x listed moving r.0 r.2 in
+        let found = numbers_exact rules w S nobody (within_base rules w kept_words) (no_move rules w kept_words) kept_words no_turn
+        (agree_now rules w kept_words) x listed moving in
         let plain = right_there S nobody (Holds rules S nobody x) (source_of x) (shown_plain rules w x (kind_of rules x) refl kind_shown) in
-        let held : (holds kinds kept kept_words no_turn (number_of x (listing rules).atoms) ≡ true) ↔ Holds rules S nobody x = ((λ e. plain.1 (found.0 e)), (λ h. found.1 (plain.0 h))) in
+        let held : (holds kinds kept kept_words no_turn (number_of x (listing rules).atoms) ≡ true) ↔ Holds rules S nobody
+        x = ((λ e. plain.1 (found.0 e)), (λ h. found.1 (plain.0 h))) in
         let same : (value (gates_of net) state no_turn r.0 == 1) ≡ holds kinds kept kept_words no_turn (number_of x (listing rules).atoms) =
-        same_answer (value (gates_of net) state no_turn r.0 == 1) (holds kinds kept kept_words no_turn (number_of x (listing rules).atoms)) (Holds rules S nobody x) (one_told _ (Holds rules S nobody x) law) held in
+        same_answer (value (gates_of net) state no_turn r.0 == 1) (holds kinds kept kept_words no_turn (number_of x (listing rules).atoms))
+        (Holds rules S nobody x) (one_told _ (Holds rules S nobody x) law) held in
         record {
           below = subst (λ (n : ℕ). n < length (gates_of net)) (sym node) (stands_below (gates_of net) r.0 _ r.2);
-          told = ap (λ (n : ℕ). value (gates_of net) state no_turn n == 1) node ∙ same ∙ ap (holds kinds kept kept_words no_turn) number ∙ sym (ap (λ (f : ℕ → Bool). f a) (counted no_turn));
+          told = ap (λ (n : ℕ). value (gates_of net) state no_turn n == 1) node ∙ same ∙ ap (holds kinds kept kept_words no_turn) number
+              ∙ sym (ap (λ (f : ℕ → Bool). f a) (counted no_turn));
         }
 
   module _ (j : Turn) (turn : IsTurn (rules_of g) j) where
@@ -224,34 +284,45 @@ module _ (rules : List Alternative) (g : Ground) (is : IsGround rules g) (net : 
     transition_told_by p lt =
         let w = is.well_formed in
         let inside : p < length (base_list rules) = let c = count in omega arith in
-        let texts : length (base_of g) ≡ length (base_list rules) = ap (λ (ts : List (List ℕ)). length ts) is.base_are ∙ length-map (base_list rules) text in
+        let texts : length (base_of g) ≡ length (base_list rules) = ap (λ (ts : List (List ℕ)). length ts) is.base_are
+        ∙ length-map (base_list rules) text in
         let S = state_of rules kept_words in
         let J = joint_of rules j in
         let t = tree_at (base_list rules) p in
-        let place : place_in t (base_list rules) ≡ Some p = place_at (base_list rules) (in_order_once (base_list rules) (bases_in_order rules w)) p inside in
+        let place : place_in t (base_list rules) ≡ Some p = place_at (base_list rules) (in_order_once (base_list rules) (bases_in_order rules w)) p
+        inside in
         let n = get_or net.transitions.items p 0 in
         let stands = of.transitions.each p (omega arith) in
-        let law = transition_law rules g is net of S J (within_base rules w kept_words) (within_input rules w kept_words j many known) state j (agree_bits_move rules w state is_bit j many known) t p place n stands in
+        let law = transition_law rules g is net of S J (within_base rules w kept_words) (within_input rules w kept_words j many known) state j
+        (agree_bits_move rules w state is_bit j many known) t p place n stands in
         let next = next_holds rules w kept_words j many known p inside in
         let named : (is_named kinds (holds kinds kept kept_words j) ByNext p ≡ true) ↔ meaning.IsInAfter rules S J t =
         ((λ e. ((bases_exact rules w t).0 (among_tree (base_list rules) p inside), next.0 e)), (λ h. next.1 h.1)) in
         record {
           below = stands_below (gates_of net) n _ stands;
-          told = same_answer (value (gates_of net) state j n == 1) (is_named kinds (holds kinds kept kept_words j) ByNext p) (meaning.IsInAfter rules S J t) (one_told _ (meaning.IsInAfter rules S J t) law) named
-              ∙ sym (ap (λ (f : ℕ → Bool). is_named (kinds_of g) f ByNext p) (counted j) ∙ ap (λ (ks : List Kind). is_named ks (holds kinds kept kept_words j) ByNext p) is.kinds_are);
+          told = same_answer (value (gates_of net) state j n == 1) (is_named kinds (holds kinds kept kept_words j) ByNext p)
+              (meaning.IsInAfter rules S J t) (one_told _ (meaning.IsInAfter rules S J t) law) named
+              ∙ sym (ap (λ (f : ℕ → Bool). is_named (kinds_of g) f ByNext p) (counted j)
+              ∙ ap (λ (ks : List Kind). is_named ks (holds kinds kept kept_words j) ByNext p) is.kinds_are);
         }
 
 -- the same of each ground with a network of it
-pub view_told : (g : Ground) (net : Net) → ∥ IsNetOf g net ∥₁ → (state : ℕ → ℕ) → ((n : ℕ) → state n < 2) → (a : ℕ) → a < length (kinds_of g) → is_shown (kind_at (kinds_of g) a) ≡ true → IsViewTold g net state a
+pub view_told : (g : Ground) (net : Net) → ∥ IsNetOf g net ∥₁ → (state : ℕ → ℕ) → ((n : ℕ) → state n < 2) → (a : ℕ) → a < length (kinds_of g)
+    → is_shown (kind_at (kinds_of g) a) ≡ true → IsViewTold g net state a
 view_told g net made state is_bit a lt shown = record {
-  below = ∥∥₁_elim made (Prim.hlevel props) (λ of. ∥∥₁_elim g.sound (Prim.hlevel props) (λ s. (view_told_by s.0 g s.1 net of state is_bit a lt shown).below));
-  told = ∥∥₁_elim made (Prim.hlevel props) (λ of. ∥∥₁_elim g.sound (Prim.hlevel props) (λ s. (view_told_by s.0 g s.1 net of state is_bit a lt shown).told));
+  below = ∥∥₁_elim made (Prim.hlevel props)
+      (λ of. ∥∥₁_elim g.sound (Prim.hlevel props) (λ s. (view_told_by s.0 g s.1 net of state is_bit a lt shown).below));
+  told = ∥∥₁_elim made (Prim.hlevel props)
+      (λ of. ∥∥₁_elim g.sound (Prim.hlevel props) (λ s. (view_told_by s.0 g s.1 net of state is_bit a lt shown).told));
 }
 
-pub transition_told : (g : Ground) (net : Net) → ∥ IsNetOf g net ∥₁ → (state : ℕ → ℕ) → ((n : ℕ) → state n < 2) → (j : Turn) → IsTurn (rules_of g) j → (p : ℕ) → p < length g.starts.items → IsTransitionTold g net state j p
+pub transition_told : (g : Ground) (net : Net) → ∥ IsNetOf g net ∥₁ → (state : ℕ → ℕ) → ((n : ℕ) → state n < 2) → (j : Turn) → IsTurn (rules_of g) j
+    → (p : ℕ) → p < length g.starts.items → IsTransitionTold g net state j p
 transition_told g net made state is_bit j turn p lt = record {
-  below = ∥∥₁_elim made (Prim.hlevel props) (λ of. ∥∥₁_elim g.sound (Prim.hlevel props) (λ s. (transition_told_by s.0 g s.1 net of state is_bit j turn p lt).below));
-  told = ∥∥₁_elim made (Prim.hlevel props) (λ of. ∥∥₁_elim g.sound (Prim.hlevel props) (λ s. (transition_told_by s.0 g s.1 net of state is_bit j turn p lt).told));
+  below = ∥∥₁_elim made (Prim.hlevel props)
+      (λ of. ∥∥₁_elim g.sound (Prim.hlevel props) (λ s. (transition_told_by s.0 g s.1 net of state is_bit j turn p lt).below));
+  told = ∥∥₁_elim made (Prim.hlevel props)
+      (λ of. ∥∥₁_elim g.sound (Prim.hlevel props) (λ s. (transition_told_by s.0 g s.1 net of state is_bit j turn p lt).told));
 }
 
 -- An atom alone makes a move legal.
@@ -266,12 +337,15 @@ module _ (rules : List Alternative) (g : Ground) (is : IsGround rules g) (r m : 
       let size : length (kinds_of g) ≡ length (map (kind_of rules) (listing rules).atoms) = ap (λ (ks : List Kind). length ks) is.kinds_are in
       let many = length-map (listing rules).atoms (kind_of rules) in
       let within : a < length (listing rules).atoms = omega arith in
-      let kind : kind_of rules x ≡ Legal r m = sym (ap (λ (ks : List Kind). kind_at ks a) is.kinds_are ∙ kind_at_number (kind_of rules) (listing rules).atoms a within) ∙ e in
+      let kind : kind_of rules x ≡ Legal r m = sym (ap (λ (ks : List Kind). kind_at ks a) is.kinds_are
+      ∙ kind_at_number (kind_of rules) (listing rules).atoms a within) ∙ e in
       let k = kind_sound rules is.well_formed.acyclic x (Legal r m) kind (λ f. absurd cc) in
       let same : x ≡ move_atom =
       k.2 ∙ ap (λ (t : Tree). atom2 w_legal k.0 t) (sym (placed k.1 (input_list rules k.0) m k.4))
       ∙ ap (λ (q : Tree). atom2 w_legal q (tree_at (input_list rules q) m)) (sym (placed k.0 (role_list rules) r k.3)) in
       ap (λ (y : Atom). number_of y (listing rules).atoms) (sym same) ∙ number_at (listing rules).atoms (one_number rules) a within
 
-pub one_legal : (g : Ground) (r m a b : ℕ) → a < length (kinds_of g) → b < length (kinds_of g) → kind_at (kinds_of g) a ≡ Legal r m → kind_at (kinds_of g) b ≡ Legal r m → a ≡ b
-one_legal g r m a b la lb ea eb = ∥∥₁_elim g.sound (Prim.hlevel props) (λ s. sym (legal_atom s.0 g s.1 r m a la ea) ∙ legal_atom s.0 g s.1 r m b lb eb)
+pub one_legal : (g : Ground) (r m a b : ℕ) → a < length (kinds_of g) → b < length (kinds_of g) → kind_at (kinds_of g) a ≡ Legal r m
+    → kind_at (kinds_of g) b ≡ Legal r m → a ≡ b
+one_legal g r m a b la lb ea eb = ∥∥₁_elim g.sound (Prim.hlevel props) (λ s. sym (legal_atom s.0 g s.1 r m a la ea)
+    ∙ legal_atom s.0 g s.1 r m b lb eb)

@@ -1,5 +1,34 @@
 -- Where what is asked of a state stands among the nodes that are kept.
-use Rattle.std.proofs.Common.{◌≡◌, ℕ, zero, suc, ◌+◌, ◌<◌, ◌≤◌, Bool, true, false, cond, List, [], ◌∷◌, ◌++◌, length, map, get_or, length-append, refl, sym, subst, ap, ◌∙◌, arith, inl, inr, Option}
+use Rattle.std.proofs.Common.{
+  ◌≡◌,
+  ℕ,
+  zero,
+  suc,
+  ◌+◌,
+  ◌<◌,
+  ◌≤◌,
+  Bool,
+  true,
+  false,
+  cond,
+  List,
+  [],
+  ◌∷◌,
+  ◌++◌,
+  length,
+  map,
+  get_or,
+  length-append,
+  refl,
+  sym,
+  subst,
+  ap,
+  ◌∙◌,
+  arith,
+  inl,
+  inr,
+  Option,
+}
 use Rattle.std.specs.Prelude.{slice_index}
 use Rattle.std.proofs.Math.Seq.{get_or-append_seam}
 use Rattle.std.proofs.Math.ListN.{get_or-append}
@@ -29,9 +58,11 @@ put_last xs n true e = record {
 }
 put_last xs n false e = absurd cc
 
-pub shown_at : (kinds : List Kind) (n a : ℕ) → a < n → is_shown (kind_at kinds a) ≡ true → StandsAt (shown_below kinds n) (length (shown_below kinds a)) a
+pub shown_at : (kinds : List Kind) (n a : ℕ) → a < n → is_shown (kind_at kinds a) ≡ true
+    → StandsAt (shown_below kinds n) (length (shown_below kinds a)) a
 shown_at kinds zero a lt e = absurd (omega arith)
-shown_at kinds (suc n) a lt e = subst (λ (m : ℕ). StandsAt (shown_below kinds m) (length (shown_below kinds a)) a) more (subst (λ (xs : List ℕ). StandsAt xs (length (shown_below kinds a)) a) (sym (filter_range_more f n)) (there (λ h. shown_at kinds n a h e)))
+shown_at kinds (suc n) a lt e = subst (λ (m : ℕ). StandsAt (shown_below kinds m) (length (shown_below kinds a)) a) more
+    (subst (λ (xs : List ℕ). StandsAt xs (length (shown_below kinds a)) a) (sym (filter_range_more f n)) (there (λ h. shown_at kinds n a h e)))
   where
     f : ℕ → Bool
     f i = is_shown (kind_at kinds i)
@@ -39,7 +70,8 @@ shown_at kinds (suc n) a lt e = subst (λ (m : ℕ). StandsAt (shown_below kinds
     more : n + 1 ≡ suc n
     more = omega arith
 
-    there : (a < n → StandsAt (shown_below kinds n) (length (shown_below kinds a)) a) → StandsAt (shown_below kinds n ++ cond (f n) (n ∷ []) []) (length (shown_below kinds a)) a
+    there : (a < n → StandsAt (shown_below kinds n) (length (shown_below kinds a)) a)
+        → StandsAt (shown_below kinds n ++ cond (f n) (n ∷ []) []) (length (shown_below kinds a)) a
     there before = elim (cases_eq a n) [
       | inl same ↦
           subst (λ (i : ℕ). StandsAt (shown_below kinds n ++ cond (f n) (n ∷ []) []) (length (shown_below kinds i)) i) (sym same)
@@ -53,7 +85,8 @@ place_at kinds a lt =
     get_or-map-range_with_len (λ i. length (shown_below kinds i)) 0 (length kinds) a a 0 lt z
 
 -- an atom that is asked stands at its place
-pub placed_at : (kinds : List Kind) (a : ℕ) → a < length kinds → is_shown (kind_at kinds a) ≡ true → StandsAt (shown_below kinds (length kinds)) (slice_index (places_of kinds) a) a
+pub placed_at : (kinds : List Kind) (a : ℕ) → a < length kinds → is_shown (kind_at kinds a) ≡ true
+    → StandsAt (shown_below kinds (length kinds)) (slice_index (places_of kinds) a) a
 placed_at kinds a lt shown =
     subst (λ (i : ℕ). StandsAt (shown_below kinds (length kinds)) i a) (sym (place_at kinds a lt)) (shown_at kinds (length kinds) a lt shown)
 
@@ -62,7 +95,8 @@ pub asked_count : (views : List (Option ℕ)) (kinds : List Kind) → length (as
 asked_count views kinds = length-map (shown_below kinds (length kinds)) (view_of views)
 
 -- the node that is kept at a place is the one that tells of the atom there
-pub asked_node : (views : List (Option ℕ)) (kinds : List Kind) (p : ℕ) → p < length (shown_below kinds (length kinds)) → get_or (asked_nodes views kinds) p 0 ≡ view_of views (asked_at kinds p)
+pub asked_node : (views : List (Option ℕ)) (kinds : List Kind) (p : ℕ) → p < length (shown_below kinds (length kinds))
+    → get_or (asked_nodes views kinds) p 0 ≡ view_of views (asked_at kinds p)
 asked_node views kinds p lt = get_or-map (view_of views) (shown_below kinds (length kinds)) p 0 0 lt
 
 -- no more atoms are asked than there are

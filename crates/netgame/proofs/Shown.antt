@@ -1,5 +1,29 @@
 -- What is asked of a state, and tests that agree on it.
-use Rattle.std.proofs.Common.{◌≡◌, ℕ, ◌+◌, ◌<◌, ◌≤◌, Bool, true, false, cond, ◌&&◌, ◌||◌, List, [], ◌∷◌, length, map, zero, suc, refl, sym, ◌∙◌, ap, arith}
+use Rattle.std.proofs.Common.{
+  ◌≡◌,
+  ℕ,
+  ◌+◌,
+  ◌<◌,
+  ◌≤◌,
+  Bool,
+  true,
+  false,
+  cond,
+  ◌&&◌,
+  ◌||◌,
+  List,
+  [],
+  ◌∷◌,
+  length,
+  map,
+  zero,
+  suc,
+  refl,
+  sym,
+  ◌∙◌,
+  ap,
+  arith,
+}
 use Rattle.std.specs.Prelude.{All, filter}
 use Rattle.std.specs.List.{list_any, range_with_len}
 use Rattle.std.proofs.lemmas.List.Elements.{All-map}
@@ -77,7 +101,8 @@ named_alike kinds f g r m h =
     below_agree (λ a. f a && names (ByLegal r) (kind_at kinds a) m) (λ a. g a && names (ByLegal r) (kind_at kinds a) m) (length kinds)
     (λ k lt. same_and (f k) (g k) (names (ByLegal r) (kind_at kinds k) m) (λ e. h k lt (legal_shown r m (kind_at kinds k) e)))
 
-pub legals_alike : (kinds : List Kind) (f g : ℕ → Bool) (r n : ℕ) → Alike kinds f g → named_below kinds f (ByLegal r) n ≡ named_below kinds g (ByLegal r) n
+pub legals_alike : (kinds : List Kind) (f g : ℕ → Bool) (r n : ℕ) → Alike kinds f g
+    → named_below kinds f (ByLegal r) n ≡ named_below kinds g (ByLegal r) n
 legals_alike kinds f g r n h =
     filters_agree (is_named kinds f (ByLegal r)) (is_named kinds g (ByLegal r)) 0 n
     (λ m from to. named_alike kinds f g r m h)
@@ -110,7 +135,8 @@ pub filter_all : (t : ℕ → Bool) (P : ℕ → Type 0) (a n : ℕ) → ((k : �
 filter_all t P a zero h = λ k d lt. absurd (omega arith)
 filter_all t P a (suc n) h = go (t a) refl (filter_all t P (a + 1) n (λ k from to e. h k (omega arith) (omega arith) e))
   where
-    go : (b : Bool) → t a ≡ b → All P (filter t (range_with_len (a + 1) n)) → All P (cond b (a ∷ filter t (range_with_len (a + 1) n)) (filter t (range_with_len (a + 1) n)))
+    go : (b : Bool) → t a ≡ b → All P (filter t (range_with_len (a + 1) n))
+        → All P (cond b (a ∷ filter t (range_with_len (a + 1) n)) (filter t (range_with_len (a + 1) n)))
     go true e rest = more
       where
         more : All P (a ∷ filter t (range_with_len (a + 1) n))

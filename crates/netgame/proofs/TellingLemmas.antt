@@ -1,5 +1,36 @@
 -- What the places of what is asked tell of a state.
-use Rattle.std.proofs.Common.{◌≡◌, ℕ, zero, suc, ◌+◌, ◌<◌, ◌≤◌, Bool, true, false, cond, ◌&&◌, ◌||◌, List, [], ◌∷◌, ◌++◌, length, length-append, map, take, get_or, refl, sym, ap, ◌∙◌, arith, Option, Some, None}
+use Rattle.std.proofs.Common.{
+  ◌≡◌,
+  ℕ,
+  zero,
+  suc,
+  ◌+◌,
+  ◌<◌,
+  ◌≤◌,
+  Bool,
+  true,
+  false,
+  cond,
+  ◌&&◌,
+  ◌||◌,
+  List,
+  [],
+  ◌∷◌,
+  ◌++◌,
+  length,
+  length-append,
+  map,
+  take,
+  get_or,
+  refl,
+  sym,
+  ap,
+  ◌∙◌,
+  arith,
+  Option,
+  Some,
+  None,
+}
 use Rattle.std.specs.Prelude.{All, filter, max, slice_index}
 use Rattle.std.specs.List.{list_any}
 use Rattle.std.proofs.Math.Bool.{or-false}
@@ -20,11 +51,25 @@ use Rattle.netgame.specs.LanePlans.{shown_below, asked_at, places_of, legal_name
 use Rattle.netgame.specs.NetLanes.{told_moves, told_goal}
 use Rattle.netgame.proofs.NetReads.{one_legal}
 use Rattle.netgame.proofs.Places.{placed_at}
-use Rattle.netgame.proofs.Shown.{none_and, any_map, map_map, any_where, filter_all, standing_shown, legal_shown, end_shown, goal_sought, ends_alike, goals_alike, legals_alike}
+use Rattle.netgame.proofs.Shown.{
+  none_and,
+  any_map,
+  map_map,
+  any_where,
+  filter_all,
+  standing_shown,
+  legal_shown,
+  end_shown,
+  goal_sought,
+  ends_alike,
+  goals_alike,
+  legals_alike,
+}
 
 -- Loops over places.
 
-pub any_more : (on : ℕ → Bool) (xs : List ℕ) (i x : ℕ) → i < length xs → x ≡ get_or xs i 0 → list_any on (take (i + 1) xs) ≡ (list_any on (take i xs) || on x)
+pub any_more : (on : ℕ → Bool) (xs : List ℕ) (i x : ℕ) → i < length xs → x ≡ get_or xs i 0
+    → list_any on (take (i + 1) xs) ≡ (list_any on (take i xs) || on x)
 any_more on xs i x lt e =
     ap (list_any on) (take_more xs i 0 lt) ∙ list_any-append on (take i xs) (get_or xs i 0 ∷ [])
     ∙ ap (λ (b : Bool). list_any on (take i xs) || b) (or-false (on (get_or xs i 0)))
@@ -76,7 +121,8 @@ none_below test (suc n) h = ap (λ (b : Bool). b || test n) (none_below test n (
 -- each move of a role is made legal by one atom at most
 abbrev IsOnce : List Kind → ℕ → Type 0
 IsOnce kinds r =
-    (m a b : ℕ) → a < length kinds → b < length kinds → names (ByLegal r) (kind_at kinds a) m ≡ true → names (ByLegal r) (kind_at kinds b) m ≡ true → a ≡ b
+    (m a b : ℕ) → a < length kinds → b < length kinds → names (ByLegal r) (kind_at kinds a) m ≡ true → names (ByLegal r) (kind_at kinds b) m ≡ true
+    → a ≡ b
 
 -- room in which no atom is noted
 pub none_pushed : (os : List (Option ℕ)) → ((m : ℕ) → get_or os m None ≡ None) → (m : ℕ) → get_or (os ++ None ∷ []) m None ≡ None
@@ -110,20 +156,26 @@ module _ (kinds : List Kind) (f : ℕ → Bool) where
       ∙ goals_all kinds seen r
       ∙ goals_alike kinds seen f r seen_alike
 
-  named_by : (r m i : ℕ) → IsOnce kinds r → i ≤ length kinds → some_below (λ a. seen a && names (ByLegal r) (kind_at kinds a) m) i ≡ held seen (legal_named kinds r m i)
+  named_by : (r m i : ℕ) → IsOnce kinds r → i ≤ length kinds → some_below (λ a. seen a && names (ByLegal r) (kind_at kinds a) m) i ≡ held seen
+      (legal_named kinds r m i)
   named_by r m zero once few = refl
   named_by r m (suc i) once few = go (names (ByLegal r) (kind_at kinds i) m) refl (named_by r m i once (omega arith))
     where
-      other : names (ByLegal r) (kind_at kinds i) m ≡ true → (k : ℕ) → k < i → (b : Bool) → names (ByLegal r) (kind_at kinds k) m ≡ b → (seen k && b) ≡ false
+      other : names (ByLegal r) (kind_at kinds i) m ≡ true → (k : ℕ) → k < i → (b : Bool) → names (ByLegal r) (kind_at kinds k) m ≡ b
+          → (seen k && b) ≡ false
       other e k lt true h = let same = once m k i (omega arith) (omega arith) h e in absurd (omega arith)
       other e k lt false h = none_and (seen k)
 
-      go : (b : Bool) → names (ByLegal r) (kind_at kinds i) m ≡ b → some_below (λ a. seen a && names (ByLegal r) (kind_at kinds a) m) i ≡ held seen (legal_named kinds r m i)
-          → (some_below (λ a. seen a && names (ByLegal r) (kind_at kinds a) m) i || (seen i && b)) ≡ held seen (cond b (Some i) (legal_named kinds r m i))
+      go : (b : Bool) → names (ByLegal r) (kind_at kinds i) m ≡ b → some_below (λ a. seen a && names (ByLegal r) (kind_at kinds a) m) i ≡ held seen
+          (legal_named kinds r m i)
+          → (some_below (λ a. seen a && names (ByLegal r) (kind_at kinds a) m) i || (seen i && b)) ≡ held seen
+          (cond b (Some i) (legal_named kinds r m i))
       go true e rest =
-          ap (λ (b : Bool). b || (seen i && true)) (none_below (λ a. seen a && names (ByLegal r) (kind_at kinds a) m) i (λ k lt. other e k lt (names (ByLegal r) (kind_at kinds k) m) refl))
+          ap (λ (b : Bool). b || (seen i && true))
+          (none_below (λ a. seen a && names (ByLegal r) (kind_at kinds a) m) i (λ k lt. other e k lt (names (ByLegal r) (kind_at kinds k) m) refl))
           ∙ and_true (seen i)
-      go false e rest = ap (λ (b : Bool). some_below (λ a. seen a && names (ByLegal r) (kind_at kinds a) m) i || b) (none_and (seen i)) ∙ or-false (some_below (λ a. seen a && names (ByLegal r) (kind_at kinds a) m) i) ∙ rest
+      go false e rest = ap (λ (b : Bool). some_below (λ a. seen a && names (ByLegal r) (kind_at kinds a) m) i || b) (none_and (seen i))
+          ∙ or-false (some_below (λ a. seen a && names (ByLegal r) (kind_at kinds a) m) i) ∙ rest
 
   pair_moves : (o : Option ℕ) (m : ℕ) → told_moves on (legal_pair (places_of kinds) o m) ≡ cond (held seen o) (m ∷ []) []
   pair_moves None m = refl
@@ -145,9 +197,11 @@ module _ (kinds : List Kind) (f : ℕ → Bool) where
   told_legals_once r n once = seen_moves r n once ∙ legals_alike kinds seen f r n seen_alike
 
 pub told_legals : (g : Ground) (f : ℕ → Bool) (r n : ℕ)
-    → told_moves (λ p. f (asked_at (kinds_of g) p)) (legals_below (places_of (kinds_of g)) (kinds_of g) r n) ≡ named_below (kinds_of g) f (ByLegal r) n
+    → told_moves (λ p. f (asked_at (kinds_of g) p)) (legals_below (places_of (kinds_of g)) (kinds_of g) r n) ≡ named_below (kinds_of g) f (ByLegal r)
+    n
 told_legals g f r n =
-    told_legals_once (kinds_of g) f r n (λ m a b la lb ha hb. one_legal g r m a b la lb (legal_only r m (kind_at (kinds_of g) a) ha) (legal_only r m (kind_at (kinds_of g) b) hb))
+    told_legals_once (kinds_of g) f r n (λ m a b la lb ha hb. one_legal g r m a b la lb (legal_only r m (kind_at (kinds_of g) a) ha)
+    (legal_only r m (kind_at (kinds_of g) b) hb))
 
 -- The places are those of what is asked.
 
@@ -156,7 +210,8 @@ legal_found kinds r m zero a e = absurd cc
 legal_found kinds r m (suc i) a e = go (names (ByLegal r) (kind_at kinds i) m) refl e (legal_found kinds r m i a)
   where
     go : (b : Bool) → names (ByLegal r) (kind_at kinds i) m ≡ b → cond b (Some i) (legal_named kinds r m i) ≡ Some a
-        → (legal_named kinds r m i ≡ Some a → (a < i) × (names (ByLegal r) (kind_at kinds a) m ≡ true)) → (a < suc i) × (names (ByLegal r) (kind_at kinds a) m ≡ true)
+        → (legal_named kinds r m i ≡ Some a → (a < i) × (names (ByLegal r) (kind_at kinds a) m ≡ true)) → (a < suc i)
+        × (names (ByLegal r) (kind_at kinds a) m ≡ true)
     go true here found rest =
         let same : i ≡ a = cc in
         (omega arith, ap (λ (k : ℕ). names (ByLegal r) (kind_at kinds k) m) (sym same) ∙ here)
@@ -190,7 +245,8 @@ module _ (kinds : List Kind) where
   pub legals_within : (r n : ℕ) → All (λ (l : ℕ × ℕ). l.0 < length (shown_below kinds (length kinds))) (legals_below (places_of kinds) kinds r n)
   legals_within r zero = λ k d lt. absurd (omega arith)
   legals_within r (suc n) =
-      All-append (λ (l : ℕ × ℕ). l.0 < length (shown_below kinds (length kinds))) (legals_below (places_of kinds) kinds r n) (legal_pair (places_of kinds) (legal_named kinds r n (length kinds)) n)
+      All-append (λ (l : ℕ × ℕ). l.0 < length (shown_below kinds (length kinds))) (legals_below (places_of kinds) kinds r n)
+      (legal_pair (places_of kinds) (legal_named kinds r n (length kinds)) n)
       (legals_within r n)
       (pair_within (legal_named kinds r n (length kinds)) n
       (λ a e. let found = legal_found kinds r n (length kinds) a e in below a found.0 (legal_shown r n (kind_at kinds a) found.1)))

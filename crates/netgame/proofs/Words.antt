@@ -14,5 +14,6 @@ written_over ms items n e f =
     take_front (x ∷ xs) ys = ap (λ (zs : List ℕ). x ∷ zs) (take_front xs ys)
 
 -- words whose first lane has a bit for each mark
-pub lane_marked : (words : List ℕ) (bs : List Bool) → ((p : ℕ) → p < length bs → is_lane_on words 0 p ≡ get_or bs p false) → lane_state words (length bs) 0 ≡ marked bs
+pub lane_marked : (words : List ℕ) (bs : List Bool) → ((p : ℕ) → p < length bs → is_lane_on words 0 p ≡ get_or bs p false)
+    → lane_state words (length bs) 0 ≡ marked bs
 lane_marked words bs h = filters_agree (is_lane_on words 0) (λ p. get_or bs p false) 0 (length bs) (λ k from to. h k (omega arith))

@@ -1,5 +1,24 @@
 -- The tapes of play, and where one of them keeps what is asked of a state.
-use Rattle.std.specs.Prelude.{ℕ, zero, suc, ◌≡◌, ◌<◌, ◌++◌, List, [], ◌∷◌, length, map, filter, get_or, slice_index, Option, Some, None, if◌then◌else◌}
+use Rattle.std.specs.Prelude.{
+  ℕ,
+  zero,
+  suc,
+  ◌≡◌,
+  ◌<◌,
+  ◌++◌,
+  List,
+  [],
+  ◌∷◌,
+  length,
+  map,
+  filter,
+  get_or,
+  slice_index,
+  Option,
+  Some,
+  None,
+  if◌then◌else◌,
+}
 use Rattle.std.specs.List.{range_with_len}
 use Rattle.meaning.specs.declared.kind.Kind.{Kind}
 use Rattle.ground.specs.declared.ground.Ground.{Ground}

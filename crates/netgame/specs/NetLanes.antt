@@ -1,5 +1,24 @@
 -- Many states of a game over a network, a word for each base proposition, and what is told of each.
-use Rattle.std.specs.Prelude.{ℕ, ◌≡◌, ◌<◌, ◌≤◌, ◌+◌, ◌++◌, ◌==◌, Bool, List, [], ◌∷◌, length, map, filter, sum, slice_index, vec_capacity, if◌then◌else◌}
+use Rattle.std.specs.Prelude.{
+  ℕ,
+  ◌≡◌,
+  ◌<◌,
+  ◌≤◌,
+  ◌+◌,
+  ◌++◌,
+  ◌==◌,
+  Bool,
+  List,
+  [],
+  ◌∷◌,
+  length,
+  map,
+  filter,
+  sum,
+  slice_index,
+  vec_capacity,
+  if◌then◌else◌,
+}
 use Rattle.std.specs.Int.{bit_at}
 use Rattle.std.specs.List.{range_with_len}
 use Rattle.smallvec.specs.SmallVec.{SmallVec}
@@ -29,7 +48,8 @@ holds_lane g states k = holds_in g (lane_state states (length g.starts.items) k)
 -- the words keep the states after the one of the first lane and each joint move
 abbrev pub AreAfter : Ground → List ℕ → List (SmallVec ℕ) → List ℕ → Type 0
 AreAfter g from joints states =
-    map (lane_state states (length g.starts.items)) (range_with_len 0 (length joints)) ≡ map (λ (j : SmallVec ℕ). (rules_of g).after (lane_state from (length g.starts.items) 0) j.items) joints
+    map (lane_state states (length g.starts.items)) (range_with_len 0 (length joints)) ≡ map
+    (λ (j : SmallVec ℕ). (rules_of g).after (lane_state from (length g.starts.items) 0) j.items) joints
 
 -- on says of what a tape keeps what the words that a pass writes for it have in lane k
 abbrev pub Tells : Tape → List ℕ → ℕ → (ℕ → Bool) → Type 0

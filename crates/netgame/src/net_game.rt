@@ -48,7 +48,15 @@ impl Game for NetGame {
     ghost use Rattle.ground.specs.GroundView.{roles_of, inputs_of};
     ghost use Rattle.rulegame.specs.RuleState.{rules_of};
     ghost use Rattle.netgame.specs.NetState.{kept_state};
-    ghost use Rattle.netgame.specs.NetLanes.{HasWideRoom, IsNetMany, IsNetState, net_capacities, lane_states, wide_capacities as capacities_wide, many_capacities as capacities_many};
+    ghost use Rattle.netgame.specs.NetLanes.{
+      HasWideRoom,
+      IsNetMany,
+      IsNetState,
+      net_capacities,
+      lane_states,
+      wide_capacities as capacities_wide,
+      many_capacities as capacities_many,
+    };
     ghost use Rattle.rulegame.specs.RuleLaws.{goal_at_most, few_moves_of, legal_below, legal_in_order, moves_in_order, roles_once};
 
     type Pos = NetPos;

@@ -94,7 +94,8 @@ pub(crate) fn net_steps(
     requires to { IsNetMany game.now.played game.now.lane_plan out.old }
     ensures wide { HasWideRoom game.now.net game.now.lane_plan w.new }
     ensures many { IsNetMany game.now.played game.now.lane_plan out.new }
-    ensures after { lane_states game.now.played out.new ≡ map (λ j. (rules_of game.now.played).after (kept_state game.now.played p.now) j.items) joints.now }
+    ensures after { lane_states game.now.played out.new ≡ map (λ j. (rules_of game.now.played).after (kept_state game.now.played p.now) j.items)
+        joints.now }
     ensures wide_capacities { wide_capacities w.new ≡ wide_capacities w.old }
     ensures many_capacities { many_capacities out.new ≡ many_capacities out.old }
 {

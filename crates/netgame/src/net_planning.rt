@@ -96,7 +96,8 @@ fn find_legals(
     moves: usize,
 ) -> Result<Vec<Option<u32>>, AllocError>
     ensures size { IfOk result (λ found. length found.items ≡ moves) }
-    ensures each { IfOk result (λ found. (m : ℕ) → m < moves → get_or found.items m None ≡ legal_named (kinds_of ground.now) role m (length (kinds_of ground.now))) }
+    ensures each { IfOk result (λ found. (m : ℕ) → m < moves → get_or found.items m None ≡ legal_named (kinds_of ground.now) role m
+        (length (kinds_of ground.now))) }
 {
     let mut found = new_found(alloc, moves)?;
     for atom in 0..ground.atoms() {

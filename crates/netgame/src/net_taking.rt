@@ -46,7 +46,8 @@ fn take_role(game: &NetGame, many: &NetMany, k: usize, role: usize, out: &mut Ro
     requires many { IsNetMany game.now.played game.now.lane_plan many.now }
     requires lane { k < many.now.count }
     requires room { HasRoleRoom (length (texts_at (inputs_of game.now.played) role)) out.old }
-    ensures read { IsRoleRead (kinds_of game.now.played) (holds_lane game.now.played many.now.states.items k) role (length (texts_at (inputs_of game.now.played) role)) out.new }
+    ensures read { IsRoleRead (kinds_of game.now.played) (holds_lane game.now.played many.now.states.items k) role
+        (length (texts_at (inputs_of game.now.played) role)) out.new }
     ensures room { HasRoleRoom (length (texts_at (inputs_of game.now.played) role)) out.new }
     ensures capacities { role_capacities out.new ≡ role_capacities out.old }
 {

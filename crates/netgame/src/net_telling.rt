@@ -1,6 +1,25 @@
 // What a pass over the tape of what is asked tells of up to 64 states. What holds is told by any test that agrees with the words of
 // kept nodes, as the tape speaks of them.
-ghost use Rattle.std.specs.Prelude.{◌≡◌, ◌<◌, ◌≤◌, ◌+◌, ◌==◌, ◌&&◌, ◌||◌, ◌++◌, ℕ, Bool, All, [], ◌∷◌, length, max, take, vec_capacity, if◌then◌else◌};
+ghost use Rattle.std.specs.Prelude.{
+  ◌≡◌,
+  ◌<◌,
+  ◌≤◌,
+  ◌+◌,
+  ◌==◌,
+  ◌&&◌,
+  ◌||◌,
+  ◌++◌,
+  ℕ,
+  Bool,
+  All,
+  [],
+  ◌∷◌,
+  length,
+  max,
+  take,
+  vec_capacity,
+  if◌then◌else◌,
+};
 ghost use Rattle.std.specs.Int.{bit_at};
 ghost use Rattle.std.specs.List.{list_any};
 ghost use Rattle.tape.specs.Tapes.{slots_in, kept_in};

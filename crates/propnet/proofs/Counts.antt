@@ -1,5 +1,36 @@
 -- How many nodes there are at most.
-use Rattle.std.proofs.Common.{◌≡◌, ℕ, suc, zero, ◌+◌, ◌*◌, ◌^◌, ◌<◌, ◌≤◌, Bool, true, false, cond, not, ◌&&◌, List, [], ◌∷◌, ◌++◌, length, map, refl, ◌∙◌, ap, arith, ◌⊎◌, inl, inr, length-append, ne_eqb}
+use Rattle.std.proofs.Common.{
+  ◌≡◌,
+  ℕ,
+  suc,
+  zero,
+  ◌+◌,
+  ◌*◌,
+  ◌^◌,
+  ◌<◌,
+  ◌≤◌,
+  Bool,
+  true,
+  false,
+  cond,
+  not,
+  ◌&&◌,
+  List,
+  [],
+  ◌∷◌,
+  ◌++◌,
+  length,
+  map,
+  refl,
+  ◌∙◌,
+  ap,
+  arith,
+  ◌⊎◌,
+  inl,
+  inr,
+  length-append,
+  ne_eqb,
+}
 use Rattle.std.specs.Prelude.{◌==◌, sum, sum_by}
 use Rattle.std.specs.List.{range_with_len, flat_map}
 use Rattle.std.proofs.lemmas.Bool.{cases_eq}
@@ -68,10 +99,12 @@ one_longer : (c : Bool) (n : ℕ) (rest : List ℕ) → length (cond c (n ∷ re
 one_longer true n rest = omega arith
 one_longer false n rest = omega arith
 
-gates_total : (n s count : ℕ) (kinds : List Kind) (kept : List Kept) → sum_by (λ a. length (gates_from n kinds kept a)) (range_with_len s count) ≤ length kept
+gates_total : (n s count : ℕ) (kinds : List Kind) (kept : List Kept) → sum_by (λ a. length (gates_from n kinds kept a)) (range_with_len s count) ≤
+    length kept
 gates_total n s count kinds [] = let z = sum_none (range_with_len s count) in omega arith
 gates_total n s count kinds (k ∷ ks) =
-    let split = sum_split (λ a. length (gates_from n kinds (k ∷ ks) a)) (λ a. cond (has_gate kinds k && (k.head == a)) 1 0) (λ a. length (gates_from (suc n) kinds ks a))
+    let split = sum_split (λ a. length (gates_from n kinds (k ∷ ks) a)) (λ a. cond (has_gate kinds k && (k.head == a)) 1 0)
+    (λ a. length (gates_from (suc n) kinds ks a))
     (λ a. one_longer (has_gate kinds k && (k.head == a)) n (gates_from (suc n) kinds ks a)) (range_with_len s count) in
     let first = hit (has_gate kinds k) k.head s count in
     let rest = gates_total (suc n) s count kinds ks in
@@ -101,7 +134,8 @@ atom_size kinds kept a =
     let view = one_beside (length (gates_of kinds kept a)) (View a) in
     let negated = at_most_one (is_negated kinds kept a) (Not a) in
     let tail = length-append (cond (has_view kinds kept a) (View a ∷ []) []) (cond (is_negated kinds kept a) (Not a ∷ []) []) in
-    let all = length-append (map And (gates_of kinds kept a)) (cond (has_view kinds kept a) (View a ∷ []) [] ++ cond (is_negated kinds kept a) (Not a ∷ []) []) in
+    let all = length-append (map And (gates_of kinds kept a))
+    (cond (has_view kinds kept a) (View a ∷ []) [] ++ cond (is_negated kinds kept a) (Not a ∷ []) []) in
     omega arith
 
 atoms_size : (kinds : List Kind) (kept : List Kept) (s n : ℕ)
@@ -148,11 +182,13 @@ below_size g a =
     let sources = sources_size (length (base_of g)) (input_counts g) in
     let atoms = atoms_size (kinds_of g) (instances_of g) 0 a in
     let gates = gates_total 0 0 a (kinds_of g) (instances_of g) in
-    let all = length-append (base_names (length (base_of g)) ++ input_names 0 (input_counts g)) (flat_map (atom_names (kinds_of g) (instances_of g)) (range_with_len 0 a)) in
+    let all = length-append (base_names (length (base_of g)) ++ input_names 0 (input_counts g))
+    (flat_map (atom_names (kinds_of g) (instances_of g)) (range_with_len 0 a)) in
     omega arith
 
 -- no more than the limits allow: three for each base proposition and each instance, and two for each input
-pub few_nodes : (g : Ground) → length (node_names (length (base_of g)) (input_counts g) (kinds_of g) (instances_of g)) ≤ 3 * limits.base + (2 * limits.inputs + 3 * limits.instances)
+pub few_nodes : (g : Ground) → length (node_names (length (base_of g)) (input_counts g) (kinds_of g) (instances_of g)) ≤ 3 * limits.base +
+    (2 * limits.inputs + 3 * limits.instances)
 few_nodes g =
     let below = below_size g (length (kinds_of g)) in
     let last = length-row Transition (length (base_of g)) in
@@ -164,7 +200,8 @@ few_nodes g =
     omega arith
 
 -- room for the nodes of an atom, and for the transitions
-pub room_for_atom : (g : Ground) (a : ℕ) → a < length (kinds_of g) → length (names_below g a) + (length (gates_of (kinds_of g) (instances_of g) a) + 2) < 2 ^ 32
+pub room_for_atom : (g : Ground) (a : ℕ) → a < length (kinds_of g)
+    → length (names_below g a) + (length (gates_of (kinds_of g) (instances_of g) a) + 2) < 2 ^ 32
 room_for_atom g a lt =
     let below = below_size g a in
     let gates = few_gates 0 (kinds_of g) (instances_of g) a in

@@ -1,5 +1,34 @@
 -- Where the inputs stand, and what is written to their words.
-use Rattle.std.proofs.Common.{◌≡◌, ℕ, suc, zero, ◌+◌, ◌<◌, ◌≤◌, cond, List, [], ◌∷◌, ◌++◌, length, map, take, get_or, sym, ◌∙◌, ap, subst, arith, Option, Some, slice_get, ◌⊎◌, inl, inr, length-append}
+use Rattle.std.proofs.Common.{
+  ◌≡◌,
+  ℕ,
+  suc,
+  zero,
+  ◌+◌,
+  ◌<◌,
+  ◌≤◌,
+  cond,
+  List,
+  [],
+  ◌∷◌,
+  ◌++◌,
+  length,
+  map,
+  take,
+  get_or,
+  sym,
+  ◌∙◌,
+  ap,
+  subst,
+  arith,
+  Option,
+  Some,
+  slice_get,
+  ◌⊎◌,
+  inl,
+  inr,
+  length-append,
+}
 use Rattle.std.specs.Prelude.{sum}
 use Rattle.std.specs.List.{range_with_len, flat_map}
 use Rattle.std.specs.Int.{bit_at}
@@ -28,18 +57,21 @@ use Rattle.propnet.proofs.Places.{at_either, at_map, at_flat, at_cond, range_at}
 sum_grows : (xs : List ℕ) (a b : ℕ) → a ≤ b → sum (take a xs) ≤ sum (take b xs)
 sum_grows xs a b h = subst (λ (ys : List ℕ). sum ys ≤ sum (take b xs)) (take-take a b xs h) (sum_by-take-le (λ x. x) (take b xs) a)
 
-pub number_below : (inputs : List ℕ) (r m role : ℕ) → r < role → r < length inputs → m < get_or inputs r 0 → sum (take r inputs) + m < sum (take role inputs)
+pub number_below : (inputs : List ℕ) (r m role : ℕ) → r < role → r < length inputs → m < get_or inputs r 0
+    → sum (take r inputs) + m < sum (take role inputs)
 number_below inputs r m role h l lm =
     let more = sum_by_more (λ x. x) inputs r 0 l in
     let up = sum_grows inputs (r + 1) role (omega arith) in
     omega arith
 
 -- the inputs of one role more are written
-pub inputs_more : (base : ℕ) (inputs : List ℕ) (joints : List (SmallVec ℕ)) (old new : List ℕ) (role start : ℕ) → role < length inputs → start ≡ base + sum (take role inputs)
+pub inputs_more : (base : ℕ) (inputs : List ℕ) (joints : List (SmallVec ℕ)) (old new : List ℕ) (role start : ℕ) → role < length inputs
+    → start ≡ base + sum (take role inputs)
     → ((m k : ℕ) → start + m < start + get_or inputs role 0 → k < length joints → lane new k (start + m) ≡ given (joint_at joints k) role m)
     → ((n : ℕ) → n < start → get_or new n 0 ≡ get_or old n 0)
     → ((r m k : ℕ) → r < role → m < get_or inputs r 0 → k < length joints → lane old k (input_number base inputs r m) ≡ given (joint_at joints k) r m)
-    → (r m k : ℕ) → r < role + 1 → m < get_or inputs r 0 → k < length joints → lane new k (input_number base inputs r m) ≡ given (joint_at joints k) r m
+    → (r m k : ℕ) → r < role + 1 → m < get_or inputs r 0 → k < length joints → lane new k (input_number base inputs r m) ≡ given (joint_at joints k) r
+    m
 inputs_more base inputs joints old new role start lt is here before written r m k lr lm lk = go (cases_lt r role)
   where
     go : (r < role) ⊎ (role ≤ r) → lane new k (input_number base inputs r m) ≡ given (joint_at joints k) r m
@@ -52,7 +84,8 @@ inputs_more base inputs joints old new role start lt is here before written r m 
         (subst (λ (a : ℕ). lane new k (a + m) ≡ given (joint_at joints k) role m) is
         (here m k (let c = ap (λ (q : ℕ). get_or inputs q 0) same in omega arith) lk))
 
-at_split : {X : Type 0} → (xs ys : List X) (n : ℕ) (x : X) → slice_get (xs ++ ys) n ≡ Some x → (slice_get xs n ≡ Some x) ⊎ ((m : ℕ) × (n ≡ length xs + m) × (slice_get ys m ≡ Some x))
+at_split : {X : Type 0} → (xs ys : List X) (n : ℕ) (x : X) → slice_get (xs ++ ys) n ≡ Some x → (slice_get xs n ≡ Some x)
+    ⊎ ((m : ℕ) × (n ≡ length xs + m) × (slice_get ys m ≡ Some x))
 at_split [] ys n x e = inr (n, (let z : n ≡ 0 + n = omega arith in z), e)
 at_split (y ∷ xs) ys zero x e = inl e
 at_split {X} (y ∷ xs) ys (suc n) x e = on (at_split xs ys n x e)
@@ -68,18 +101,22 @@ in_row k count i r m e =
     let size = length-row (Input k) count in
     let below = at_below (role_names k count) i (Input r m) e in
     let lt : i < count = omega arith in
-    let there : slice_get (role_names k count) i ≡ Some (Input k (0 + i)) = got_map (Input k) (range_with_len 0 count) i (0 + i) (range_at 0 count i lt) in
+    let there : slice_get (role_names k count) i ≡ Some (Input k (0 + i)) = got_map (Input k) (range_with_len 0 count) i (0 + i)
+    (range_at 0 count i lt) in
     let same : ◌≡◌ {A = Option Name} (Some (Input r m)) (Some (Input k (0 + i))) = sym e ∙ there in
     let is_r : r ≡ k = cc in
     let is_m : m ≡ 0 + i = cc in
     (is_r, (omega arith), lt)
 
-pub input_named : (k : ℕ) (ns : List ℕ) (i r m : ℕ) → slice_get (input_names k ns) i ≡ Some (Input r m) → (j : ℕ) × (r ≡ k + j) × (i ≡ sum (take j ns) + m) × (m < get_or ns j 0)
+pub input_named : (k : ℕ) (ns : List ℕ) (i r m : ℕ) → slice_get (input_names k ns) i ≡ Some (Input r m) → (j : ℕ) × (r ≡ k + j)
+    × (i ≡ sum (take j ns) + m) × (m < get_or ns j 0)
 input_named k [] i r m e = absurd cc
 input_named k (c ∷ cs) i r m e = go (at_split (role_names k c) (input_names (suc k) cs) i (Input r m) e) (λ p h. input_named (suc k) cs p r m h)
   where
-    go : (slice_get (role_names k c) i ≡ Some (Input r m)) ⊎ ((p : ℕ) × (i ≡ length (role_names k c) + p) × (slice_get (input_names (suc k) cs) p ≡ Some (Input r m)))
-        → ((p : ℕ) → slice_get (input_names (suc k) cs) p ≡ Some (Input r m) → (j : ℕ) × (r ≡ suc k + j) × (p ≡ sum (take j cs) + m) × (m < get_or cs j 0))
+    go : (slice_get (role_names k c) i ≡ Some (Input r m))
+        ⊎ ((p : ℕ) × (i ≡ length (role_names k c) + p) × (slice_get (input_names (suc k) cs) p ≡ Some (Input r m)))
+        → ((p : ℕ) → slice_get (input_names (suc k) cs) p ≡ Some (Input r m) → (j : ℕ) × (r ≡ suc k + j) × (p ≡ sum (take j cs) + m)
+        × (m < get_or cs j 0))
         → (j : ℕ) × (r ≡ k + j) × (i ≡ sum (take j (c ∷ cs)) + m) × (m < get_or (c ∷ cs) j 0)
     go (inl h) rest =
         let row = in_row k c i r m h in
@@ -98,22 +135,30 @@ input_named k (c ∷ cs) i r m e = go (at_split (role_names k c) (input_names (s
 -- no node of an atom is an input
 not_of_atom : (kinds : List Kind) (kept : List Kept) (a n r m : ℕ) → slice_get (atom_names kinds kept a) n ≡ Some (Input r m) → ⊥
 not_of_atom kinds kept a n r m e =
-    go (at_either (map And (gates_of kinds kept a)) (cond (has_view kinds kept a) (View a ∷ []) [] ++ cond (is_negated kinds kept a) (Not a ∷ []) []) n (Input r m) e)
+    go (at_either (map And (gates_of kinds kept a)) (cond (has_view kinds kept a) (View a ∷ []) [] ++ cond (is_negated kinds kept a) (Not a ∷ []) [])
+    n (Input r m) e)
   where
-    in_tail : (j : ℕ) → (slice_get (cond (has_view kinds kept a) (View a ∷ []) []) j ≡ Some (Input r m)) ⊎ ((p : ℕ) × (slice_get (cond (is_negated kinds kept a) (Not a ∷ []) []) p ≡ Some (Input r m))) → ⊥
+    in_tail : (j : ℕ) → (slice_get (cond (has_view kinds kept a) (View a ∷ []) []) j ≡ Some (Input r m))
+        ⊎ ((p : ℕ) × (slice_get (cond (is_negated kinds kept a) (Not a ∷ []) []) p ≡ Some (Input r m))) → ⊥
     in_tail j (inl h) = let o = at_cond (has_view kinds kept a) (View a) j (Input r m) h in let k = o.1 in absurd cc
     in_tail j (inr (p, h)) = let o = at_cond (is_negated kinds kept a) (Not a) p (Input r m) h in let k = o.1 in absurd cc
 
-    go : (slice_get (map And (gates_of kinds kept a)) n ≡ Some (Input r m)) ⊎ ((p : ℕ) × (slice_get (cond (has_view kinds kept a) (View a ∷ []) [] ++ cond (is_negated kinds kept a) (Not a ∷ []) []) p ≡ Some (Input r m))) → ⊥
+    go : (slice_get (map And (gates_of kinds kept a)) n ≡ Some (Input r m))
+        ⊎ ((p : ℕ) × (slice_get (cond (has_view kinds kept a) (View a ∷ []) [] ++ cond (is_negated kinds kept a) (Not a ∷ []) []) p ≡ Some (Input r m)))
+        → ⊥
     go (inl h) = let o = at_map And (gates_of kinds kept a) n (Input r m) h in let k = o.2 in absurd cc
-    go (inr (p, h)) = in_tail p (at_either (cond (has_view kinds kept a) (View a ∷ []) []) (cond (is_negated kinds kept a) (Not a ∷ []) []) p (Input r m) h)
+    go (inr (p, h)) = in_tail p (at_either (cond (has_view kinds kept a) (View a ∷ []) []) (cond (is_negated kinds kept a) (Not a ∷ []) []) p
+        (Input r m) h)
 
-place_named : (base : ℕ) (inputs : List ℕ) (kinds : List Kind) (kept : List Kept) (n r m : ℕ) → slice_get (node_names base inputs kinds kept) n ≡ Some (Input r m)
+place_named : (base : ℕ) (inputs : List ℕ) (kinds : List Kind) (kept : List Kept) (n r m : ℕ)
+    → slice_get (node_names base inputs kinds kept) n ≡ Some (Input r m)
     → (n ≡ input_number base inputs r m) × (m < get_or inputs r 0)
 place_named base inputs kinds kept n r m e =
-    top (at_either ((base_names base ++ input_names 0 inputs) ++ flat_map (atom_names kinds kept) (range_with_len 0 (length kinds))) (map Transition (range_with_len 0 base)) n (Input r m) e)
+    top (at_either ((base_names base ++ input_names 0 inputs) ++ flat_map (atom_names kinds kept) (range_with_len 0 (length kinds)))
+    (map Transition (range_with_len 0 base)) n (Input r m) e)
   where
-    sourced : (slice_get (base_names base) n ≡ Some (Input r m)) ⊎ ((p : ℕ) × (n ≡ length (base_names base) + p) × (slice_get (input_names 0 inputs) p ≡ Some (Input r m)))
+    sourced : (slice_get (base_names base) n ≡ Some (Input r m))
+        ⊎ ((p : ℕ) × (n ≡ length (base_names base) + p) × (slice_get (input_names 0 inputs) p ≡ Some (Input r m)))
         → (n ≡ input_number base inputs r m) × (m < get_or inputs r 0)
     sourced (inl h) = let o = at_map Base (range_with_len 0 base) n (Input r m) h in let k = o.2 in absurd cc
     sourced (inr (p, at, h)) =
@@ -123,19 +168,23 @@ place_named base inputs kinds kept n r m e =
         let is_p : p ≡ sum (take r inputs) + m = o.2 ∙ ap (λ (j : ℕ). sum (take j inputs) + m) same in
         ((let z : n ≡ (base + sum (take r inputs)) + m = omega arith in z), subst (λ (j : ℕ). m < get_or inputs j 0) same o.3)
 
-    middle : (slice_get (base_names base ++ input_names 0 inputs) n ≡ Some (Input r m)) ⊎ ((p : ℕ) × (slice_get (flat_map (atom_names kinds kept) (range_with_len 0 (length kinds))) p ≡ Some (Input r m)))
+    middle : (slice_get (base_names base ++ input_names 0 inputs) n ≡ Some (Input r m))
+        ⊎ ((p : ℕ) × (slice_get (flat_map (atom_names kinds kept) (range_with_len 0 (length kinds))) p ≡ Some (Input r m)))
         → (n ≡ input_number base inputs r m) × (m < get_or inputs r 0)
     middle (inl h) = sourced (at_split (base_names base) (input_names 0 inputs) n (Input r m) h)
     middle (inr (p, h)) =
         let o = at_flat (atom_names kinds kept) (range_with_len 0 (length kinds)) p (Input r m) h in
         absurd (not_of_atom kinds kept o.0 o.3 r m o.4)
 
-    top : (slice_get ((base_names base ++ input_names 0 inputs) ++ flat_map (atom_names kinds kept) (range_with_len 0 (length kinds))) n ≡ Some (Input r m)) ⊎ ((p : ℕ) × (slice_get (map Transition (range_with_len 0 base)) p ≡ Some (Input r m)))
+    top : (slice_get ((base_names base ++ input_names 0 inputs) ++ flat_map (atom_names kinds kept) (range_with_len 0 (length kinds))) n ≡ Some
+        (Input r m)) ⊎ ((p : ℕ) × (slice_get (map Transition (range_with_len 0 base)) p ≡ Some (Input r m)))
         → (n ≡ input_number base inputs r m) × (m < get_or inputs r 0)
-    top (inl h) = middle (at_either (base_names base ++ input_names 0 inputs) (flat_map (atom_names kinds kept) (range_with_len 0 (length kinds))) n (Input r m) h)
+    top (inl h) = middle (at_either (base_names base ++ input_names 0 inputs) (flat_map (atom_names kinds kept) (range_with_len 0 (length kinds))) n
+        (Input r m) h)
     top (inr (p, h)) = let o = at_map Transition (range_with_len 0 base) p (Input r m) h in let k = o.2 in absurd cc
 
-pub placed_named : (base : ℕ) (inputs : List ℕ) (kinds : List Kind) (kept : List Kept) (gates : List Gate) → names_of gates ≡ node_names base inputs kinds kept → ArePlaced base inputs gates
+pub placed_named : (base : ℕ) (inputs : List ℕ) (kinds : List Kind) (kept : List Kept) (gates : List Gate)
+    → names_of gates ≡ node_names base inputs kinds kept → ArePlaced base inputs gates
 placed_named base inputs kinds kept gates e = record {
   places = λ n r m s. place_named base inputs kinds kept n r m (ap (λ (xs : List Name). slice_get xs n) (sym e) ∙ s);
   fit =
@@ -151,7 +200,8 @@ placed_named base inputs kinds kept gates e = record {
 
 -- the word of an input is given, whatever node stands there
 pub given_at : (base : ℕ) (inputs : List ℕ) (gates : List Gate) (joints : List (SmallVec ℕ)) (words : List ℕ) (n k : ℕ) (gate : Gate)
-    → ArePlaced base inputs gates → AreGiven base inputs joints words → slice_get gates n ≡ Some gate → k < length joints → IsGivenAs gate.name (joint_at joints k) (lane words k n)
+    → ArePlaced base inputs gates → AreGiven base inputs joints words → slice_get gates n ≡ Some gate → k < length joints
+    → IsGivenAs gate.name (joint_at joints k) (lane words k n)
 given_at base inputs gates joints words n k gate placed given_words e lt = go gate.name (got_map (λ (g : Gate). g.name) gates n gate e)
   where
     go : (x : Name) → Stands gates n x → IsGivenAs x (joint_at joints k) (lane words k n)

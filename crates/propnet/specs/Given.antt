@@ -10,7 +10,8 @@ use Rattle.propnet.specs.Placing.{input_number}
 
 -- the words of the inputs say which joint moves give them
 abbrev pub AreGiven : ℕ → List ℕ → List (SmallVec ℕ) → List ℕ → Type 0
-AreGiven base inputs joints words = (r m k : ℕ) → m < slice_index inputs r → k < length joints → lane words k (input_number base inputs r m) ≡ given (joint_at joints k) r m
+AreGiven base inputs joints words = (r m k : ℕ) → m < slice_index inputs r → k < length joints
+    → lane words k (input_number base inputs r m) ≡ given (joint_at joints k) r m
 
 -- x is 1 when the joint move gives the input, where the node is one
 abbrev pub IsGivenAs : Name → List ℕ → ℕ → Type 0

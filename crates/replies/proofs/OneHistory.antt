@@ -3,8 +3,7 @@ use Rattle.std.proofs.Common.{ℕ, ◌≡◌, ◌++◌, ◌∷◌, inl, inr, Lis
 use Rattle.std.specs.Prelude.{Result, Ok, Err, IfErr}
 use Rattle.kif.proofs.Facts.{reads_once}
 use Rattle.kif.specs.Tree.{Trees, list_of}
-use Rattle.game.proofs.PlayRange.{role_named}
-use Rattle.game.proofs.SamePlays.{played_alike}
+use Rattle.game.proofs.Facts.{role_named, played_alike}
 use Rattle.game.specs.NamedRules.{NamedRules}
 use Rattle.game.specs.Played.{played}
 use Rattle.game.specs.Refusal.{fault_text, role_part, IsRoleOf}

@@ -4,7 +4,7 @@ use Rattle.std.specs.Prelude.{All, codes, ◌==◌, if◌then◌else◌}
 use Rattle.std.specs.Fmt.{decimal}
 use Rattle.std.specs.List.{flat_map, list_any, range_with_len}
 use Rattle.std.proofs.lemmas.List.Elements.{All-head, All-tail}
-use Rattle.game.proofs.Alike.{all_below, any_alike}
+use Rattle.game.proofs.Facts.{all_below, any_alike}
 use Rattle.game.specs.NamedRules.{NamedRules}
 use Rattle.game.specs.Rules.{State, all_roles, is_stuck}
 use Rattle.game.specs.SamePlay.{SamePlay}

@@ -6,9 +6,7 @@ use Rattle.std.specs.List.{range_with_len}
 use Rattle.std.proofs.lemmas.List.Elements.{All-head, All-tail}
 use Rattle.kif.proofs.Facts.{reads_once}
 use Rattle.kif.specs.Tree.{Trees, no_trees, tree, text, name_eq}
-use Rattle.game.proofs.Alike.{all_below, maps_alike, finds_alike, found_within}
-use Rattle.game.proofs.PlayRange.{choice_within, line_within}
-use Rattle.game.proofs.SamePlays.{value_alike, choice_alike, line_alike}
+use Rattle.game.proofs.Facts.{all_below, maps_alike, finds_alike, found_within, choice_within, line_within, value_alike, choice_alike, line_alike}
 use Rattle.game.specs.declared.at_bound.AtBound.{AtBound}
 use Rattle.game.specs.NamedRules.{NamedRules}
 use Rattle.game.specs.Rules.{State, Turn, IsTurn, all_roles}

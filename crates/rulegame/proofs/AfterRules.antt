@@ -1,5 +1,34 @@
 -- The state after a turn of the game of an instantiation is that of the rules.
-use Rattle.std.proofs.Common.{ℕ, zero, suc, ◌+◌, ◌<◌, Bool, true, false, cond, ◌≡◌, ◌↔◌, List, [], ◌∷◌, length, map, refl, sym, ap, subst, ◌∙◌, arith, Option, Some, None, eqb-true, eq-eqb, lt-ltb}
+use Rattle.std.proofs.Common.{
+  ℕ,
+  zero,
+  suc,
+  ◌+◌,
+  ◌<◌,
+  Bool,
+  true,
+  false,
+  cond,
+  ◌≡◌,
+  ◌↔◌,
+  List,
+  [],
+  ◌∷◌,
+  length,
+  map,
+  refl,
+  sym,
+  ap,
+  subst,
+  ◌∙◌,
+  arith,
+  Option,
+  Some,
+  None,
+  eqb-true,
+  eq-eqb,
+  lt-ltb,
+}
 use Rattle.std.specs.Prelude.{IsTrue, nat_lt, slice_index, ◌==◌}
 use Rattle.std.specs.Option.{option_map}
 use Rattle.kif.specs.Tree.{Tree, tree_eq}
@@ -37,7 +66,8 @@ pub place_within : (t : Tree) (ts : List Tree) (n : ℕ) → place_in t ts ≡ S
 place_within t [] n e = absurd cc
 place_within t (u ∷ us) n e = go (tree_eq t u) (place_in t us) refl e (λ m k. place_within t us m k)
   where
-    go : (b : Bool) (o : Option ℕ) → place_in t us ≡ o → cond b (Some zero) (option_map suc o) ≡ Some n → ((m : ℕ) → place_in t us ≡ Some m → m < length us) → n < suc (length us)
+    go : (b : Bool) (o : Option ℕ) → place_in t us ≡ o → cond b (Some zero) (option_map suc o) ≡ Some n
+        → ((m : ℕ) → place_in t us ≡ Some m → m < length us) → n < suc (length us)
     go true o k f more = let z : zero ≡ n = cc in omega arith
     go false None k f more = absurd cc
     go false (Some m) k f more = let z : suc m ≡ n = cc in let l = more m k in omega arith
@@ -57,7 +87,8 @@ module _ (rules : List Alternative) (w : IsWellFormed rules) (s : List ℕ) (j :
   -- the number that a role moves is one of its inputs
   move_within : (r : Tree) (q : ℕ) → place_in r (role_list rules) ≡ Some q → slice_index j q < length (input_list rules r)
   move_within r q e =
-      subst (λ (t : Tree). slice_index j q < length (input_list rules t)) (placed r (role_list rules) q e) (below q (place_within r (role_list rules) q e))
+      subst (λ (t : Tree). slice_index j q < length (input_list rules t)) (placed r (role_list rules) q e)
+      (below q (place_within r (role_list rules) q e))
 
   is_role : (r : Tree) (q : ℕ) → place_in r (role_list rules) ≡ Some q → IsRole rules r
   is_role r q e = (roles_exact rules w r).0 (place_among r (role_list rules) q e)
@@ -69,7 +100,8 @@ module _ (rules : List Alternative) (w : IsWellFormed rules) (s : List ℕ) (j :
       go None f k = absurd cc
       go (Some q) f k =
           let same : tree_at (input_list rules r) (slice_index j q) ≡ m = cc in
-          (inputs_exact rules w r m (is_role r q f)).0 (subst (λ (t : Tree). IsAmong t (input_list rules r)) same (among_tree (input_list rules r) (slice_index j q) (move_within r q f)))
+          (inputs_exact rules w r m (is_role r q f)).0
+          (subst (λ (t : Tree). IsAmong t (input_list rules r)) same (among_tree (input_list rules r) (slice_index j q) (move_within r q f)))
 
   pub agree_move : Agree rules (state_of rules s) (joint_of rules j) s j
   agree_move x listed moving = (there (kind_of rules x) refl, back (source_of x) refl)
@@ -105,7 +137,8 @@ module _ (rules : List Alternative) (w : IsWellFormed rules) (s : List ℕ) (j :
           go (Some q) f k =
               let same : tree_at (input_list rules r) (slice_index j q) ≡ m = cc in
               let once = in_order_once (input_list rules r) (inputs_in_order rules w r (is_role r q f)) in
-              let place = subst (λ (t : Tree). place_in t (input_list rules r) ≡ Some (slice_index j q)) same (place_at (input_list rules r) once (slice_index j q) (move_within r q f)) in
+              let place = subst (λ (t : Tree). place_in t (input_list rules r) ≡ Some (slice_index j q)) same
+              (place_at (input_list rules r) once (slice_index j q) (move_within r q f)) in
               let in_turn = place_within r (role_list rules) q f in
               ap (is_given s j) (kind_complete rules w.acyclic x (Does q (slice_index j q)) (r, m, does_is x r m e, f, place))
               ∙ true_and _ _ (lt-ltb q (length j) (omega arith)) (eq-eqb (slice_index j q) (slice_index j q) refl)
@@ -113,7 +146,8 @@ module _ (rules : List Alternative) (w : IsWellFormed rules) (s : List ℕ) (j :
       back ordinary e h = absurd h
 
   pub next_holds : (k : ℕ) → k < length (base_list rules)
-      → (is_named (map (kind_of rules) (listing rules).atoms) (holds (map (kind_of rules) (listing rules).atoms) (map (numbered rules) (listing rules).kept) s j) ByNext k ≡ true)
+      → (is_named (map (kind_of rules) (listing rules).atoms)
+      (holds (map (kind_of rules) (listing rules).atoms) (map (numbered rules) (listing rules).kept) s j) ByNext k ≡ true)
       ↔ Holds rules (state_of rules s) (joint_of rules j) (atom1 w_next (tree_at (base_list rules) k))
   next_holds k lt =
       kind_holds rules w (state_of rules s) (joint_of rules j) (within_base rules w s) within_input s j agree_move (λ c. names ByNext c k) (Next k)
@@ -121,22 +155,30 @@ module _ (rules : List Alternative) (w : IsWellFormed rules) (s : List ℕ) (j :
       (tree_at (base_list rules) k, refl, place_at (base_list rules) (in_order_once (base_list rules) (bases_in_order rules w)) k lt)
       (λ z m. m.1 ∙ ap (λ (t : Tree). atom1 w_next t) (sym (placed m.0 (base_list rules) k m.2))) refl
 
-  after_same : trees_at (base_list rules) (named_below (map (kind_of rules) (listing rules).atoms) (holds (map (kind_of rules) (listing rules).atoms) (map (numbered rules) (listing rules).kept) s j) ByNext (length (base_list rules)))
+  after_same : trees_at (base_list rules) (named_below (map (kind_of rules) (listing rules).atoms)
+      (holds (map (kind_of rules) (listing rules).atoms) (map (numbered rules) (listing rules).kept) s j) ByNext (length (base_list rules)))
       ≡ after_list rules (state_of rules s) (joint_of rules j)
   after_same =
-      let f = is_named (map (kind_of rules) (listing rules).atoms) (holds (map (kind_of rules) (listing rules).atoms) (map (numbered rules) (listing rules).kept) s j) ByNext in
+      let f = is_named (map (kind_of rules) (listing rules).atoms)
+      (holds (map (kind_of rules) (listing rules).atoms) (map (numbered rules) (listing rules).kept) s j) ByNext in
       trees_picked f (base_list rules)
       ∙ picked_filter f (λ p. is_atom_in (atom1 w_next p) (holding rules (state_of rules s) (joint_of rules j))) 0 (base_list rules)
-      (λ k lt. let z : 0 + k ≡ k = omega arith in ap f z ∙ same_answer (f k) _ (Holds rules (state_of rules s) (joint_of rules j) (atom1 w_next (tree_at (base_list rules) k))) (next_holds k lt) (found (tree_at (base_list rules) k)))
+      (λ k lt. let z : 0 + k ≡ k = omega arith in
+      ap f z ∙ same_answer (f k) _ (Holds rules (state_of rules s) (joint_of rules j) (atom1 w_next (tree_at (base_list rules) k)))
+      (next_holds k lt) (found (tree_at (base_list rules) k)))
     where
-      found : (p : Tree) → (is_atom_in (atom1 w_next p) (holding rules (state_of rules s) (joint_of rules j)) ≡ true) ↔ Holds rules (state_of rules s) (joint_of rules j) (atom1 w_next p)
+      found : (p : Tree) → (is_atom_in (atom1 w_next p) (holding rules (state_of rules s) (joint_of rules j)) ≡ true) ↔ Holds rules (state_of rules s)
+          (joint_of rules j) (atom1 w_next p)
       found p =
           let x = atom1 w_next p in
-          let h = holding_exact rules w (state_of rules s) (joint_of rules j) (within_base rules w s) within_input x in
-          ((λ e. h.0 (is_atom_yes x (holding rules (state_of rules s) (joint_of rules j)) e)), (λ k. is_atom_in_yes x (holding rules (state_of rules s) (joint_of rules j)) (h.1 k)))
+          let h = holding_exact rules w (state_of rules s) (joint_of rules j) (within_base rules w s) within_input x in (
+            (λ e. h.0 (is_atom_yes x (holding rules (state_of rules s) (joint_of rules j)) e)),
+            (λ k. is_atom_in_yes x (holding rules (state_of rules s) (joint_of rules j)) (h.1 k)),
+          )
 
   pub after_are : AreAfter rules (state_of rules s) (joint_of rules j)
-      (trees_at (base_list rules) (named_below (map (kind_of rules) (listing rules).atoms) (holds (map (kind_of rules) (listing rules).atoms) (map (numbered rules) (listing rules).kept) s j) ByNext (length (base_list rules))))
+      (trees_at (base_list rules) (named_below (map (kind_of rules) (listing rules).atoms)
+      (holds (map (kind_of rules) (listing rules).atoms) (map (numbered rules) (listing rules).kept) s j) ByNext (length (base_list rules))))
   after_are =
       subst (λ (ps : List Tree). AreAfter rules (state_of rules s) (joint_of rules j) ps) (sym after_same)
       (after_listed rules w (state_of rules s) (joint_of rules j) (within_base rules w s) within_input)

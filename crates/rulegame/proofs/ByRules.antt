@@ -1,5 +1,37 @@
 -- What the game of an instantiation tells of a state is what the rules say.
-use Rattle.std.proofs.Common.{ℕ, zero, suc, ◌<◌, Bool, true, false, cond, ◌&&◌, ◌||◌, ◌≡◌, ◌⊎◌, ◌↔◌, inl, inr, List, [], ◌∷◌, length, map, get_or, refl, sym, ap, subst, ◌∙◌, arith, Option, Some, None, le-ltb}
+use Rattle.std.proofs.Common.{
+  ℕ,
+  zero,
+  suc,
+  ◌<◌,
+  Bool,
+  true,
+  false,
+  cond,
+  ◌&&◌,
+  ◌||◌,
+  ◌≡◌,
+  ◌⊎◌,
+  ◌↔◌,
+  inl,
+  inr,
+  List,
+  [],
+  ◌∷◌,
+  length,
+  map,
+  get_or,
+  refl,
+  sym,
+  ap,
+  subst,
+  ◌∙◌,
+  arith,
+  Option,
+  Some,
+  None,
+  le-ltb,
+}
 use Rattle.std.specs.Prelude.{filter, IsTrue, nat_lt, slice_index, ◌==◌}
 use Rattle.std.specs.Option.{option_map}
 use Rattle.std.proofs.lemmas.List.{length-map}
@@ -11,7 +43,26 @@ use Rattle.profile.specs.Dependence.{IsAmong, is_fixed}
 use Rattle.profile.proofs.Facts.{fixed_tested, or_cases, or_left, or_right}
 use Rattle.meaning.specs.declared.kind.Kind.{Kind}
 use Rattle.meaning.specs.declared.kind.Kind.TheVariants.{Fixed, Now, Does, Next, Legal, Goal, Terminal, Other}
-use Rattle.meaning.specs.Meaning.{State, Joint, Source, now, does, distinct, ordinary, source_at, source_of, RightAs, Holds, nobody, IsEnded, IsBase, IsWithinBase, IsWithinInput, atom0, atom1}
+use Rattle.meaning.specs.Meaning.{
+  State,
+  Joint,
+  Source,
+  now,
+  does,
+  distinct,
+  ordinary,
+  source_at,
+  source_of,
+  RightAs,
+  Holds,
+  nobody,
+  IsEnded,
+  IsBase,
+  IsWithinBase,
+  IsWithinInput,
+  atom0,
+  atom1,
+}
 use Rattle.meaning.specs.InOrder.{AreDistinct, first_place}
 use Rattle.meaning.specs.Numbers.{number_of}
 use Rattle.meaning.specs.Listing.{listing, base_list}
@@ -19,7 +70,17 @@ use Rattle.meaning.specs.Listed.{IsWellFormed}
 use Rattle.meaning.specs.Gates.{atom_at}
 use Rattle.meaning.specs.Kinds.{place_in, kind_of, MeansKind}
 use Rattle.ground.specs.Grounds.{Kept, numbered}
-use Rattle.meaning.proofs.Facts.{kind_sound, kind_complete, listed_suffice, bases_exact, distinct_fixed, one_number, place_below, atom_test, start_listed}
+use Rattle.meaning.proofs.Facts.{
+  kind_sound,
+  kind_complete,
+  listed_suffice,
+  bases_exact,
+  distinct_fixed,
+  one_number,
+  place_below,
+  atom_test,
+  start_listed,
+}
 use Rattle.game.specs.Rules.{Turn}
 use Rattle.rulegame.specs.RulePlay.{marked, no_turn, kind_at, is_given, holds, some_below, is_terminal, ends}
 use Rattle.rulegame.specs.RuleMeaning.{Agree, stands_at, state_of, trees_at}
@@ -43,7 +104,8 @@ number_at [] d a lt = absurd (omega arith)
 number_at (x ∷ xs) d zero lt = let e = (atom_test x x).1 refl in rw e refl
 number_at (x ∷ xs) d (suc a) lt = go (atom_eq (atom_at xs a) x) refl (number_at xs d.1 a (omega arith))
   where
-    go : (b : Bool) → atom_eq (atom_at xs a) x ≡ b → number_of (atom_at xs a) xs ≡ a → cond b zero (suc (first_place (atom_eq (atom_at xs a)) xs)) ≡ suc a
+    go : (b : Bool) → atom_eq (atom_at xs a) x ≡ b → number_of (atom_at xs a) xs ≡ a
+        → cond b zero (suc (first_place (atom_eq (atom_at xs a)) xs)) ≡ suc a
     go true e more = absurd (d.0 (atom_at xs a) (among_atom xs a (omega arith)) (sym ((atom_test (atom_at xs a) x).0 e)))
     go false e more = ap suc more
 
@@ -56,7 +118,8 @@ pub some_found : (test : ℕ → Bool) (n : ℕ) → some_below test n ≡ true 
 some_found test zero e = absurd cc
 some_found test (suc n) e = go (or_cases (some_below test n) (test n) e) (some_found test n)
   where
-    go : (some_below test n ≡ true) ⊎ (test n ≡ true) → (some_below test n ≡ true → (a : ℕ) × (a < n) × (test a ≡ true)) → (a : ℕ) × (a < suc n) × (test a ≡ true)
+    go : (some_below test n ≡ true) ⊎ (test n ≡ true) → (some_below test n ≡ true → (a : ℕ) × (a < n) × (test a ≡ true)) → (a : ℕ) × (a < suc n)
+        × (test a ≡ true)
     go (inl h) more = let r = more h in let lt = r.1 in (r.0, omega arith, r.2)
     go (inr h) more = (n, omega arith, h)
 
@@ -80,12 +143,14 @@ now_atom : (w : List ℕ) (ts : Trees) (p : Tree) → source_at w ts ≡ now p �
 now_atom w no_trees p e = absurd cc
 now_atom w (tree t no_trees) p e = go (name_eq w w_true) refl e
   where
-    go : (b : Bool) → name_eq w w_true ≡ b → cond b (now t) ordinary ≡ now p → ◌≡◌ {A = Atom} (record { word = w; terms = tree t no_trees }) (atom1 w_true p)
+    go : (b : Bool) → name_eq w w_true ≡ b → cond b (now t) ordinary ≡ now p → ◌≡◌ {A = Atom} (record { word = w; terms = tree t no_trees })
+        (atom1 w_true p)
     go true h k = let f = name_eq_yes w w_true h in let g : t ≡ p = cc in λ i. record { word = f i; terms = tree (g i) no_trees }
     go false h k = absurd cc
 now_atom w (tree t (tree u no_trees)) p e = go (name_eq w w_does) (name_eq w w_distinct) e
   where
-    go : (b c : Bool) → cond b (does t u) (cond c (distinct t u) ordinary) ≡ now p → ◌≡◌ {A = Atom} (record { word = w; terms = tree t (tree u no_trees) }) (atom1 w_true p)
+    go : (b c : Bool) → cond b (does t u) (cond c (distinct t u) ordinary) ≡ now p
+        → ◌≡◌ {A = Atom} (record { word = w; terms = tree t (tree u no_trees) }) (atom1 w_true p)
     go true c k = absurd cc
     go false true k = absurd cc
     go false false k = absurd cc
@@ -95,7 +160,8 @@ pub place_among : (t : Tree) (ts : List Tree) (n : ℕ) → place_in t ts ≡ So
 place_among t [] n e = absurd cc
 place_among t (u ∷ us) n e = go (tree_eq t u) refl (place_in t us) refl e (λ m k. place_among t us m k)
   where
-    go : (b : Bool) → tree_eq t u ≡ b → (o : Option ℕ) → place_in t us ≡ o → cond b (Some zero) (option_map suc o) ≡ Some n → ((m : ℕ) → place_in t us ≡ Some m → IsAmong t us) → (t ≡ u) ⊎ IsAmong t us
+    go : (b : Bool) → tree_eq t u ≡ b → (o : Option ℕ) → place_in t us ≡ o → cond b (Some zero) (option_map suc o) ≡ Some n
+        → ((m : ℕ) → place_in t us ≡ Some m → IsAmong t us) → (t ≡ u) ⊎ IsAmong t us
     go true h o k f more = inl (tree_eq_yes t u h)
     go false h None k f more = absurd cc
     go false h (Some m) k f more = inr (more m k)
@@ -143,7 +209,8 @@ module _ (rules : List Alternative) (w : IsWellFormed rules) where
         there (Now n) h e =
             let m = kind_sound rules w.acyclic x (Now n) h (λ f. absurd cc) in
             subst (λ (y : Atom). RightAs (state_of rules s) nobody ⊥ (source_of y)) (sym m.1) (ap (stands_at s) m.2 ∙ e)
-        there (Does r m) h e = let z = le-ltb r 0 (omega arith) in let b = both (nat_lt r 0) (slice_index no_turn r == m) e in let c = b.0 in absurd cc
+        there (Does r m) h e = let z = le-ltb r 0 (omega arith) in let b = both (nat_lt r 0) (slice_index no_turn r == m) e in let c = b.0 in
+            absurd cc
         there (Next p) h e = absurd cc
         there (Legal r m) h e = absurd cc
         there (Goal r v) h e = absurd cc
@@ -160,42 +227,48 @@ module _ (rules : List Alternative) (w : IsWellFormed rules) where
         back (distinct t u) e h = let f = (fixed_tested rules w.acyclic (relation_of x)).1 (distinct_fixed rules w x t u e) in absurd cc
         back ordinary e h = absurd h
 
-  module _ (S : State) (J : Joint) (base : IsWithinBase rules S) (input : IsWithinInput rules J) (s : List ℕ) (j : Turn) (given : Agree rules S J s j) where
-    -- some number that holds has the kind exactly where the one atom of the kind holds
-    pub kind_holds : (test : Kind → Bool) (k : Kind) (y : Atom) → ((c : Kind) → test c ≡ true → c ≡ k) → test k ≡ true → (k ≡ Other → ⊥) → (k ≡ Fixed → ⊥)
-        → MeansKind rules y k → ((z : Atom) → MeansKind rules z k → z ≡ y) → source_of y ≡ ordinary
-        → (some_below (λ a. holds kinds kept s j a && test (kind_at kinds a)) (length kinds) ≡ true) ↔ Holds rules S J y
-    kind_holds test k y only is other moves means once plain = (there, back)
-      where
-        there : some_below (λ a. holds kinds kept s j a && test (kind_at kinds a)) (length kinds) ≡ true → Holds rules S J y
-        there e =
-            let r = some_found (λ a. holds kinds kept s j a && test (kind_at kinds a)) (length kinds) e in
-            let a = r.0 in
-            let below = r.1 in
-            let size = length-map (listing rules).atoms (kind_of rules) in
-            let lt : a < length (listing rules).atoms = omega arith in
-            let b = both (holds kinds kept s j a) (test (kind_at kinds a)) r.2 in
-            let x = atom_at (listing rules).atoms a in
-            let kind = only (kind_of rules x) (ap test (sym (kind_at_number (kind_of rules) (listing rules).atoms a lt)) ∙ b.1) in
-            let same = once x (kind_sound rules w.acyclic x k kind other) in
-            let right = (numbers_exact rules w S J base input s j given x (among_atom (listing rules).atoms a lt) (moving_kind x k kind moves)).0
-            (ap (holds kinds kept s j) (number_at (listing rules).atoms (one_number rules) a lt) ∙ b.0) in
-            (right_there S J (Holds rules S J y) (source_of y) plain).1 (subst (λ (z : Atom). RightAs S J (Holds rules S J z) (source_of z)) same right)
+  module _ (S : State) (J : Joint) (base : IsWithinBase rules S) (input : IsWithinInput rules J) (s : List ℕ) (j : Turn) (given : Agree rules S J s j)
+    where
+      -- some number that holds has the kind exactly where the one atom of the kind holds
+      pub kind_holds : (test : Kind → Bool) (k : Kind) (y : Atom) → ((c : Kind) → test c ≡ true → c ≡ k) → test k ≡ true → (k ≡ Other → ⊥)
+          → (k ≡ Fixed → ⊥)
+          → MeansKind rules y k → ((z : Atom) → MeansKind rules z k → z ≡ y) → source_of y ≡ ordinary
+          → (some_below (λ a. holds kinds kept s j a && test (kind_at kinds a)) (length kinds) ≡ true) ↔ Holds rules S J y
+      kind_holds test k y only is other moves means once plain = (there, back)
+        where
+          there : some_below (λ a. holds kinds kept s j a && test (kind_at kinds a)) (length kinds) ≡ true → Holds rules S J y
+          there e =
+              let r = some_found (λ a. holds kinds kept s j a && test (kind_at kinds a)) (length kinds) e in
+              let a = r.0 in
+              let below = r.1 in
+              let size = length-map (listing rules).atoms (kind_of rules) in
+              let lt : a < length (listing rules).atoms = omega arith in
+              let b = both (holds kinds kept s j a) (test (kind_at kinds a)) r.2 in
+              let x = atom_at (listing rules).atoms a in
+              let kind = only (kind_of rules x) (ap test (sym (kind_at_number (kind_of rules) (listing rules).atoms a lt)) ∙ b.1) in
+              let same = once x (kind_sound rules w.acyclic x k kind other) in
+              let right = (numbers_exact rules w S J base input s j given x (among_atom (listing rules).atoms a lt) (moving_kind x k kind moves)).0
+              (ap (holds kinds kept s j) (number_at (listing rules).atoms (one_number rules) a lt) ∙ b.0) in
+              (right_there S J (Holds rules S J y) (source_of y) plain).1
+              (subst (λ (z : Atom). RightAs S J (Holds rules S J z) (source_of z)) same right)
 
-        back : Holds rules S J y → some_below (λ a. holds kinds kept s j a && test (kind_at kinds a)) (length kinds) ≡ true
-        back h =
-            let r = (listed_suffice rules w S J base input y).0 h in
-            let listed = subst (λ (z : Atom). IsAmong z (listing rules).atoms) r.heads (head_listed rules w S J base input s j given r.instance r.listed) in
-            let kind = kind_complete rules w.acyclic y k means in
-            let right = (numbers_exact rules w S J base input s j given y listed (moving_kind y k kind moves)).1 ((right_there S J (Holds rules S J y) (source_of y) plain).0 h) in
-            let size = length-map (listing rules).atoms (kind_of rules) in
-            let below = place_below atom_eq atom_test y (listing rules).atoms listed in
-            found_some (λ a. holds kinds kept s j a && test (kind_at kinds a)) (length kinds) (number_of y (listing rules).atoms) (omega arith)
-            (true_and _ _ right (ap test (kind_listed (kind_of rules) y (listing rules).atoms listed ∙ kind) ∙ is))
+          back : Holds rules S J y → some_below (λ a. holds kinds kept s j a && test (kind_at kinds a)) (length kinds) ≡ true
+          back h =
+              let r = (listed_suffice rules w S J base input y).0 h in
+              let listed = subst (λ (z : Atom). IsAmong z (listing rules).atoms) r.heads
+              (head_listed rules w S J base input s j given r.instance r.listed) in
+              let kind = kind_complete rules w.acyclic y k means in
+              let right = (numbers_exact rules w S J base input s j given y listed (moving_kind y k kind moves)).1
+              ((right_there S J (Holds rules S J y) (source_of y) plain).0 h) in
+              let size = length-map (listing rules).atoms (kind_of rules) in
+              let below = place_below atom_eq atom_test y (listing rules).atoms listed in
+              found_some (λ a. holds kinds kept s j a && test (kind_at kinds a)) (length kinds) (number_of y (listing rules).atoms) (omega arith)
+              (true_and _ _ right (ap test (kind_listed (kind_of rules) y (listing rules).atoms listed ∙ kind) ∙ is))
 
   pub ends_by_rules : (s : List ℕ) → (ends kinds (holds kinds kept s no_turn) ≡ true) ↔ IsEnded rules (state_of rules s)
   ends_by_rules s =
-      kind_holds (state_of rules s) nobody (within_base s) (no_move s) s no_turn (agree_now s) is_terminal Terminal (atom0 w_terminal) terminal_only refl (λ e. absurd cc) (λ e. absurd cc) refl (λ z m. m) refl
+      kind_holds (state_of rules s) nobody (within_base s) (no_move s) s no_turn (agree_now s) is_terminal Terminal (atom0 w_terminal) terminal_only
+      refl (λ e. absurd cc) (λ e. absurd cc) refl (λ z m. m) refl
 
 start_mark : (F : Tree → Bool) (ts : List Tree) (k : ℕ) → k < length ts → get_or (map F ts) k false ≡ F (tree_at ts k)
 start_mark F [] k lt = absurd (omega arith)
@@ -203,11 +276,13 @@ start_mark F (t ∷ ts) zero lt = refl
 start_mark F (t ∷ ts) (suc k) lt = start_mark F ts k (omega arith)
 
 -- the start state is that of the rules
-pub start_are : (rules : List Alternative) → IsWellFormed rules → AreStart rules (trees_at (base_list rules) (marked (map (play.starts rules) (base_list rules))))
+pub start_are : (rules : List Alternative) → IsWellFormed rules
+    → AreStart rules (trees_at (base_list rules) (marked (map (play.starts rules) (base_list rules))))
 start_are rules w =
     let marks = map (play.starts rules) (base_list rules) in
     subst (λ (ts : List Tree). AreStart rules ts)
-    (sym (ap (λ (n : ℕ). trees_at (base_list rules) (filter (λ k. get_or marks k false) (range_with_len 0 n))) (length-map (base_list rules) (play.starts rules))
+    (sym (ap (λ (n : ℕ). trees_at (base_list rules) (filter (λ k. get_or marks k false) (range_with_len 0 n)))
+    (length-map (base_list rules) (play.starts rules))
     ∙ trees_picked (λ k. get_or marks k false) (base_list rules)
     ∙ picked_filter (λ k. get_or marks k false) (play.starts rules) 0 (base_list rules)
     (λ k lt. ap (λ (i : ℕ). get_or marks i false) (omega arith) ∙ start_mark (play.starts rules) (base_list rules) k lt)))

@@ -25,7 +25,7 @@ use Rattle.rulegame.specs.RuleMeaning.{state_of, joint_of, trees_at}
 use Rattle.rulegame.specs.RulesGame.{role_at, inputs_at, AreNumbersOf, IsGameOf}
 use Rattle.rulegame.specs.RuleState.{rules_of, named_rules_of}
 use Rattle.rulegame.specs.RuleLaws.{below_range}
-use Rattle.game.proofs.ManyStates.{get_or_any}
+use Rattle.game.proofs.Facts.{get_or_any}
 use Rattle.rulegame.proofs.ByRules.{ends_by_rules, start_are}
 use Rattle.rulegame.proofs.LegalRules.{legal_are}
 use Rattle.rulegame.proofs.AfterRules.{after_are}
@@ -92,8 +92,10 @@ module _ (rules : List Alternative) (w : IsWellFormed rules) where
   legal_numbers : (s : List ℕ) (r : ℕ) → r < length inputs
       → AreNumbersOf (inputs_at rules r) (IsLegal rules (state_of rules s) (role_at rules r)) (game.rules.legal s r)
   legal_numbers s r lt =
-      subst (λ (n : ℕ). AreNumbersOf (inputs_at rules r) (IsLegal rules (state_of rules s) (role_at rules r)) (filter (is_named kinds (holds kinds kept s no_turn) (ByLegal r)) (range_with_len 0 n))) (sym (moves_counted r lt)) record {
-        within = All-filter (is_named kinds (holds kinds kept s no_turn) (ByLegal r)) (λ m. m < length (inputs_at rules r)) _ (below_range (length (inputs_at rules r)));
+      subst (λ (n : ℕ). AreNumbersOf (inputs_at rules r) (IsLegal rules (state_of rules s) (role_at rules r))
+      (filter (is_named kinds (holds kinds kept s no_turn) (ByLegal r)) (range_with_len 0 n))) (sym (moves_counted r lt)) record {
+        within = All-filter (is_named kinds (holds kinds kept s no_turn) (ByLegal r)) (λ m. m < length (inputs_at rules r)) _
+            (below_range (length (inputs_at rules r)));
         are = legal_are rules w s r (inside r lt);
       }
 
@@ -101,9 +103,12 @@ module _ (rules : List Alternative) (w : IsWellFormed rules) where
       → AreNumbersOf (base_list rules) (IsInAfter rules (state_of rules s) (joint_of rules j)) (game.rules.after s j)
   next_numbers s j turn =
       let known : (q : ℕ) → q < length (role_list rules) → slice_index j q < length (inputs_at rules q) =
-      λ q below. let lt = subst (λ (n : ℕ). q < n) (sym roles_counted) below in subst (λ (n : ℕ). slice_index j q < n) (moves_counted q lt) (turn.each_known q lt) in
-      subst (λ (n : ℕ). AreNumbersOf (base_list rules) (IsInAfter rules (state_of rules s) (joint_of rules j)) (filter (is_named kinds (holds kinds kept s j) ByNext) (range_with_len 0 n))) (sym starts_counted) record {
-        within = All-filter (is_named kinds (holds kinds kept s j) ByNext) (λ p. p < length (base_list rules)) _ (below_range (length (base_list rules)));
+      λ q below. let lt = subst (λ (n : ℕ). q < n) (sym roles_counted) below in
+      subst (λ (n : ℕ). slice_index j q < n) (moves_counted q lt) (turn.each_known q lt) in
+      subst (λ (n : ℕ). AreNumbersOf (base_list rules) (IsInAfter rules (state_of rules s) (joint_of rules j))
+      (filter (is_named kinds (holds kinds kept s j) ByNext) (range_with_len 0 n))) (sym starts_counted) record {
+        within = All-filter (is_named kinds (holds kinds kept s j) ByNext) (λ p. p < length (base_list rules)) _
+            (below_range (length (base_list rules)));
         are = after_are rules w s j (turn.of_each_role ∙ roles_counted) known;
       }
 
@@ -125,21 +130,28 @@ pub has_game : (rules : List Alternative) → IsWellFormed rules → (g : NamedR
 has_game rules w = (game rules w, game_are rules w)
 
 -- whatever has the texts, marks, kinds and instances of the rules has their game
-pub game_by_rules : (rules : List Alternative) (roles base : List (List ℕ)) (inputs : List (List (List ℕ))) (starts : List Bool) (kinds : List Kind) (kept : List Kept) (dropped : ℕ)
+pub game_by_rules : (rules : List Alternative) (roles base : List (List ℕ)) (inputs : List (List (List ℕ))) (starts : List Bool) (kinds : List Kind)
+    (kept : List Kept) (dropped : ℕ)
     → IsGroundOf rules roles base inputs starts kinds kept dropped → IsGameOf rules (game_by roles inputs starts kinds kept)
 game_by_rules rules roles base inputs starts kinds kept dropped is =
     subst (λ (xs : List (List ℕ)). IsGameOf rules (game_by xs inputs starts kinds kept)) (sym is.roles_are)
     (subst (λ (xs : List (List (List ℕ))). IsGameOf rules (game_by (map text (role_list rules)) xs starts kinds kept)) (sym is.inputs_are)
-    (subst (λ (xs : List Bool). IsGameOf rules (game_by (map text (role_list rules)) (map (λ r. map text (input_list rules r)) (role_list rules)) xs kinds kept)) (sym is.starts_are)
-    (subst (λ (xs : List Kind). IsGameOf rules (game_by (map text (role_list rules)) (map (λ r. map text (input_list rules r)) (role_list rules)) (map (play.starts rules) (base_list rules)) xs kept)) (sym is.kinds_are)
-    (subst (λ (xs : List Kept). IsGameOf rules (game_by (map text (role_list rules)) (map (λ r. map text (input_list rules r)) (role_list rules)) (map (play.starts rules) (base_list rules)) (map (kind_of rules) (listing rules).atoms) xs)) (sym is.kept_are)
+    (subst (λ (xs : List Bool). IsGameOf rules
+    (game_by (map text (role_list rules)) (map (λ r. map text (input_list rules r)) (role_list rules)) xs kinds kept)) (sym is.starts_are)
+    (subst (λ (xs : List Kind). IsGameOf rules
+    (game_by (map text (role_list rules)) (map (λ r. map text (input_list rules r)) (role_list rules)) (map (play.starts rules) (base_list rules))
+    xs kept)) (sym is.kinds_are)
+    (subst (λ (xs : List Kept). IsGameOf rules
+    (game_by (map text (role_list rules)) (map (λ r. map text (input_list rules r)) (role_list rules)) (map (play.starts rules) (base_list rules))
+    (map (kind_of rules) (listing rules).atoms) xs)) (sym is.kept_are)
     (game_are rules is.well_formed)))))
 
 pub game_of_ground : (rules : List Alternative) (g : Ground) → IsGround rules g → IsGameOf rules (named_rules_of g)
 game_of_ground rules g is = game_by_rules rules (roles_of g) (base_of g) (inputs_of g) g.starts.items (kinds_of g) (instances_of g) g.dropped is
 
 -- the state has ended where the rules say so
-pub ended_by_rules : (rules : List Alternative) (g : Ground) → IsGround rules g → (s : List ℕ) → ((rules_of g).ended s ≡ true) ↔ IsEnded rules (state_of rules s)
+pub ended_by_rules : (rules : List Alternative) (g : Ground) → IsGround rules g → (s : List ℕ)
+    → ((rules_of g).ended s ≡ true) ↔ IsEnded rules (state_of rules s)
 ended_by_rules rules g is = (game_of_ground rules g is).ends
 
 -- the start state is that of the rules
@@ -151,7 +163,8 @@ within_roles rules g is r lt = subst (λ (n : ℕ). r < n) (sym (game_of_ground 
 
 -- the legal moves are those of the rules
 pub legal_by_rules : (rules : List Alternative) (g : Ground) → IsGround rules g → (s : List ℕ) (r : ℕ) → r < length (role_list rules)
-    → AreLegal rules (state_of rules s) (tree_at (role_list rules) r) (trees_at (input_list rules (tree_at (role_list rules) r)) ((rules_of g).legal s r))
+    → AreLegal rules (state_of rules s) (tree_at (role_list rules) r)
+    (trees_at (input_list rules (tree_at (role_list rules) r)) ((rules_of g).legal s r))
 legal_by_rules rules g is s r lt = ((game_of_ground rules g is).legals s r (within_roles rules g is r lt)).are
 
 -- the state after a turn is that of the rules

@@ -1,5 +1,32 @@
 -- The goals that the game of an instantiation gives are those of the rules.
-use Rattle.std.proofs.Common.{ℕ, zero, suc, ◌<◌, ◌≤◌, Bool, true, false, cond, ◌&&◌, ◌≡◌, ◌⊎◌, ◌↔◌, inl, inr, List, length, map, refl, sym, ap, subst, ◌∙◌, arith, eqb-true, eq-eqb}
+use Rattle.std.proofs.Common.{
+  ℕ,
+  zero,
+  suc,
+  ◌<◌,
+  ◌≤◌,
+  Bool,
+  true,
+  false,
+  cond,
+  ◌&&◌,
+  ◌≡◌,
+  ◌⊎◌,
+  ◌↔◌,
+  inl,
+  inr,
+  List,
+  length,
+  map,
+  refl,
+  sym,
+  ap,
+  subst,
+  ◌∙◌,
+  arith,
+  eqb-true,
+  eq-eqb,
+}
 use Rattle.std.specs.Prelude.{◌==◌, max, decimal}
 use Rattle.std.proofs.Math.Nat.{le-max_left, le-max_right, max-eq_left, max-eq_right}
 use Rattle.std.proofs.lemmas.Bool.{cases_lt}
@@ -115,7 +142,8 @@ module _ (rules : List Alternative) (w : IsWellFormed rules) (s : List ℕ) (r :
 
   goal_holds : (v : ℕ) → v ≤ 100 → (some_below (test v) (length kinds) ≡ true) ↔ HasGoal rules (state_of rules s) role v
   goal_holds v small =
-      kind_holds rules w (state_of rules s) nobody (within_base rules w s) (no_move rules w s) s no_turn (agree_now rules w s) (gives_goal r v) (Goal r v)
+      kind_holds rules w (state_of rules s) nobody (within_base rules w s) (no_move rules w s) s no_turn (agree_now rules w s) (gives_goal r v)
+      (Goal r v)
       (atom2 w_goal role (name (decimal v))) (goal_only r v) (goal_is r v) (λ e. absurd cc) (λ e. absurd cc)
       (role, refl, place_at (role_list rules) (roles_once rules w) r inside, small)
       once refl
@@ -129,31 +157,38 @@ module _ (rules : List Alternative) (w : IsWellFormed rules) (s : List ℕ) (r :
       let f = some_found (test v) (length kinds) ((goal_holds v small).1 h) in
       let a = f.0 in
       let b = both (right a) (gives_goal r v (kind_at kinds a)) f.2 in
-      let same : value a ≡ v = ap (λ (t : Bool). cond t (goal_value r (kind_at kinds a)) 0) b.0 ∙ ap (goal_value r) (goal_only r v (kind_at kinds a) b.1) ∙ value_is r v in
+      let same : value a ≡ v = ap (λ (t : Bool). cond t (goal_value r (kind_at kinds a)) 0) b.0
+      ∙ ap (goal_value r) (goal_only r v (kind_at kinds a) b.1) ∙ value_is r v in
       subst (λ (u : ℕ). u ≤ best_goal kinds right r) same (none_greater value (length kinds) a f.1)
 
   small_goal : (a v : ℕ) → a < length kinds → kind_at kinds a ≡ Goal r v → v ≤ 100
   small_goal a v lt e =
       let size = length-map (listing rules).atoms (kind_of rules) in
       let below : a < length (listing rules).atoms = omega arith in
-      let m = kind_sound rules w.acyclic (atom_at (listing rules).atoms a) (Goal r v) (sym (kind_at_number (kind_of rules) (listing rules).atoms a below) ∙ e) (λ f. absurd cc) in
+      let m = kind_sound rules w.acyclic (atom_at (listing rules).atoms a) (Goal r v)
+      (sym (kind_at_number (kind_of rules) (listing rules).atoms a below) ∙ e) (λ f. absurd cc) in
       m.3
 
   -- a value other than 0 is a goal that holds
   value_holds : (a v : ℕ) → a < length kinds → value a ≡ suc v → (suc v ≤ 100) × HasGoal rules (state_of rules s) role (suc v)
   value_holds a v lt e = go (right a) refl e
     where
-      go : (b : Bool) → right a ≡ b → cond b (goal_value r (kind_at kinds a)) 0 ≡ suc v → (suc v ≤ 100) × HasGoal rules (state_of rules s) role (suc v)
+      go : (b : Bool) → right a ≡ b → cond b (goal_value r (kind_at kinds a)) 0 ≡ suc v → (suc v ≤ 100)
+          × HasGoal rules (state_of rules s) role (suc v)
       go true h f =
           let kind = valued_only r v (kind_at kinds a) f in
-          let small = small_goal a (suc v) lt kind in
-          (small, (goal_holds (suc v) small).0 (found_some (test (suc v)) (length kinds) a lt (true_and _ _ h (ap (gives_goal r (suc v)) kind ∙ goal_is r (suc v)))))
+          let small = small_goal a (suc v) lt kind in (
+            small,
+            (goal_holds (suc v) small).0 (found_some (test (suc v)) (length kinds) a lt
+                (true_and _ _ h (ap (gives_goal r (suc v)) kind ∙ goal_is r (suc v)))),
+          )
       go false h f = absurd cc
 
   best_is : (v : ℕ) → best_goal kinds right r ≡ v → IsGoal rules (state_of rules s) role v
   best_is (suc v) e = go (some_greatest value (length kinds))
     where
-      go : (best_goal kinds right r ≡ 0) ⊎ ((a : ℕ) × (a < length kinds) × (value a ≡ best_goal kinds right r)) → IsGoal rules (state_of rules s) role (suc v)
+      go : (best_goal kinds right r ≡ 0) ⊎ ((a : ℕ) × (a < length kinds) × (value a ≡ best_goal kinds right r))
+          → IsGoal rules (state_of rules s) role (suc v)
       go (inl z) = absurd cc
       go (inr f) =
           let k = value_holds f.0 v f.1 (f.2 ∙ e) in

@@ -1,5 +1,28 @@
 -- The legal moves of the game of an instantiation are those of the rules.
-use Rattle.std.proofs.Common.{ℕ, ◌+◌, ◌<◌, Bool, true, false, cond, ◌≡◌, ◌↔◌, List, length, map, refl, sym, ap, subst, ◌∙◌, arith, Some, None, eqb-true, eq-eqb}
+use Rattle.std.proofs.Common.{
+  ℕ,
+  ◌+◌,
+  ◌<◌,
+  Bool,
+  true,
+  false,
+  cond,
+  ◌≡◌,
+  ◌↔◌,
+  List,
+  length,
+  map,
+  refl,
+  sym,
+  ap,
+  subst,
+  ◌∙◌,
+  arith,
+  Some,
+  None,
+  eqb-true,
+  eq-eqb,
+}
 use Rattle.std.specs.Prelude.{◌==◌}
 use Rattle.std.specs.declared.cmp.Ordering.TheVariants.{Less}
 use Rattle.kif.specs.Tree.{Tree, printed_cmp}
@@ -35,7 +58,8 @@ same_answer false false X h k = refl
 
 pub in_order_once : (ts : List Tree) → AreInPrintedOrder ts → AreDistinct ts
 in_order_once ts h =
-    order_other (λ (t u : Tree). printed_cmp t u ≡ Less) (λ (t u : Tree). t ≡ u → ⊥) ts (λ t u a b l e. printed_never t (subst (λ (v : Tree). printed_cmp t v ≡ Less) (sym e) l)) h
+    order_other (λ (t u : Tree). printed_cmp t u ≡ Less) (λ (t u : Tree). t ≡ u → ⊥) ts
+    (λ t u a b l e. printed_never t (subst (λ (v : Tree). printed_cmp t v ≡ Less) (sym e) l)) h
 
 pub legal_only : (r k : ℕ) (c : Kind) → names (ByLegal r) c k ≡ true → c ≡ Legal r k
 legal_only r k Fixed e = absurd cc
@@ -62,12 +86,19 @@ module _ (rules : List Alternative) (w : IsWellFormed rules) (s : List ℕ) (r :
   is_role = (roles_exact rules w role).0 (among_tree (role_list rules) r inside)
 
   legal_holds : (k : ℕ) → k < length (input_list rules role)
-      → (is_named (map (kind_of rules) (listing rules).atoms) (holds (map (kind_of rules) (listing rules).atoms) (map (numbered rules) (listing rules).kept) s no_turn) (ByLegal r) k ≡ true)
+      → (is_named (map (kind_of rules) (listing rules).atoms)
+      (holds (map (kind_of rules) (listing rules).atoms) (map (numbered rules) (listing rules).kept) s no_turn) (ByLegal r) k ≡ true)
       ↔ Holds rules (state_of rules s) nobody (atom2 w_legal role (tree_at (input_list rules role) k))
   legal_holds k lt =
-      kind_holds rules w (state_of rules s) nobody (within_base rules w s) (no_move rules w s) s no_turn (agree_now rules w s) (λ c. names (ByLegal r) c k) (Legal r k)
-      (atom2 w_legal role (tree_at (input_list rules role) k)) (legal_only r k) (legal_is r k) (λ e. absurd cc) (λ e. absurd cc)
-      (role, tree_at (input_list rules role) k, refl, place_at (role_list rules) (roles_once rules w) r inside, place_at (input_list rules role) (in_order_once (input_list rules role) (inputs_in_order rules w role is_role)) k lt)
+      kind_holds rules w (state_of rules s) nobody (within_base rules w s) (no_move rules w s) s no_turn (agree_now rules w s)
+      (λ c. names (ByLegal r) c k) (Legal r k)
+      (atom2 w_legal role (tree_at (input_list rules role) k)) (legal_only r k) (legal_is r k) (λ e. absurd cc) (λ e. absurd cc) (
+        role,
+        tree_at (input_list rules role) k,
+        refl,
+        place_at (role_list rules) (roles_once rules w) r inside,
+        place_at (input_list rules role) (in_order_once (input_list rules role) (inputs_in_order rules w role is_role)) k lt,
+      )
       once refl
     where
       once : (z : Atom) → MeansKind rules z (Legal r k) → z ≡ atom2 w_legal role (tree_at (input_list rules role) k)
@@ -75,20 +106,32 @@ module _ (rules : List Alternative) (w : IsWellFormed rules) (s : List ℕ) (r :
           m.2 ∙ ap (λ (t : Tree). atom2 w_legal m.0 t) (sym (placed m.1 (input_list rules m.0) k m.4))
           ∙ ap (λ (q : Tree). atom2 w_legal q (tree_at (input_list rules q) k)) (sym (placed m.0 (role_list rules) r m.3))
 
-  legal_same : trees_at (input_list rules role) (named_below (map (kind_of rules) (listing rules).atoms) (holds (map (kind_of rules) (listing rules).atoms) (map (numbered rules) (listing rules).kept) s no_turn) (ByLegal r) (length (input_list rules role)))
+  legal_same : trees_at (input_list rules role)
+      (named_below (map (kind_of rules) (listing rules).atoms)
+      (holds (map (kind_of rules) (listing rules).atoms) (map (numbered rules) (listing rules).kept) s no_turn) (ByLegal r)
+      (length (input_list rules role)))
       ≡ legal_list rules (state_of rules s) role
   legal_same =
-      let f = is_named (map (kind_of rules) (listing rules).atoms) (holds (map (kind_of rules) (listing rules).atoms) (map (numbered rules) (listing rules).kept) s no_turn) (ByLegal r) in
+      let f = is_named (map (kind_of rules) (listing rules).atoms)
+      (holds (map (kind_of rules) (listing rules).atoms) (map (numbered rules) (listing rules).kept) s no_turn) (ByLegal r) in
       trees_picked f (input_list rules role)
       ∙ picked_filter f (λ m. is_atom_in (atom2 w_legal role m) (holding rules (state_of rules s) nobody)) 0 (input_list rules role)
-      (λ k lt. let z : 0 + k ≡ k = omega arith in ap f z ∙ same_answer (f k) _ (Holds rules (state_of rules s) nobody (atom2 w_legal role (tree_at (input_list rules role) k))) (legal_holds k lt) (found (tree_at (input_list rules role) k)))
+      (λ k lt. let z : 0 + k ≡ k = omega arith in
+      ap f z ∙ same_answer (f k) _ (Holds rules (state_of rules s) nobody (atom2 w_legal role (tree_at (input_list rules role) k)))
+      (legal_holds k lt) (found (tree_at (input_list rules role) k)))
     where
-      found : (m : Tree) → (is_atom_in (atom2 w_legal role m) (holding rules (state_of rules s) nobody) ≡ true) ↔ Holds rules (state_of rules s) nobody (atom2 w_legal role m)
+      found : (m : Tree) → (is_atom_in (atom2 w_legal role m) (holding rules (state_of rules s) nobody) ≡ true) ↔ Holds rules (state_of rules s)
+          nobody (atom2 w_legal role m)
       found m =
           let x = atom2 w_legal role m in
-          let h = holding_exact rules w (state_of rules s) nobody (within_base rules w s) (no_move rules w s) x in
-          ((λ e. h.0 (is_atom_yes x (holding rules (state_of rules s) nobody) e)), (λ k. is_atom_in_yes x (holding rules (state_of rules s) nobody) (h.1 k)))
+          let h = holding_exact rules w (state_of rules s) nobody (within_base rules w s) (no_move rules w s) x in (
+            (λ e. h.0 (is_atom_yes x (holding rules (state_of rules s) nobody) e)),
+            (λ k. is_atom_in_yes x (holding rules (state_of rules s) nobody) (h.1 k)),
+          )
 
   pub legal_are : AreLegal rules (state_of rules s) role
-      (trees_at (input_list rules role) (named_below (map (kind_of rules) (listing rules).atoms) (holds (map (kind_of rules) (listing rules).atoms) (map (numbered rules) (listing rules).kept) s no_turn) (ByLegal r) (length (input_list rules role))))
-  legal_are = subst (λ (ms : List Tree). AreLegal rules (state_of rules s) role ms) (sym legal_same) (legal_listed rules w (state_of rules s) (within_base rules w s) role is_role)
+      (trees_at (input_list rules role) (named_below (map (kind_of rules) (listing rules).atoms)
+      (holds (map (kind_of rules) (listing rules).atoms) (map (numbered rules) (listing rules).kept) s no_turn) (ByLegal r)
+      (length (input_list rules role))))
+  legal_are = subst (λ (ms : List Tree). AreLegal rules (state_of rules s) role ms) (sym legal_same)
+      (legal_listed rules w (state_of rules s) (within_base rules w s) role is_role)

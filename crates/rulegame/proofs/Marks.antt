@@ -1,5 +1,43 @@
 -- Marks by number, and going through kept instances.
-use Rattle.std.proofs.Common.{◌≡◌, ℕ, ◌+◌, ◌<◌, ◌≤◌, Bool, true, false, cond, not, ◌&&◌, ◌||◌, List, [], ◌∷◌, ◌++◌, length, map, zero, suc, refl, sym, ◌∙◌, ap, subst, arith, inl, inr, ◌⊎◌, get_or, drop, take, get_or-set_same, get_or-set_other, ne_eqb, eq-eqb, le-ltb}
+use Rattle.std.proofs.Common.{
+  ◌≡◌,
+  ℕ,
+  ◌+◌,
+  ◌<◌,
+  ◌≤◌,
+  Bool,
+  true,
+  false,
+  cond,
+  not,
+  ◌&&◌,
+  ◌||◌,
+  List,
+  [],
+  ◌∷◌,
+  ◌++◌,
+  length,
+  map,
+  zero,
+  suc,
+  refl,
+  sym,
+  ◌∙◌,
+  ap,
+  subst,
+  arith,
+  inl,
+  inr,
+  ◌⊎◌,
+  get_or,
+  drop,
+  take,
+  get_or-set_same,
+  get_or-set_other,
+  ne_eqb,
+  eq-eqb,
+  le-ltb,
+}
 use Rattle.std.specs.Prelude.{All, filter, ◌==◌, nat_lt, max, slice_get, Some, None}
 use Rattle.std.specs.List.{range_with_len, flat_map}
 use Rattle.std.proofs.Math.ListN.{set, length-set}
@@ -12,7 +50,19 @@ use Rattle.ground.specs.declared.ground.Instance as shown
 use Rattle.ground.specs.Grounds.{Kept, kept_of}
 use Rattle.ground.specs.Fits.{IsKeptWithin}
 use Rattle.game.specs.Rules.{State, Turn}
-use Rattle.rulegame.specs.RulePlay.{stands_in, marked, kind_at, is_given, is_right, all_right, found_by, AreMarks, with_heads, some_below, greatest_below}
+use Rattle.rulegame.specs.RulePlay.{
+  stands_in,
+  marked,
+  kind_at,
+  is_given,
+  is_right,
+  all_right,
+  found_by,
+  AreMarks,
+  with_heads,
+  some_below,
+  greatest_below,
+}
 
 other_than : (a p : ℕ) → (p < a) ⊎ (a + 1 ≤ p) → (a == p) ≡ false
 other_than a p (inl l) = ne_eqb a p (λ e. absurd (omega arith))
@@ -65,11 +115,13 @@ in_marked bs p = elim (cases_lt p (length bs)) [
 ]
 
 -- filters that agree on a range give the same
-pub filters_agree : (f g : ℕ → Bool) (a n : ℕ) → ((k : ℕ) → a ≤ k → k < a + n → f k ≡ g k) → filter f (range_with_len a n) ≡ filter g (range_with_len a n)
+pub filters_agree : (f g : ℕ → Bool) (a n : ℕ) → ((k : ℕ) → a ≤ k → k < a + n → f k ≡ g k)
+    → filter f (range_with_len a n) ≡ filter g (range_with_len a n)
 filters_agree f g a zero h = refl
 filters_agree f g a (suc n) h =
     let here : f a ≡ g a = h a (omega arith) (omega arith) in
-    let rest : filter f (range_with_len (a + 1) n) ≡ filter g (range_with_len (a + 1) n) = filters_agree f g (a + 1) n (λ k from to. h k (omega arith) (omega arith)) in
+    let rest : filter f (range_with_len (a + 1) n) ≡ filter g (range_with_len (a + 1) n) = filters_agree f g (a + 1) n
+    (λ k from to. h k (omega arith) (omega arith)) in
     ap (λ (b : Bool). cond b (a ∷ filter f (range_with_len (a + 1) n)) (filter f (range_with_len (a + 1) n))) here
     ∙ ap (λ (xs : List ℕ). cond (g a) (a ∷ xs) xs) rest
 
@@ -89,7 +141,8 @@ mark_more f old new k b within written here before i below =
 
 -- Bodies.
 
-pub same_right : (f g : ℕ → Bool) (n : ℕ) (ls : List (ℕ × Bool)) → ((k : ℕ) → k < n → f k ≡ g k) → All (λ (l : ℕ × Bool). l.0 < n) ls → all_right f ls ≡ all_right g ls
+pub same_right : (f g : ℕ → Bool) (n : ℕ) (ls : List (ℕ × Bool)) → ((k : ℕ) → k < n → f k ≡ g k) → All (λ (l : ℕ × Bool). l.0 < n) ls
+    → all_right f ls ≡ all_right g ls
 same_right f g n [] h within = refl
 same_right f g n (l ∷ ls) h within =
     let below : l.0 < n = within 0 l (omega arith) in
@@ -104,7 +157,8 @@ or_more false true c = refl
 or_more false false c = refl
 
 -- a head more is right
-pub head_more : (kinds : List Kind) (s : State) (j : Turn) (found : List ℕ) (marks : List Bool) (n head : ℕ) → head < n → AreMarks marks n (is_right kinds s j found)
+pub head_more : (kinds : List Kind) (s : State) (j : Turn) (found : List ℕ) (marks : List Bool) (n head : ℕ) → head < n
+    → AreMarks marks n (is_right kinds s j found)
     → AreMarks (set marks head true) n (is_right kinds s j (head ∷ found))
 head_more kinds s j found marks n head below m = record {
   size = length-set marks head true ∙ m.size;
@@ -113,7 +167,8 @@ head_more kinds s j found marks n head below m = record {
         let here : (head == k) ≡ true = eq-eqb head k (sym same) in
         let size : length marks ≡ n = m.size in
         ap (λ (i : ℕ). get_or (set marks head true) i false) same ∙ get_or-set_same marks head true false (omega arith)
-        ∙ sym (ap (λ (b : Bool). is_given s j (kind_at kinds k) || (b || stands_in k found)) here ∙ or_more (is_given s j (kind_at kinds k)) true (stands_in k found))
+        ∙ sym (ap (λ (b : Bool). is_given s j (kind_at kinds k) || (b || stands_in k found)) here
+        ∙ or_more (is_given s j (kind_at kinds k)) true (stands_in k found))
     | inr other ↦
         let here : (head == k) ≡ false = ne_eqb head k (λ e. other (sym e)) in
         get_or-set_other marks head k true false other ∙ m.each k lt
@@ -122,7 +177,8 @@ head_more kinds s j found marks n head below m = record {
 }
 
 -- going through the instances marks what is found
-pub heads_hold : (kinds : List Kind) (s : State) (j : Turn) (n : ℕ) (kept : List Kept) (found : List ℕ) (marks : List Bool) → All (IsKeptWithin n) kept
+pub heads_hold : (kinds : List Kind) (s : State) (j : Turn) (n : ℕ) (kept : List Kept) (found : List ℕ) (marks : List Bool)
+    → All (IsKeptWithin n) kept
     → AreMarks marks n (is_right kinds s j found) → AreMarks (with_heads marks kept) n (is_right kinds s j (found_by kinds s j found kept))
 heads_hold kinds s j n [] found marks within m = m
 heads_hold kinds s j n (k ∷ ks) found marks within m =
@@ -131,13 +187,15 @@ heads_hold kinds s j n (k ∷ ks) found marks within m =
     same_right (λ i. get_or marks i false) (is_right kinds s j found) n k.body m.each here.1 in
     let below = here.0 in
     step (all_right (λ (i : ℕ). get_or marks i false) k.body) (all_right (is_right kinds s j found) k.body) same
-    (heads_hold kinds s j n ks (k.head ∷ found) (set marks k.head true) (λ i d lt. within (suc i) d (omega arith)) (head_more kinds s j found marks n k.head below m))
+    (heads_hold kinds s j n ks (k.head ∷ found) (set marks k.head true) (λ i d lt. within (suc i) d (omega arith))
+    (head_more kinds s j found marks n k.head below m))
     (heads_hold kinds s j n ks found marks (λ i d lt. within (suc i) d (omega arith)) m)
   where
     step : (b c : Bool) → b ≡ c
         → AreMarks (with_heads (set marks k.head true) ks) n (is_right kinds s j (found_by kinds s j (k.head ∷ found) ks))
         → AreMarks (with_heads marks ks) n (is_right kinds s j (found_by kinds s j found ks))
-        → AreMarks (with_heads (cond b (set marks k.head true) marks) ks) n (is_right kinds s j (found_by kinds s j (cond c (k.head ∷ found) found) ks))
+        → AreMarks (with_heads (cond b (set marks k.head true) marks) ks) n
+        (is_right kinds s j (found_by kinds s j (cond c (k.head ∷ found) found) ks))
     step true true e more less = more
     step false false e more less = less
     step true false e more less = absurd cc
@@ -154,7 +212,8 @@ drop_at {A} xs k x below same =
     let more : k + 1 ≡ suc k = omega arith in
     at ∙ ap (λ (y : A). y ∷ drop (suc k) xs) (sym same) ∙ ap (λ (n : ℕ). x ∷ drop n xs) (sym more)
 
-pub body_at : (f : ℕ → Bool) (ls : List (ℕ × Bool)) (k : ℕ) (l : ℕ × Bool) → k < length ls → l ≡ get_or ls k l → all_right f ls ≡ all_right f (drop k ls)
+pub body_at : (f : ℕ → Bool) (ls : List (ℕ × Bool)) (k : ℕ) (l : ℕ × Bool) → k < length ls → l ≡ get_or ls k l
+    → all_right f ls ≡ all_right f (drop k ls)
     → all_right f ls ≡ (cond l.1 (not (f l.0)) (f l.0) && all_right f (drop (k + 1) ls))
 body_at f ls k l below same left = left ∙ ap (all_right f) (drop_at ls k l below same)
 
@@ -166,12 +225,14 @@ heads_at start marks new ks p k below same written left =
     left ∙ ap (with_heads marks) (drop_at ks p k below same)
     ∙ ap (λ (ms : List Bool). with_heads ms (drop (p + 1) ks)) (sym written)
 
-pub kept_here : (is : List shown.Instance) (n p : ℕ) (i : shown.Instance) → p < length is → i ≡ get_or is p i → All (IsKeptWithin n) (map kept_of is) → IsKeptWithin n (kept_of i)
+pub kept_here : (is : List shown.Instance) (n p : ℕ) (i : shown.Instance) → p < length is → i ≡ get_or is p i → All (IsKeptWithin n) (map kept_of is)
+    → IsKeptWithin n (kept_of i)
 kept_here is n p i below same within =
     let many = length-map is kept_of in
     subst (λ (k : Kept). IsKeptWithin n k) (get_or-map kept_of is p i (kept_of i) below ∙ ap kept_of (sym same)) (within p (kept_of i) (omega arith))
 
-pub right_at_first : (kinds : List Kind) (s : State) (j : Turn) (marks : List Bool) (n : ℕ) → AreMarks marks n (λ k. is_given s j (kind_at kinds k)) → AreMarks marks n (is_right kinds s j [])
+pub right_at_first : (kinds : List Kind) (s : State) (j : Turn) (marks : List Bool) (n : ℕ) → AreMarks marks n (λ k. is_given s j (kind_at kinds k))
+    → AreMarks marks n (is_right kinds s j [])
 right_at_first kinds s j marks n m = record { size = m.size; each = λ k lt. m.each k lt ∙ sym (or-false (is_given s j (kind_at kinds k))) }
 
 -- Loops over atoms.
@@ -191,10 +252,12 @@ greatest_agree f g (suc n) h =
     ap (λ (b : ℕ). max (greatest_below f n) b) here ∙ ap (λ (b : ℕ). max b (g n)) rest
 
 -- one number more of a range
-filter_range_suc : (f : ℕ → Bool) (a n k : ℕ) → a + n ≡ k → filter f (range_with_len a (suc n)) ≡ filter f (range_with_len a n) ++ cond (f k) (k ∷ []) []
+filter_range_suc : (f : ℕ → Bool) (a n k : ℕ) → a + n ≡ k → filter f (range_with_len a (suc n)) ≡ filter f (range_with_len a n) ++ cond (f k) (k ∷ [])
+    []
 filter_range_suc f a zero k e = ap (λ (i : ℕ). cond (f i) (i ∷ []) []) (omega arith)
 filter_range_suc f a (suc n) k e =
-    let rest : filter f (range_with_len (a + 1) (suc n)) ≡ filter f (range_with_len (a + 1) n) ++ cond (f k) (k ∷ []) [] = filter_range_suc f (a + 1) n k (omega arith) in
+    let rest : filter f (range_with_len (a + 1) (suc n)) ≡ filter f (range_with_len (a + 1) n) ++ cond (f k) (k ∷ []) [] = filter_range_suc f (a + 1)
+    n k (omega arith) in
     step (f a) (filter f (range_with_len (a + 1) (suc n))) rest
   where
     step : (b : Bool) (xs : List ℕ) → xs ≡ filter f (range_with_len (a + 1) n) ++ cond (f k) (k ∷ []) []
@@ -203,7 +266,8 @@ filter_range_suc f a (suc n) k e =
     step false xs h = h
 
 pub filter_range_more : (f : ℕ → Bool) (n : ℕ) → filter f (range_with_len 0 (n + 1)) ≡ filter f (range_with_len 0 n) ++ cond (f n) (n ∷ []) []
-filter_range_more f n = let more : n + 1 ≡ suc n = omega arith in ap (λ (k : ℕ). filter f (range_with_len 0 k)) more ∙ filter_range_suc f 0 n n (omega arith)
+filter_range_more f n = let more : n + 1 ≡ suc n = omega arith in ap (λ (k : ℕ). filter f (range_with_len 0 k)) more
+    ∙ filter_range_suc f 0 n n (omega arith)
 
 -- a list of which as many are read as were written
 pub slice_get_front : (xs : List ℕ) (c k : ℕ) → c ≤ length xs → k < c → Some (get_or xs k 0) ≡ slice_get (take c xs) k

@@ -75,8 +75,11 @@ module _ (rules : List Alternative) (w : IsWellFormed rules) (g h : NamedRules) 
     move_names = λ r m lt below. a.move_names r m lt below ∙ sym (b.move_names r m (over r lt) (subst (λ (n : ℕ). m < n) (same_moves r lt) below));
     start = one_numbering (base_list rules) _ base_once g.rules.start h.rules.start a.starts b.starts;
     ended = λ s. same_answer (g.rules.ended s) (h.rules.ended s) (IsEnded rules (state_of rules s)) (a.ends s) (b.ends s);
-    goal = λ s r lt. one_goal rules (state_of rules s) (role_at rules r) (g.rules.goal s r) (h.rules.goal s r) (a.goals s r lt) (b.goals s r (over r lt));
-    legal = λ s r lt. one_numbering (inputs_at rules r) _ (inputs_once r lt) (g.rules.legal s r) (h.rules.legal s r) (a.legals s r lt) (b.legals s r (over r lt));
-    after = λ s j turn. one_numbering (base_list rules) _ base_once (g.rules.after s j) (h.rules.after s j) (a.follows s j turn) (b.follows s j (turn_over j turn));
+    goal = λ s r lt. one_goal rules (state_of rules s) (role_at rules r) (g.rules.goal s r) (h.rules.goal s r) (a.goals s r lt)
+        (b.goals s r (over r lt));
+    legal = λ s r lt. one_numbering (inputs_at rules r) _ (inputs_once r lt) (g.rules.legal s r) (h.rules.legal s r) (a.legals s r lt)
+        (b.legals s r (over r lt));
+    after = λ s j turn. one_numbering (base_list rules) _ base_once (g.rules.after s j) (h.rules.after s j) (a.follows s j turn)
+        (b.follows s j (turn_over j turn));
     known = λ s r lt. subst (λ (n : ℕ). All (λ m. m < n) (g.rules.legal s r)) (sym (a.moves_are r lt)) (a.legals s r lt).within;
   }

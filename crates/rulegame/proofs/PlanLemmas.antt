@@ -1,5 +1,37 @@
 -- Lists of atoms by kind tell what all atoms tell.
-use Rattle.std.proofs.Common.{◌≡◌, ℕ, ◌+◌, ◌<◌, ◌≤◌, Bool, true, cond, ◌&&◌, ◌||◌, List, [], ◌∷◌, ◌++◌, length, map, take, zero, suc, refl, sym, ◌∙◌, ap, subst, arith, inl, inr, eq-eqb, ne_eqb, get_or, false}
+use Rattle.std.proofs.Common.{
+  ◌≡◌,
+  ℕ,
+  ◌+◌,
+  ◌<◌,
+  ◌≤◌,
+  Bool,
+  true,
+  cond,
+  ◌&&◌,
+  ◌||◌,
+  List,
+  [],
+  ◌∷◌,
+  ◌++◌,
+  length,
+  map,
+  take,
+  zero,
+  suc,
+  refl,
+  sym,
+  ◌∙◌,
+  ap,
+  subst,
+  arith,
+  inl,
+  inr,
+  eq-eqb,
+  ne_eqb,
+  get_or,
+  false,
+}
 use Rattle.std.specs.Prelude.{All, filter, max, ◌==◌, Option, Some, None, is_some}
 use Rattle.std.specs.List.{list_any, range_with_len}
 use Rattle.std.proofs.Math.Bool.{or-false, or_comm}
@@ -15,8 +47,38 @@ use Rattle.rulegame.specs.declared.plan.Sought.TheVariants.{Given, Named, Goals,
 use Rattle.rulegame.specs.declared.plan.Standing.{Standing}
 use Rattle.game.specs.Rules.{State, Turn}
 use Rattle.rulegame.specs.RuleLaws.{below_range}
-use Rattle.rulegame.specs.RulePlay.{AreMarks, marked, named_below, stands_in, is_right, kind_at, is_given, is_number, number_named, names, is_named, is_terminal, ends, goal_value, best_goal, some_below, greatest_below}
-use Rattle.rulegame.specs.Plans.{is_told, is_goal_of, seeks, standing_at, standing_below, all_standing, gives, names_among, ends_among, goal_among, greatest_of}
+use Rattle.rulegame.specs.RulePlay.{
+  AreMarks,
+  marked,
+  named_below,
+  stands_in,
+  is_right,
+  kind_at,
+  is_given,
+  is_number,
+  number_named,
+  names,
+  is_named,
+  is_terminal,
+  ends,
+  goal_value,
+  best_goal,
+  some_below,
+  greatest_below,
+}
+use Rattle.rulegame.specs.Plans.{
+  is_told,
+  is_goal_of,
+  seeks,
+  standing_at,
+  standing_below,
+  all_standing,
+  gives,
+  names_among,
+  ends_among,
+  goal_among,
+  greatest_of,
+}
 use Rattle.rulegame.proofs.Marks.{filter_range_more, filters_agree, marked_are}
 
 map_if : {A B : Type 0} (f : A → B) (b : Bool) (x : A) → map f (cond b (x ∷ []) []) ≡ cond b (f x ∷ []) []
@@ -51,7 +113,8 @@ any_standing f test kinds (suc n) h =
     ap (λ (i : ℕ). list_any g (standing_below test kinds i)) (sym more)
     ∙ ap (list_any g) (standing_more test kinds n)
     ∙ snoc_if g (standing_below test kinds n) (test (kind_at kinds n)) (standing_at kinds n)
-    ∙ ap (λ (b : Bool). list_any g (standing_below test kinds n) || b) (both_or_none (test (kind_at kinds n)) (f n (kind_at kinds n)) (h n (kind_at kinds n)))
+    ∙ ap (λ (b : Bool). list_any g (standing_below test kinds n) || b)
+    (both_or_none (test (kind_at kinds n)) (f n (kind_at kinds n)) (h n (kind_at kinds n)))
     ∙ ap (λ (b : Bool). b || f n (kind_at kinds n)) rest
 
 max_brackets : (a b c : ℕ) → max a (max b c) ≡ max (max a b) c
@@ -64,7 +127,8 @@ greatest_snoc (y ∷ xs) x =
     let rest : greatest_of (xs ++ x ∷ []) ≡ max (greatest_of xs) x = greatest_snoc xs x in
     ap (max y) rest ∙ max_brackets y (greatest_of xs) x
 
-greatest_if : (f : Standing → ℕ) (xs : List Standing) (b : Bool) (x : Standing) → (b ≡ false → f x ≡ 0) → greatest_of (map f (xs ++ cond b (x ∷ []) [])) ≡ max (greatest_of (map f xs)) (f x)
+greatest_if : (f : Standing → ℕ) (xs : List Standing) (b : Bool) (x : Standing) → (b ≡ false → f x ≡ 0)
+    → greatest_of (map f (xs ++ cond b (x ∷ []) [])) ≡ max (greatest_of (map f xs)) (f x)
 greatest_if f xs true x h = ap greatest_of (map-append f xs (x ∷ [])) ∙ greatest_snoc (map f xs) (f x)
 greatest_if f xs false x h =
     let none : f x ≡ 0 = h refl in
@@ -78,7 +142,8 @@ greatest_standing f test kinds zero h = refl
 greatest_standing f test kinds (suc n) h =
     let g = λ (p : Standing). f p.atom p.kind in
     let more : n + 1 ≡ suc n = omega arith in
-    let rest : greatest_of (map g (standing_below test kinds n)) ≡ greatest_below (λ a. f a (kind_at kinds a)) n = greatest_standing f test kinds n h in
+    let rest : greatest_of (map g (standing_below test kinds n)) ≡ greatest_below (λ a. f a (kind_at kinds a)) n = greatest_standing f test kinds n h
+    in
     ap (λ (i : ℕ). greatest_of (map g (standing_below test kinds i))) (sym more)
     ∙ ap (λ (ps : List Standing). greatest_of (map g ps)) (standing_more test kinds n)
     ∙ greatest_if g (standing_below test kinds n) (test (kind_at kinds n)) (standing_at kinds n) (h n (kind_at kinds n))
@@ -86,7 +151,8 @@ greatest_standing f test kinds (suc n) h =
 
 -- each listed atom is below the bound
 pub standing_within : (test : Kind → Bool) (kinds : List Kind) (n : ℕ) → All (λ (p : Standing). p.atom < n) (standing_below test kinds n)
-standing_within test kinds n = All-map (λ (p : Standing). p.atom < n) (standing_at kinds) _ (All-filter (λ a. test (kind_at kinds a)) (λ a. a < n) _ (below_range n))
+standing_within test kinds n = All-map (λ (p : Standing). p.atom < n) (standing_at kinds) _
+    (All-filter (λ a. test (kind_at kinds a)) (λ a. a < n) _ (below_range n))
 
 -- one step of a loop that marks
 pub or_step : (new before first rest here : Bool) → new ≡ (before || here) → before ≡ (first || rest) → new ≡ (first || (rest || here))
@@ -142,9 +208,11 @@ untold s j Terminal h = refl
 untold s j Other h = refl
 
 -- what the state and the joint move make right is told by the given atoms
-pub given_all : (kinds : List Kind) (s : State) (j : Turn) (k : ℕ) → k < length kinds → gives (all_standing Given kinds) s j k ≡ is_given s j (kind_at kinds k)
+pub given_all : (kinds : List Kind) (s : State) (j : Turn) (k : ℕ) → k < length kinds
+    → gives (all_standing Given kinds) s j k ≡ is_given s j (kind_at kinds k)
 given_all kinds s j k below =
-    any_standing (λ a kind. is_given s j kind && (a == k)) is_told kinds (length kinds) (λ a kind h. ap (λ (b : Bool). b && (a == k)) (untold s j kind h))
+    any_standing (λ a kind. is_given s j kind && (a == k)) is_told kinds (length kinds)
+    (λ a kind h. ap (λ (b : Bool). b && (a == k)) (untold s j kind h))
     ∙ one_at (λ a. is_given s j (kind_at kinds a)) k (length kinds) below
 
 both_false : (a b : Bool) → b ≡ false → (a && b) ≡ false
@@ -155,13 +223,15 @@ unnamed : (n : ℕ) (o : Option ℕ) → is_some o ≡ false → is_number o n �
 unnamed n None h = refl
 unnamed n (Some m) h = absurd cc
 
-pub names_all : (kinds : List Kind) (right : ℕ → Bool) (by : Naming) (n : ℕ) → names_among (all_standing (Named by) kinds) right by n ≡ is_named kinds right by n
+pub names_all : (kinds : List Kind) (right : ℕ → Bool) (by : Naming) (n : ℕ) → names_among (all_standing (Named by) kinds) right by n ≡ is_named kinds
+    right by n
 names_all kinds right by n =
     any_standing (λ a kind. right a && names by kind n) (λ kind. is_some (number_named by kind)) kinds (length kinds)
     (λ a kind h. both_false (right a) (names by kind n) (unnamed n (number_named by kind) h))
 
 pub ends_all : (kinds : List Kind) (right : ℕ → Bool) → ends_among (all_standing Ends kinds) right ≡ ends kinds right
-ends_all kinds right = any_standing (λ a kind. right a && is_terminal kind) is_terminal kinds (length kinds) (λ a kind h. both_false (right a) (is_terminal kind) h)
+ends_all kinds right = any_standing (λ a kind. right a && is_terminal kind) is_terminal kinds (length kinds)
+    (λ a kind h. both_false (right a) (is_terminal kind) h)
 
 no_goal : (r : ℕ) (k : Kind) → is_goal_of r k ≡ false → goal_value r k ≡ 0
 no_goal r Fixed h = refl
@@ -179,12 +249,15 @@ value_none false v h = refl
 
 pub goals_all : (kinds : List Kind) (right : ℕ → Bool) (r : ℕ) → goal_among (all_standing (Goals r) kinds) right r ≡ best_goal kinds right r
 goals_all kinds right r =
-    greatest_standing (λ a kind. cond (right a) (goal_value r kind) 0) (is_goal_of r) kinds (length kinds) (λ a kind h. value_none (right a) (goal_value r kind) (no_goal r kind h))
+    greatest_standing (λ a kind. cond (right a) (goal_value r kind) 0) (is_goal_of r) kinds (length kinds)
+    (λ a kind h. value_none (right a) (goal_value r kind) (no_goal r kind h))
 
 -- marks of what was found, with what is given too
-pub with_given : (kinds : List Kind) (s : State) (j : Turn) (found : List ℕ) (first new : List Bool) (list : List Standing) → list ≡ all_standing Given kinds
+pub with_given : (kinds : List Kind) (s : State) (j : Turn) (found : List ℕ) (first new : List Bool) (list : List Standing)
+    → list ≡ all_standing Given kinds
     → AreMarks first (length kinds) (λ k. stands_in k found) → length new ≡ length first
-    → ((k : ℕ) → k < length first → get_or new k false ≡ (get_or first k false || gives list s j k)) → AreMarks new (length kinds) (is_right kinds s j found)
+    → ((k : ℕ) → k < length first → get_or new k false ≡ (get_or first k false || gives list s j k))
+    → AreMarks new (length kinds) (is_right kinds s j found)
 with_given kinds s j found first new list is marks size each = record {
   size = size ∙ marks.size;
   each = λ k below.
@@ -196,22 +269,27 @@ with_given kinds s j found first new list is marks size each = record {
 }
 
 -- the atoms of a list are within the marks
-pub sought_within : (sought : Sought) (kinds : List Kind) (list lent : List Standing) (n : ℕ) → list ≡ all_standing sought kinds → lent ≡ list → n ≡ length kinds → All (λ (p : Standing). p.atom < n) lent
+pub sought_within : (sought : Sought) (kinds : List Kind) (list lent : List Standing) (n : ℕ) → list ≡ all_standing sought kinds → lent ≡ list
+    → n ≡ length kinds → All (λ (p : Standing). p.atom < n) lent
 sought_within sought kinds list lent n is same size =
     subst (λ (ps : List Standing). All (λ (p : Standing). p.atom < n) ps) (sym (same ∙ is))
-    (subst (λ (i : ℕ). All (λ (p : Standing). p.atom < i) (all_standing sought kinds)) (sym size) (standing_within (seeks sought) kinds (length kinds)))
+    (subst (λ (i : ℕ). All (λ (p : Standing). p.atom < i) (all_standing sought kinds)) (sym size)
+    (standing_within (seeks sought) kinds (length kinds)))
 
 -- one atom more of a loop over a list
-pub greatest_more : (f : Standing → ℕ) (list : List Standing) (i : ℕ) (d : Standing) (best value new : ℕ) → i < length list → best ≡ greatest_of (map f (take i list)) → value ≡ f (get_or list i d)
+pub greatest_more : (f : Standing → ℕ) (list : List Standing) (i : ℕ) (d : Standing) (best value new : ℕ) → i < length list
+    → best ≡ greatest_of (map f (take i list)) → value ≡ f (get_or list i d)
     → new ≡ max value best → new ≡ greatest_of (map f (take (i + 1) list))
 greatest_more f list i d best value new below before here next =
     let split : take (i + 1) list ≡ take i list ++ get_or list i d ∷ [] = take_more list i d below in
     let all : greatest_of (map f (take (i + 1) list)) ≡ max (greatest_of (map f (take i list))) (f (get_or list i d)) =
-    ap (λ (ps : List Standing). greatest_of (map f ps)) split ∙ ap greatest_of (map-append f (take i list) (get_or list i d ∷ [])) ∙ greatest_snoc (map f (take i list)) (f (get_or list i d)) in
+    ap (λ (ps : List Standing). greatest_of (map f ps)) split ∙ ap greatest_of (map-append f (take i list) (get_or list i d ∷ []))
+    ∙ greatest_snoc (map f (take i list)) (f (get_or list i d)) in
     omega arith
 
 -- the numbers that the atoms of a list name
-pub named_marks : (kinds : List Kind) (right : ℕ → Bool) (by : Naming) (list lent : List Standing) (marks : List Bool) (n m : ℕ) → list ≡ all_standing (Named by) kinds → lent ≡ list
+pub named_marks : (kinds : List Kind) (right : ℕ → Bool) (by : Naming) (list lent : List Standing) (marks : List Bool) (n m : ℕ)
+    → list ≡ all_standing (Named by) kinds → lent ≡ list
     → AreMarks marks n (names_among lent right by) → n ≡ m → marked marks ≡ named_below kinds right by m
 named_marks kinds right by list lent marks n m is same are size =
     marked_are marks n (names_among lent right by) are

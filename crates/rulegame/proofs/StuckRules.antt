@@ -1,5 +1,31 @@
 -- A state of the game of an instantiation is stuck where the rules say so.
-use Rattle.std.proofs.Common.{ℕ, zero, suc, ◌+◌, ◌<◌, Bool, true, false, ◌≡◌, ◌⊎◌, ◌↔◌, inl, inr, List, [], ◌∷◌, length, map, refl, sym, ap, subst, ◌∙◌, arith, eqb-true}
+use Rattle.std.proofs.Common.{
+  ℕ,
+  zero,
+  suc,
+  ◌+◌,
+  ◌<◌,
+  Bool,
+  true,
+  false,
+  ◌≡◌,
+  ◌⊎◌,
+  ◌↔◌,
+  inl,
+  inr,
+  List,
+  [],
+  ◌∷◌,
+  length,
+  map,
+  refl,
+  sym,
+  ap,
+  subst,
+  ◌∙◌,
+  arith,
+  eqb-true,
+}
 use Rattle.std.specs.Prelude.{◌==◌}
 use Rattle.std.specs.List.{list_any, range_with_len}
 use Rattle.std.proofs.lemmas.List.{length-map}
@@ -16,7 +42,7 @@ use Rattle.game.specs.Played.{tree_at}
 use Rattle.game.specs.Rules.{is_stuck}
 use Rattle.rulegame.specs.RuleMeaning.{state_of, trees_at}
 use Rattle.rulegame.specs.RuleState.{rules_of}
-use Rattle.game.proofs.Roles.{list_any_range}
+use Rattle.game.proofs.Facts.{list_any_range}
 use Rattle.rulegame.proofs.Trees.{among_tree}
 use Rattle.rulegame.proofs.GameRules.{ended_by_rules, legal_by_rules}
 
@@ -24,7 +50,8 @@ any_found : (p : ℕ → Bool) (a n : ℕ) → list_any p (range_with_len a n) �
 any_found p a zero e = absurd cc
 any_found p a (suc n) e = go (or_cases (p a) (list_any p (range_with_len (a + 1) n)) e) (any_found p (a + 1) n)
   where
-    go : (p a ≡ true) ⊎ (list_any p (range_with_len (a + 1) n) ≡ true) → (list_any p (range_with_len (a + 1) n) ≡ true → (k : ℕ) × (k < a + 1 + n) × (p k ≡ true)) → (k : ℕ) × (k < a + suc n) × (p k ≡ true)
+    go : (p a ≡ true) ⊎ (list_any p (range_with_len (a + 1) n) ≡ true)
+        → (list_any p (range_with_len (a + 1) n) ≡ true → (k : ℕ) × (k < a + 1 + n) × (p k ≡ true)) → (k : ℕ) × (k < a + suc n) × (p k ≡ true)
     go (inl h) more = (a, omega arith, h)
     go (inr h) more = let r = more h in let lt = r.1 in (r.0, omega arith, r.2)
 
@@ -40,7 +67,8 @@ place_of_tree : (t : Tree) (ts : List Tree) → IsAmong t ts → (k : ℕ) × (k
 place_of_tree t [] a = absurd a
 place_of_tree t (u ∷ us) a = go a (place_of_tree t us)
   where
-    go : (t ≡ u) ⊎ IsAmong t us → (IsAmong t us → (k : ℕ) × (k < length us) × (tree_at us k ≡ t)) → (k : ℕ) × (k < suc (length us)) × (tree_at (u ∷ us) k ≡ t)
+    go : (t ≡ u) ⊎ IsAmong t us → (IsAmong t us → (k : ℕ) × (k < length us) × (tree_at us k ≡ t)) → (k : ℕ) × (k < suc (length us))
+        × (tree_at (u ∷ us) k ≡ t)
     go (inl e) more = (zero, omega arith, sym e)
     go (inr h) more = let r = more h in let lt = r.1 in (suc r.0, omega arith, r.2)
 
@@ -60,7 +88,8 @@ module _ (rules : List Alternative) (g : Ground) (is : IsGround rules g) (s : Li
         (
           tree_at (role_list rules) q,
           (roles_exact rules is.well_formed (tree_at (role_list rules) q)).0 (among_tree (role_list rules) q inside),
-          (λ m h. subst (λ (ns : List ℕ). IsAmong m (trees_at (input_list rules (tree_at (role_list rules) q)) ns)) none (((legal_by_rules rules g is s q inside).members m).1 h)),
+          (λ m h. subst (λ (ns : List ℕ). IsAmong m (trees_at (input_list rules (tree_at (role_list rules) q)) ns)) none
+              (((legal_by_rules rules g is s q inside).members m).1 h)),
         ),
       )
 
@@ -77,8 +106,11 @@ module _ (rules : List Alternative) (g : Ground) (is : IsGround rules g) (s : Li
       let size = many in
       let role = tree_at (role_list rules) q in
       let none = no_trees_at (input_list rules role) ((rules_of g).legal s q)
-      (λ m a. r.2 m (subst (λ (t : Tree). IsLegal rules (state_of rules s) t m) at.2 (((legal_by_rules rules g is s q inside).members m).0 a))) in
-      (still_open ((rules_of g).ended s) refl h.0, list_any_range (λ k. length ((rules_of g).legal s k) == 0) 0 (length (inputs_of g)) q (omega arith) (omega arith) none)
+      (λ m a. r.2 m (subst (λ (t : Tree). IsLegal rules (state_of rules s) t m) at.2 (((legal_by_rules rules g is s q inside).members m).0 a))) in (
+        still_open ((rules_of g).ended s) refl h.0,
+        list_any_range (λ k. length ((rules_of g).legal s k) == 0) 0 (length (inputs_of g)) q (omega arith)
+            (omega arith) none,
+      )
 
   pub stuck_by_rules : (((rules_of g).ended s ≡ false) × (is_stuck (rules_of g) s ≡ true)) ↔ IsStuck rules (state_of rules s)
   stuck_by_rules = (there, back)

@@ -1,5 +1,34 @@
 -- Trees by number.
-use Rattle.std.proofs.Common.{ℕ, zero, suc, ◌+◌, ◌<◌, Bool, true, false, cond, ◌≡◌, inl, inr, List, [], ◌∷◌, ◌++◌, append_assoc, length-append, length, refl, sym, ap, subst, ◌∙◌, arith, Option, Some, None}
+use Rattle.std.proofs.Common.{
+  ℕ,
+  zero,
+  suc,
+  ◌+◌,
+  ◌<◌,
+  Bool,
+  true,
+  false,
+  cond,
+  ◌≡◌,
+  inl,
+  inr,
+  List,
+  [],
+  ◌∷◌,
+  ◌++◌,
+  append_assoc,
+  length-append,
+  length,
+  refl,
+  sym,
+  ap,
+  subst,
+  ◌∙◌,
+  arith,
+  Option,
+  Some,
+  None,
+}
 use Rattle.std.specs.Prelude.{filter}
 use Rattle.std.specs.List.{range_with_len}
 use Rattle.std.specs.Option.{option_map}
@@ -25,23 +54,28 @@ at_end (u ∷ pre) ts t (suc a) e = at_end pre ts t a (omega arith)
 one_longer : (pre : List Tree) (t : Tree) (a : ℕ) → length pre ≡ a → length (pre ++ t ∷ []) ≡ a + 1
 one_longer pre t a e = let l = length-append pre (t ∷ []) in omega arith
 
-picked_range : (f : ℕ → Bool) (pre ts : List Tree) (a : ℕ) → length pre ≡ a → trees_at (pre ++ ts) (filter f (range_with_len a (length ts))) ≡ picked f a ts
+picked_range : (f : ℕ → Bool) (pre ts : List Tree) (a : ℕ) → length pre ≡ a → trees_at (pre ++ ts) (filter f (range_with_len a (length ts))) ≡ picked
+    f a ts
 picked_range f pre [] a e = refl
 picked_range f pre (t ∷ ts) a e =
     let rest : trees_at (pre ++ t ∷ ts) (filter f (range_with_len (a + 1) (length ts))) ≡ picked f (a + 1) ts =
-    ap (λ (us : List Tree). trees_at us (filter f (range_with_len (a + 1) (length ts)))) (sym (append_assoc pre (t ∷ []) ts)) ∙ picked_range f (pre ++ t ∷ []) ts (a + 1) (one_longer pre t a e) in
+    ap (λ (us : List Tree). trees_at us (filter f (range_with_len (a + 1) (length ts)))) (sym (append_assoc pre (t ∷ []) ts))
+    ∙ picked_range f (pre ++ t ∷ []) ts (a + 1) (one_longer pre t a e) in
     step (f a) rest (at_end pre ts t a e)
   where
     step : (b : Bool) → trees_at (pre ++ t ∷ ts) (filter f (range_with_len (a + 1) (length ts))) ≡ picked f (a + 1) ts → tree_at (pre ++ t ∷ ts) a ≡ t
-        → trees_at (pre ++ t ∷ ts) (cond b (a ∷ filter f (range_with_len (a + 1) (length ts))) (filter f (range_with_len (a + 1) (length ts)))) ≡ cond b (t ∷ picked f (a + 1) ts) (picked f (a + 1) ts)
-    step true rest here = ap (λ (u : Tree). u ∷ trees_at (pre ++ t ∷ ts) (filter f (range_with_len (a + 1) (length ts)))) here ∙ ap (λ (us : List Tree). t ∷ us) rest
+        → trees_at (pre ++ t ∷ ts) (cond b (a ∷ filter f (range_with_len (a + 1) (length ts))) (filter f (range_with_len (a + 1) (length ts)))) ≡ cond
+        b (t ∷ picked f (a + 1) ts) (picked f (a + 1) ts)
+    step true rest here = ap (λ (u : Tree). u ∷ trees_at (pre ++ t ∷ ts) (filter f (range_with_len (a + 1) (length ts)))) here
+        ∙ ap (λ (us : List Tree). t ∷ us) rest
     step false rest here = rest
 
 pub trees_picked : (f : ℕ → Bool) (ts : List Tree) → trees_at ts (filter f (range_with_len 0 (length ts))) ≡ picked f 0 ts
 trees_picked f ts = picked_range f [] ts 0 refl
 
 -- what is picked by a test of the trees
-pub picked_filter : (f : ℕ → Bool) (F : Tree → Bool) (a : ℕ) (ts : List Tree) → ((k : ℕ) → k < length ts → f (a + k) ≡ F (tree_at ts k)) → picked f a ts ≡ filter F ts
+pub picked_filter : (f : ℕ → Bool) (F : Tree → Bool) (a : ℕ) (ts : List Tree) → ((k : ℕ) → k < length ts → f (a + k) ≡ F (tree_at ts k))
+    → picked f a ts ≡ filter F ts
 picked_filter f F a [] h = refl
 picked_filter f F a (t ∷ ts) h =
     let here : f a ≡ F t = ap f (omega arith) ∙ h 0 (omega arith) in
@@ -54,7 +88,8 @@ pub placed : (t : Tree) (ts : List Tree) (n : ℕ) → place_in t ts ≡ Some n 
 placed t [] n e = absurd cc
 placed t (u ∷ us) n e = go (tree_eq t u) refl (place_in t us) refl e (λ m k. placed t us m k)
   where
-    go : (b : Bool) → tree_eq t u ≡ b → (o : Option ℕ) → place_in t us ≡ o → cond b (Some zero) (option_map suc o) ≡ Some n → ((m : ℕ) → place_in t us ≡ Some m → tree_at us m ≡ t) → tree_at (u ∷ us) n ≡ t
+    go : (b : Bool) → tree_eq t u ≡ b → (o : Option ℕ) → place_in t us ≡ o → cond b (Some zero) (option_map suc o) ≡ Some n
+        → ((m : ℕ) → place_in t us ≡ Some m → tree_at us m ≡ t) → tree_at (u ∷ us) n ≡ t
     go true h o k f more = let z : zero ≡ n = cc in subst (λ (i : ℕ). tree_at (u ∷ us) i ≡ t) z (sym (tree_eq_yes t u h))
     go false h None k f more = absurd cc
     go false h (Some m) k f more = let z : suc m ≡ n = cc in subst (λ (i : ℕ). tree_at (u ∷ us) i ≡ t) z (more m k)
@@ -69,6 +104,7 @@ place_at [] d k lt = absurd (omega arith)
 place_at (t ∷ ts) d zero lt = let e = tree_eq_self t in rw e refl
 place_at (t ∷ ts) d (suc k) lt = go (tree_eq (tree_at ts k) t) refl (place_at ts d.1 k (omega arith))
   where
-    go : (b : Bool) → tree_eq (tree_at ts k) t ≡ b → place_in (tree_at ts k) ts ≡ Some k → cond b (Some zero) (option_map suc (place_in (tree_at ts k) ts)) ≡ Some (suc k)
+    go : (b : Bool) → tree_eq (tree_at ts k) t ≡ b → place_in (tree_at ts k) ts ≡ Some k
+        → cond b (Some zero) (option_map suc (place_in (tree_at ts k) ts)) ≡ Some (suc k)
     go true e more = absurd (d.0 (tree_at ts k) (among_tree ts k (omega arith)) (sym (tree_eq_yes (tree_at ts k) t e)))
     go false e more = ap (option_map suc) more

@@ -44,7 +44,8 @@ value_within base inputs r Other h = omega arith
 pub goal_at_most : (g : Ground) (s : List ℕ) (r : ℕ) → (rules_of g).goal s r ≤ 100
 goal_at_most g s r =
     greatest_within (λ a. cond (holds_in g s a) (goal_value r (kind_at (kinds_of g) a)) 0) (length (kinds_of g)) 100
-    (λ k lt. value_if (holds_in g s k) _ (value_within (length (base_of g)) (inputs_of g) r (kind_at (kinds_of g) k) ((fits g).kinds_within k Other lt)))
+    (λ k lt. value_if (holds_in g s k) _ (value_within (length (base_of g)) (inputs_of g) r (kind_at (kinds_of g) k)
+    ((fits g).kinds_within k Other lt)))
 
 pub few_moves_of : (g : Ground) (r : ℕ) → (rules_of g).moves r ≤ 2 ^ 32
 few_moves_of g r = let few = few_moves g r in omega arith
@@ -63,7 +64,8 @@ range_rises n k lt =
     omega arith
 
 pub legal_below : (g : Ground) (s : List ℕ) (r : ℕ) → All (λ m. m < (rules_of g).moves r) ((rules_of g).legal s r)
-legal_below g s r = All-filter (is_named (kinds_of g) (holds_in g s) (ByLegal r)) (λ m. m < (rules_of g).moves r) _ (below_range ((rules_of g).moves r))
+legal_below g s r = All-filter (is_named (kinds_of g) (holds_in g s) (ByLegal r)) (λ m. m < (rules_of g).moves r) _
+    (below_range ((rules_of g).moves r))
 
 pub legal_in_order : (g : Ground) (s : List ℕ) (r : ℕ) → IsStrictlyIncreasing ((rules_of g).legal s r)
 legal_in_order g s r = IsStrictlyIncreasing-filter (is_named (kinds_of g) (holds_in g s) (ByLegal r)) _ (range_rises ((rules_of g).moves r))

@@ -1,6 +1,33 @@
 -- Play over kept instances, in numbers: going through them once finds what holds, and the kinds of
 -- what holds tell the rest.
-use Rattle.std.specs.Prelude.{ℕ, zero, suc, Bool, true, false, not, nat_lt, max, ◌≡◌, ◌<◌, slice_set, ◌==◌, ◌&&◌, ◌||◌, List, [], ◌∷◌, length, filter, slice_index, slice_index_or, Option, Some, None, if◌then◌else◌}
+use Rattle.std.specs.Prelude.{
+  ℕ,
+  zero,
+  suc,
+  Bool,
+  true,
+  false,
+  not,
+  nat_lt,
+  max,
+  ◌≡◌,
+  ◌<◌,
+  slice_set,
+  ◌==◌,
+  ◌&&◌,
+  ◌||◌,
+  List,
+  [],
+  ◌∷◌,
+  length,
+  filter,
+  slice_index,
+  slice_index_or,
+  Option,
+  Some,
+  None,
+  if◌then◌else◌,
+}
 use Rattle.std.specs.List.{list_any, range_with_len}
 use Rattle.meaning.specs.declared.kind.Kind.{Kind}
 use Rattle.meaning.specs.declared.kind.Kind.TheVariants.{Fixed, Now, Does, Next, Legal, Goal, Terminal, Other}

@@ -34,6 +34,7 @@ pub record IsGameOf (rules : List Alternative) (g : NamedRules) : Type 0 where
   pub starts : AreNumbersOf (base_list rules) (IsInStart rules) g.rules.start
   pub ends : (s : List ℕ) → (g.rules.ended s ≡ true) ↔ IsEnded rules (state_of rules s)
   pub goals : (s : List ℕ) (r : ℕ) → r < g.rules.roles → IsGoal rules (state_of rules s) (role_at rules r) (g.rules.goal s r)
-  pub legals : (s : List ℕ) (r : ℕ) → r < g.rules.roles → AreNumbersOf (inputs_at rules r) (IsLegal rules (state_of rules s) (role_at rules r)) (g.rules.legal s r)
+  pub legals : (s : List ℕ) (r : ℕ) → r < g.rules.roles → AreNumbersOf (inputs_at rules r) (IsLegal rules (state_of rules s) (role_at rules r))
+      (g.rules.legal s r)
   pub follows : (s j : List ℕ) → IsTurn g.rules j
       → AreNumbersOf (base_list rules) (IsInAfter rules (state_of rules s) (joint_of rules j)) (g.rules.after s j)

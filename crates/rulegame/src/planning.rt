@@ -34,7 +34,8 @@ fn add_standing(
     list: &mut Vec<Standing>,
 ) -> Result<(), AllocError>
     requires { atom < length (kinds_of ground.now) }
-    ensures { OnOk result (list.new.items ≡ list.old.items ++ (if seeks sought (kind_at (kinds_of ground.now) atom) then standing_at (kinds_of ground.now) atom ∷ [] else [])) }
+    ensures { OnOk result (list.new.items ≡ list.old.items ++
+        (if seeks sought (kind_at (kinds_of ground.now) atom) then standing_at (kinds_of ground.now) atom ∷ [] else [])) }
 {
     let kind = kind_of(ground, atom);
     if !is_sought(sought, kind) {
@@ -75,7 +76,8 @@ fn plan_role(alloc: Global, ground: &Ground, role: usize) -> Result<RolePlan, Al
 /// The atoms that tell of each role.
 fn plan_roles(alloc: Global, ground: &Ground) -> Result<Vec<RolePlan>, AllocError>
     ensures size { IfOk result (λ plans. length plans.items ≡ length (inputs_of ground.now)) }
-    ensures each { IfOk result (λ plans. (r : ℕ) (d : RolePlan) → r < length (inputs_of ground.now) → IsRolePlanOf (kinds_of ground.now) r (get_or plans.items r d)) }
+    ensures each { IfOk result (λ plans. (r : ℕ) (d : RolePlan) → r < length (inputs_of ground.now)
+        → IsRolePlanOf (kinds_of ground.now) r (get_or plans.items r d)) }
 {
     let mut plans = Vec::new(alloc);
     for role in 0..ground.roles() {

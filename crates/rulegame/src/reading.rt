@@ -1,5 +1,26 @@
 // What is told of a state by the kinds of the atoms that hold.
-ghost use Rattle.std.specs.Prelude.{◌≡◌, ◌<◌, ◌≤◌, ◌+◌, ◌*◌, ◌^◌, ◌&&◌, ◌||◌, ◌++◌, [], ◌∷◌, ℕ, All, false, length, max, take, slice_index_or, vec_capacity, if◌then◌else◌};
+ghost use Rattle.std.specs.Prelude.{
+  ◌≡◌,
+  ◌<◌,
+  ◌≤◌,
+  ◌+◌,
+  ◌*◌,
+  ◌^◌,
+  ◌&&◌,
+  ◌||◌,
+  ◌++◌,
+  [],
+  ◌∷◌,
+  ℕ,
+  All,
+  false,
+  length,
+  max,
+  take,
+  slice_index_or,
+  vec_capacity,
+  if◌then◌else◌,
+};
 ghost use Rattle.rulegame.specs.RulePlay.{AreMarks, marked, number_named, names, goal_value, is_terminal};
 ghost use Rattle.rulegame.specs.Plans.{names_among, goal_among, ends_among};
 
@@ -30,7 +51,8 @@ pub fn number_of(by: Naming, kind: Kind) -> Option<u32>
 /// Marks the number that an atom of this kind names, if the atom holds and the number has a mark.
 fn note(holds: bool, kind: Kind, by: Naming, marks: &mut Vec<bool>)
     ensures size { length marks.new.items ≡ length marks.old.items }
-    ensures each { (k : ℕ) → k < length marks.old.items → slice_index_or marks.new.items k false ≡ (slice_index_or marks.old.items k false || (holds && names by kind k)) }
+    ensures each { (k : ℕ) → k < length marks.old.items
+        → slice_index_or marks.new.items k false ≡ (slice_index_or marks.old.items k false || (holds && names by kind k)) }
     ensures capacity { vec_capacity marks.new ≡ vec_capacity marks.old }
 {
     if !holds {

@@ -27,7 +27,8 @@ pub fn numbers_find_what_holds()
     ensures { (rules : List Alternative) → IsWellFormed rules → (S : State) (J : Joint)
         → IsWithinBase rules S → IsWithinInput rules J → (s : List ℕ) (j : Turn) → Agree rules S J s j
         → (x : Atom) → IsAmong x (listing rules).atoms → is_fixed rules (relation_of x) ≡ false
-        → (holds (map (kind_of rules) (listing rules).atoms) (map (numbered rules) (listing rules).kept) s j (number_of x (listing rules).atoms) ≡ true)
+        → (holds (map (kind_of rules) (listing rules).atoms) (map (numbered rules) (listing rules).kept) s j (number_of x (listing rules).atoms) ≡
+        true)
         ↔ RightAs S J (Holds rules S J x) (source_of x) }
 {}
 
@@ -45,7 +46,8 @@ pub fn the_rules_start_the_game()
 /// The legal moves that the game of an instantiation lists for a role are those of the rules.
 pub fn the_rules_give_the_moves()
     ensures { (rules : List Alternative) (g : Ground) → IsGround rules g → (s : List ℕ) (r : ℕ) → r < length (role_list rules)
-        → AreLegal rules (state_of rules s) (tree_at (role_list rules) r) (trees_at (input_list rules (tree_at (role_list rules) r)) ((rules_of g).legal s r)) }
+        → AreLegal rules (state_of rules s) (tree_at (role_list rules) r)
+        (trees_at (input_list rules (tree_at (role_list rules) r)) ((rules_of g).legal s r)) }
 {}
 
 /// A state of the game of an instantiation that has not ended has a role with no legal move exactly where it is stuck by the rules.

@@ -80,7 +80,8 @@ pub(crate) fn step_each(
     requires room { HaveBaseRoom game.now.played states.old.items }
     ensures right { length right.new.items ≡ length right.old.items }
     ensures room { HaveBaseRoom game.now.played states.new.items }
-    ensures after { (k : ℕ) (d : RuleBase) → k < length joints.now → marked (get_or states.new.items k d).marks.items ≡ (rules_of game.now.played).after (marked p.now.base.items) (joint_at joints.now k) }
+    ensures after { (k : ℕ) (d : RuleBase) → k < length joints.now
+        → marked (get_or states.new.items k d).marks.items ≡ (rules_of game.now.played).after (marked p.now.base.items) (joint_at joints.now k) }
     ensures right_capacity { vec_capacity right.new ≡ vec_capacity right.old }
     ensures capacities { all_base_capacities states.new.items ≡ all_base_capacities states.old.items }
     ensures capacity { vec_capacity states.new ≡ vec_capacity states.old }

@@ -4,7 +4,19 @@ ghost use Rattle.ground.specs.Grounds.{texts_at};
 ghost use Rattle.ground.specs.GroundView.{inputs_of, kinds_of};
 ghost use Rattle.rulegame.specs.RulePlay.{AreMarks, marked};
 ghost use Rattle.rulegame.specs.declared.rule_pos.RoleState.{RoleState};
-ghost use Rattle.rulegame.specs.RuleState.{HasRoleRoom, IsRoleRead, HaveRoom, AreRead, HasRoom, IsCopied, IsStateOf, role_capacities, all_capacities, capacities, rules_of};
+ghost use Rattle.rulegame.specs.RuleState.{
+  HasRoleRoom,
+  IsRoleRead,
+  HaveRoom,
+  AreRead,
+  HasRoom,
+  IsCopied,
+  IsStateOf,
+  role_capacities,
+  all_capacities,
+  capacities,
+  rules_of,
+};
 
 use crate::evaluation::{evaluate, put_mark};
 use crate::naming::Naming;
@@ -41,7 +53,8 @@ fn read_role(game: &RuleGame, right: &Vec<bool>, role: usize, out: &mut RoleStat
     requires role { role < length (inputs_of game.now.played) }
     requires right { length right.now.items ≡ length (kinds_of game.now.played) }
     requires room { HasRoleRoom (length (texts_at (inputs_of game.now.played) role)) out.old }
-    ensures read { IsRoleRead (kinds_of game.now.played) (λ a. slice_index_or right.now.items a false) role (length (texts_at (inputs_of game.now.played) role)) out.new }
+    ensures read { IsRoleRead (kinds_of game.now.played) (λ a. slice_index_or right.now.items a false) role
+        (length (texts_at (inputs_of game.now.played) role)) out.new }
     ensures room { HasRoleRoom (length (texts_at (inputs_of game.now.played) role)) out.new }
     ensures capacities { role_capacities out.new ≡ role_capacities out.old }
 {
@@ -122,8 +135,10 @@ fn copy_role(from: &RoleState, to: &mut RoleState)
 /// Writes what is told of each role in another state.
 pub fn copy_roles(from: &[RoleState], to: &mut Vec<RoleState>)
     requires size { length from.now ≡ length to.old.items }
-    requires room { (r : ℕ) (d : RoleState) → r < length from.now → length (get_or from.now r d).moves.items ≡ length (get_or to.old.items r d).moves.items }
-    ensures copied { (r : ℕ) (d : RoleState) → r < length from.now → IsCopied (get_or from.now r d) (get_or to.old.items r d) (get_or to.new.items r d) }
+    requires room { (r : ℕ) (d : RoleState) → r < length from.now
+        → length (get_or from.now r d).moves.items ≡ length (get_or to.old.items r d).moves.items }
+    ensures copied { (r : ℕ) (d : RoleState) → r < length from.now
+        → IsCopied (get_or from.now r d) (get_or to.old.items r d) (get_or to.new.items r d) }
     ensures size { length to.new.items ≡ length to.old.items }
     ensures capacities { all_capacities to.new.items ≡ all_capacities to.old.items }
     ensures capacity { vec_capacity to.new ≡ vec_capacity to.old }

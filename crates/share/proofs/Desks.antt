@@ -11,11 +11,13 @@ use Rattle.share.specs.declared.desk.Desk.{Desk}
 
 module _ {G P W M : Type 0} (fits : P → Type 0) (wide : W → Type 0) (many : M → Type 0) (roles depth : ℕ) where
   -- the worker's own step is one of the game
-  pub opened_step : (n : ℕ) (d e : Desk G P W M) (s : Step P) → IsDeskOf fits wide many roles depth n d → d.steps.items ≡ e.steps.items ++ s ∷ [] → IsStepOf fits roles s
+  pub opened_step : (n : ℕ) (d e : Desk G P W M) (s : Step P) → IsDeskOf fits wide many roles depth n d → d.steps.items ≡ e.steps.items ++ s ∷ []
+      → IsStepOf fits roles s
   opened_step n d e s h is = (All-pop (IsStepOf fits roles) d.steps.items e.steps.items (Some s) is h.steps).1
 
   -- and what is left is a desk of one level less
-  pub opened_desk : (n m : ℕ) (d e : Desk G P W M) (s : Step P) → n ≡ suc m → IsDeskOf fits wide many roles depth n d → d.steps.items ≡ e.steps.items ++ s ∷ []
+  pub opened_desk : (n m : ℕ) (d e : Desk G P W M) (s : Step P) → n ≡ suc m → IsDeskOf fits wide many roles depth n d
+      → d.steps.items ≡ e.steps.items ++ s ∷ []
       → vec_capacity e.steps ≡ vec_capacity d.steps → e.room ≡ d.room → e.depth ≡ d.depth → IsDeskOf fits wide many roles depth m e
   opened_desk n m d e s more h is capacity room told = record {
     room = subst (λ (r : Room G P W M). IsRoomOf fits wide many roles r) (sym room) h.room;
@@ -27,7 +29,8 @@ module _ {G P W M : Type 0} (fits : P → Type 0) (wide : W → Type 0) (many : 
   }
 
   -- with the step it is the desk again
-  pub closed_desk : (n m : ℕ) (d e : Desk G P W M) (s : Step P) → n ≡ suc m → IsDeskOf fits wide many roles depth m e → IsStepOf fits roles s → d.steps.items ≡ e.steps.items ++ s ∷ []
+  pub closed_desk : (n m : ℕ) (d e : Desk G P W M) (s : Step P) → n ≡ suc m → IsDeskOf fits wide many roles depth m e → IsStepOf fits roles s
+      → d.steps.items ≡ e.steps.items ++ s ∷ []
       → vec_capacity d.steps ≡ vec_capacity e.steps → d.room ≡ e.room → d.depth ≡ e.depth → IsDeskOf fits wide many roles depth n d
   closed_desk n m d e s more h step is capacity room told = record {
     room = subst (λ (r : Room G P W M). IsRoomOf fits wide many roles r) (sym room) h.room;
@@ -39,5 +42,6 @@ module _ {G P W M : Type 0} (fits : P → Type 0) (wide : W → Type 0) (many : 
   }
 
   -- the same desk, by the number that it tells
-  pub desk_at : (depth' n : ℕ) (d : Desk G P W M) → depth' ≡ depth → IsDeskOf fits wide many roles depth n d → IsDeskOf fits wide many roles depth' n d
+  pub desk_at : (depth' n : ℕ) (d : Desk G P W M) → depth' ≡ depth → IsDeskOf fits wide many roles depth n d
+      → IsDeskOf fits wide many roles depth' n d
   desk_at depth' n d same h = subst (λ (k : ℕ). IsDeskOf fits wide many roles k n d) (sym same) h

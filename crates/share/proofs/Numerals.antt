@@ -1,5 +1,34 @@
 -- The texts of the levels of a cut.
-use Rattle.std.proofs.Common.{◌≡◌, ℕ, ◌+◌, ◌-◌, ◌/◌, ◌%◌, ◌<◌, ◌≤◌, true, false, List, [], ◌∷◌, ◌++◌, length, zero, suc, refl, sym, ◌∙◌, ap, subst, arith, inl, inr, get_or, take, drop}
+use Rattle.std.proofs.Common.{
+  ◌≡◌,
+  ℕ,
+  ◌+◌,
+  ◌-◌,
+  ◌/◌,
+  ◌%◌,
+  ◌<◌,
+  ◌≤◌,
+  true,
+  false,
+  List,
+  [],
+  ◌∷◌,
+  ◌++◌,
+  length,
+  zero,
+  suc,
+  refl,
+  sym,
+  ◌∙◌,
+  ap,
+  subst,
+  arith,
+  inl,
+  inr,
+  get_or,
+  take,
+  drop,
+}
 use Rattle.std.proofs.lemmas.Bool.{cases_lt}
 use Rattle.std.proofs.lemmas.Bool.Decides.{nat_tests}
 use Rattle.std.proofs.lemmas.Fmt.{decimal_digit, decimal_step, decimal_injective}
@@ -17,7 +46,8 @@ pub two_digits : (n : ℕ) → 10 ≤ n → n < 20 → decimal n ≡ 49 ∷ (38 
 two_digits n h k =
     let tens : n / 10 ≡ 1 = omega arith in
     let ones : 48 + n % 10 ≡ 38 + n = omega arith in
-    decimal_step n h (omega arith) ∙ ap (λ (q : ℕ). decimal q ++ (48 + n % 10) ∷ []) tens ∙ ap (λ (xs : List ℕ). xs ++ (48 + n % 10) ∷ []) (decimal_digit 1 (omega arith)) ∙ ap (λ (d : ℕ). 49 ∷ d ∷ []) ones
+    decimal_step n h (omega arith) ∙ ap (λ (q : ℕ). decimal q ++ (48 + n % 10) ∷ []) tens
+    ∙ ap (λ (xs : List ℕ). xs ++ (48 + n % 10) ∷ []) (decimal_digit 1 (omega arith)) ∙ ap (λ (d : ℕ). 49 ∷ d ∷ []) ones
 
 pub two_bytes : (n : ℕ) → 10 ≤ n → n < 20 → decimal n ≡ 49 ∷ (48 + n % 10) ∷ []
 two_bytes n h k =
@@ -102,23 +132,31 @@ no_levels text (n ∷ levels) bare each e = bare n (map decimal levels) (each 0 
 pub refused_first : (text : List ℕ) → BeginsNone text → (levels : List ℕ) → IsCut levels → cut_text levels ≡ text → ⊥
 refused_first text bare levels cut e = no_levels text levels bare cut.each (sym (cut_parts levels text cut e))
 
-behind : (x : List ℕ) (xs : List (List ℕ)) (text : List ℕ) (levels : List ℕ) → ((rest : List ℕ) → AreLevels rest → map decimal rest ≡ xs → ⊥) → AreLevels levels → map decimal levels ≡ x ∷ xs → ⊥
+behind : (x : List ℕ) (xs : List (List ℕ)) (text : List ℕ) (levels : List ℕ) → ((rest : List ℕ) → AreLevels rest → map decimal rest ≡ xs → ⊥)
+    → AreLevels levels → map decimal levels ≡ x ∷ xs → ⊥
 behind x xs text [] bare each e = let n : 0 ≡ suc (length xs) = ap length e in omega (arith, n)
 behind x xs text (n ∷ levels) bare each e = bare levels (λ k below. each (suc k) (omega arith)) (ap rest_of e)
 
-pub refused_second : (text x rest : List ℕ) → slice_split is_x text ≡ x ∷ slice_split is_x rest → BeginsNone rest → (levels : List ℕ) → IsCut levels → cut_text levels ≡ text → ⊥
+pub refused_second : (text x rest : List ℕ) → slice_split is_x text ≡ x ∷ slice_split is_x rest → BeginsNone rest → (levels : List ℕ) → IsCut levels
+    → cut_text levels ≡ text → ⊥
 refused_second text x rest parts bare levels cut e =
-    behind x (slice_split is_x rest) text levels (λ more each same. no_levels rest more bare each same) cut.each (sym (cut_parts levels text cut e) ∙ parts)
+    behind x (slice_split is_x rest) text levels (λ more each same. no_levels rest more bare each same) cut.each
+    (sym (cut_parts levels text cut e) ∙ parts)
 
-pub refused_third : (text x y next rest : List ℕ) → slice_split is_x text ≡ x ∷ slice_split is_x next → slice_split is_x next ≡ y ∷ slice_split is_x rest → BeginsNone rest → (levels : List ℕ) → IsCut levels → cut_text levels ≡ text → ⊥
+pub refused_third : (text x y next rest : List ℕ) → slice_split is_x text ≡ x ∷ slice_split is_x next
+    → slice_split is_x next ≡ y ∷ slice_split is_x rest → BeginsNone rest → (levels : List ℕ) → IsCut levels → cut_text levels ≡ text → ⊥
 refused_third text x y next rest parts later bare levels cut e =
-    behind x (slice_split is_x next) text levels (λ more each same. behind y (slice_split is_x rest) next more (λ last all there. no_levels rest last bare all there) each (same ∙ later)) cut.each (sym (cut_parts levels text cut e) ∙ parts)
+    behind x (slice_split is_x next) text levels
+    (λ more each same. behind y (slice_split is_x rest) next more (λ last all there. no_levels rest last bare all there) each (same ∙ later))
+    cut.each (sym (cut_parts levels text cut e) ∙ parts)
 
 -- and more than three levels are no cut
-pub refused_more : (text x y z next after : List ℕ) (more : List (List ℕ)) → slice_split is_x text ≡ x ∷ slice_split is_x next → slice_split is_x next ≡ y ∷ slice_split is_x after → slice_split is_x after ≡ z ∷ more → 0 < length more
+pub refused_more : (text x y z next after : List ℕ) (more : List (List ℕ)) → slice_split is_x text ≡ x ∷ slice_split is_x next
+    → slice_split is_x next ≡ y ∷ slice_split is_x after → slice_split is_x after ≡ z ∷ more → 0 < length more
     → (levels : List ℕ) → IsCut levels → cut_text levels ≡ text → ⊥
 refused_more text x y z next after more parts later last some levels cut e =
-    let all : map decimal levels ≡ x ∷ y ∷ z ∷ more = sym (cut_parts levels text cut e) ∙ parts ∙ ap (λ xs. x ∷ xs) (later ∙ ap (λ xs. y ∷ xs) last) in
+    let all : map decimal levels ≡ x ∷ y ∷ z ∷ more = sym (cut_parts levels text cut e) ∙ parts
+    ∙ ap (λ xs. x ∷ xs) (later ∙ ap (λ xs. y ∷ xs) last) in
     let count : length (map decimal levels) ≡ suc (suc (suc (length more))) = ap length all in
     omega (arith, count, length-map levels decimal, cut.few, some)
 
@@ -141,9 +179,11 @@ module _ (text levels : List ℕ) (each : AreLevels levels) (parts : slice_split
   read_cut (Some cut) h = (subst IsCut (sym h.1) h.0, ap cut_text h.1 ∙ parts_text levels text parts)
   read_cut None h = tt
 
-  pub read_none : (result : Option (List ℕ)) → IfNone result (IsCut levels → ⊥) → IfNone result ((other : List ℕ) → IsCut other → cut_text other ≡ text → ⊥)
+  pub read_none : (result : Option (List ℕ)) → IfNone result (IsCut levels → ⊥)
+      → IfNone result ((other : List ℕ) → IsCut other → cut_text other ≡ text → ⊥)
   read_none (Some cut) h = tt
-  read_none None h = λ other cut e. h (subst IsCut (same_levels other levels (λ k below. (cut.each k below).1) (λ k below. (each k below).1) (sym (cut_parts other text cut e) ∙ parts)) cut)
+  read_none None h = λ other cut e. h (subst IsCut
+      (same_levels other levels (λ k below. (cut.each k below).1) (λ k below. (each k below).1) (sym (cut_parts other text cut e) ∙ parts)) cut)
 
 pub one_level : (a : ℕ) → (1 ≤ a) × (a ≤ 16) → AreLevels (a ∷ [])
 one_level a h zero below = h
@@ -158,14 +198,17 @@ when_none None P h = h
 when_none (Some x) P h = tt
 
 -- the first part of a text is what stands before its first x
-pub first_part : (text : List ℕ) (end : ℕ) → end ≡ position_or_len is_x text → end < length text → slice_split is_x text ≡ take end text ∷ slice_split is_x (drop (end + 1) text)
+pub first_part : (text : List ℕ) (end : ℕ) → end ≡ position_or_len is_x text → end < length text
+    → slice_split is_x text ≡ take end text ∷ slice_split is_x (drop (end + 1) text)
 first_part text end e inside = rw e (slice_split_first is_x text 0 (omega arith))
 
 pub only_part : (text : List ℕ) (end : ℕ) → end ≡ position_or_len is_x text → length text ≤ end → slice_split is_x text ≡ take end text ∷ []
 only_part text end e past =
-    slice_split_none is_x text (λ k d below. fails_before_first is_x text k d (omega arith)) ∙ ap (λ (xs : List ℕ). xs ∷ []) (sym (take_all end text past))
+    slice_split_none is_x text (λ k d below. fails_before_first is_x text k d (omega arith))
+    ∙ ap (λ (xs : List ℕ). xs ∷ []) (sym (take_all end text past))
 
-pub first_bytes : (text : List ℕ) (end n : ℕ) (pieces : List (List ℕ)) → end ≡ position_or_len is_x text → slice_split is_x text ≡ decimal n ∷ pieces → decimal n ≡ take end text
+pub first_bytes : (text : List ℕ) (end n : ℕ) (pieces : List (List ℕ)) → end ≡ position_or_len is_x text → slice_split is_x text ≡ decimal n ∷ pieces
+    → decimal n ≡ take end text
 first_bytes text end n pieces e parts = elim (cases_lt end (length text)) [
   | inl inside ↦ ap first_of (sym parts ∙ first_part text end e inside)
   | inr past ↦ ap first_of (sym parts ∙ only_part text end e (omega arith))

@@ -7,8 +7,7 @@ use Rattle.std.specs.Prelude.{ℤ, pos, negsuc, ◌≤ℤ◌, false, replicate, 
 use Rattle.game.specs.Rules.{Rules, State}
 use Rattle.game.specs.declared.at_bound.AtBound.{AtBound}
 use Rattle.game.specs.Value.{Answers as Result, value, worst, choice_of}
-use Rattle.maximin.proofs.Values.{IsOpen, value_reached, worst_le_value}
-use Rattle.maximin.proofs.Best.{IsBest, worst_at_place, choice_found}
+use Rattle.maximin.proofs.Facts.{IsOpen, value_reached, worst_le_value, IsBest, worst_at_place, choice_found}
 use Rattle.board.specs.Values.{least}
 use Rattle.board.specs.Boards.{kept, table_of}
 use Rattle.board.specs.Windows.{Answers}
@@ -30,13 +29,15 @@ pub least_none : (f : ℕ → ℕ) (low : ℕ) → IsLeast f 0 low 103
 least_none f low = record { over = λ j inside. absurd (omega arith); under = λ x few h. few; top = omega arith }
 
 -- one more value, found between low and the upper bound
-pub least_more : (f : ℕ → ℕ) (n low upper r next : ℕ) → IsLeast f n low upper → Answers (f n) low upper r → next ≡ min upper r → IsLeast f (n + 1) low next
+pub least_more : (f : ℕ → ℕ) (n low upper r next : ℕ) → IsLeast f n low upper → Answers (f n) low upper r → next ≡ min upper r
+    → IsLeast f (n + 1) low next
 least_more f n low upper r next old h is = record {
   over = λ j inside. elim (cases_lt j n) [
     | inl before ↦ let o = old.over j before in omega (arith, is)
     | inr here ↦ let e : j ≡ n = omega arith in rw e (omega (arith, is, h.1))
   ];
-  under = λ x few each. let o = old.under x few (λ j inside. each j (omega arith)) in let last = each n (omega arith) in omega (arith, is, h.0, o, last);
+  under = λ x few each. let o = old.under x few (λ j inside. each j (omega arith)) in let last = each n (omega arith) in
+      omega (arith, is, h.0, o, last);
   top = omega (arith, is, old.top);
 }
 
@@ -49,7 +50,8 @@ least_all f m low upper h =
 
 module _ (g : Rules) (s : State) (role depth : ℕ) (at : AtBound) (plan : Plan) (node : IsNode g s role depth plan) where
   -- what was found for all tasks of a move answers what the move is worth
-  pub worst_found : (own n : ℕ) (low r : ℤ) → own < plan.moves → n ≡ plan.replies → negsuc 1 ≤ℤ low → negsuc 1 ≤ℤ r → IsLeast (table_of (task_value g role depth at s) own) n (kept low) (kept r)
+  pub worst_found : (own n : ℕ) (low r : ℤ) → own < plan.moves → n ≡ plan.replies → negsuc 1 ≤ℤ low → negsuc 1 ≤ℤ r
+      → IsLeast (table_of (task_value g role depth at s) own) n (kept low) (kept r)
       → Result (worst g role (depth - 1) at s (own_at g s role own)) low (pos 101) r
   worst_found own n low r inside all above_low above_r h =
       let some = replies_some g s role plan node.planned in
@@ -64,9 +66,14 @@ module _ (g : Rules) (s : State) (role depth : ℕ) (at : AtBound) (plan : Plan)
       answers_kept (worst g role (depth - 1) at s (own_at g s role own)) low (pos 101) r above_low (omega (arith, ints)) above_r (rw same at found)
 
   -- the greatest of all moves is the value
-  pub best_value : (place : ℕ) (best : ℤ) (chosen : ℕ) → g.ended s ≡ false → place ≡ plan.moves → IsBest (worst_at_place g role depth at s) place best chosen → best ≡ pos (value g role depth at s)
+  pub best_value : (place : ℕ) (best : ℤ) (chosen : ℕ) → g.ended s ≡ false → place ≡ plan.moves
+      → IsBest (worst_at_place g role depth at s) place best chosen → best ≡ pos (value g role depth at s)
   best_value place best chosen going all is =
-      let free : IsOpen g depth s = record { turn = λ e. absurd (omega (arith, node.turn)); going = going; free = plan_free g s role plan node.planned } in
+      let free : IsOpen g depth s = record {
+        turn = λ e. absurd (omega (arith, node.turn));
+        going = going;
+        free = plan_free g s role plan node.planned;
+      } in
       let moves = node.planned.moves in
       let top = value_reached g role depth at s free node.known in
       let some : 0 < place = omega (arith, top.1, all, moves) in
@@ -78,7 +85,12 @@ module _ (g : Rules) (s : State) (role depth : ℕ) (at : AtBound) (plan : Plan)
       omega (arith, ints)
 
   -- and the first move that has it is the choice
-  pub best_choice : (place : ℕ) (best : ℤ) (chosen : ℕ) → g.ended s ≡ false → place ≡ plan.moves → IsBest (worst_at_place g role depth at s) place best chosen → choice_of g role depth at s ≡ slice_get (g.legal s role) chosen
+  pub best_choice : (place : ℕ) (best : ℤ) (chosen : ℕ) → g.ended s ≡ false → place ≡ plan.moves
+      → IsBest (worst_at_place g role depth at s) place best chosen → choice_of g role depth at s ≡ slice_get (g.legal s role) chosen
   best_choice place best chosen going all is =
-      let free : IsOpen g depth s = record { turn = λ e. absurd (omega (arith, node.turn)); going = going; free = plan_free g s role plan node.planned } in
+      let free : IsOpen g depth s = record {
+        turn = λ e. absurd (omega (arith, node.turn));
+        going = going;
+        free = plan_free g s role plan node.planned;
+      } in
       choice_found g role depth at s place best chosen free node.known (all ∙ node.planned.moves) is

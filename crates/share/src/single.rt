@@ -29,12 +29,15 @@ fn worst_of<G: Game, K: Gate>(
     requires own { own < node.now.plan.moves }
     requires best { (negsuc 0 ≤ℤ best) × (best <ℤ pos 101) }
     requires step { IsStepOf (G.fits node.now.game.now) (G.rules node.now.game.now).roles step.old }
-    requires room { IsRoomOf (G.fits node.now.game.now) (G.fits_wide node.now.game.now) (G.fits_many node.now.game.now) (G.rules node.now.game.now).roles room.old }
+    requires room { IsRoomOf (G.fits node.now.game.now) (G.fits_wide node.now.game.now) (G.fits_many node.now.game.now)
+        (G.rules node.now.game.now).roles room.old }
     requires deep { node.now.depth ≤ room_depth room.old }
-    ensures answers { Answers (worst (G.rules node.now.game.now) node.now.role (node.now.depth - 1) node.now.at (G.state node.now.game.now node.now.from.now)
+    ensures answers { Answers (worst (G.rules node.now.game.now) node.now.role (node.now.depth - 1) node.now.at
+        (G.state node.now.game.now node.now.from.now)
         (own_at (G.rules node.now.game.now) (G.state node.now.game.now node.now.from.now) node.now.role own)) best (pos 101) result }
     ensures step { IsStepOf (G.fits node.now.game.now) (G.rules node.now.game.now).roles step.new }
-    ensures room { IsRoomOf (G.fits node.now.game.now) (G.fits_wide node.now.game.now) (G.fits_many node.now.game.now) (G.rules node.now.game.now).roles room.new }
+    ensures room { IsRoomOf (G.fits node.now.game.now) (G.fits_wide node.now.game.now) (G.fits_many node.now.game.now)
+        (G.rules node.now.game.now).roles room.new }
     ensures deep { room_depth room.new ≡ room_depth room.old }
 {
     let mut upper = 101;
@@ -53,8 +56,10 @@ pub fn answer_single<G: Game, K: Gate>(node: &Node<'_, G>, gate: &K, desk: Desk<
     requires fits { G.fits node.now.game.now node.now.from.now }
     requires steps { All (IsStepOf (G.fits node.now.game.now) (G.rules node.now.game.now).roles) desk.steps.items }
     requires some { 0 < length desk.steps.items }
-    requires room { HasRoom (G.fits node.now.game.now) (G.fits_wide node.now.game.now) (G.fits_many node.now.game.now) (G.rules node.now.game.now).roles node.now.depth desk }
-    ensures value { result.0 ≡ pos (value (G.rules node.now.game.now) node.now.role node.now.depth node.now.at (G.state node.now.game.now node.now.from.now)) }
+    requires room { HasRoom (G.fits node.now.game.now) (G.fits_wide node.now.game.now) (G.fits_many node.now.game.now)
+        (G.rules node.now.game.now).roles node.now.depth desk }
+    ensures value { result.0 ≡ pos (value (G.rules node.now.game.now) node.now.role node.now.depth node.now.at
+        (G.state node.now.game.now node.now.from.now)) }
     ensures first { choice_of (G.rules node.now.game.now) node.now.role node.now.depth node.now.at (G.state node.now.game.now node.now.from.now)
         ≡ slice_get ((G.rules node.now.game.now).legal (G.state node.now.game.now node.now.from.now) node.now.role) result.1 }
 {

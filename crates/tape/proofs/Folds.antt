@@ -1,5 +1,42 @@
 -- The and and the or of many literals.
-use Rattle.std.proofs.Common.{◌≡◌, ◌≢◌, set, get_or-set_same, get_or-set_other, below_more, ℕ, suc, zero, ◌+◌, ◌<◌, ◌≤◌, ◌%◌, ◌/◌, Bool, true, false, not, ◌&&◌, ◌||◌, List, [], ◌∷◌, ◌++◌, length, get_or, drop, refl, sym, ◌∙◌, ap, subst, arith, All, add-one, length-append}
+use Rattle.std.proofs.Common.{
+  ◌≡◌,
+  ◌≢◌,
+  set,
+  get_or-set_same,
+  get_or-set_other,
+  below_more,
+  ℕ,
+  suc,
+  zero,
+  ◌+◌,
+  ◌<◌,
+  ◌≤◌,
+  ◌%◌,
+  ◌/◌,
+  Bool,
+  true,
+  false,
+  not,
+  ◌&&◌,
+  ◌||◌,
+  List,
+  [],
+  ◌∷◌,
+  ◌++◌,
+  length,
+  get_or,
+  drop,
+  refl,
+  sym,
+  ◌∙◌,
+  ap,
+  subst,
+  arith,
+  All,
+  add-one,
+  length-append,
+}
 use Rattle.std.proofs.lemmas.List.{drop-append-le, drop_all, get_or_default}
 use Rattle.std.proofs.Math.Seq.{drop-cons}
 use Rattle.tape.specs.Building.{AreLiterals, AreOneOf, IsStep, IsBuilt, IsLiteral, slots_of, value_of, all_of, any_of, IsNegation, AreNegations}

@@ -1,5 +1,42 @@
 -- Bits of a group that are marked, and what their or is.
-use Rattle.std.proofs.Common.{◌≡◌, ◌≢◌, ℕ, suc, zero, ◌+◌, ◌-◌, ◌*◌, ◌<◌, ◌≤◌, ◌==◌, Bool, true, false, not, ◌&&◌, ◌||◌, List, [], ◌∷◌, ◌++◌, length, take, drop, map, get_or, refl, sym, ◌∙◌, ap, subst, arith, All, inl, inr, ne_eqb}
+use Rattle.std.proofs.Common.{
+  ◌≡◌,
+  ◌≢◌,
+  ℕ,
+  suc,
+  zero,
+  ◌+◌,
+  ◌-◌,
+  ◌*◌,
+  ◌<◌,
+  ◌≤◌,
+  ◌==◌,
+  Bool,
+  true,
+  false,
+  not,
+  ◌&&◌,
+  ◌||◌,
+  List,
+  [],
+  ◌∷◌,
+  ◌++◌,
+  length,
+  take,
+  drop,
+  map,
+  get_or,
+  refl,
+  sym,
+  ◌∙◌,
+  ap,
+  subst,
+  arith,
+  All,
+  inl,
+  inr,
+  ne_eqb,
+}
 use Rattle.std.proofs.Math.ListN.{set}
 use Rattle.std.proofs.lemmas.Bool.{cases_eq}
 use Rattle.std.proofs.lemmas.Bool.Decides.{nat_tests}
@@ -48,7 +85,8 @@ none_marked w from (m ∷ ms) h =
     rw first (none_marked w (from + 1) ms (λ k l. h (suc k) (omega arith)))
 
 -- one more bit is marked
-pub marked_more : (w : ℕ → Bool) (from : ℕ) (ms : List Bool) (k : ℕ) → k < length ms → any_marked w from (set ms k true) ≡ (any_marked w from ms || w (2 + 2 * (from + k)))
+pub marked_more : (w : ℕ → Bool) (from : ℕ) (ms : List Bool) (k : ℕ) → k < length ms
+    → any_marked w from (set ms k true) ≡ (any_marked w from ms || w (2 + 2 * (from + k)))
 marked_more w from [] k h = absurd (omega arith)
 marked_more w from (true ∷ ms) zero h = let e : from + 0 ≡ from = omega arith in rw e (same (w (2 + 2 * from)) (any_marked w (from + 1) ms))
   where
@@ -65,7 +103,8 @@ marked_more w from (false ∷ ms) zero h = let e : from + 0 ≡ from = omega ari
     swapped false false = refl
 marked_more w from (m ∷ ms) (suc k) h =
     let e : (from + 1) + k ≡ from + suc k = omega arith in
-    let r : any_marked w (from + 1) (set ms k true) ≡ (any_marked w (from + 1) ms || w (2 + 2 * ((from + 1) + k))) = marked_more w (from + 1) ms k (omega arith) in
+    let r : any_marked w (from + 1) (set ms k true) ≡ (any_marked w (from + 1) ms || w (2 + 2 * ((from + 1) + k))) = marked_more w (from + 1) ms k
+    (omega arith) in
     ap (λ b. (m && w (2 + 2 * from)) || b) (r ∙ ap (λ (n : ℕ). any_marked w (from + 1) ms || w (2 + 2 * n)) e)
     ∙ or_more (m && w (2 + 2 * from)) (any_marked w (from + 1) ms) (w (2 + 2 * (from + suc k)))
 
@@ -74,8 +113,10 @@ pub any_taken : (w : ℕ → Bool) (xs : List ℕ) (i : ℕ) → i < length xs �
 any_taken w xs i h = ap (any_of w) (take_more xs i 0 h) ∙ any_push w (take i xs) (get_or xs i 0)
 
 -- it is that of a bit of the group
-pub part_marked : (w : ℕ → Bool) (xs rest : List ℕ) (from i k x : ℕ) (ms : List Bool) → i < length xs → k < length ms → x ≡ get_or xs i 0 → x ≡ 2 + 2 * (from + k)
-    → any_of w (take i xs) ≡ (any_of w rest || any_marked w from ms) → any_of w (take (i + 1) xs) ≡ (any_of w rest || any_marked w from (set ms k true))
+pub part_marked : (w : ℕ → Bool) (xs rest : List ℕ) (from i k x : ℕ) (ms : List Bool) → i < length xs → k < length ms → x ≡ get_or xs i 0
+    → x ≡ 2 + 2 * (from + k)
+    → any_of w (take i xs) ≡ (any_of w rest || any_marked w from ms)
+    → any_of w (take (i + 1) xs) ≡ (any_of w rest || any_marked w from (set ms k true))
 part_marked w xs rest from i k x ms h l e f so_far =
     any_taken w xs i h ∙ ap (λ b. b || w (get_or xs i 0)) so_far ∙ ap (λ (n : ℕ). (any_of w rest || any_marked w from ms) || w n) (sym e ∙ f)
     ∙ sym (or_more (any_of w rest) (any_marked w from ms) (w (2 + 2 * (from + k)))) ∙ ap (λ b. any_of w rest || b) (sym (marked_more w from ms k l))
@@ -89,7 +130,8 @@ part_left w xs rest next from i x ms h e f so_far =
     ∙ ap (λ b. b || any_marked w from ms) (sym (ap (any_of w) f ∙ any_push w rest x))
 
 -- one more bit of which it is said whether it is marked
-pub marked_push : (w : ℕ → Bool) (from : ℕ) (ms : List Bool) (m : Bool) → any_marked w from (ms ++ (m ∷ [])) ≡ (any_marked w from ms || (m && w (2 + 2 * (from + length ms))))
+pub marked_push : (w : ℕ → Bool) (from : ℕ) (ms : List Bool) (m : Bool)
+    → any_marked w from (ms ++ (m ∷ [])) ≡ (any_marked w from ms || (m && w (2 + 2 * (from + length ms))))
 marked_push w from [] m = let e : from + 0 ≡ from = omega arith in rw e (or_none (m && w (2 + 2 * from)))
 marked_push w from (x ∷ ms) m =
     let e : (from + 1) + length ms ≡ from + suc (length ms) = omega arith in
@@ -110,7 +152,8 @@ as_long [] (suc n) h = absurd (omega arith)
 as_long (m ∷ ms) (suc n) h = ap suc (as_long ms n (omega arith))
 
 told_more : (w : ℕ → Bool) (from place : ℕ) (ms : List Bool) → place < length ms
-    → any_marked w from (map not (take (place + 1) ms)) ≡ (any_marked w from (map not (take place ms)) || (not (get_or ms place false) && w (2 + 2 * (from + place))))
+    → any_marked w from (map not (take (place + 1) ms)) ≡
+    (any_marked w from (map not (take place ms)) || (not (get_or ms place false) && w (2 + 2 * (from + place))))
 told_more w from place ms h =
     let size : length (map not (take place ms)) ≡ place = mapped (take place ms) ∙ as_long ms place (omega arith) in
     ap (λ (bs : List Bool). any_marked w from (map not bs)) (take_more ms place false h)
@@ -119,7 +162,8 @@ told_more w from place ms h =
     ∙ ap (λ (n : ℕ). any_marked w from (map not (take place ms)) || (not (get_or ms place false) && w (2 + 2 * (from + n)))) size
 
 -- a bit is not marked, and so listed
-pub unmarked_more : (w : ℕ → Bool) (from place l : ℕ) (ms : List Bool) (xs next : List ℕ) → place < length ms → get_or ms place false ≡ false → l ≡ 2 + 2 * (from + place) → next ≡ xs ++ (l ∷ [])
+pub unmarked_more : (w : ℕ → Bool) (from place l : ℕ) (ms : List Bool) (xs next : List ℕ) → place < length ms → get_or ms place false ≡ false
+    → l ≡ 2 + 2 * (from + place) → next ≡ xs ++ (l ∷ [])
     → any_of w xs ≡ any_marked w from (map not (take place ms)) → any_of w next ≡ any_marked w from (map not (take (place + 1) ms))
 unmarked_more w from place l ms xs next h off is e so_far =
     ap (any_of w) e ∙ any_push w xs l ∙ ap (λ b. b || w l) so_far ∙ ap (λ (n : ℕ). any_marked w from (map not (take place ms)) || w n) is
@@ -139,12 +183,14 @@ same_self n = grind (arith, nat_tests)
 
 -- Exactly one bit of the group is 1, so the marked bits are the negation of the others.
 
-quiet : (w bits : ℕ → Bool) (from : ℕ) (ms : List Bool) → ((k : ℕ) → from ≤ k → k < from + length ms → w (2 + 2 * k) ≡ bits k) → ((k : ℕ) → from ≤ k → k < from + length ms → bits k ≡ false)
+quiet : (w bits : ℕ → Bool) (from : ℕ) (ms : List Bool) → ((k : ℕ) → from ≤ k → k < from + length ms → w (2 + 2 * k) ≡ bits k)
+    → ((k : ℕ) → from ≤ k → k < from + length ms → bits k ≡ false)
     → any_marked w from ms ≡ false
 quiet w bits from [] h none = refl
 quiet w bits from (m ∷ ms) h none =
     let first : w (2 + 2 * from) ≡ false = h from (omega arith) (omega arith) ∙ none from (omega arith) (omega arith) in
-    let rest : any_marked w (from + 1) ms ≡ false = quiet w bits (from + 1) ms (λ k l u. h k (omega arith) (omega arith)) (λ k l u. none k (omega arith) (omega arith)) in
+    let rest : any_marked w (from + 1) ms ≡ false = quiet w bits (from + 1) ms (λ k l u. h k (omega arith) (omega arith))
+    (λ k l u. none k (omega arith) (omega arith)) in
     rw (first, rest) (off m)
   where
     off : (m : Bool) → ((m && false) || false) ≡ false
@@ -152,20 +198,25 @@ quiet w bits from (m ∷ ms) h none =
     off false = refl
 
 pub others_tell : (w bits : ℕ → Bool) (from on : ℕ) (ms : List Bool) → ((k : ℕ) → from ≤ k → k < from + length ms → w (2 + 2 * k) ≡ bits k)
-    → from ≤ on → on < from + length ms → ((k : ℕ) → from ≤ k → k < from + length ms → bits k ≡ (k == on)) → any_marked w from ms ≡ not (any_marked w from (map not ms))
+    → from ≤ on → on < from + length ms → ((k : ℕ) → from ≤ k → k < from + length ms → bits k ≡ (k == on))
+    → any_marked w from ms ≡ not (any_marked w from (map not ms))
 others_tell w bits from on [] h low high each = absurd (omega arith)
 others_tell w bits from on (m ∷ ms) h low high each = elim (cases_eq from on) [
   | inl same ↦
-      let first : w (2 + 2 * from) ≡ true = h from (omega arith) (omega arith) ∙ each from (omega arith) (omega arith) ∙ ap (λ (n : ℕ). from == n) (sym same) ∙ same_self from in
-      let after : (k : ℕ) → from + 1 ≤ k → k < (from + 1) + length ms → bits k ≡ false = λ k l u. let ne : k ≢ on = (λ q. absurd (omega arith)) in each k (omega arith) (omega arith) ∙ ne_eqb k on ne in
+      let first : w (2 + 2 * from) ≡ true = h from (omega arith) (omega arith) ∙ each from (omega arith) (omega arith)
+      ∙ ap (λ (n : ℕ). from == n) (sym same) ∙ same_self from in
+      let after : (k : ℕ) → from + 1 ≤ k → k < (from + 1) + length ms → bits k ≡ false = λ k l u. let ne : k ≢ on = (λ q. absurd (omega arith)) in
+      each k (omega arith) (omega arith) ∙ ne_eqb k on ne in
       let rest : any_marked w (from + 1) ms ≡ false = quiet w bits (from + 1) ms (λ k l u. h k (omega arith) (omega arith)) after in
       let size : length (map not ms) ≡ length ms = mapped ms in
-      let others : any_marked w (from + 1) (map not ms) ≡ false = quiet w bits (from + 1) (map not ms) (λ k l u. h k (omega arith) (omega arith)) (λ k l u. after k l (omega arith)) in
+      let others : any_marked w (from + 1) (map not ms) ≡ false = quiet w bits (from + 1) (map not ms) (λ k l u. h k (omega arith) (omega arith))
+      (λ k l u. after k l (omega arith)) in
       rw (first, rest, others) (on_here m)
   | inr other ↦
       let first : w (2 + 2 * from) ≡ false = h from (omega arith) (omega arith) ∙ each from (omega arith) (omega arith) ∙ ne_eqb from on other in
       let rest : any_marked w (from + 1) ms ≡ not (any_marked w (from + 1) (map not ms)) =
-      others_tell w bits (from + 1) on ms (λ k l u. h k (omega arith) (omega arith)) (omega arith) (omega arith) (λ k l u. each k (omega arith) (omega arith)) in
+      others_tell w bits (from + 1) on ms (λ k l u. h k (omega arith) (omega arith)) (omega arith) (omega arith)
+      (λ k l u. each k (omega arith) (omega arith)) in
       rw (first, rest) (on_behind m (any_marked w (from + 1) (map not ms)))
 ]
   where
@@ -182,9 +233,11 @@ unfolding value
 given_value b bits k h = pass_below b.first b.gates.items (start bits) (2 + 2 * k) h ∙ given_slot bits k
 
 -- the negation of the or of the others stands in the place of the marked bits
-pub turned : (old new : Builder) (from to : ℕ) (queue rest next others : List ℕ) (marks : List Bool) (other neg : ℕ) → IsBuilt old → IsStep old new → from ≤ to → 2 + 2 * to ≤ old.first
+pub turned : (old new : Builder) (from to : ℕ) (queue rest next others : List ℕ) (marks : List Bool) (other neg : ℕ) → IsBuilt old → IsStep old new
+    → from ≤ to → 2 + 2 * to ≤ old.first
     → length marks ≡ to - from → ((w : ℕ → Bool) → any_of w queue ≡ (any_of w rest || any_marked w from marks)) → All (λ l. l < slots_of old) rest
-    → ((w : ℕ → Bool) → any_of w others ≡ any_marked w from (map not marks)) → IsLiteral new other (λ bits. any_of (value_of old bits) others) → IsNegation other neg → next ≡ rest ++ (neg ∷ [])
+    → ((w : ℕ → Bool) → any_of w others ≡ any_marked w from (map not marks)) → IsLiteral new other (λ bits. any_of (value_of old bits) others)
+    → IsNegation other neg → next ≡ rest ++ (neg ∷ [])
     → (bits : ℕ → Bool) → AreOneOf old.groups.items bits → IsOneOf bits from to → any_of (value_of new bits) next ≡ any_of (value_of old bits) queue
 turned old new from to queue rest next others marks other neg built s order within size parted below told l n e bits one here =
     let w : ℕ → Bool = value_of old bits in
@@ -199,7 +252,8 @@ turned old new from to queue rest next others marks other neg built s order with
     let last : v neg ≡ any_marked w from marks = n.value v (value_literals new.first new.gates.items s.built.tape bits) ∙ ap not asked ∙ sym tells in
     ap (any_of v) e ∙ any_push v rest neg ∙ ap (λ b. b || v neg) kept ∙ ap (λ b. any_of w rest || b) last ∙ sym (parted w)
 
-pub turned_below : (old new : Builder) (rest next : List ℕ) (other neg : ℕ) → IsStep old new → All (λ l. l < slots_of old) rest → other < slots_of new → IsNegation other neg → next ≡ rest ++ (neg ∷ [])
+pub turned_below : (old new : Builder) (rest next : List ℕ) (other neg : ℕ) → IsStep old new → All (λ l. l < slots_of old) rest → other < slots_of new
+    → IsNegation other neg → next ≡ rest ++ (neg ∷ [])
     → All (λ l. l < slots_of new) next
 turned_below old new rest next other neg s below slot n e =
     let pairs = s.built.tape.pairs in
@@ -228,8 +282,10 @@ written_back xs ys n e f = rw (f, e) (rw (drop_all (length ys) ys (omega arith),
 
 -- The groups of the roles.
 
-pub given_input : (gates : List Gate) (marks : List Bool) (words literals : List ℕ) (n bit word x : ℕ) (name : Name) (reads : List ℕ) → AreSourcesOf gates marks (length gates) words literals → n < length gates
-    → slice_get gates n ≡ Some (gate_with name reads) → is_marked marks n ≡ true → source_word name n ≡ Some word → word ≡ n → x ≡ get_or literals n 0 → x % 2 ≡ 0 → 2 ≤ x → x / 2 - 1 ≡ bit → IsGivenInput words bit n
+pub given_input : (gates : List Gate) (marks : List Bool) (words literals : List ℕ) (n bit word x : ℕ) (name : Name) (reads : List ℕ)
+    → AreSourcesOf gates marks (length gates) words literals → n < length gates
+    → slice_get gates n ≡ Some (gate_with name reads) → is_marked marks n ≡ true → source_word name n ≡ Some word → word ≡ n → x ≡ get_or literals n 0
+    → x % 2 ≡ 0 → 2 ≤ x → x / 2 - 1 ≡ bit → IsGivenInput words bit n
 given_input gates marks words literals n bit word x name reads sources lt e on s same read pairs low half =
     let at = sources.each n lt (gate_with name reads) word e on s in
     let slot = at.slot in
@@ -254,8 +310,10 @@ same_place from x m = elim (cases_eq x m) [
       ne_eqb x m other ∙ sym (ne_eqb (from + m) (from + x) ne)
 ]
 
-pub group_is : (net : Net) (words : List ℕ) (role first count from to : ℕ) → role < length net.inputs.items → count ≡ get_or net.inputs.items role 0 → 0 < count
-    → first ≡ net.base + sum (take role net.inputs.items) → ((m : ℕ) → m < count → IsGivenInput words (from + m) (first + m)) → to ≡ from + count → IsGroupOf net words (record { from = from; to = to })
+pub group_is : (net : Net) (words : List ℕ) (role first count from to : ℕ) → role < length net.inputs.items → count ≡ get_or net.inputs.items role 0
+    → 0 < count
+    → first ≡ net.base + sum (take role net.inputs.items) → ((m : ℕ) → m < count → IsGivenInput words (from + m) (first + m)) → to ≡ from + count
+    → IsGroupOf net words (record { from = from; to = to })
 group_is net words role first count from to inside are some begins given_at ends = record {
   within = let last = (given_at (count - 1) (omega arith)).within in omega arith;
   one = λ state joint w turn s.
@@ -279,10 +337,12 @@ group_is net words role first count from to inside are some begins given_at ends
 pub no_groups : (net : Net) (words : List ℕ) (groups : List Group) → groups ≡ [] → AreGroups net words groups
 no_groups net words groups e = rw e record { within = All-nil _; one = λ state joint w turn s. All-nil _ }
 
-pub groups_more : (net : Net) (words : List ℕ) (groups next : List Group) (g : Group) → AreGroups net words groups → IsGroupOf net words g → next ≡ groups ++ (g ∷ []) → AreGroups net words next
+pub groups_more : (net : Net) (words : List ℕ) (groups next : List Group) (g : Group) → AreGroups net words groups → IsGroupOf net words g
+    → next ≡ groups ++ (g ∷ []) → AreGroups net words next
 groups_more net words groups next g h k e = rw e record {
   within = All-push (λ (x : Group). x.to ≤ length words) groups g h.within k.within;
-  one = λ state joint w turn s. All-push (λ (x : Group). IsOneOf (λ i. w (get_or words i 0)) x.from x.to) groups g (h.one state joint w turn s) (k.one state joint w turn s);
+  one = λ state joint w turn s. All-push (λ (x : Group). IsOneOf (λ i. w (get_or words i 0)) x.from x.to) groups g (h.one state joint w turn s)
+      (k.one state joint w turn s);
 }
 
 pub sum_more : (xs : List ℕ) (k : ℕ) → k < length xs → sum (take (k + 1) xs) ≡ sum (take k xs) + get_or xs k 0

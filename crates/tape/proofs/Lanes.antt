@@ -1,5 +1,43 @@
 -- One gate over words, lane by lane.
-use Rattle.std.proofs.Common.{◌≤◌, ◌≡◌, ◌≢◌, ℕ, suc, zero, ◌+◌, ◌-◌, ◌*◌, ◌^◌, ◌<◌, ◌==◌, not, ◌&&◌, List, length, get_or, set, drop, refl, ◌∙◌, ap, arith, min, get_or-set_same, get_or-set_other, ◌⊎◌, inl, inr, length-set, ◌∷◌, add-one, ◌/◌, ◌%◌, sym, Bool, false}
+use Rattle.std.proofs.Common.{
+  ◌≤◌,
+  ◌≡◌,
+  ◌≢◌,
+  ℕ,
+  suc,
+  zero,
+  ◌+◌,
+  ◌-◌,
+  ◌*◌,
+  ◌^◌,
+  ◌<◌,
+  ◌==◌,
+  not,
+  ◌&&◌,
+  List,
+  length,
+  get_or,
+  set,
+  drop,
+  refl,
+  ◌∙◌,
+  ap,
+  arith,
+  min,
+  get_or-set_same,
+  get_or-set_other,
+  ◌⊎◌,
+  inl,
+  inr,
+  length-set,
+  ◌∷◌,
+  add-one,
+  ◌/◌,
+  ◌%◌,
+  sym,
+  Bool,
+  false,
+}
 use Rattle.std.specs.Int.{bit_at, bit_not, w64}
 use Rattle.std.specs.Int.Bits.{bit_and}
 use Rattle.std.proofs.lemmas.Nat.Bits.{bit_at_and, bit_at-lt, bit_at_not}
@@ -34,19 +72,30 @@ pub lane_written : (words : List ℕ) (s k x y : ℕ) → s + 1 < length words �
     → (l : ℕ) → is_lane_on (set (set words s x) (s + 1) y) k l ≡ written (is_lane_on words k) s (is_bit_on x k) l
 lane_written words s k x y h e l = by_place (cases_eq l (s + 1)) (cases_eq l s)
   where
-    by_place : (l ≡ s + 1) ⊎ (l ≢ s + 1) → (l ≡ s) ⊎ (l ≢ s) → is_lane_on (set (set words s x) (s + 1) y) k l ≡ written (is_lane_on words k) s (is_bit_on x k) l
+    by_place : (l ≡ s + 1) ⊎ (l ≢ s + 1) → (l ≡ s) ⊎ (l ≢ s) → is_lane_on (set (set words s x) (s + 1) y) k l ≡ written (is_lane_on words k) s
+        (is_bit_on x k) l
     by_place (inl a) b =
         let m : s + 1 < length (set words s x) = rw length-set h in
         rw (written_not (is_lane_on words k) s (is_bit_on x k) l a, a, get_or-set_same (set words s x) (s + 1) y 0 m) e
     by_place (inr a) (inl b) =
         let m : s < length words = omega arith in
-        rw (written_same (is_lane_on words k) s (is_bit_on x k) l b, get_or-set_other (set words s x) (s + 1) l y 0 a, b, get_or-set_same words s x 0 m) refl
+        rw (
+          written_same (is_lane_on words k) s (is_bit_on x k) l b,
+          get_or-set_other (set words s x) (s + 1) l y 0 a,
+          b,
+          get_or-set_same words s x 0 m,
+        ) refl
     by_place (inr a) (inr b) =
-        rw (written_other (is_lane_on words k) s (is_bit_on x k) l b a, get_or-set_other (set words s x) (s + 1) l y 0 a, get_or-set_other words s l x 0 b) refl
+        rw (
+          written_other (is_lane_on words k) s (is_bit_on x k) l b a,
+          get_or-set_other (set words s x) (s + 1) l y 0 a,
+          get_or-set_other words s l x 0 b,
+        ) refl
 
 -- one step of a pass over words
 pub one_gate : (first i : ℕ) (gs : List Gate) (d : Gate) (words : List ℕ) (k x y : ℕ) → i < length gs
-    → first + 2 * i + 1 < length words → x ≡ bit_and (get_or words (get_or gs i d).a 0) (get_or words (get_or gs i d).b 0) → is_bit_on y k ≡ not (is_bit_on x k)
+    → first + 2 * i + 1 < length words → x ≡ bit_and (get_or words (get_or gs i d).a 0) (get_or words (get_or gs i d).b 0)
+    → is_bit_on y k ≡ not (is_bit_on x k)
     → (l : ℕ) → pass (first + 2 * (i + 1)) (drop (i + 1) gs) (is_lane_on (set (set words (first + 2 * i) x) (first + 2 * i + 1) y) k) l
     ≡ pass (first + 2 * i) (drop i gs) (is_lane_on words k) l
 one_gate first i gs d words k x y h room made other l =
@@ -77,7 +126,8 @@ filled_at bits v i l x e h f (inr a) (inr b) =
     let c : l ≡ 2 + 2 * i + 1 = omega arith in
     rw c (written_not v (2 + 2 * i) x (2 + 2 * i + 1) refl ∙ (ap not e ∙ sym (given_next bits i)))
 
-pub one_given : (bits : ℕ → Bool) (vals : List ℕ) (k i x y : ℕ) → 2 + 2 * i + 1 < length vals → is_bit_on x k ≡ bits i → is_bit_on y k ≡ not (is_bit_on x k)
+pub one_given : (bits : ℕ → Bool) (vals : List ℕ) (k i x y : ℕ) → 2 + 2 * i + 1 < length vals → is_bit_on x k ≡ bits i
+    → is_bit_on y k ≡ not (is_bit_on x k)
     → ((l : ℕ) → l < 2 + 2 * i → is_lane_on vals k l ≡ start bits l)
     → (l : ℕ) → l < 2 + 2 * (i + 1) → is_lane_on (set (set vals (2 + 2 * i) x) (2 + 2 * i + 1) y) k l ≡ start bits l
 one_given bits vals k i x y room e other before l h =
@@ -90,6 +140,8 @@ zero_bit k = let e : bit_at 0 k ≡ 0 = grind arith in rw e refl
 -- the constants
 pub constants : (bits : ℕ → Bool) (vals : List ℕ) (k y : ℕ) → 1 < length vals → is_bit_on y k ≡ not (is_bit_on 0 k)
     → (l : ℕ) → l < 2 → is_lane_on (set (set vals 0 0) 1 y) k l ≡ start bits l
-constants bits vals k y room other zero h = lane_written vals 0 k 0 y room other 0 ∙ (written_same (is_lane_on vals k) 0 (is_bit_on 0 k) 0 refl ∙ zero_bit k)
-constants bits vals k y room other (suc zero) h = lane_written vals 0 k 0 y room other 1 ∙ (written_not (is_lane_on vals k) 0 (is_bit_on 0 k) 1 refl ∙ ap not (zero_bit k))
+constants bits vals k y room other zero h = lane_written vals 0 k 0 y room other 0
+    ∙ (written_same (is_lane_on vals k) 0 (is_bit_on 0 k) 0 refl ∙ zero_bit k)
+constants bits vals k y room other (suc zero) h = lane_written vals 0 k 0 y room other 1
+    ∙ (written_not (is_lane_on vals k) 0 (is_bit_on 0 k) 1 refl ∙ ap not (zero_bit k))
 constants bits vals k y room other (suc (suc l)) h = absurd (omega arith)

@@ -22,9 +22,11 @@ pub record IsGivenInput (words : List ℕ) (bit n : ℕ) : Type 0 where
 -- where a joint move has an input of each role, one of the bits is 1
 pub record IsGroupOf (net : Net) (words : List ℕ) (g : Group) : Type 0 where
   pub within : g.to ≤ length words
-  pub one : (state : ℕ → ℕ) (joint : List ℕ) (w : ℕ → Bool) → IsJointOf net joint → AreSources net state joint w → IsOneOf (λ i. w (slice_index words i)) g.from g.to
+  pub one : (state : ℕ → ℕ) (joint : List ℕ) (w : ℕ → Bool) → IsJointOf net joint → AreSources net state joint w
+      → IsOneOf (λ i. w (slice_index words i)) g.from g.to
 
 -- that is so of each group
 pub record AreGroups (net : Net) (words : List ℕ) (groups : List Group) : Type 0 where
   pub within : All (λ (g : Group). g.to ≤ length words) groups
-  pub one : (state : ℕ → ℕ) (joint : List ℕ) (w : ℕ → Bool) → IsJointOf net joint → AreSources net state joint w → AreOneOf groups (λ i. w (slice_index words i))
+  pub one : (state : ℕ → ℕ) (joint : List ℕ) (w : ℕ → Bool) → IsJointOf net joint → AreSources net state joint w
+      → AreOneOf groups (λ i. w (slice_index words i))

@@ -32,5 +32,6 @@ pub record IsGivenAt (words : List ℕ) (l word : ℕ) : Type 0 where
 -- each marked node below n that is given has the literal of its word
 pub record AreSourcesOf (gates : List Gate) (marks : List Bool) (n : ℕ) (words literals : List ℕ) : Type 0 where
   pub count : length literals ≡ n
-  pub each : (m : ℕ) → m < n → (gate : Gate) (word : ℕ) → slice_get gates m ≡ Some gate → is_marked marks m ≡ true → source_word gate.name m ≡ Some word
+  pub each : (m : ℕ) → m < n → (gate : Gate) (word : ℕ) → slice_get gates m ≡ Some gate → is_marked marks m ≡ true
+      → source_word gate.name m ≡ Some word
       → IsGivenAt words (slice_index literals m) word

@@ -13,7 +13,8 @@ use Rattle.tape.specs.Tapes.{AreSources, kept_in, value_in}
 
 -- what an or takes for node n: the and of what it reads if it is an and gate, else its literal
 abbrev pub IsTermOf : List Gate → List ℕ → ℕ → List ℕ → Type 0
-IsTermOf gates literals n term = (gate : Gate) → slice_get gates n ≡ Some gate → term ≡ map (λ m. slice_index literals m) (term_nodes (is_and_gate gate.name) n gate.reads)
+IsTermOf gates literals n term = (gate : Gate) → slice_get gates n ≡ Some gate
+    → term ≡ map (λ m. slice_index literals m) (term_nodes (is_and_gate gate.name) n gate.reads)
 
 -- a term for each of some nodes
 pub record AreTermsOf (gates : List Gate) (literals numbers : List ℕ) (terms : List (Vec ℕ)) : Type 0 where
@@ -45,5 +46,6 @@ pub record AreKept (net : Net) (words kept : List ℕ) (b : Builder) (literals :
 pub record IsGroupTapeOf (net : Net) (kept words : List ℕ) (groups : List Group) (t : Tape) : Type 0 where
   pub size : kept_in t ≡ length kept
   pub given : t.sources.items ≡ words
-  pub values : (k : ℕ) → k < length kept → (state : ℕ → ℕ) (joint : List ℕ) (w : ℕ → Bool) → AreSources net state joint w → AreOneOf groups (λ i. w (slice_index words i))
+  pub values : (k : ℕ) → k < length kept → (state : ℕ → ℕ) (joint : List ℕ) (w : ℕ → Bool) → AreSources net state joint w
+      → AreOneOf groups (λ i. w (slice_index words i))
       → value_in t w (slice_index t.kept.items k) ≡ (node_value (gates_of net) state joint (slice_index kept k) == 1)

@@ -1,5 +1,29 @@
 -- The values of slots. A gate writes two: the and of two slots, and its negation.
-use Rattle.std.specs.Prelude.{ℕ, zero, suc, Bool, false, not, ◌&&◌, ◌==◌, List, [], ◌∷◌, length, ◌≡◌, ◌+◌, ◌*◌, ◌^◌, ◌<◌, ◌≤◌, ◌%◌, ◌/◌, slice_index, if◌then◌else◌, ⊤}
+use Rattle.std.specs.Prelude.{
+  ℕ,
+  zero,
+  suc,
+  Bool,
+  false,
+  not,
+  ◌&&◌,
+  ◌==◌,
+  List,
+  [],
+  ◌∷◌,
+  length,
+  ◌≡◌,
+  ◌+◌,
+  ◌*◌,
+  ◌^◌,
+  ◌<◌,
+  ◌≤◌,
+  ◌%◌,
+  ◌/◌,
+  slice_index,
+  if◌then◌else◌,
+  ⊤,
+}
 use Rattle.std.specs.Int.{bit_at}
 use Rattle.tape.specs.declared.gates.Gate.{Gate}
 

@@ -1,6 +1,27 @@
 //! Building a tape: equal gates are one gate, and gates of constants none.
 
-ghost use Rattle.std.specs.Prelude.{ℕ, Bool, true, not, ◌&&◌, ◌≡◌, ◌+◌, ◌*◌, ◌/◌, ◌^◌, ◌<◌, ◌≤◌, length, max, All, IfOk, IfSome, slice_index, slice_get, Some};
+ghost use Rattle.std.specs.Prelude.{
+  ℕ,
+  Bool,
+  true,
+  not,
+  ◌&&◌,
+  ◌≡◌,
+  ◌+◌,
+  ◌*◌,
+  ◌/◌,
+  ◌^◌,
+  ◌<◌,
+  ◌≤◌,
+  length,
+  max,
+  All,
+  IfOk,
+  IfSome,
+  slice_index,
+  slice_get,
+  Some,
+};
 ghost use Rattle.tape.specs.Values.{start, value, IsTape};
 ghost use Rattle.tape.specs.Building.{slots_of, value_of, IsBuilt, IsStep, AreLiterals, IsLiteral, IsNegation, AreNegations, all_of, any_of};
 ghost use Rattle.tape.specs.declared.gates.Gate.{Gate};

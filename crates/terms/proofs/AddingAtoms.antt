@@ -1,5 +1,33 @@
 -- Further atoms are numbered one after the other.
-use Rattle.std.proofs.Common.{ℕ, zero, suc, ◌<◌, ◌≤◌, ◌+◌, Bool, true, false, cond, ◌≡◌, List, [], ◌∷◌, ◌++◌, length, map, drop, drop-cons, get_or, append_assoc, refl, sym, ap, subst, ◌∙◌, arith}
+use Rattle.std.proofs.Common.{
+  ℕ,
+  zero,
+  suc,
+  ◌<◌,
+  ◌≤◌,
+  ◌+◌,
+  Bool,
+  true,
+  false,
+  cond,
+  ◌≡◌,
+  List,
+  [],
+  ◌∷◌,
+  ◌++◌,
+  length,
+  map,
+  drop,
+  drop-cons,
+  get_or,
+  append_assoc,
+  refl,
+  sym,
+  ap,
+  subst,
+  ◌∙◌,
+  arith,
+}
 use Rattle.std.proofs.lemmas.List.{map-append, length-map, map_more, drop_all}
 use Rattle.std.proofs.Math.Seq.{take_all}
 use Rattle.kif.specs.Tree.{Tree, trees_of}
@@ -9,7 +37,20 @@ use Rattle.terms.specs.Arena.{Held, AreNumbered, sizes_of, cut}
 use Rattle.terms.specs.Atoms.{IsFrontOf, AreAtoms, with_number, with_numbers, AreTermsOf, HasGrown, AddsAtoms}
 use Rattle.terms.specs.Keys.{AreBelow, IsKey, key_at, with_key, word_of, parts_of, word_at, term_at, tree_of_key, trees}
 use Rattle.meaning.specs.Meaning.{atom1, atom2}
-use Rattle.terms.proofs.AtomLemmas.{front_itself, front_trans, front_length, trees_front, term_front, terms_front, below_more, atoms_front, atoms_append, one_atom, grown_itself, grown_more}
+use Rattle.terms.proofs.AtomLemmas.{
+  front_itself,
+  front_trans,
+  front_length,
+  trees_front,
+  term_front,
+  terms_front,
+  below_more,
+  atoms_front,
+  atoms_append,
+  one_atom,
+  grown_itself,
+  grown_more,
+}
 use Rattle.terms.proofs.KeyTrees.{tree_of_number, length_trees}
 
 pub key_front : (keys : List (List ℕ)) (key : List ℕ) (all : List (List ℕ)) → all ≡ with_key keys key → IsFrontOf keys all
@@ -27,7 +68,8 @@ below_parts : (many n : ℕ) (key : List ℕ) → IsKey many n key → AreBelow 
 below_parts many n [] h = absurd h
 below_parts many n (w ∷ ps) h = h.1
 
-pub added_one : (words : List (List ℕ)) (old new : Held) (before after key : List ℕ) (k : ℕ) (x : Atom) → IsKey (length old.sizes) (length old.keys) key → new.keys ≡ with_key old.keys key → new.sizes ≡ old.sizes
+pub added_one : (words : List (List ℕ)) (old new : Held) (before after key : List ℕ) (k : ℕ) (x : Atom)
+    → IsKey (length old.sizes) (length old.keys) key → new.keys ≡ with_key old.keys key → new.sizes ≡ old.sizes
     → AreNumbered (length new.sizes) new.keys → k < length new.keys → key_at new.keys k ≡ key → after ≡ with_number before k
     → AreTermsOf words old → tree_of x ≡ tree_of_key words (trees words old.keys) key → AddsAtoms words old new before after (x ∷ [])
 added_one words old new before after key k x is_key keys sizes numbered inside is same t tree =
@@ -37,7 +79,8 @@ added_one words old new before after key k x is_key keys sizes numbered inside i
     let long = length_trees words [] new.keys in
     let long_old = length_trees words [] old.keys in
     let below : AreBelow (length (trees words old.keys)) (parts_of key)
-    = below_more (length old.keys) (length (trees words old.keys)) (parts_of key) (omega (arith, long_old)) (below_parts (length old.sizes) (length old.keys) key is_key) in
+    = below_more (length old.keys) (length (trees words old.keys)) (parts_of key) (omega (arith, long_old))
+    (below_parts (length old.sizes) (length old.keys) key is_key) in
     let parts = terms_front (trees words old.keys) (trees words new.keys) (trees_front words old.keys new.keys front) (parts_of key) below in
     let made : term_at (trees words new.keys) k ≡ tree_of x
     = tree_of_number words (length words) new.keys own.keyed k inside ∙ ap (tree_of_key words (trees words new.keys)) is
@@ -57,7 +100,8 @@ pub record AddingEach (old now : Held) (before after : List ℕ) (atom : List (L
   pub adds : (words : List (List ℕ)) → AreTermsOf words old → (done : List Atom) × (AddsAtoms words old now before after done
       × (map (atom words) (map (term_at (trees words old.keys)) all) ≡ done ++ map (atom words) (map (term_at (trees words old.keys)) rest)))
 
-pub each_begins : (held : Held) (atoms : List ℕ) (atom : List (List ℕ) → Tree → Atom) (all : List ℕ) → AreBelow (length held.keys) all → AddingEach held held atoms atoms atom all all
+pub each_begins : (held : Held) (atoms : List ℕ) (atom : List (List ℕ) → Tree → Atom) (all : List ℕ) → AreBelow (length held.keys) all
+    → AddingEach held held atoms atoms atom all all
 each_begins held atoms atom all b = record {
   front = front_itself held.keys;
   sizes = refl;
@@ -67,8 +111,10 @@ each_begins held atoms atom all b = record {
 
 pub each_next : (old now new : Held) (before after more : List ℕ) (atom : List (List ℕ) → Tree → Atom) (all : List ℕ) (n : ℕ) (rest key : List ℕ)
     → AddingEach old now before after atom all (n ∷ rest) → IsFrontOf now.keys new.keys → new.sizes ≡ now.sizes
-    → ((words : List (List ℕ)) → AreTermsOf words old → IsFrontOf old.keys now.keys → tree_of (atom words (term_at (trees words old.keys) n)) ≡ tree_of_key words (trees words now.keys) key)
-    → ((words : List (List ℕ)) → AreTermsOf words now → (x : Atom) → tree_of x ≡ tree_of_key words (trees words now.keys) key → AddsAtoms words now new after more (x ∷ []))
+    → ((words : List (List ℕ)) → AreTermsOf words old → IsFrontOf old.keys now.keys
+    → tree_of (atom words (term_at (trees words old.keys) n)) ≡ tree_of_key words (trees words now.keys) key)
+    → ((words : List (List ℕ)) → AreTermsOf words now → (x : Atom) → tree_of x ≡ tree_of_key words (trees words now.keys) key
+    → AddsAtoms words now new after more (x ∷ []))
     → AddingEach old new before more atom all rest
 each_next old now new before after more atom all n rest key s front sizes tree adds = record {
   front = front_trans old.keys now.keys new.keys s.front front;
@@ -86,7 +132,8 @@ each_next old now new before after more atom all n rest key s front sizes tree a
             numbers = here.numbers ++ next.numbers;
             same = next.same ∙ ap (λ (ns : List ℕ). with_numbers ns next.numbers) here.same ∙ with_both before here.numbers next.numbers;
             are = atoms_append (trees words new.keys) here.numbers next.numbers d.0 (x ∷ [])
-                (atoms_front (trees words now.keys) (trees words new.keys) here.numbers d.0 (trees_front words now.keys new.keys next.grown.front) here.are) next.are;
+                (atoms_front (trees words now.keys) (trees words new.keys) here.numbers d.0 (trees_front words now.keys new.keys next.grown.front)
+                here.are) next.are;
           },
           d.1.1 ∙ sym (append_assoc d.0 (x ∷ []) (map (atom words) (map (term_at (trees words old.keys)) rest))),
         ),
@@ -97,8 +144,10 @@ append_nil : {A : Type 0} (xs : List A) → xs ++ [] ≡ xs
 append_nil [] = refl
 append_nil {A} (x ∷ xs) = ap (λ (l : List A). x ∷ l) (append_nil xs)
 
-pub each_ends : (old now : Held) (before after : List ℕ) (atom : List (List ℕ) → Tree → Atom) (all : List ℕ) → AddingEach old now before after atom all []
-    → (words : List (List ℕ)) → AreTermsOf words old → AddsAtoms words old now before after (map (atom words) (map (term_at (trees words old.keys)) all))
+pub each_ends : (old now : Held) (before after : List ℕ) (atom : List (List ℕ) → Tree → Atom) (all : List ℕ)
+    → AddingEach old now before after atom all []
+    → (words : List (List ℕ)) → AreTermsOf words old
+    → AddsAtoms words old now before after (map (atom words) (map (term_at (trees words old.keys)) all))
 each_ends old now before after atom all s words t =
     let d = s.adds words t in
     subst (λ (xs : List Atom). AddsAtoms words old now before after xs) (sym (d.1.1 ∙ append_nil d.0)) d.1.0
@@ -109,8 +158,10 @@ number_next all xs i e h =
     let n : suc i ≡ i + 1 = omega arith in
     subst (λ (ys : List ℕ). drop i ys ≡ get_or xs i 0 ∷ drop (i + 1) ys) e (drop-cons xs i 0 h ∙ ap (λ (j : ℕ). get_or xs i 0 ∷ drop j xs) n)
 
-pub fits_key : (old now : Held) (before after : List ℕ) (atom : List (List ℕ) → Tree → Atom) (all : List ℕ) (n : ℕ) (rest : List ℕ) (w : ℕ) (ps : List ℕ)
-    → AddingEach old now before after atom all (n ∷ rest) → w < length old.sizes → AreBelow (length old.keys) ps → IsKey (length now.sizes) (length now.keys) (w ∷ ps)
+pub fits_key : (old now : Held) (before after : List ℕ) (atom : List (List ℕ) → Tree → Atom) (all : List ℕ) (n : ℕ) (rest : List ℕ) (w : ℕ)
+    (ps : List ℕ)
+    → AddingEach old now before after atom all (n ∷ rest) → w < length old.sizes → AreBelow (length old.keys) ps
+    → IsKey (length now.sizes) (length now.keys) (w ∷ ps)
 fits_key old now before after atom all n rest w ps s h b =
     let e = ap length s.sizes in
     (omega (arith, h, e), below_more (length old.keys) (length now.keys) ps (front_length old.keys now.keys s.front) b)
@@ -119,12 +170,16 @@ pub single_tree : (words : List (List ℕ)) (old now : Held) (w n : ℕ) → n <
     → tree_of (atom1 (word_at words w) (term_at (trees words old.keys) n)) ≡ tree_of_key words (trees words now.keys) (w ∷ (n ∷ []))
 single_tree words old now w n h f =
     let long = length_trees words [] old.keys in
-    ap (λ (t : Tree). tree_of (atom1 (word_at words w) t)) (sym (term_front (trees words old.keys) (trees words now.keys) (trees_front words old.keys now.keys f) n (omega (arith, h, long))))
+    ap (λ (t : Tree). tree_of (atom1 (word_at words w) t))
+    (sym (term_front (trees words old.keys) (trees words now.keys) (trees_front words old.keys now.keys f) n (omega (arith, h, long))))
 
 pub pair_tree : (words : List (List ℕ)) (old now : Held) (w r n : ℕ) → r < length old.keys → n < length old.keys → IsFrontOf old.keys now.keys
-    → tree_of (atom2 (word_at words w) (term_at (trees words old.keys) r) (term_at (trees words old.keys) n)) ≡ tree_of_key words (trees words now.keys) (w ∷ (r ∷ (n ∷ [])))
+    → tree_of (atom2 (word_at words w) (term_at (trees words old.keys) r) (term_at (trees words old.keys) n)) ≡ tree_of_key words
+    (trees words now.keys) (w ∷ (r ∷ (n ∷ [])))
 pair_tree words old now w r n k h f =
     let long = length_trees words [] old.keys in
     let front = trees_front words old.keys now.keys f in
-    ap (λ (t : Tree). tree_of (atom2 (word_at words w) t (term_at (trees words old.keys) n))) (sym (term_front (trees words old.keys) (trees words now.keys) front r (omega (arith, k, long))))
-    ∙ ap (λ (t : Tree). tree_of (atom2 (word_at words w) (term_at (trees words now.keys) r) t)) (sym (term_front (trees words old.keys) (trees words now.keys) front n (omega (arith, h, long))))
+    ap (λ (t : Tree). tree_of (atom2 (word_at words w) t (term_at (trees words old.keys) n)))
+    (sym (term_front (trees words old.keys) (trees words now.keys) front r (omega (arith, k, long))))
+    ∙ ap (λ (t : Tree). tree_of (atom2 (word_at words w) (term_at (trees words now.keys) r) t))
+    (sym (term_front (trees words old.keys) (trees words now.keys) front n (omega (arith, h, long))))

@@ -17,4 +17,22 @@ pub use Rattle.terms.proofs.Shortened.{again}
 -- What stands at a place of a list, what is left behind it, and the place that a search gives.
 pub use Rattle.terms.proofs.AtPlaces.{at_place, inside, at_end, take_length, some_place, no_place}
 -- Atoms by the numbers of terms, while terms grow.
-pub use Rattle.terms.proofs.AtomLemmas.{front_itself, front_trans, front_length, trees_front, below_more, below_append, term_front, terms_front, atoms_front, atoms_append, same_test, nat_eq_self, in_same, place_same, with_same, grown_itself, grown_more}
+pub use Rattle.terms.proofs.AtomLemmas.{
+  front_itself,
+  front_trans,
+  front_length,
+  trees_front,
+  below_more,
+  below_append,
+  term_front,
+  terms_front,
+  atoms_front,
+  atoms_append,
+  same_test,
+  nat_eq_self,
+  in_same,
+  place_same,
+  with_same,
+  grown_itself,
+  grown_more,
+}

@@ -1,5 +1,37 @@
 -- Keys by number: finding one, and adding one.
-use Rattle.std.proofs.Common.{ℕ, suc, zero, ◌≡◌, ◌+◌, ◌<◌, ◌⊎◌, inl, inr, Bool, true, false, cond, List, [], ◌∷◌, ◌++◌, length, map, refl, sym, ◌∙◌, ap, subst, arith, Option, Some, None, ◌&&◌, ◌||◌, get_or}
+use Rattle.std.proofs.Common.{
+  ℕ,
+  suc,
+  zero,
+  ◌≡◌,
+  ◌+◌,
+  ◌<◌,
+  ◌⊎◌,
+  inl,
+  inr,
+  Bool,
+  true,
+  false,
+  cond,
+  List,
+  [],
+  ◌∷◌,
+  ◌++◌,
+  length,
+  map,
+  refl,
+  sym,
+  ◌∙◌,
+  ap,
+  subst,
+  arith,
+  Option,
+  Some,
+  None,
+  ◌&&◌,
+  ◌||◌,
+  get_or,
+}
 use Rattle.std.specs.Prelude.{MatchOption, ◌≢◌, nat_eq, position}
 use Rattle.std.specs.Cmp.Lexicographic.{pointwise, same_text, other_text}
 use Rattle.std.specs.List.{position_from, list_any}
@@ -21,25 +53,30 @@ never test i [] e k h = absurd (let bad : ⊥ = omega (arith, h) in bad)
 never test i (w ∷ ws) e zero h = (not_here (test w) i (position_from test (i + 1) ws) e).0
 never test i (w ∷ ws) e (suc k) h = never test (i + 1) ws (not_here (test w) i (position_from test (i + 1) ws) e).1 k (omega (arith, h))
 
-from-map : {K : Type 0} (items : K → List ℕ) (test : List ℕ → Bool) (i : ℕ) (ks : List K) → position_from (λ k. test (items k)) i ks ≡ position_from test i (map items ks)
+from-map : {K : Type 0} (items : K → List ℕ) (test : List ℕ → Bool) (i : ℕ) (ks : List K)
+    → position_from (λ k. test (items k)) i ks ≡ position_from test i (map items ks)
 from-map items test i [] = refl
 from-map items test i (k ∷ ks) = ap (λ (o : Option ℕ). cond (test (items k)) (Some i) o) (from-map items test (i + 1) ks)
 
-position-map : {K : Type 0} (items : K → List ℕ) (test : List ℕ → Bool) (ks : List K) → position (λ k. test (items k)) ks ≡ position test (map items ks)
+position-map : {K : Type 0} (items : K → List ℕ) (test : List ℕ → Bool) (ks : List K)
+    → position (λ k. test (items k)) ks ≡ position test (map items ks)
 position-map items test ks = position_from-zero (λ k. test (items k)) ks ∙ from-map items test 0 ks ∙ sym (position_from-zero test (map items ks))
 
 seen_word : (ws : List (List ℕ)) (w : List ℕ) (r : Option ℕ) → r ≡ position (λ x. pointwise nat_eq w x) ws
     → MatchOption r ((k : ℕ) → k < length ws → key_at ws k ≢ w) (λ k. (k < length ws) × (key_at ws k ≡ w))
 seen_word ws w None e =
-    λ k h same. other_text w (key_at ws k) (sym (never (λ x. pointwise nat_eq w x) 0 ws (sym (position_from-zero (λ x. pointwise nat_eq w x) ws) ∙ sym e) k h)) (sym same)
+    λ k h same. other_text w (key_at ws k) (sym
+    (never (λ x. pointwise nat_eq w x) 0 ws (sym (position_from-zero (λ x. pointwise nat_eq w x) ws) ∙ sym e) k h)) (sym same)
 seen_word ws w (Some k) e =
     let f = position-Some (λ x. pointwise nat_eq w x) ws k [] (sym e) in
     (f.0, sym (same_text w (key_at ws k) (sym f.1)))
 
 -- what a search for a key has told
-pub seen : {K : Type 0} (items : K → List ℕ) (ks : List K) (ws : List (List ℕ)) (w : List ℕ) (r : Option ℕ) → map items ks ≡ ws → r ≡ position (λ k. pointwise nat_eq w (items k)) ks
+pub seen : {K : Type 0} (items : K → List ℕ) (ks : List K) (ws : List (List ℕ)) (w : List ℕ) (r : Option ℕ) → map items ks ≡ ws
+    → r ≡ position (λ k. pointwise nat_eq w (items k)) ks
     → MatchOption r ((k : ℕ) → k < length ws → key_at ws k ≢ w) (λ k. (k < length ws) × (key_at ws k ≡ w))
-seen items ks ws w r v e = seen_word ws w r (e ∙ position-map items (λ x. pointwise nat_eq w x) ks ∙ ap (λ (xs : List (List ℕ)). position (λ x. pointwise nat_eq w x) xs) v)
+seen items ks ws w r v e = seen_word ws w r (e ∙ position-map items (λ x. pointwise nat_eq w x) ks
+    ∙ ap (λ (xs : List (List ℕ)). position (λ x. pointwise nat_eq w x) xs) v)
 
 pub is_in : (ws : List (List ℕ)) (w : List ℕ) (k : ℕ) → k < length ws → key_at ws k ≡ w → is_name_in w ws ≡ true
 is_in [] w k h e = absurd (let bad : ⊥ = omega (arith, h) in bad)
@@ -71,11 +108,13 @@ pointwise-name_eq [] (c ∷ cs) = refl
 pointwise-name_eq (b ∷ bs) [] = refl
 pointwise-name_eq (b ∷ bs) (c ∷ cs) = ap (λ (r : Bool). nat_eq b c && r) (pointwise-name_eq bs cs)
 
-any-is_name_in : {K : Type 0} (items : K → List ℕ) (w : List ℕ) (ks : List K) → list_any (λ y. pointwise nat_eq w (items y)) ks ≡ is_name_in w (map items ks)
+any-is_name_in : {K : Type 0} (items : K → List ℕ) (w : List ℕ) (ks : List K) → list_any (λ y. pointwise nat_eq w (items y)) ks ≡ is_name_in w
+    (map items ks)
 any-is_name_in items w [] = refl
 any-is_name_in items w (k ∷ ks) = cc (pointwise-name_eq w (items k), any-is_name_in items w ks)
 
-map-cond : {K : Type 0} (items : K → List ℕ) (b : Bool) (ks : List K) (v : K) → map items (cond b ks (ks ++ v ∷ [])) ≡ cond b (map items ks) (map items ks ++ items v ∷ [])
+map-cond : {K : Type 0} (items : K → List ℕ) (b : Bool) (ks : List K) (v : K) → map items (cond b ks (ks ++ v ∷ [])) ≡ cond b (map items ks)
+    (map items ks ++ items v ∷ [])
 map-cond items true ks v = refl
 map-cond items false ks v = map-append items ks (v ∷ [])
 
@@ -103,14 +142,16 @@ at_end : (k n : ℕ) → k < suc n → (k < n) ⊎ (k ≡ n)
 at_end k n h = grind arith
 
 -- what a list with one more at its end has at a number
-pub last_or_before : {A : Type 0} (xs : List A) (x d : A) (k : ℕ) → k < length (xs ++ x ∷ []) → ((k < length xs) × (get_or (xs ++ x ∷ []) k d ≡ get_or xs k d)) ⊎ ((k ≡ length xs) × (get_or (xs ++ x ∷ []) k d ≡ x))
+pub last_or_before : {A : Type 0} (xs : List A) (x d : A) (k : ℕ) → k < length (xs ++ x ∷ [])
+    → ((k < length xs) × (get_or (xs ++ x ∷ []) k d ≡ get_or xs k d)) ⊎ ((k ≡ length xs) × (get_or (xs ++ x ∷ []) k d ≡ x))
 last_or_before [] x d zero h = inr (refl, refl)
 last_or_before [] x d (suc k) h = absurd (let bad : ⊥ = omega (arith, h) in bad)
 last_or_before (y ∷ ys) x d zero h = inl (omega arith, refl)
 last_or_before (y ∷ ys) x d (suc k) h = go (last_or_before ys x d k (omega (arith, h)))
   where
     go : ((k < length ys) × (get_or (ys ++ x ∷ []) k d ≡ get_or ys k d)) ⊎ ((k ≡ length ys) × (get_or (ys ++ x ∷ []) k d ≡ x))
-        → ((suc k < length (y ∷ ys)) × (get_or ((y ∷ ys) ++ x ∷ []) (suc k) d ≡ get_or (y ∷ ys) (suc k) d)) ⊎ ((suc k ≡ length (y ∷ ys)) × (get_or ((y ∷ ys) ++ x ∷ []) (suc k) d ≡ x))
+        → ((suc k < length (y ∷ ys)) × (get_or ((y ∷ ys) ++ x ∷ []) (suc k) d ≡ get_or (y ∷ ys) (suc k) d))
+        ⊎ ((suc k ≡ length (y ∷ ys)) × (get_or ((y ∷ ys) ++ x ∷ []) (suc k) d ≡ x))
     go (inl e) = inl (let f = e.0 in omega (arith, f), e.1)
     go (inr e) = inr (ap (λ (n : ℕ). suc n) e.0, e.1)
 

@@ -1,9 +1,51 @@
 -- Different keys are different trees.
-use Rattle.std.proofs.Common.{ℕ, suc, zero, ◌≡◌, ◌+◌, ◌<◌, ◌≤◌, List, [], ◌∷◌, ◌++◌, Bool, true, false, cond, ◌⊎◌, inl, inr, length, refl, sym, ◌∙◌, ap, subst, arith, map}
+use Rattle.std.proofs.Common.{
+  ℕ,
+  suc,
+  zero,
+  ◌≡◌,
+  ◌+◌,
+  ◌<◌,
+  ◌≤◌,
+  List,
+  [],
+  ◌∷◌,
+  ◌++◌,
+  Bool,
+  true,
+  false,
+  cond,
+  ◌⊎◌,
+  inl,
+  inr,
+  length,
+  refl,
+  sym,
+  ◌∙◌,
+  ap,
+  subst,
+  arith,
+  map,
+}
 use Rattle.kif.specs.Tree.{Tree, Trees, no_trees, tree, trees_of}
 use Rattle.profile.specs.Clause.{tree_at}
 use Rattle.profile.specs.Safety.{is_name_in}
-use Rattle.terms.specs.Keys.{key_at, with_key, word_of, parts_of, word_at, term_at, tree_of_key, trees_behind, trees, AreBelow, IsKey, AreDifferentWords, AreKeys, AreDifferent}
+use Rattle.terms.specs.Keys.{
+  key_at,
+  with_key,
+  word_of,
+  parts_of,
+  word_at,
+  term_at,
+  tree_of_key,
+  trees_behind,
+  trees,
+  AreBelow,
+  IsKey,
+  AreDifferentWords,
+  AreKeys,
+  AreDifferent,
+}
 use Rattle.terms.proofs.KeyNumbers.{is_in, last_or_before, more_different, true_or_false}
 
 pub below_more : (m n : ℕ) (xs : List ℕ) → m ≤ n → AreBelow m xs → AreBelow n xs
@@ -24,7 +66,8 @@ term_last [] t = refl
 term_last (x ∷ xs) t = term_last xs t
 
 -- what is done stays
-pub stays : (words : List (List ℕ)) (done : List Tree) (ks : List (List ℕ)) (i : ℕ) → i < length done → term_at (trees_behind words done ks) i ≡ term_at done i
+pub stays : (words : List (List ℕ)) (done : List Tree) (ks : List (List ℕ)) (i : ℕ) → i < length done
+    → term_at (trees_behind words done ks) i ≡ term_at done i
 stays words done [] i h = refl
 stays words done (k ∷ ks) i h =
     let t = tree_of_key words done k in
@@ -43,7 +86,8 @@ length_trees words done (k ∷ ks) =
     let a = length_trees words (done ++ t ∷ []) ks in let b = length_more done t in omega (arith, a, b)
 
 -- the tree of each number is that of its key over all trees
-pub tree_is : (words : List (List ℕ)) (done : List Tree) (ks : List (List ℕ)) (i : ℕ) → i < length ks → AreBelow (length done + i) (parts_of (key_at ks i))
+pub tree_is : (words : List (List ℕ)) (done : List Tree) (ks : List (List ℕ)) (i : ℕ) → i < length ks
+    → AreBelow (length done + i) (parts_of (key_at ks i))
     → term_at (trees_behind words done ks) (length done + i) ≡ tree_of_key words (trees_behind words done ks) (key_at ks i)
 tree_is words done [] i h b = absurd (let bad : ⊥ = omega (arith, h) in bad)
 tree_is words done (k ∷ ks) zero h b =
@@ -116,14 +160,18 @@ different_up_to words d keys w (suc n) i j h a b e =
     let long : length all ≡ length keys = (let l = length_trees words [] keys in omega (arith, l)) in
     let p = key_at keys i in
     let q = key_at keys j in
-    let s = parts_of_tree (word_at words (word_of p)) (word_at words (word_of q)) (trees_of (map (term_at all) (parts_of p))) (trees_of (map (term_at all) (parts_of q)))
+    let s = parts_of_tree (word_at words (word_of p)) (word_at words (word_of q)) (trees_of (map (term_at all) (parts_of p)))
+    (trees_of (map (term_at all) (parts_of q)))
     (sym (tree_of_number words (length words) keys w i a) ∙ e ∙ tree_of_number words (length words) keys w j b) in
-    let parts = same_parts all i (λ k l less more f. different_up_to words d keys w n k l (omega (arith, h, less)) (omega (arith, less, a)) (omega (arith, more, long)) f)
-    (parts_of p) (parts_of q) (below_of (length words) i p (w.each i a)) (below_more j (length all) (parts_of q) (omega (arith, b, long)) (below_of (length words) j q (w.each j b))) s.parts in
+    let parts = same_parts all i (λ k l less more f. different_up_to words d keys w n k l (omega (arith, h, less)) (omega (arith, less, a))
+    (omega (arith, more, long)) f)
+    (parts_of p) (parts_of q) (below_of (length words) i p (w.each i a))
+    (below_more j (length all) (parts_of q) (omega (arith, b, long)) (below_of (length words) j q (w.each j b))) s.parts in
     let word = d (word_of p) (word_of q) (word_in (length words) i p (w.each i a)) (word_in (length words) j q (w.each j b)) s.word in
     w.once i j a b (same_key (length words) i j p q (w.each i a) (w.each j b) word parts)
 
-pub different : (words : List (List ℕ)) → AreDifferentWords words → (keys : List (List ℕ)) → AreKeys (length words) keys → AreDifferent (trees words keys)
+pub different : (words : List (List ℕ)) → AreDifferentWords words → (keys : List (List ℕ)) → AreKeys (length words) keys
+    → AreDifferent (trees words keys)
 different words d keys w i j a b e =
     let long = length_trees words [] keys in
     different_up_to words d keys w (suc i) i j (omega arith) (omega (arith, a, long)) (omega (arith, b, long)) e
@@ -132,7 +180,8 @@ different words d keys w i j a b e =
 pub keys_kept : (many : ℕ) (keys : List (List ℕ)) (key : List ℕ) → AreKeys many keys → IsKey many (length keys) key → AreKeys many (with_key keys key)
 keys_kept many keys key w h = go (is_name_in key keys) refl
   where
-    pick : (i : ℕ) → ((i < length keys) × (key_at (keys ++ key ∷ []) i ≡ key_at keys i)) ⊎ ((i ≡ length keys) × (key_at (keys ++ key ∷ []) i ≡ key)) → IsKey many i (key_at (keys ++ key ∷ []) i)
+    pick : (i : ℕ) → ((i < length keys) × (key_at (keys ++ key ∷ []) i ≡ key_at keys i)) ⊎ ((i ≡ length keys) × (key_at (keys ++ key ∷ []) i ≡ key))
+        → IsKey many i (key_at (keys ++ key ∷ []) i)
     pick i (inl a) = subst (λ (k : List ℕ). IsKey many i k) (sym a.1) (w.each i a.0)
     pick i (inr a) = subst (λ (k : List ℕ). IsKey many i k) (sym a.1) (subst (λ (n : ℕ). IsKey many n key) (sym a.0) h)
 

@@ -40,10 +40,12 @@ known_key many keys key k numbered h e (n ∷ ns) b =
         let same : k ≡ n = numbered.keyed.once k n h b.0 (e ∙ sym (name_eq_yes (key_at keys n) key t)) in
         subst (λ (m : ℕ). nat_eq k m ≡ true) same (nat_eq_self k)
 
-pub unknown_key : (keys : List (List ℕ)) (key : List ℕ) → ((k : ℕ) → k < length keys → key_at keys k ≡ key → ⊥) → (ns : List ℕ) → AreBelow (length keys) ns → false ≡ has_key keys ns key
+pub unknown_key : (keys : List (List ℕ)) (key : List ℕ) → ((k : ℕ) → k < length keys → key_at keys k ≡ key → ⊥) → (ns : List ℕ)
+    → AreBelow (length keys) ns → false ≡ has_key keys ns key
 unknown_key keys key none [] b = refl
 unknown_key keys key none (n ∷ ns) b =
-    let first : false ≡ name_eq (key_at keys n) key = same_test false (name_eq (key_at keys n) key) (λ t. absurd cc) (λ t. absurd (none n b.0 (name_eq_yes (key_at keys n) key t))) in
+    let first : false ≡ name_eq (key_at keys n) key = same_test false (name_eq (key_at keys n) key) (λ t. absurd cc)
+    (λ t. absurd (none n b.0 (name_eq_yes (key_at keys n) key t))) in
     let rest = unknown_key keys key none ns b.1 in cc
 
 -- What keys of atoms are.
@@ -64,16 +66,19 @@ module _ (words : List (List ℕ)) (differ : AreDifferentWords words) (keys : Li
     key_of : (n : ℕ) → n < length keys → term_at (trees words keys) n ≡ tree_of_key words (trees words keys) (w ∷ ps) → key_at keys n ≡ w ∷ ps
     key_of n h e = go (key_at keys n) (keyed.each n h) (sym (tree_of_number words (length words) keys keyed n h) ∙ e)
       where
-        go : (key : List ℕ) → IsKey (length words) n key → tree_of_key words (trees words keys) key ≡ tree_of_key words (trees words keys) (w ∷ ps) → key ≡ w ∷ ps
+        go : (key : List ℕ) → IsKey (length words) n key → tree_of_key words (trees words keys) key ≡ tree_of_key words (trees words keys) (w ∷ ps)
+            → key ≡ w ∷ ps
         go [] k f = absurd k
         go (v ∷ qs) k f =
-            let s = parts_of_tree (word_at words v) (word_at words w) (trees_of (map (term_at (trees words keys)) qs)) (trees_of (map (term_at (trees words keys)) ps)) f in
+            let s = parts_of_tree (word_at words v) (word_at words w) (trees_of (map (term_at (trees words keys)) qs))
+            (trees_of (map (term_at (trees words keys)) ps)) f in
             let word : v ≡ w = differ v w k.0 w_in s.word in
             let long = length_trees words [] keys in
             let parts : qs ≡ ps = numbers_same qs ps (below_more n (length (trees words keys)) qs (omega (arith, h, long)) k.1) ps_in s.parts in cc
 
     -- an atom is there exactly where its key is
-    has_same : (x : Atom) → tree_of_key words (trees words keys) (w ∷ ps) ≡ tree_of x → (ns : List ℕ) (xs : List Atom) → AreAtoms (trees words keys) ns xs
+    has_same : (x : Atom) → tree_of_key words (trees words keys) (w ∷ ps) ≡ tree_of x → (ns : List ℕ) (xs : List Atom)
+        → AreAtoms (trees words keys) ns xs
         → has_key keys ns (w ∷ ps) ≡ is_atom_in x xs
     has_same x e [] [] a = refl
     has_same x e [] (y ∷ ys) a = let f = a.same in absurd cc
@@ -92,7 +97,8 @@ module _ (words : List (List ℕ)) (differ : AreDifferentWords words) (keys : Li
             there : name_eq (key_at keys n) (w ∷ ps) ≡ true → atom_eq x y ≡ true
             there t =
                 let k = name_eq_yes (key_at keys n) (w ∷ ps) t in
-                let same : x ≡ y = tree_once x y (sym e ∙ sym (ap (tree_of_key words (trees words keys)) k) ∙ sym (tree_of_number words (length words) keys keyed n h) ∙ f) in
+                let same : x ≡ y = tree_once x y (sym e ∙ sym (ap (tree_of_key words (trees words keys)) k)
+                ∙ sym (tree_of_number words (length words) keys keyed n h) ∙ f) in
                 subst (λ (z : Atom). atom_eq x z ≡ true) same (atom_eq_self x)
 
             back : atom_eq x y ≡ true → name_eq (key_at keys n) (w ∷ ps) ≡ true
@@ -113,24 +119,32 @@ module _ (rules : List Alternative) (w : IsWellFormed rules) where
       there t =
           let a = is_atom_yes (atom1 w_init p) (listing rules).atoms t in
           let kept = possible_plain rules (atom1 w_init p) refl ((numbered_exact rules w (atom1 w_init p)).0 a) in
-          is_atom_in_yes (atom1 w_init p) (fixed_listing rules).atoms (always_listed rules w (atom1 w_init p) refl w.init (kept_always rules w.acyclic (atom1 w_init p) w.init kept))
+          is_atom_in_yes (atom1 w_init p) (fixed_listing rules).atoms
+          (always_listed rules w (atom1 w_init p) refl w.init (kept_always rules w.acyclic (atom1 w_init p) w.init kept))
 
       back : play.starts rules p ≡ true → is_atom_in (atom1 w_init p) (listing rules).atoms ≡ true
       back t =
           let a = is_atom_yes (atom1 w_init p) (fixed_listing rules).atoms t in
-          let start : Listing = record { atoms = with_atoms (fixed_listing rules).atoms (context_atoms (fixed_listing rules).atoms); kept = (fixed_listing rules).kept } in
+          let start : Listing = record {
+            atoms = with_atoms (fixed_listing rules).atoms (context_atoms (fixed_listing rules).atoms);
+            kept = (fixed_listing rules).kept;
+          } in
           let front = steps_front rules start (filter (λ p. not (is_fixed rules p)) (relations_in_order rules)) in
           let b = with_left (atom1 w_init p) (fixed_listing rules).atoms (context_atoms (fixed_listing rules).atoms) a in
-          is_atom_in_yes (atom1 w_init p) (listing rules).atoms (subst (λ (xs : List Atom). IsAmong (atom1 w_init p) xs) (sym front.1) (IsAmong-append_left (atom1 w_init p) start.atoms front.0 b))
+          is_atom_in_yes (atom1 w_init p) (listing rules).atoms
+          (subst (λ (xs : List Atom). IsAmong (atom1 w_init p) xs) (sym front.1) (IsAmong-append_left (atom1 w_init p) start.atoms front.0 b))
 
-  module _ (words : List (List ℕ)) (differ : AreDifferentWords words) (keys : List (List ℕ)) (keyed : AreKeys (length words) keys) (init : ℕ) (init_in : init < length words) (init_is : word_at words init ≡ w_init)
+  module _ (words : List (List ℕ)) (differ : AreDifferentWords words) (keys : List (List ℕ)) (keyed : AreKeys (length words) keys) (init : ℕ)
+      (init_in : init < length words) (init_is : word_at words init ≡ w_init)
       (atoms : List ℕ) (are : AreAtoms (trees words keys) atoms (listing rules).atoms) where
     start_same : (p : ℕ) → p < length (trees words keys) → starts_in keys atoms init p ≡ play.starts rules (term_at (trees words keys) p)
     start_same p h =
-        has_same words differ keys keyed init init_in (p ∷ []) (h, tt) (atom1 w_init (term_at (trees words keys) p)) (ap (λ (v : List ℕ). tree_of (atom1 v (term_at (trees words keys) p))) init_is) atoms (listing rules).atoms are
+        has_same words differ keys keyed init init_in (p ∷ []) (h, tt) (atom1 w_init (term_at (trees words keys) p))
+        (ap (λ (v : List ℕ). tree_of (atom1 v (term_at (trees words keys) p))) init_is) atoms (listing rules).atoms are
         ∙ init_fixed (term_at (trees words keys) p)
 
-    pub starts_same : (ps : List ℕ) (ts : List Tree) → AreBelow (length (trees words keys)) ps → map (term_at (trees words keys)) ps ≡ ts → map (starts_in keys atoms init) ps ≡ map (play.starts rules) ts
+    pub starts_same : (ps : List ℕ) (ts : List Tree) → AreBelow (length (trees words keys)) ps → map (term_at (trees words keys)) ps ≡ ts
+        → map (starts_in keys atoms init) ps ≡ map (play.starts rules) ts
     starts_same [] [] b e = refl
     starts_same [] (t ∷ ts) b e = absurd cc
     starts_same (p ∷ ps) [] b e = absurd cc

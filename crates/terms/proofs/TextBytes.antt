@@ -1,5 +1,32 @@
 -- Single bytes of the texts of terms.
-use Rattle.std.proofs.Common.{ℕ, zero, suc, ◌<◌, ◌≤◌, ◌+◌, ◌-◌, ◌≡◌, List, [], ◌∷◌, ◌++◌, length, length-append, map, drop, take, get_or, refl, sym, ap, subst, ◌∙◌, arith, min, Vec}
+use Rattle.std.proofs.Common.{
+  ℕ,
+  zero,
+  suc,
+  ◌<◌,
+  ◌≤◌,
+  ◌+◌,
+  ◌-◌,
+  ◌≡◌,
+  List,
+  [],
+  ◌∷◌,
+  ◌++◌,
+  length,
+  length-append,
+  map,
+  drop,
+  take,
+  get_or,
+  refl,
+  sym,
+  ap,
+  subst,
+  ◌∙◌,
+  arith,
+  min,
+  Vec,
+}
 use Rattle.std.specs.Prelude.{slice_index}
 use Rattle.std.proofs.Math.Seq.{drop-cons}
 use Rattle.std.proofs.lemmas.List.{get_or_append_left, get_or-append-add, get_or-map, take_all, length-drop, length-map}
@@ -58,18 +85,22 @@ module _ (held : Held) (all : List ℕ) (offset : ℕ) where
     pub space_found : i < length all → left ≡ 0 → (words : List (List ℕ)) → sizes_of words ≡ held.sizes → offset < length (rest_text words held all)
         → 32 ≡ slice_index (rest_text words held all) offset
     space_found h z words e o =
-        sym (ap (λ (ps : List ℕ). slice_index ps 0) (rest_begins words held all i h)) ∙ ap (λ (k : ℕ). slice_index (rest_text words held (drop i all)) k) (sym z) ∙ (s.same words e o).same
+        sym (ap (λ (ps : List ℕ). slice_index ps 0) (rest_begins words held all i h))
+        ∙ ap (λ (k : ℕ). slice_index (rest_text words held (drop i all)) k) (sym z) ∙ (s.same words e o).same
 
     pub bracket_found : length all ≤ i → (words : List (List ℕ)) → sizes_of words ≡ held.sizes → offset < length (rest_text words held all)
         → 41 ≡ slice_index (rest_text words held all) offset
     bracket_found h words e o = go (drop i all) (length-drop i all) (s.same words e o)
       where
-        go : (rest : List ℕ) → length rest ≡ length all - i → IsByteAt (rest_text words held all) offset (rest_text words held rest) left → 41 ≡ slice_index (rest_text words held all) offset
+        go : (rest : List ℕ) → length rest ≡ length all - i → IsByteAt (rest_text words held all) offset (rest_text words held rest) left
+            → 41 ≡ slice_index (rest_text words held all) offset
         go [] f b = let z : left ≡ 0 = let l = b.inside in omega (arith, l) in ap (λ (k : ℕ). slice_index (41 ∷ []) k) (sym z) ∙ b.same
         go (p ∷ ps) f b = absurd (let bad : ⊥ = omega (arith, f, h) in bad)
 
-    module _ (size : ℕ) (h : i < length all) (sized : (words : List (List ℕ)) → sizes_of words ≡ held.sizes → size ≡ cut (length (term_text words held (get_or all i 0)))) where
-      pub part_found : 0 < left → left ≤ size → (words : List (List ℕ)) → sizes_of words ≡ held.sizes → (n : ℕ) → AreBelow n all → offset < length (rest_text words held all)
+    module _ (size : ℕ) (h : i < length all) (sized : (words : List (List ℕ)) → sizes_of words ≡ held.sizes
+        → size ≡ cut (length (term_text words held (get_or all i 0)))) where
+      pub part_found : 0 < left → left ≤ size → (words : List (List ℕ)) → sizes_of words ≡ held.sizes → (n : ℕ) → AreBelow n all
+          → offset < length (rest_text words held all)
           → IsPlace words held n (rest_text words held all) offset (In (get_or all i 0) (left - 1))
       part_found some l words e n b o =
           let part = term_text words held (get_or all i 0) in
@@ -78,7 +109,8 @@ module _ (held : Held) (all : List ℕ) (offset : ℕ) where
           let lt : left - 1 < length part = omega (arith, z, l, some) in
           let at : suc (left - 1) ≡ left = omega (arith, some) in
           let here : slice_index part (left - 1) ≡ slice_index (rest_text words held (drop i all)) left
-          = byte_before part rest (left - 1) lt ∙ ap (λ (k : ℕ). slice_index (32 ∷ part ++ rest) k) at ∙ ap (λ (bs : List ℕ). slice_index bs left) (sym (rest_begins words held all i h)) in
+          = byte_before part rest (left - 1) lt ∙ ap (λ (k : ℕ). slice_index (32 ∷ part ++ rest) k) at
+          ∙ ap (λ (bs : List ℕ). slice_index bs left) (sym (rest_begins words held all i h)) in
           let near = s.near in
           (here_below n i all h (s.numbers n b), omega (arith, near), record { inside = lt; same = here ∙ (s.same words e o).same })
 
@@ -112,12 +144,15 @@ module _ (held : Held) (all : List ℕ) (offset : ℕ) where
 
 -- The text of a key.
 
-pub name_of : {G : Type 0} (names : List (Vec ℕ G)) (k : ℕ) (v : Vec ℕ G) → v ≡ get_or names k v → k < length names → v.items ≡ word_at (texts_of names) k
+pub name_of : {G : Type 0} (names : List (Vec ℕ G)) (k : ℕ) (v : Vec ℕ G) → v ≡ get_or names k v → k < length names
+    → v.items ≡ word_at (texts_of names) k
 name_of {G} names k v e h = ap (λ (w : Vec ℕ G). w.items) e ∙ sym (get_or-map (λ (w : Vec ℕ G). w.items) names k v [] h)
 
-module _ (words : List (List ℕ)) (many : ℕ) (held : Held) (numbered : AreNumbered many held.keys) (term : ℕ) (h : term < length held.keys) (key : List ℕ) (k : key ≡ key_at held.keys term) where
+module _ (words : List (List ℕ)) (many : ℕ) (held : Held) (numbered : AreNumbered many held.keys) (term : ℕ) (h : term < length held.keys)
+    (key : List ℕ) (k : key ≡ key_at held.keys term) where
   its_text : term_text words held term ≡ text (tree_of_key words (trees words held.keys) key)
-  its_text = ap text (tree_of_number words many held.keys numbered.keyed term h) ∙ ap (λ (x : List ℕ). text (tree_of_key words (trees words held.keys) x)) (sym k)
+  its_text = ap text (tree_of_number words many held.keys numbered.keyed term h)
+      ∙ ap (λ (x : List ℕ). text (tree_of_key words (trees words held.keys) x)) (sym k)
 
   its_key : IsKey many term key
   its_key = subst (λ (x : List ℕ). IsKey many term x) (sym k) (numbered.keyed.each term h)
@@ -155,7 +190,8 @@ module _ (words : List (List ℕ)) (many : ℕ) (held : Held) (numbered : AreNum
     pub list_text : (length key ≡ 1 → ⊥) → term_text words held term ≡ (40 ∷ word) ++ rest_text words held (drop 1 key)
     list_text more = its_text ∙ go key its_key more ∙ ap (λ (v : List ℕ). (40 ∷ v) ++ rest_text words held (drop 1 key)) (sym w)
       where
-        go : (x : List ℕ) → IsKey many term x → (length x ≡ 1 → ⊥) → text (tree_of_key words (trees words held.keys) x) ≡ (40 ∷ word_at words (get_or x 0 0)) ++ rest_text words held (drop 1 x)
+        go : (x : List ℕ) → IsKey many term x → (length x ≡ 1 → ⊥)
+            → text (tree_of_key words (trees words held.keys) x) ≡ (40 ∷ word_at words (get_or x 0 0)) ++ rest_text words held (drop 1 x)
         go [] f g = absurd f
         go (v ∷ []) f g = absurd (g refl)
         go (v ∷ (p ∷ ps)) f g = refl
@@ -163,22 +199,28 @@ module _ (words : List (List ℕ)) (many : ℕ) (held : Held) (numbered : AreNum
     pub name_long : (offset : ℕ) → length key ≡ 1 → offset < length (term_text words held term) → offset < length word
     name_long offset one o = subst (λ (bs : List ℕ). offset < length bs) (name_text one) o
 
-    pub name_byte : (offset byte : ℕ) → length key ≡ 1 → offset < length (term_text words held term) → byte ≡ get_or word offset byte → byte ≡ slice_index (term_text words held term) offset
-    name_byte offset byte one o b = b ∙ get_or_default_zero word offset byte (name_long offset one o) ∙ ap (λ (bs : List ℕ). slice_index bs offset) (sym (name_text one))
+    pub name_byte : (offset byte : ℕ) → length key ≡ 1 → offset < length (term_text words held term) → byte ≡ get_or word offset byte
+        → byte ≡ slice_index (term_text words held term) offset
+    name_byte offset byte one o b = b ∙ get_or_default_zero word offset byte (name_long offset one o)
+        ∙ ap (λ (bs : List ℕ). slice_index bs offset) (sym (name_text one))
 
     pub first_byte : (offset : ℕ) → (length key ≡ 1 → ⊥) → offset ≡ 0 → 40 ≡ slice_index (term_text words held term) offset
-    first_byte offset more z = ap (λ (bs : List ℕ). slice_index bs 0) (sym (list_text more)) ∙ ap (λ (i : ℕ). slice_index (term_text words held term) i) (sym z)
+    first_byte offset more z = ap (λ (bs : List ℕ). slice_index bs 0) (sym (list_text more))
+        ∙ ap (λ (i : ℕ). slice_index (term_text words held term) i) (sym z)
 
     pub word_byte : (offset byte : ℕ) → (length key ≡ 1 → ⊥) → (offset ≡ 0 → ⊥) → offset ≤ length word → byte ≡ get_or word (offset - 1) byte
         → byte ≡ slice_index (term_text words held term) offset
     word_byte offset byte more some l b =
         let at : suc (offset - 1) ≡ offset = omega (arith, some) in
         let lt : offset - 1 < length word = omega (arith, at, l) in
-        b ∙ get_or_default_zero word (offset - 1) byte lt ∙ byte_before word (rest_text words held (drop 1 key)) (offset - 1) lt ∙ ap (λ (i : ℕ). slice_index ((40 ∷ word) ++ rest_text words held (drop 1 key)) i) at
+        b ∙ get_or_default_zero word (offset - 1) byte lt ∙ byte_before word (rest_text words held (drop 1 key)) (offset - 1) lt
+        ∙ ap (λ (i : ℕ). slice_index ((40 ∷ word) ++ rest_text words held (drop 1 key)) i) at
         ∙ ap (λ (bs : List ℕ). slice_index bs offset) (sym (list_text more))
 
-    pub place_found : (offset other : ℕ) (parts : List ℕ) (place : Place) → (length key ≡ 1 → ⊥) → length word < offset → other ≡ offset - length word - 1 → offset < length (term_text words held term)
-        → parts ≡ drop 1 key → (AreBelow term parts → other < length (rest_text words held parts) → IsPlace words held term (rest_text words held parts) other place)
+    pub place_found : (offset other : ℕ) (parts : List ℕ) (place : Place) → (length key ≡ 1 → ⊥) → length word < offset
+        → other ≡ offset - length word - 1 → offset < length (term_text words held term)
+        → parts ≡ drop 1 key → (AreBelow term parts → other < length (rest_text words held parts)
+        → IsPlace words held term (rest_text words held parts) other place)
         → IsPlace words held term (term_text words held term) offset place
     place_found offset other parts place more l at o same found = go place inside
       where
@@ -200,7 +242,8 @@ module _ (words : List (List ℕ)) (many : ℕ) (held : Held) (numbered : AreNum
 
         there : slice_index (rest_text words held parts) other ≡ slice_index (term_text words held term) offset
         there =
-            byte_behind (40 ∷ word) (rest_text words held parts) other ∙ ap (λ (i : ℕ). slice_index ((40 ∷ word) ++ rest_text words held parts) i) back
+            byte_behind (40 ∷ word) (rest_text words held parts) other ∙ ap (λ (i : ℕ). slice_index ((40 ∷ word) ++ rest_text words held parts) i)
+            back
             ∙ ap (λ (bs : List ℕ). slice_index bs offset) (sym whole)
 
         go : (p : Place) → IsPlace words held term (rest_text words held parts) other p → IsPlace words held term (term_text words held term) offset p
@@ -211,7 +254,8 @@ module _ (words : List (List ℕ)) (many : ℕ) (held : Held) (numbered : AreNum
             (f.0, omega (arith, b, c), record { inside = f.2.inside; same = f.2.same ∙ there })
 
 -- the word of a key is one of the names
-pub named_word : {G : Type 0} (names : List (Vec ℕ G)) (held : Held) → AreNumbered (length held.sizes) held.keys → (term : ℕ) → term < length held.keys → (key : List ℕ) → key ≡ key_at held.keys term
+pub named_word : {G : Type 0} (names : List (Vec ℕ G)) (held : Held) → AreNumbered (length held.sizes) held.keys → (term : ℕ)
+    → term < length held.keys → (key : List ℕ) → key ≡ key_at held.keys term
     → sizes_of (texts_of names) ≡ held.sizes → get_or key 0 0 < length names
 named_word {G} names held numbered term h key k sizes =
     let a = word_below (texts_of names) (length held.sizes) held numbered term h key k in

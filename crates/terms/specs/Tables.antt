@@ -43,4 +43,5 @@ kind_with_one words w place = cond (w == words.now) (one_number Now place) (cond
 
 abbrev pub kind_with_two : Keywords → ℕ → Option ℕ → Option ℕ → Option ℕ → Kind
 kind_with_two words w role input value =
-    cond (w == words.does) (two_numbers Does role input) (cond (w == words.legal) (two_numbers Legal role input) (cond (w == words.goal) (two_numbers Goal role value) Other))
+    cond (w == words.does) (two_numbers Does role input)
+    (cond (w == words.legal) (two_numbers Legal role input) (cond (w == words.goal) (two_numbers Goal role value) Other))

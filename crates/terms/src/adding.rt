@@ -14,7 +14,8 @@ fn add_atom(arena: &mut Arena, atoms: &mut IndexSet<usize>, key: &[usize]) -> Re
     requires { IsKey (length arena.old.sizes) (length arena.old.keys) key.now }
     ensures front { OnOk result (IsFrontOf arena.old.keys arena.new.keys) }
     ensures sizes { OnOk result (arena.new.sizes ≡ arena.old.sizes) }
-    ensures added { OnOk result ((words : List (List ℕ)) → AreTermsOf words arena.old → (x : Atom) → tree_of x ≡ tree_of_key words (trees words arena.old.keys) key.now
+    ensures added { OnOk result ((words : List (List ℕ)) → AreTermsOf words arena.old → (x : Atom)
+        → tree_of x ≡ tree_of_key words (trees words arena.old.keys) key.now
         → AddsAtoms words arena.old arena.new atoms.old.keys atoms.new.keys (x ∷ [])) }
 {
     let number = arena.intern(key)?;
@@ -34,7 +35,8 @@ pub fn add_singles(
     ensures front { OnOk result (IsFrontOf arena.old.keys arena.new.keys) }
     ensures sizes { OnOk result (arena.new.sizes ≡ arena.old.sizes) }
     ensures added { OnOk result ((words : List (List ℕ)) → AreTermsOf words arena.old
-        → AddsAtoms words arena.old arena.new atoms.old.keys atoms.new.keys (map (λ t. atom1 (word_at words word) t) (map (term_at (trees words arena.old.keys)) terms.now))) }
+        → AddsAtoms words arena.old arena.new atoms.old.keys atoms.new.keys
+        (map (λ t. atom1 (word_at words word) t) (map (term_at (trees words arena.old.keys)) terms.now))) }
 {
     for term in terms {
         add_atom(arena, atoms, &[word, *term])?;

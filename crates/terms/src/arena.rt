@@ -1,5 +1,25 @@
 // Ground terms by number, with the lengths of their texts.
-ghost use Rattle.std.specs.Prelude.{ℕ, List, Some, ◌+◌, ◌-◌, ◌≡◌, ◌<◌, ◌≤◌, [], ◌∷◌, length, take, slice_index, IfSome, IfOk, OnOk, OnErr, MatchOption, ◌≢◌};
+ghost use Rattle.std.specs.Prelude.{
+  ℕ,
+  List,
+  Some,
+  ◌+◌,
+  ◌-◌,
+  ◌≡◌,
+  ◌<◌,
+  ◌≤◌,
+  [],
+  ◌∷◌,
+  length,
+  take,
+  slice_index,
+  IfSome,
+  IfOk,
+  OnOk,
+  OnErr,
+  MatchOption,
+  ◌≢◌,
+};
 ghost use Rattle.kif.specs.Tree.{text};
 ghost use Rattle.rules.specs.RuleSetView.{lists_of_set};
 ghost use Rattle.terms.specs.Keys.{key_at, term_at, trees, with_key, IsKey, AreBelow, parts_of, word_of};

@@ -27,7 +27,8 @@ impl Arena {
     ) -> Kind
         requires symbols { length self.now.sizes ≡ length (lists_of_set rules.now).words }
         requires number { number < length self.now.keys }
-        requires tables { AreTables (rules_in rules.now) (trees (lists_of_set rules.now).words self.now.keys) roles.now.keys base.now.keys (map (λ s. s.keys) inputs.now) }
+        requires tables { AreTables (rules_in rules.now) (trees (lists_of_set rules.now).words self.now.keys) roles.now.keys base.now.keys
+            (map (λ s. s.keys) inputs.now) }
         ensures { (x : Atom) → tree_of x ≡ term_at (trees (lists_of_set rules.now).words self.now.keys) number
             → is_fixed (rules_in rules.now) (relation_of x) ≡ fixed → result ≡ kind_of (rules_in rules.now) x }
     {
@@ -146,7 +147,8 @@ fn kind_with_two(
 /// `does` or `legal` of a role and an input.
 fn kind_of_move(is_done: bool, role: u32, input: Option<usize>) -> Kind
     requires { IfSome input (λ n. n < 2 ^ 32) }
-    ensures { result ≡ (if is_done then two_numbers (λ k n. Kind.Does k n) (Some role) input else two_numbers (λ k n. Kind.Legal k n) (Some role) input) }
+    ensures { result ≡ (if is_done then two_numbers (λ k n. Kind.Does k n) (Some role) input else two_numbers (λ k n. Kind.Legal k n) (Some role)
+        input) }
 {
     let Some(input) = input else {
         return Kind::Other;

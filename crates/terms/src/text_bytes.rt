@@ -21,7 +21,8 @@ pub enum Place {
 fn place_in_parts(arena: &Arena, parts: &[usize], offset: usize) -> Place
     requires parts { AreBelow (length arena.now.keys) parts.now }
     requires small { offset ≤ limits.text }
-    ensures { (words : List (List ℕ)) → sizes_of words ≡ arena.now.sizes → (n : ℕ) → AreBelow n parts.now → offset < length (rest_text words arena.now parts.now)
+    ensures { (words : List (List ℕ)) → sizes_of words ≡ arena.now.sizes → (n : ℕ) → AreBelow n parts.now
+        → offset < length (rest_text words arena.now parts.now)
         → IsPlace words arena.now n (rest_text words arena.now parts.now) offset result }
 {
     let mut left = offset;

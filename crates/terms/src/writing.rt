@@ -49,7 +49,8 @@ impl Arena {
     ) -> Result<(), AllocError>
         requires symbols { length self.now.sizes ≡ length (lists_of_set rules.now).words }
         requires next { AreKnown (length self.now.keys) (next ∷ []) }
-        ensures writes { OnOk result (Writes (length self.now.keys) (trees (lists_of_set rules.now).words self.now.keys) (pending_text (trees (lists_of_set rules.now).words self.now.keys) (next ∷ []))
+        ensures writes { OnOk result (Writes (length self.now.keys) (trees (lists_of_set rules.now).words self.now.keys)
+            (pending_text (trees (lists_of_set rules.now).words self.now.keys) (next ∷ []))
             out.old.items out.new.items pending.old.items pending.new.items) }
         ensures longer { OnOk result (length out.old.items < length out.new.items) }
     {
@@ -76,7 +77,8 @@ impl Arena {
     ) -> Result<(), AllocError>
         requires symbols { length self.now.sizes ≡ length (lists_of_set rules.now).words }
         requires number { number < length self.now.keys }
-        ensures { OnOk result (Writes (length self.now.keys) (trees (lists_of_set rules.now).words self.now.keys) (text (term_at (trees (lists_of_set rules.now).words self.now.keys) number))
+        ensures { OnOk result (Writes (length self.now.keys) (trees (lists_of_set rules.now).words self.now.keys)
+            (text (term_at (trees (lists_of_set rules.now).words self.now.keys) number))
             out.old.items out.new.items pending.old.items pending.new.items) }
     {
         let key = self.key(number);

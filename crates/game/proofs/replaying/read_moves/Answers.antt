@@ -11,7 +11,8 @@ returns-in_default-clause-faults g c =
     let rules = g.G.Game.rules c.args.g.now in
     let names = g.G.Game.move_name c.args.g.now in
     let state = g.G.Game.state c.args.g.now c.args.p.now in
-    let at = named_at rules names state c.args.parts.now c.loop-role.role c.index-parts-role.result c.find_move.result (omega arith) c.index-parts-role.is c.find_move.ensures.found in
+    let at = named_at rules names state c.args.parts.now c.loop-role.role c.index-parts-role.result c.find_move.result (omega arith)
+    c.index-parts-role.is c.find_move.ensures.found in
     role_refused rules names state (trees_in c.args.parts.now) c.args.number c.loop-role.role (omega arith) c.loop-role.invariant.legal
     (ap is_none (at ∙ c.in_default.is))
 
@@ -22,19 +23,23 @@ loop-role-preserved g c =
     let state = g.G.Game.state c.args.g.now c.args.p.now in
     let named = named_move rules names state (trees_in c.args.parts.now) in
     let size : length c.loop-role.joint.items ≡ rules.roles = c.loop-role.invariant.size in
-    let at = named_at rules names state c.args.parts.now c.loop-role.role c.index-parts-role.result c.find_move.result (omega arith) c.index-parts-role.is c.find_move.ensures.found in
+    let at = named_at rules names state c.args.parts.now c.loop-role.role c.index-parts-role.result c.find_move.result (omega arith)
+    c.index-parts-role.is c.find_move.ensures.found in
     record {
       size = ap length c.put_move.ensures ∙ simp length-set size;
       legal = below_more _ _ c.loop-role.invariant.legal (ap is_none (at ∙ c.in-Some.is));
-      known = one_known rules.moves c.loop-role.joint.items c.put_move.new.joint.items c.loop-role.role c.in-Some.chosen (omega arith) c.put_move.ensures
+      known = one_known rules.moves c.loop-role.joint.items c.put_move.new.joint.items c.loop-role.role c.in-Some.chosen (omega arith)
+          c.put_move.ensures
           c.in-Some.ensures.known c.loop-role.invariant.known;
-      written = one_written (λ k. unwrap_or (named k) 0) c.loop-role.joint.items c.put_move.new.joint.items c.loop-role.role c.in-Some.chosen (omega arith) c.put_move.ensures
+      written = one_written (λ k. unwrap_or (named k) 0) c.loop-role.joint.items c.put_move.new.joint.items c.loop-role.role c.in-Some.chosen
+          (omega arith) c.put_move.ensures
           (ap (λ r. unwrap_or r 0) (at ∙ c.in-Some.is)) c.loop-role.invariant.written;
     }
 
 pub returns-clause-faults : goal.returns-clause-faults
 returns-clause-faults g c =
-    roles_right (g.G.Game.rules c.args.g.now) (g.G.Game.move_name c.args.g.now) (g.G.Game.state c.args.g.now c.args.p.now) (trees_in c.args.parts.now) c.args.number
+    roles_right (g.G.Game.rules c.args.g.now) (g.G.Game.move_name c.args.g.now) (g.G.Game.state c.args.g.now c.args.p.now) (trees_in c.args.parts.now)
+    c.args.number
     c.loop-role.role (omega arith) c.loop-role.invariant.legal
 
 pub returns-clause-moves : goal.returns-clause-moves

@@ -24,7 +24,8 @@ returns-in_err-read_turn-clause-refused g c =
     let size : length ts ≡ length c.args.turns.now = length-map c.args.turns.now tree_of in
     let at = tree_at_place c.args.turns.now c.loop-place.place c.index-turns-place.result (omega arith) c.index-turns-place.is in
     let parts = c.parts.ensures ∙ ap parts_of (sym at) in
-    let forms : form_faults game.roles ts ≡ [] = ap (λ (n : ℕ). form_faults n ts) (sym c.roles.ensures) ∙ no_fault _ _ _ (sym c.in_ok-check_forms.ensures.faults) in
+    let forms : form_faults game.roles ts ≡ [] = ap (λ (n : ℕ). form_faults n ts) (sym c.roles.ensures)
+    ∙ no_fault _ _ _ (sym c.in_ok-check_forms.ensures.faults) in
     let refused : played game names ts ≡ Err c.in_err-read_turn.field-0.0 =
     turn_refused game names ts c.loop-place.place c.in_err-read_turn.field-0.0 forms (omega arith) c.loop-place.invariant.clear
     (rw (← c.loop-place.invariant.state, ← parts) (sym c.in_err-read_turn.ensures.faults)) in
@@ -32,7 +33,8 @@ returns-in_err-read_turn-clause-refused g c =
 
 pub returns-in_err-read_turn-clause-role : goal.returns-in_err-read_turn-clause-role
 returns-in_err-read_turn-clause-role g c =
-    err_given c.from_residual-in_err-read_turn.result _ _ c.from_residual-in_err-read_turn.ensures.1 (λ fault same. rw same c.in_err-read_turn.ensures.role)
+    err_given c.from_residual-in_err-read_turn.result _ _ c.from_residual-in_err-read_turn.ensures.1
+    (λ fault same. rw same c.in_err-read_turn.ensures.role)
 
 pub loop-place-preserved : goal.loop-place-preserved
 loop-place-preserved g c =
@@ -54,7 +56,8 @@ loop-place-preserved g c =
           ∙ c.step.ensures.after
           ∙ ap (λ (j : List ℕ). game.after (g.G.Game.state c.args.g.now c.loop-place.here) j) c.in_ok-read_turn.ensures.moves
           ∙ ap (λ (s : State). game.after s (named_turn game names s (trees_in c.parts.result.now))) known
-          ∙ ap (λ (us : List Tree). game.after (state_after game names (take place ts)) (named_turn game names (state_after game names (take place ts)) us)) parts
+          ∙ ap (λ (us : List Tree). game.after (state_after game names (take place ts))
+          (named_turn game names (state_after game names (take place ts)) us)) parts
           ∙ sym (state_more game names ts place (omega arith));
       clear = below_more _ _ c.loop-place.invariant.clear (rw (← known, ← parts) here);
     }
@@ -65,6 +68,7 @@ returns-clause-played g c =
     let game = g.G.Game.rules c.args.g.now in
     let names = g.G.Game.move_name c.args.g.now in
     let size : length ts ≡ length c.args.turns.now = length-map c.args.turns.now tree_of in
-    let forms : form_faults game.roles ts ≡ [] = ap (λ (n : ℕ). form_faults n ts) (sym c.roles.ensures) ∙ no_fault _ _ _ (sym c.in_ok-check_forms.ensures.faults) in
+    let forms : form_faults game.roles ts ≡ [] = ap (λ (n : ℕ). form_faults n ts) (sym c.roles.ensures)
+    ∙ no_fault _ _ _ (sym c.in_ok-check_forms.ensures.faults) in
     all_played game names ts c.loop-place.place forms (omega arith) (omega arith) c.loop-place.invariant.clear
     ∙ ap Ok (sym (c.copy.ensures.same ∙ c.loop-place.invariant.state))

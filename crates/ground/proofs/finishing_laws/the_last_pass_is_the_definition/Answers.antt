@@ -6,7 +6,8 @@ use Rattle.ground.proofs.finishing_laws.the_last_pass_is_the_definition.Goals as
 
 pub returns-clause-instances : goal.returns-clause-instances
 returns-clause-instances c rules words differ held atoms found l =
-    found_numbered rules (trees words held.keys) (different words differ held.keys l.terms.numbered.keyed) atoms (listing rules).atoms l.atoms_are found (listing rules).kept l.found_are
+    found_numbered rules (trees words held.keys) (different words differ held.keys l.terms.numbered.keyed) atoms (listing rules).atoms l.atoms_are
+    found (listing rules).kept l.found_are
 
 pub returns-clause-starts : goal.returns-clause-starts
 returns-clause-starts c rules w words differ held atoms found l init n bases b e =

@@ -1,7 +1,7 @@
 use Rattle.std.proofs.Common.{◌≡◌, ◌<◌, ◌≤◌, [], length, sym, ◌∙◌, ap, arith, get_or}
 use Rattle.std.proofs.Math.ListN.{length-set}
 use Rattle.game.specs.Rules.{choices}
-use Rattle.game.proofs.LegalMoves.{none_past}
+use Rattle.game.proofs.Facts.{none_past}
 use Rattle.maximin.proofs.Choices.{length-choices, choices_some}
 use Rattle.maximin.proofs.CursorSteps.{first_more, first_stands, first_picks}
 use Rattle.maximin.proofs.cursor.start_turns.Goals as goal
@@ -24,11 +24,14 @@ loop-other-preserved g c =
             capacities = w.put.ensures.capacities ∙ c.loop-other.invariant.capacities;
             first = first_more lists c.loop-other.other c.loop-other.cursor.places.items c.loop-other.cursor.joint.items w.in-Some.first
                 w.put.new.self.places.items w.put.new.self.joint.items
-                (omega arith) (omega arith) w.put.ensures.places w.put.ensures.joint (sym w.in-Some.is ∙ c.option_at.ensures) c.loop-other.invariant.first;
+                (omega arith) (omega arith) w.put.ensures.places w.put.ensures.joint (sym w.in-Some.is ∙ c.option_at.ensures)
+                c.loop-other.invariant.first;
           }
       | in_default w ↦
-          let some : 0 < length (get_or lists c.loop-other.other []) = choices_some rules state c.args.role c.args.own c.loop-other.other c.requires.«open» (omega arith) in
-          let none : length (get_or lists c.loop-other.other []) ≤ 0 = none_past (get_or lists c.loop-other.other []) 0 c.option_at.result c.option_at.ensures w.in_default.is in
+          let some : 0 < length (get_or lists c.loop-other.other []) = choices_some rules state c.args.role c.args.own c.loop-other.other
+          c.requires.«open» (omega arith) in
+          let none : length (get_or lists c.loop-other.other []) ≤ 0 = none_past (get_or lists c.loop-other.other []) 0 c.option_at.result
+          c.option_at.ensures w.in_default.is in
           absurd (omega arith)
     ]
 

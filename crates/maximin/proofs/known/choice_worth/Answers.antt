@@ -10,27 +10,33 @@ use Rattle.maximin.proofs.Best.{choice_here, choice_last}
 use Rattle.maximin.proofs.Beside.{attained, missed, less_below}
 use Rattle.maximin.proofs.Choices.{legal_some}
 use Rattle.maximin.proofs.Values.{IsOpen, worst_le_value}
-use Rattle.game.proofs.LegalMoves.{legal_place, legal_count, none_past}
+use Rattle.game.proofs.Facts.{legal_place, legal_count, none_past}
 use Rattle.maximin.proofs.known.choice_worth.Goals as goal
 
 pub returns-then-worth-eq0-clause-choice : goal.returns-then-worth-eq0-clause-choice
 returns-then-worth-eq0-clause-choice g c =
     let rules = g.G.Game.rules c.args.game.now in
     let state = g.G.Game.state c.args.game.now c.args.from.now in
-    let free : IsOpen rules c.args.asked.depth state = record { turn = c.if-asked-eq0.false; going = sym c.ended.ensures ∙ c.if-ended.false; free = sym c.is_stuck.ensures ∙ c.if-is_stuck.false } in
+    let free : IsOpen rules c.args.asked.depth state = record {
+      turn = c.if-asked-eq0.false;
+      going = sym c.ended.ensures ∙ c.if-ended.false;
+      free = sym c.is_stuck.ensures ∙ c.if-is_stuck.false;
+    } in
     let some : 0 < length (rules.legal state c.args.asked.role) = legal_some rules state c.args.asked.role free.free c.requires.role in
     let part = worst_le_value rules c.args.asked.role c.args.asked.depth c.args.asked.at state 0 free some in
     let nothing = c.if-worth-eq0.true in
     let known = c.requires.worth in
     c.legal-first.ensures
-    ∙ sym (choice_here rules c.args.asked.role c.args.asked.depth c.args.asked.at state 0 free some (omega (arith, ints)) (λ k lt. absurd (omega arith)))
+    ∙ sym (choice_here rules c.args.asked.role c.args.asked.depth c.args.asked.at state 0 free some (omega (arith, ints))
+    (λ k lt. absurd (omega arith)))
 
 pub returns-in_err-own-clause-choice : goal.returns-in_err-own-clause-choice
 returns-in_err-own-clause-choice g c =
     let rules = g.G.Game.rules c.args.game.now in
     let state = g.G.Game.state c.args.game.now c.args.from.now in
     let some = legal_some rules state c.args.asked.role (sym c.is_stuck.ensures ∙ c.if-is_stuck.false) c.requires.role in
-    let past : length (rules.legal state c.args.asked.role) ≤ 0 = none_past (rules.legal state c.args.asked.role) 0 c.legal-first.result c.legal-first.ensures c.in_err-own.was in
+    let past : length (rules.legal state c.args.asked.role) ≤ 0 = none_past (rules.legal state c.args.asked.role) 0 c.legal-first.result
+    c.legal-first.ensures c.in_err-own.was in
     absurd (omega arith)
 
 pub loop-further-init : goal.loop-further-init
@@ -54,7 +60,8 @@ overflow_add-place g c =
     let rules = g.G.Game.rules c.args.game.now in
     let state = g.G.Game.state c.args.game.now c.args.from.now in
     let law = g.met.G.Game g.world.𝓛 g.world.𝓜 g.world.𝓡 ((λ _ x. x), (λ x. x), (λ x. x), λ x. x) in
-    let few = legal_count rules state c.args.asked.role (law.legal_ascending c.args.game.now state c.args.asked.role c.requires.role) (law.legal_within c.args.game.now state c.args.asked.role c.requires.role)
+    let few = legal_count rules state c.args.asked.role (law.legal_ascending c.args.game.now state c.args.asked.role c.requires.role)
+    (law.legal_within c.args.game.now state c.args.asked.role c.requires.role)
     (law.moves_within c.args.game.now c.args.asked.role c.requires.role) in
     omega (arith, c.loop-further.invariant.in_list)
 
@@ -63,7 +70,8 @@ overflow_add-place-in-Some g c =
     let rules = g.G.Game.rules c.args.game.now in
     let state = g.G.Game.state c.args.game.now c.args.from.now in
     let law = g.met.G.Game g.world.𝓛 g.world.𝓜 g.world.𝓡 ((λ _ x. x), (λ x. x), (λ x. x), λ x. x) in
-    let few = legal_count rules state c.args.asked.role (law.legal_ascending c.args.game.now state c.args.asked.role c.requires.role) (law.legal_within c.args.game.now state c.args.asked.role c.requires.role)
+    let few = legal_count rules state c.args.asked.role (law.legal_ascending c.args.game.now state c.args.asked.role c.requires.role)
+    (law.legal_within c.args.game.now state c.args.asked.role c.requires.role)
     (law.moves_within c.args.game.now c.args.asked.role c.requires.role) in
     omega (arith, c.loop-further.invariant.in_list)
 
@@ -83,16 +91,23 @@ returns-then-worst_at-worth-clause-choice g c =
     let state = g.G.Game.state c.args.game.now c.args.from.now in
     let legal = rules.legal state c.args.asked.role in
     let place = c.loop-further.place in
-    let free : IsOpen rules c.args.asked.depth state = record { turn = c.if-asked-eq0.false; going = sym c.ended.ensures ∙ c.if-ended.false; free = sym c.is_stuck.ensures ∙ c.if-is_stuck.false } in
+    let free : IsOpen rules c.args.asked.depth state = record {
+      turn = c.if-asked-eq0.false;
+      going = sym c.ended.ensures ∙ c.if-ended.false;
+      free = sym c.is_stuck.ensures ∙ c.if-is_stuck.false;
+    } in
     let whole = value rules c.args.asked.role c.args.asked.depth c.args.asked.at state in
     let here = worst rules c.args.asked.role (c.args.asked.depth - 1) c.args.asked.at state c.loop-further.own in
-    let part : here ≤ whole = rw c.loop-further.invariant.here at (worst_le_value rules c.args.asked.role c.args.asked.depth c.args.asked.at state place free c.loop-further.invariant.in_list) in
+    let part : here ≤ whole = rw c.loop-further.invariant.here at
+    (worst_le_value rules c.args.asked.role c.args.asked.depth c.args.asked.at state place free c.loop-further.invariant.in_list) in
     let known : to_z w16 (of_z w16 c.args.worth) ≡ pos whole = to_z-of_z w16 c.args.worth c.ranges.worth ∙ c.requires.worth in
     let fits : SFits w16 c.worst_at.result = search facts in
-    let above : to_z w16 (of_z w16 c.args.worth) ≤ℤ c.worst_at.result = rw (← to_z-of_z w16 c.worst_at.result fits) (le_z_true _ _ c.if-worst_at-worth.true) in
+    let above : to_z w16 (of_z w16 c.args.worth) ≤ℤ c.worst_at.result = rw (← to_z-of_z w16 c.worst_at.result fits)
+    (le_z_true _ _ c.if-worst_at-worth.true) in
     let law = g.met.G.Game g.world.𝓛 g.world.𝓜 g.world.𝓡 ((λ _ x. x), (λ x. x), (λ x. x), λ x. x) in
     let few = value_at_most rules c.args.asked.role (λ s r. law.goal_within c.args.game.now s r) c.args.asked.depth c.args.asked.at state in
-    let same : here ≡ whole = attained whole here _ (to_z w16 (of_z w16 c.args.worth)) c.worst_at.result part (less_below whole (to_z w16 (of_z w16 c.args.worth)) few known) known
+    let same : here ≡ whole = attained whole here _ (to_z w16 (of_z w16 c.args.worth)) c.worst_at.result part
+    (less_below whole (to_z w16 (of_z w16 c.args.worth)) few known) known
     c.worst_at.ensures.answers above in
     sym (slice_get-get_or legal place 0 c.loop-further.invariant.in_list ∙ ap Some c.loop-further.invariant.here)
     ∙ sym (choice_here rules c.args.asked.role c.args.asked.depth c.args.asked.at state place free c.loop-further.invariant.in_list
@@ -107,7 +122,8 @@ loop-further-preserved g c =
     let next = legal_place rules state c.args.asked.role (c.loop-further.place + 1) c.in-Some.further c.legal.result c.legal.ensures c.in-Some.is in
     let known : to_z w16 (of_z w16 c.args.worth) ≡ pos whole = to_z-of_z w16 c.args.worth c.ranges.worth ∙ c.requires.worth in
     let fits : SFits w16 c.worst_at.result = search facts in
-    let below : c.worst_at.result <ℤ to_z w16 (of_z w16 c.args.worth) = rw (← to_z-of_z w16 c.worst_at.result fits) (le_z_false _ _ c.if-worst_at-worth.false) in
+    let below : c.worst_at.result <ℤ to_z w16 (of_z w16 c.args.worth) = rw (← to_z-of_z w16 c.worst_at.result fits)
+    (le_z_false _ _ c.if-worst_at-worth.false) in
     let less : here < whole = missed whole here _ (to_z w16 (of_z w16 c.args.worth)) c.worst_at.result known c.worst_at.ensures.answers below in
     record {
       levels = c.worst_at.ensures.levels;
@@ -126,7 +142,12 @@ returns-clause-choice g c =
     let state = g.G.Game.state c.args.game.now c.args.from.now in
     let legal = rules.legal state c.args.asked.role in
     let place = c.loop-further.place in
-    let free : IsOpen rules c.args.asked.depth state = record { turn = c.if-asked-eq0.false; going = sym c.ended.ensures ∙ c.if-ended.false; free = sym c.is_stuck.ensures ∙ c.if-is_stuck.false } in
+    let free : IsOpen rules c.args.asked.depth state = record {
+      turn = c.if-asked-eq0.false;
+      going = sym c.ended.ensures ∙ c.if-ended.false;
+      free = sym c.is_stuck.ensures ∙ c.if-is_stuck.false;
+    } in
     let last : length legal ≤ place + 1 = none_past legal (place + 1) c.legal.result c.legal.ensures c.in_default.is in
     sym (slice_get-get_or legal place 0 c.loop-further.invariant.in_list ∙ ap Some c.loop-further.invariant.here)
-    ∙ sym (choice_last rules c.args.asked.role c.args.asked.depth c.args.asked.at state place free c.requires.role c.loop-further.invariant.in_list last c.loop-further.invariant.before)
+    ∙ sym (choice_last rules c.args.asked.role c.args.asked.depth c.args.asked.at state place free c.requires.role c.loop-further.invariant.in_list
+    last c.loop-further.invariant.before)

@@ -19,7 +19,8 @@ invariant-loop-further g l =
       deep : length l.levels ≡ length l.initial.levels;
       in_list : l.place < length (rules.legal state l.asked.role);
       here : get_or (rules.legal state l.asked.role) l.place 0 ≡ l.own;
-      before : (k : ℕ) → k < l.place → worst_at_place rules l.asked.role l.asked.depth l.asked.at state k < value rules l.asked.role l.asked.depth l.asked.at state;
+      before : (k : ℕ) → k < l.place → worst_at_place rules l.asked.role l.asked.depth l.asked.at state k < value rules l.asked.role l.asked.depth
+          l.asked.at state;
     }
 
 abbrev pub decreases-loop-further : goal.decreases-loop-further

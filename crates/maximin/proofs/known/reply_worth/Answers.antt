@@ -18,7 +18,8 @@ use Rattle.maximin.proofs.known.reply_worth.Goals as goal
 
 pub returns-then-not-next_turn-clause-levels : goal.returns-then-not-next_turn-clause-levels
 returns-then-not-next_turn-clause-levels g c =
-    let P = λ (level : Level g.row.G-Pos.Denot g.row.G-Many.Denot). IsLevelOf (g.G.Game.fits c.args.game.now) (g.G.Game.fits_many c.args.game.now) (g.G.Game.rules c.args.game.now).roles level in
+    let P = λ (level : Level g.row.G-Pos.Denot g.row.G-Many.Denot). IsLevelOf (g.G.Game.fits c.args.game.now) (g.G.Game.fits_many c.args.game.now)
+    (g.G.Game.rules c.args.game.now).roles level in
     let kept = c.turns.invariant.level in
     All-first_and_rest P c.split_at_mut-first.result.0.now c.turns.rest _ c.split_at_mut-first.ensures.front_len
     (record { position = kept.position; cursor = c.next_turn.ensures.cursor; run = kept.run; many = kept.many }) c.turns.invariant.rest
@@ -28,7 +29,8 @@ step-requires-clause-joint g c =
     let rules = g.G.Game.rules c.args.game.now in
     let state = g.G.Game.state c.args.game.now c.args.from.now in
     let law = g.met.G.Game g.world.𝓛 g.world.𝓜 g.world.𝓡 ((λ _ x. x), (λ x. x), (λ x. x), λ x. x) in
-    rw c.write_joint.ensures.items (turn_known rules state c.args.asked.role c.args.own c.turns.level.cursor.places.items c.turns.level.cursor.joint.items c.turns.invariant.stands c.requires.own
+    rw c.write_joint.ensures.items (turn_known rules state c.args.asked.role c.args.own c.turns.level.cursor.places.items
+    c.turns.level.cursor.joint.items c.turns.invariant.stands c.requires.own
     (λ q below. law.legal_within c.args.game.now state q below))
 
 pub overflow_add-worth : goal.overflow_add-worth
@@ -36,7 +38,8 @@ overflow_add-worth g c =
     let rules = g.G.Game.rules c.args.game.now in
     let state = g.G.Game.state c.args.game.now c.args.from.now in
     let law = g.met.G.Game g.world.𝓛 g.world.𝓜 g.world.𝓡 ((λ _ x. x), (λ x. x), (λ x. x), λ x. x) in
-    let few = worst_at_most rules c.args.asked.role (λ s r. law.goal_within c.args.game.now s r) c.args.asked.depth c.args.asked.at state c.args.own in
+    let few = worst_at_most rules c.args.asked.role (λ s r. law.goal_within c.args.game.now s r) c.args.asked.depth c.args.asked.at state c.args.own
+    in
     let known = to_z-of_z w16 c.args.worth c.ranges.worth ∙ c.requires.worth in
     fits_above (worst rules c.args.asked.role c.args.asked.depth c.args.asked.at state c.args.own) (to_z w16 (of_z w16 c.args.worth)) few known
 
@@ -45,7 +48,8 @@ value_within-requires-clause-order g c κs within =
     let rules = g.G.Game.rules c.args.game.now in
     let state = g.G.Game.state c.args.game.now c.args.from.now in
     let law = g.met.G.Game g.world.𝓛 g.world.𝓜 g.world.𝓡 ((λ _ x. x), (λ x. x), (λ x. x), λ x. x) in
-    let few = worst_at_most rules c.args.asked.role (λ s r. law.goal_within c.args.game.now s r) c.args.asked.depth c.args.asked.at state c.args.own in
+    let few = worst_at_most rules c.args.asked.role (λ s r. law.goal_within c.args.game.now s r) c.args.asked.depth c.args.asked.at state c.args.own
+    in
     let known = to_z-of_z w16 c.args.worth c.ranges.worth ∙ c.requires.worth in
     more_above (worst rules c.args.asked.role c.args.asked.depth c.args.asked.at state c.args.own) (to_z w16 (of_z w16 c.args.worth)) few known
 
@@ -61,15 +65,20 @@ returns-then-value_within-worth-clause-reply g c =
     let known : to_z w16 (of_z w16 c.args.worth) ≡ pos all = to_z-of_z w16 c.args.worth c.ranges.worth ∙ c.requires.worth in
     let fits : SFits w16 c.value_within.result = search facts in
     let answers = rw (c.step.ensures.after, c.write_joint.ensures.items) at c.value_within.ensures.answers in
-    let below : c.value_within.result ≤ℤ to_z w16 (of_z w16 c.args.worth) = rw (← to_z-of_z w16 c.value_within.result fits) (le_z_true _ _ c.if-value_within-worth.true) in
+    let below : c.value_within.result ≤ℤ to_z w16 (of_z w16 c.args.worth) = rw (← to_z-of_z w16 c.value_within.result fits)
+    (le_z_true _ _ c.if-value_within-worth.true) in
     let law = g.met.G.Game g.world.𝓛 g.world.𝓜 g.world.𝓡 ((λ _ x. x), (λ x. x), (λ x. x), λ x. x) in
-    let few = worst_at_most rules c.args.asked.role (λ s r. law.goal_within c.args.game.now s r) c.args.asked.depth c.args.asked.at state c.args.own in
-    let less : worth joint ≤ all = kept_to all (worth joint) (to_z w16 (of_z w16 c.args.worth)) _ c.value_within.result (more_above all (to_z w16 (of_z w16 c.args.worth)) few known) known answers below in
-    rw c.write_joint.ensures.items (ahead_found worth (turns_with rules state c.args.asked.role c.args.own) all joint behind less c.turns.invariant.is_ahead)
+    let few = worst_at_most rules c.args.asked.role (λ s r. law.goal_within c.args.game.now s r) c.args.asked.depth c.args.asked.at state c.args.own
+    in
+    let less : worth joint ≤ all = kept_to all (worth joint) (to_z w16 (of_z w16 c.args.worth)) _ c.value_within.result
+    (more_above all (to_z w16 (of_z w16 c.args.worth)) few known) known answers below in
+    rw c.write_joint.ensures.items (ahead_found worth (turns_with rules state c.args.asked.role c.args.own) all joint behind less
+    c.turns.invariant.is_ahead)
 
 pub returns-then-value_within-worth-clause-levels : goal.returns-then-value_within-worth-clause-levels
 returns-then-value_within-worth-clause-levels g c =
-    let P = λ (level : Level g.row.G-Pos.Denot g.row.G-Many.Denot). IsLevelOf (g.G.Game.fits c.args.game.now) (g.G.Game.fits_many c.args.game.now) (g.G.Game.rules c.args.game.now).roles level in
+    let P = λ (level : Level g.row.G-Pos.Denot g.row.G-Many.Denot). IsLevelOf (g.G.Game.fits c.args.game.now) (g.G.Game.fits_many c.args.game.now)
+    (g.G.Game.rules c.args.game.now).roles level in
     let kept = c.turns.invariant.level in
     All-first_and_rest P c.split_at_mut-first.result.0.now c.value_within.new.levels _ c.split_at_mut-first.ensures.front_len
     (record { position = c.step.ensures.fits; cursor = c.next_turn.ensures.cursor; run = kept.run; many = kept.many }) c.value_within.ensures.levels
@@ -86,13 +95,19 @@ turns-preserved g c =
     let known : to_z w16 (of_z w16 c.args.worth) ≡ pos all = to_z-of_z w16 c.args.worth c.ranges.worth ∙ c.requires.worth in
     let fits : SFits w16 c.value_within.result = search facts in
     let answers = rw (c.step.ensures.after, c.write_joint.ensures.items) at c.value_within.ensures.answers in
-    let above : to_z w16 (of_z w16 c.args.worth) <ℤ c.value_within.result = rw (← to_z-of_z w16 c.value_within.result fits) (le_z_false _ _ c.if-value_within-worth.false) in
+    let above : to_z w16 (of_z w16 c.args.worth) <ℤ c.value_within.result = rw (← to_z-of_z w16 c.value_within.result fits)
+    (le_z_false _ _ c.if-value_within-worth.false) in
     let more : all < worth joint = passed all (worth joint) (to_z w16 (of_z w16 c.args.worth)) _ c.value_within.result known answers above in
     let now = c.turns.level in
     let of_position = g.G.Game.capacities c.args.game.now in
     let of_many = g.G.Game.many_capacities c.args.game.now in
     record {
-      level = record { position = c.step.ensures.fits; cursor = c.next_turn.ensures.cursor; run = c.turns.invariant.level.run; many = c.turns.invariant.level.many };
+      level = record {
+        position = c.step.ensures.fits;
+        cursor = c.next_turn.ensures.cursor;
+        run = c.turns.invariant.level.run;
+        many = c.turns.invariant.level.many;
+      };
       rest = c.value_within.ensures.levels;
       wide = c.value_within.ensures.wide;
       capacities =

@@ -16,7 +16,8 @@ returns-then-not-next_turn-clause-known g c =
     let here = turn_known rules state c.args.role c.args.own c.turns.cursor.places.items joint c.turns.invariant.stands c.requires.own
     (λ q below. law.legal_within c.args.game.now state q below) in
     rw c.add_turn.ensures.turns
-    (All-append (IsTurn rules) (turns_in c.turns.run) (joint ∷ []) c.turns.invariant.known (All-cons (IsTurn rules) joint [] here (All-nil (IsTurn rules))))
+    (All-append (IsTurn rules) (turns_in c.turns.run) (joint ∷ []) c.turns.invariant.known
+    (All-cons (IsTurn rules) joint [] here (All-nil (IsTurn rules))))
 
 pub returns-then-run-most-clause-known : goal.returns-then-run-most-clause-known
 returns-then-run-most-clause-known g c =
@@ -27,7 +28,8 @@ returns-then-run-most-clause-known g c =
     let here = turn_known rules state c.args.role c.args.own c.turns.cursor.places.items joint c.turns.invariant.stands c.requires.own
     (λ q below. law.legal_within c.args.game.now state q below) in
     rw c.add_turn.ensures.turns
-    (All-append (IsTurn rules) (turns_in c.turns.run) (joint ∷ []) c.turns.invariant.known (All-cons (IsTurn rules) joint [] here (All-nil (IsTurn rules))))
+    (All-append (IsTurn rules) (turns_in c.turns.run) (joint ∷ []) c.turns.invariant.known
+    (All-cons (IsTurn rules) joint [] here (All-nil (IsTurn rules))))
 
 pub turns-preserved : goal.turns-preserved
 turns-preserved g c =

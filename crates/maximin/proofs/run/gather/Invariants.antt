@@ -19,7 +19,8 @@ invariant-turns g l =
       room : l.run.count < l.most;
       known : All (IsTurn rules) (turns_in l.run);
       stands : StandsAt lists l.cursor.places.items l.cursor.joint.items;
-      left : l.fn.cursor.joint.items ∷ later lists l.fn.cursor.places.items ≡ turns_in l.run ++ l.cursor.joint.items ∷ later lists l.cursor.places.items;
+      left : l.fn.cursor.joint.items ∷ later lists l.fn.cursor.places.items ≡ turns_in l.run ++ l.cursor.joint.items ∷ later lists
+          l.cursor.places.items;
     }
 
 abbrev pub decreases-turns : goal.decreases-turns

@@ -1,4 +1,28 @@
-use Rattle.std.proofs.Common.{◌≡◌, ℕ, ◌+◌, ◌-◌, ◌<◌, ◌≤◌, length, [], ◌∷◌, List, take, drop, get_or, arith, sym, ◌∙◌, ap, subst, w16, min, refl, rules as facts, below_more}
+use Rattle.std.proofs.Common.{
+  ◌≡◌,
+  ℕ,
+  ◌+◌,
+  ◌-◌,
+  ◌<◌,
+  ◌≤◌,
+  length,
+  [],
+  ◌∷◌,
+  List,
+  take,
+  drop,
+  get_or,
+  arith,
+  sym,
+  ◌∙◌,
+  ap,
+  subst,
+  w16,
+  min,
+  refl,
+  rules as facts,
+  below_more,
+}
 use Rattle.std.proofs.Math.ListN.{set}
 use Rattle.std.proofs.lemmas.Int.{ints, clamps, to_z-of_z}
 use Rattle.std.proofs.lemmas.List.{length-map}
@@ -13,13 +37,40 @@ use Rattle.maximin.specs.Turns.{later}
 use Rattle.maximin.specs.Cursor.{cursor_capacities}
 use Rattle.maximin.specs.Run.{turns_in, run_capacities}
 use Rattle.maximin.specs.Level.{IsLevelOf, level_capacities}
-use Rattle.maximin.proofs.Windows.{raised_most, raised_seen, raised_now, raised_above, cut_above, lowered_least, lowered_most, lowered_end, lowered_seen, lowered_now, exact, cut_below, start_least, start_most, lowered_below, le_z_true, le_z_false}
+use Rattle.maximin.proofs.Windows.{
+  raised_most,
+  raised_seen,
+  raised_now,
+  raised_above,
+  cut_above,
+  lowered_least,
+  lowered_most,
+  lowered_end,
+  lowered_seen,
+  lowered_now,
+  exact,
+  cut_below,
+  start_least,
+  start_most,
+  lowered_below,
+  le_z_true,
+  le_z_false,
+}
 use Rattle.maximin.proofs.Choices.{legal_some}
 use Rattle.maximin.proofs.OwnTurns.{alone_worst, own_worths, run_seen, run_most, run_end, greatest_worth_above, greatest_worth_reached, map_part}
 use Rattle.maximin.proofs.Values.{turn_known, value_open, IsOpen, worst_le_value, value_reached, value_ended, value_stuck}
 use Rattle.maximin.proofs.Parts.{All-first_and_rest, four_joined, all_kept}
-use Rattle.maximin.proofs.Runs.{known_each, some_taken, worths_after, least_worth_below, least_worth_reached, least_behind, least_of_run, fewer_behind}
-use Rattle.game.proofs.LegalMoves.{legal_known, legal_place, legal_count, none_past}
+use Rattle.maximin.proofs.Runs.{
+  known_each,
+  some_taken,
+  worths_after,
+  least_worth_below,
+  least_worth_reached,
+  least_behind,
+  least_of_run,
+  fewer_behind,
+}
+use Rattle.game.proofs.Facts.{legal_known, legal_place, legal_count, none_past}
 use Rattle.maximin.proofs.search.+search.Goals as goal
 use Rattle.maximin.proofs.search.+search.Goals.{worst_at-then-upper-a-via-then-upper-a, worst_at-then-upper-a-via-else-upper-a+then-not-more}
 
@@ -29,14 +80,19 @@ value_at-worst_at-requires-clause-own g t c κs within =
     let state = g.G.Game.state c.args.game.now c.args.from.now in
     let legal = rules.legal state c.args.asked.role in
     let law = g.met.G.Game g.world.𝓛 g.world.𝓜 g.world.𝓡 ((λ _ x. x), (λ x. x), (λ x. x), λ x. x) in
-    legal_known rules state c.args.asked.role c.loop-own.place c.in-Some.own c.legal.result (law.legal_within c.args.game.now state c.args.asked.role c.requires.role) c.legal.ensures c.in-Some.is
+    legal_known rules state c.args.asked.role c.loop-own.place c.in-Some.own c.legal.result
+    (law.legal_within c.args.game.now state c.args.asked.role c.requires.role) c.legal.ensures c.in-Some.is
 
 pub value_at-returns-then-best-b-clause-answers : goal.value_at-returns-then-best-b-clause-answers
 value_at-returns-then-best-b-clause-answers g t c =
     let rules = g.G.Game.rules c.args.game.now in
     let state = g.G.Game.state c.args.game.now c.args.from.now in
     let legal = rules.legal state c.args.asked.role in
-    let free : IsOpen rules c.args.asked.depth state = record { turn = c.if-asked-eq0.false; going = sym c.ended.ensures ∙ c.if-ended.false; free = sym c.is_stuck.ensures ∙ c.if-is_stuck.false } in
+    let free : IsOpen rules c.args.asked.depth state = record {
+      turn = c.if-asked-eq0.false;
+      going = sym c.ended.ensures ∙ c.if-ended.false;
+      free = sym c.is_stuck.ensures ∙ c.if-is_stuck.false;
+    } in
     let here = legal_place rules state c.args.asked.role c.loop-own.place c.in-Some.own c.legal.result c.legal.ensures c.in-Some.is in
     let a = to_z w16 (of_z w16 c.args.a) in
     let b = to_z w16 (of_z w16 c.args.b) in
@@ -47,8 +103,10 @@ value_at-returns-then-best-b-clause-answers g t c =
     let raised : to_z w16 (of_z w16 c.max-best.result) ≡ int_max best r =
     to_z-of_z w16 c.max-best.result fits_m ∙ c.max-best.ensures.value ∙ ap (λ z. int_max best z) (to_z-of_z w16 r fits_r) in
     let most : int_max best r ≤ℤ int_max (pos (value rules c.args.asked.role c.args.asked.depth c.args.asked.at state)) a =
-    raised_most (value rules c.args.asked.role c.args.asked.depth c.args.asked.at state) (worst rules c.args.asked.role (c.args.asked.depth - 1) c.args.asked.at state c.in-Some.own) a b best r
-    (rw here.1 at (worst_le_value rules c.args.asked.role c.args.asked.depth c.args.asked.at state c.loop-own.place free here.0)) c.loop-own.invariant.at_most c.worst_at.ensures.answers in
+    raised_most (value rules c.args.asked.role c.args.asked.depth c.args.asked.at state)
+    (worst rules c.args.asked.role (c.args.asked.depth - 1) c.args.asked.at state c.in-Some.own) a b best r
+    (rw here.1 at (worst_le_value rules c.args.asked.role c.args.asked.depth c.args.asked.at state c.loop-own.place free here.0))
+    c.loop-own.invariant.at_most c.worst_at.ensures.answers in
     let ea : a ≡ c.args.a = to_z-of_z w16 c.args.a c.ranges.a in
     let eb : b ≡ c.args.b = to_z-of_z w16 c.args.b c.ranges.b in
     let cut : b ≤ℤ int_max best r = rw raised at (le_z_true b _ c.if-best-b.true) in
@@ -61,7 +119,8 @@ value_at-overflow_add-place g t c =
     let legal = rules.legal state c.args.asked.role in
     let here = legal_place rules state c.args.asked.role c.loop-own.place c.in-Some.own c.legal.result c.legal.ensures c.in-Some.is in
     let law = g.met.G.Game g.world.𝓛 g.world.𝓜 g.world.𝓡 ((λ _ x. x), (λ x. x), (λ x. x), λ x. x) in
-    let few = legal_count rules state c.args.asked.role (law.legal_ascending c.args.game.now state c.args.asked.role c.requires.role) (law.legal_within c.args.game.now state c.args.asked.role c.requires.role)
+    let few = legal_count rules state c.args.asked.role (law.legal_ascending c.args.game.now state c.args.asked.role c.requires.role)
+    (law.legal_within c.args.game.now state c.args.asked.role c.requires.role)
     (law.moves_within c.args.game.now c.args.asked.role c.requires.role) in
     omega (arith, here.0)
 
@@ -79,7 +138,11 @@ value_at-loop-own-preserved g t c =
     let rules = g.G.Game.rules c.args.game.now in
     let state = g.G.Game.state c.args.game.now c.args.from.now in
     let legal = rules.legal state c.args.asked.role in
-    let free : IsOpen rules c.args.asked.depth state = record { turn = c.if-asked-eq0.false; going = sym c.ended.ensures ∙ c.if-ended.false; free = sym c.is_stuck.ensures ∙ c.if-is_stuck.false } in
+    let free : IsOpen rules c.args.asked.depth state = record {
+      turn = c.if-asked-eq0.false;
+      going = sym c.ended.ensures ∙ c.if-ended.false;
+      free = sym c.is_stuck.ensures ∙ c.if-is_stuck.false;
+    } in
     let here = legal_place rules state c.args.asked.role c.loop-own.place c.in-Some.own c.legal.result c.legal.ensures c.in-Some.is in
     let a = to_z w16 (of_z w16 c.args.a) in
     let b = to_z w16 (of_z w16 c.args.b) in
@@ -90,8 +153,10 @@ value_at-loop-own-preserved g t c =
     let raised : to_z w16 (of_z w16 c.max-best.result) ≡ int_max best r =
     to_z-of_z w16 c.max-best.result fits_m ∙ c.max-best.ensures.value ∙ ap (λ z. int_max best z) (to_z-of_z w16 r fits_r) in
     let most : int_max best r ≤ℤ int_max (pos (value rules c.args.asked.role c.args.asked.depth c.args.asked.at state)) a =
-    raised_most (value rules c.args.asked.role c.args.asked.depth c.args.asked.at state) (worst rules c.args.asked.role (c.args.asked.depth - 1) c.args.asked.at state c.in-Some.own) a b best r
-    (rw here.1 at (worst_le_value rules c.args.asked.role c.args.asked.depth c.args.asked.at state c.loop-own.place free here.0)) c.loop-own.invariant.at_most c.worst_at.ensures.answers in
+    raised_most (value rules c.args.asked.role c.args.asked.depth c.args.asked.at state)
+    (worst rules c.args.asked.role (c.args.asked.depth - 1) c.args.asked.at state c.in-Some.own) a b best r
+    (rw here.1 at (worst_le_value rules c.args.asked.role c.args.asked.depth c.args.asked.at state c.loop-own.place free here.0))
+    c.loop-own.invariant.at_most c.worst_at.ensures.answers in
     record {
       levels = c.worst_at.ensures.levels;
       wide = c.worst_at.ensures.wide;
@@ -103,8 +168,10 @@ value_at-loop-own-preserved g t c =
       below = le_z_false b _ c.if-best-b.false;
       at_most = rw raised most;
       seen = below_more _ _
-          (λ k lt. rw raised (raised_seen (worst rules c.args.asked.role (c.args.asked.depth - 1) c.args.asked.at state (get_or legal k 0)) b best r (c.loop-own.invariant.seen k lt)))
-          (rw (raised, here.1) (raised_now (worst rules c.args.asked.role (c.args.asked.depth - 1) c.args.asked.at state c.in-Some.own) b best r c.worst_at.ensures.answers));
+          (λ k lt. rw raised (raised_seen (worst rules c.args.asked.role (c.args.asked.depth - 1) c.args.asked.at state (get_or legal k 0)) b best r
+          (c.loop-own.invariant.seen k lt)))
+          (rw (raised, here.1) (raised_now (worst rules c.args.asked.role (c.args.asked.depth - 1) c.args.asked.at state c.in-Some.own) b best r
+          c.worst_at.ensures.answers));
     }
 
 pub value_at-returns-clause-answers : goal.value_at-returns-clause-answers
@@ -112,7 +179,11 @@ value_at-returns-clause-answers g t c =
     let rules = g.G.Game.rules c.args.game.now in
     let state = g.G.Game.state c.args.game.now c.args.from.now in
     let legal = rules.legal state c.args.asked.role in
-    let free : IsOpen rules c.args.asked.depth state = record { turn = c.if-asked-eq0.false; going = sym c.ended.ensures ∙ c.if-ended.false; free = sym c.is_stuck.ensures ∙ c.if-is_stuck.false } in
+    let free : IsOpen rules c.args.asked.depth state = record {
+      turn = c.if-asked-eq0.false;
+      going = sym c.ended.ensures ∙ c.if-ended.false;
+      free = sym c.is_stuck.ensures ∙ c.if-is_stuck.false;
+    } in
     let past : length legal ≤ c.loop-own.place = none_past legal c.loop-own.place c.legal.result c.legal.ensures c.in_default.is in
     let top = value_reached rules c.args.asked.role c.args.asked.depth c.args.asked.at state free c.requires.role in
     let a = to_z w16 (of_z w16 c.args.a) in
@@ -131,14 +202,16 @@ value_at-returns-then-ended-clause-answers g t c =
     let fits : SFits w16 c.from.result = search facts in
     let same = to_z-of_z w16 c.from.result fits in
     exact (value rules c.args.asked.role c.args.asked.depth c.args.asked.at state) c.args.a c.args.b (to_z w16 (of_z w16 c.from.result))
-    (same ∙ c.from.ensures ∙ ap pos (c.goal.ensures ∙ sym (value_ended rules c.args.asked.role c.args.asked.depth c.args.asked.at state (sym c.ended.ensures ∙ c.if-ended.true))))
+    (same ∙ c.from.ensures ∙ ap pos (c.goal.ensures
+    ∙ sym (value_ended rules c.args.asked.role c.args.asked.depth c.args.asked.at state (sym c.ended.ensures ∙ c.if-ended.true))))
 
 pub value_at-returns-then-is_stuck-clause-answers : goal.value_at-returns-then-is_stuck-clause-answers
 value_at-returns-then-is_stuck-clause-answers g t c =
     let rules = g.G.Game.rules c.args.game.now in
     let state = g.G.Game.state c.args.game.now c.args.from.now in
     exact (value rules c.args.asked.role c.args.asked.depth c.args.asked.at state) c.args.a c.args.b (pos 0)
-    (ap pos (sym (value_stuck rules c.args.asked.role c.args.asked.depth c.args.asked.at state (sym c.ended.ensures ∙ c.if-ended.false) (sym c.is_stuck.ensures ∙ c.if-is_stuck.true))))
+    (ap pos (sym (value_stuck rules c.args.asked.role c.args.asked.depth c.args.asked.at state (sym c.ended.ensures ∙ c.if-ended.false)
+    (sym c.is_stuck.ensures ∙ c.if-is_stuck.true))))
 
 pub least_at-loop-place-preserved : goal.least_at-loop-place-preserved
 least_at-loop-place-preserved g t c =
@@ -185,7 +258,8 @@ least_at-returns-then-upper-a-clause-answers g t c =
     let eu : to_z w16 (of_z w16 upper) ≡ upper = to_z-of_z w16 upper fits in
     let ea : a ≡ c.args.a = to_z-of_z w16 c.args.a c.ranges.a in
     let eb : b ≡ c.args.b = to_z-of_z w16 c.args.b c.ranges.b in
-    rw (← ea, ← eb, eu) (cut_below (least (map worth states)) a b upper (rw eu at (le_z_true _ a c.if-upper-a.true)) c.least_told-upper.ensures.at_least)
+    rw (← ea, ← eb, eu) (cut_below (least (map worth states)) a b upper (rw eu at (le_z_true _ a c.if-upper-a.true))
+    c.least_told-upper.ensures.at_least)
 
 pub least_at-returns-then-upper-a-2-clause-answers : goal.least_at-returns-then-upper-a-2-clause-answers
 least_at-returns-then-upper-a-2-clause-answers g t c =
@@ -204,7 +278,8 @@ least_at-returns-then-upper-a-2-clause-answers g t c =
     to_z-of_z w16 c.min-upper.result fits_m ∙ c.min-upper.ensures.value ∙ ap (λ z. int_min upper z) (to_z-of_z w16 r fits_r) in
     let answers : Answers here a upper r = c.child_at-worth.ensures.answers in
     let part : all ≤ here = least_worth_below worth states c.loop-place.place (omega (arith, c.requires.count, c.loop-place-test.true)) in
-    let low : int_min (pos all) b ≤ℤ int_min upper r = lowered_least all here a b upper r part c.loop-place.invariant.at_least c.loop-place.invariant.below answers in
+    let low : int_min (pos all) b ≤ℤ int_min upper r = lowered_least all here a b upper r part c.loop-place.invariant.at_least
+    c.loop-place.invariant.below answers in
     let ea : a ≡ c.args.a = to_z-of_z w16 c.args.a c.ranges.a in
     let eb : b ≡ c.args.b = to_z-of_z w16 c.args.b c.ranges.b in
     rw (← ea, ← eb, lowered) (cut_below all a b (int_min upper r) (rw lowered at (le_z_true _ a c.if-upper-a-2.true)) low)
@@ -238,7 +313,12 @@ worst_at-runs-init g t c =
     let first = c.requires.levels 0 c.index-first-0.result (omega arith) in
     let there = c.split_at_mut-first.ensures.by_index.0 0 c.index-first-0.result (omega arith) in
     record {
-      level = record { position = rw there first.position; cursor = c.start_turns.ensures.cursor; run = rw there first.run; many = rw there first.many };
+      level = record {
+        position = rw there first.position;
+        cursor = c.start_turns.ensures.cursor;
+        run = rw there first.run;
+        many = rw there first.many;
+      };
       rest = λ k d below. rw (c.split_at_mut-first.ensures.by_index.1 k d) (c.requires.levels (1 + k) d (omega arith));
       wide = c.requires.wide;
       capacities = refl;
@@ -280,40 +360,56 @@ worst_at-returns-then-upper-a-clause-answers g t c =
     let lowered : to_z w16 (of_z w16 c.min-upper.result) ≡ int_min upper r =
     to_z-of_z w16 c.min-upper.result fits_m ∙ c.min-upper.ensures.value ∙ ap (λ z. int_min upper z) (to_z-of_z w16 r fits_r) in
     let worths : map value_of (g.G.Game.states c.args.game.now c.steps.new.out) ≡ map worth (turns_in run) =
-    ap (map value_of) (c.steps.ensures.after ∙ ap (λ (js : List (SmallVec ℕ)). map (λ (j : SmallVec ℕ). rules.after state j.items) (take run.count js)) c.deref.ensures.value)
+    ap (map value_of) (c.steps.ensures.after
+    ∙ ap (λ (js : List (SmallVec ℕ)). map (λ (j : SmallVec ℕ). rules.after state j.items) (take run.count js)) c.deref.ensures.value)
     ∙ worths_after value_of (rules.after state) (take run.count run.joints.items) in
     let answers : Answers here a upper r = subst (λ (ws : List ℕ). Answers (least ws) a upper r) worths c.least_at-least.ensures.answers in
-    let some : 0 < length (turns_in run) = some_taken run.joints.items run.count c.gather-more.ensures.some (omega (arith, c.gather-more.ensures.run.size)) in
+    let some : 0 < length (turns_in run) = some_taken run.joints.items run.count c.gather-more.ensures.some
+    (omega (arith, c.gather-more.ensures.run.size)) in
     let part : all ≤ here =
     omega (
       arith,
       c.runs.invariant.part,
-      least_of_run worth left (turns_in run) c.gather-more.new.cursor.joint.items (later lists c.gather-more.new.cursor.places.items) c.gather-more.result c.gather-more.ensures.more c.gather-more.ensures.all some,
+      least_of_run worth left (turns_in run) c.gather-more.new.cursor.joint.items (later lists c.gather-more.new.cursor.places.items)
+          c.gather-more.result c.gather-more.ensures.more c.gather-more.ensures.all some,
     ) in
-    let low : int_min (pos all) b ≤ℤ int_min upper r = lowered_least all here a b upper r part c.runs.invariant.at_least c.runs.invariant.below answers in
+    let low : int_min (pos all) b ≤ℤ int_min upper r = lowered_least all here a b upper r part c.runs.invariant.at_least c.runs.invariant.below
+    answers in
     let ea : a ≡ c.args.a = to_z-of_z w16 c.args.a c.ranges.a in
     let eb : b ≡ c.args.b = to_z-of_z w16 c.args.b c.ranges.b in
     rw (← ea, ← eb, lowered) (elim c.then-upper-a.branch [
       | worst_at-then-upper-a-via-then-upper-a w ↦ cut_below all a b (int_min upper r) (rw lowered at (le_z_true _ a w.if-upper-a.true)) low
       | worst_at-then-upper-a-via-else-upper-a+then-not-more w ↦
           let end : int_min upper (pos here) ≤ℤ int_max (pos all) a =
-          subst (λ (turns : List Turn). int_min upper (pos (least (map worth turns))) ≤ℤ int_max (pos all) a) w.if-not-more.ensures.all c.runs.invariant.at_most in
+          subst (λ (turns : List Turn). int_min upper (pos (least (map worth turns))) ≤ℤ int_max (pos all) a) w.if-not-more.ensures.all
+          c.runs.invariant.at_most in
           record { at_least = low; at_most = lowered_end all here a upper r end answers }
     ])
 
 pub worst_at-returns-then-upper-a-clause-levels : goal.worst_at-returns-then-upper-a-clause-levels
 worst_at-returns-then-upper-a-clause-levels g t c =
     let roles = (g.G.Game.rules c.args.game.now).roles in
-    let P = λ (level : Level g.row.G-Pos.Denot g.row.G-Many.Denot). IsLevelOf (g.G.Game.fits c.args.game.now) (g.G.Game.fits_many c.args.game.now) roles level in
+    let P = λ (level : Level g.row.G-Pos.Denot g.row.G-Many.Denot). IsLevelOf (g.G.Game.fits c.args.game.now) (g.G.Game.fits_many c.args.game.now)
+    roles level in
     let front = c.split_at_mut-first.result.0.now in
     let one = c.split_at_mut-first.ensures.front_len in
     elim c.then-upper-a.branch [
       | worst_at-then-upper-a-via-then-upper-a w ↦
           rw w.levels-is (All-first_and_rest P front c.least_at-least.new.levels _ one
-          (record { position = c.least_at-least.ensures.position; cursor = c.gather-more.ensures.cursor; run = c.gather-more.ensures.run; many = c.steps.ensures.many }) c.least_at-least.ensures.levels)
+          (record {
+            position = c.least_at-least.ensures.position;
+            cursor = c.gather-more.ensures.cursor;
+            run = c.gather-more.ensures.run;
+            many = c.steps.ensures.many;
+          }) c.least_at-least.ensures.levels)
       | worst_at-then-upper-a-via-else-upper-a+then-not-more w ↦
           rw w.levels-is (All-first_and_rest P front c.least_at-least.new.levels _ one
-          (record { position = c.least_at-least.ensures.position; cursor = c.gather-more.ensures.cursor; run = c.gather-more.ensures.run; many = c.steps.ensures.many }) c.least_at-least.ensures.levels)
+          (record {
+            position = c.least_at-least.ensures.position;
+            cursor = c.gather-more.ensures.cursor;
+            run = c.gather-more.ensures.run;
+            many = c.steps.ensures.many;
+          }) c.least_at-least.ensures.levels)
     ]
 
 pub worst_at-returns-then-upper-a-clause-capacities : goal.worst_at-returns-then-upper-a-clause-capacities
@@ -326,15 +422,20 @@ worst_at-returns-then-upper-a-clause-capacities g t c =
     let begun : level_capacities of_position of_many now ≡ level_capacities of_position of_many old =
     c.runs.invariant.capacities
     ∙ four_joined (cursor_capacities c.start_turns.new.cursor) (run_capacities old.run) (of_position old.position) (of_many old.many)
-    (cursor_capacities old.cursor) (run_capacities old.run) (of_position old.position) (of_many old.many) c.start_turns.ensures.capacities refl refl refl in
+    (cursor_capacities old.cursor) (run_capacities old.run) (of_position old.position) (of_many old.many) c.start_turns.ensures.capacities refl refl
+    refl in
     let level : Level g.row.G-Pos.Denot g.row.G-Many.Denot =
     record { position = c.least_at-least.new.position; cursor = c.gather-more.new.cursor; run = c.gather-more.new.run; many = c.steps.new.out } in
     let turned : level_capacities of_position of_many level ≡ level_capacities of_position of_many now =
-    four_joined (cursor_capacities c.gather-more.new.cursor) (run_capacities c.gather-more.new.run) (of_position c.least_at-least.new.position) (of_many c.steps.new.out)
+    four_joined (cursor_capacities c.gather-more.new.cursor) (run_capacities c.gather-more.new.run) (of_position c.least_at-least.new.position)
+    (of_many c.steps.new.out)
     (cursor_capacities now.cursor) (run_capacities now.run) (of_position now.position) (of_many now.many)
-    c.gather-more.ensures.cursor_capacities c.gather-more.ensures.run_capacities c.least_at-least.ensures.position_capacities c.steps.ensures.many_capacities in
-    let kept = all_kept (level_capacities of_position of_many) c.args.levels.now c.split_at_mut-first.result.0.now c.split_at_mut-first.result.1.now c.least_at-least.new.levels
-    level c.index-first-0.result split.value split.front_len (turned ∙ begun) (c.least_at-least.ensures.capacities ∙ c.runs.invariant.rest_capacities) in
+    c.gather-more.ensures.cursor_capacities c.gather-more.ensures.run_capacities c.least_at-least.ensures.position_capacities
+    c.steps.ensures.many_capacities in
+    let kept = all_kept (level_capacities of_position of_many) c.args.levels.now c.split_at_mut-first.result.0.now c.split_at_mut-first.result.1.now
+    c.least_at-least.new.levels
+    level c.index-first-0.result split.value split.front_len (turned ∙ begun) (c.least_at-least.ensures.capacities ∙ c.runs.invariant.rest_capacities)
+    in
     elim c.then-upper-a.branch [
       | worst_at-then-upper-a-via-then-upper-a w ↦ rw w.levels-is kept
       | worst_at-then-upper-a-via-else-upper-a+then-not-more w ↦ rw w.levels-is kept
@@ -346,7 +447,8 @@ worst_at-runs-smaller g t c =
     let state = g.G.Game.state c.args.game.now c.args.from.now in
     let lists = choices rules state c.args.asked.role c.args.own in
     let run = c.gather-more.new.run in
-    let some : 0 < length (turns_in run) = some_taken run.joints.items run.count c.gather-more.ensures.some (omega (arith, c.gather-more.ensures.run.size)) in
+    let some : 0 < length (turns_in run) = some_taken run.joints.items run.count c.gather-more.ensures.some
+    (omega (arith, c.gather-more.ensures.run.size)) in
     fewer_behind c.runs.level.cursor.joint.items c.gather-more.new.cursor.joint.items (later lists c.runs.level.cursor.places.items) (turns_in run)
     (later lists c.gather-more.new.cursor.places.items) c.if-not-more.ensures.more some
 
@@ -371,25 +473,36 @@ worst_at-runs-preserved g t c =
     let lowered : to_z w16 (of_z w16 c.min-upper.result) ≡ int_min upper r =
     to_z-of_z w16 c.min-upper.result fits_m ∙ c.min-upper.ensures.value ∙ ap (λ z. int_min upper z) (to_z-of_z w16 r fits_r) in
     let worths : map value_of (g.G.Game.states c.args.game.now c.steps.new.out) ≡ map worth (turns_in run) =
-    ap (map value_of) (c.steps.ensures.after ∙ ap (λ (js : List (SmallVec ℕ)). map (λ (j : SmallVec ℕ). rules.after state j.items) (take run.count js)) c.deref.ensures.value)
+    ap (map value_of) (c.steps.ensures.after
+    ∙ ap (λ (js : List (SmallVec ℕ)). map (λ (j : SmallVec ℕ). rules.after state j.items) (take run.count js)) c.deref.ensures.value)
     ∙ worths_after value_of (rules.after state) (take run.count run.joints.items) in
     let answers : Answers here a upper r = subst (λ (ws : List ℕ). Answers (least ws) a upper r) worths c.least_at-least.ensures.answers in
-    let some : 0 < length (turns_in run) = some_taken run.joints.items run.count c.gather-more.ensures.some (omega (arith, c.gather-more.ensures.run.size)) in
+    let some : 0 < length (turns_in run) = some_taken run.joints.items run.count c.gather-more.ensures.some
+    (omega (arith, c.gather-more.ensures.run.size)) in
     let next : least (map worth before) ≡ min here left =
-    least_behind worth before (turns_in run) c.gather-more.new.cursor.joint.items (later lists c.gather-more.new.cursor.places.items) c.if-not-more.ensures.more some in
+    least_behind worth before (turns_in run) c.gather-more.new.cursor.joint.items (later lists c.gather-more.new.cursor.places.items)
+    c.if-not-more.ensures.more some in
     let part : all ≤ here = omega (arith, next, c.runs.invariant.part) in
-    let low : int_min (pos all) b ≤ℤ int_min upper r = lowered_least all here a b upper r part c.runs.invariant.at_least c.runs.invariant.below answers in
+    let low : int_min (pos all) b ≤ℤ int_min upper r = lowered_least all here a b upper r part c.runs.invariant.at_least c.runs.invariant.below
+    answers in
     let now = c.runs.level in
     let of_position = g.G.Game.capacities c.args.game.now in
     let of_many = g.G.Game.many_capacities c.args.game.now in
     record {
-      level = record { position = c.least_at-least.ensures.position; cursor = c.gather-more.ensures.cursor; run = c.gather-more.ensures.run; many = c.steps.ensures.many };
+      level = record {
+        position = c.least_at-least.ensures.position;
+        cursor = c.gather-more.ensures.cursor;
+        run = c.gather-more.ensures.run;
+        many = c.steps.ensures.many;
+      };
       rest = c.least_at-least.ensures.levels;
       wide = c.least_at-least.ensures.wide;
       capacities =
-          four_joined (cursor_capacities c.gather-more.new.cursor) (run_capacities c.gather-more.new.run) (of_position c.least_at-least.new.position) (of_many c.steps.new.out)
+          four_joined (cursor_capacities c.gather-more.new.cursor) (run_capacities c.gather-more.new.run) (of_position c.least_at-least.new.position)
+          (of_many c.steps.new.out)
           (cursor_capacities now.cursor) (run_capacities now.run) (of_position now.position) (of_many now.many)
-          c.gather-more.ensures.cursor_capacities c.gather-more.ensures.run_capacities c.least_at-least.ensures.position_capacities c.steps.ensures.many_capacities
+          c.gather-more.ensures.cursor_capacities c.gather-more.ensures.run_capacities c.least_at-least.ensures.position_capacities
+          c.steps.ensures.many_capacities
           ∙ c.runs.invariant.capacities;
       rest_capacities = c.least_at-least.ensures.capacities ∙ c.runs.invariant.rest_capacities;
       wide_capacities = c.least_at-least.ensures.wide_capacities ∙ c.steps.ensures.wide_capacities ∙ c.runs.invariant.wide_capacities;
@@ -449,7 +562,8 @@ greatest_at-returns-then-lower-b-clause-answers g t c =
     let el : to_z w16 (of_z w16 lower) ≡ lower = to_z-of_z w16 lower fits in
     let ea : a ≡ c.args.a = to_z-of_z w16 c.args.a c.ranges.a in
     let eb : b ≡ c.args.b = to_z-of_z w16 c.args.b c.ranges.b in
-    rw (← ea, ← eb, el) (cut_above (greatest (map worth states)) a b lower (rw el at (le_z_true b _ c.if-lower-b.true)) c.greatest_told-lower.ensures.at_most)
+    rw (← ea, ← eb, el) (cut_above (greatest (map worth states)) a b lower (rw el at (le_z_true b _ c.if-lower-b.true))
+    c.greatest_told-lower.ensures.at_most)
 
 pub greatest_at-returns-then-lower-b-2-clause-answers : goal.greatest_at-returns-then-lower-b-2-clause-answers
 greatest_at-returns-then-lower-b-2-clause-answers g t c =
@@ -492,7 +606,11 @@ pub value_at-returns-then-is_alone-clause-answers : goal.value_at-returns-then-i
 value_at-returns-then-is_alone-clause-answers g t c =
     let rules = g.G.Game.rules c.args.game.now in
     let state = g.G.Game.state c.args.game.now c.args.from.now in
-    let free : IsOpen rules c.args.asked.depth state = record { turn = c.if-asked-eq0.false; going = sym c.ended.ensures ∙ c.if-ended.false; free = sym c.is_stuck.ensures ∙ c.if-is_stuck.false } in
+    let free : IsOpen rules c.args.asked.depth state = record {
+      turn = c.if-asked-eq0.false;
+      going = sym c.ended.ensures ∙ c.if-ended.false;
+      free = sym c.is_stuck.ensures ∙ c.if-is_stuck.false;
+    } in
     let ea = to_z-of_z w16 c.args.a c.ranges.a in
     let eb = to_z-of_z w16 c.args.b c.ranges.b in
     let fits : SFits w16 c.best_at.result = search facts in
@@ -506,7 +624,12 @@ best_at-runs-init g t c =
     let first = c.requires.levels 0 c.index-first-0.result (omega arith) in
     let there = c.split_at_mut-first.ensures.by_index.0 0 c.index-first-0.result (omega arith) in
     record {
-      level = record { position = rw there first.position; cursor = c.start_turns.ensures.cursor; run = rw there first.run; many = rw there first.many };
+      level = record {
+        position = rw there first.position;
+        cursor = c.start_turns.ensures.cursor;
+        run = rw there first.run;
+        many = rw there first.many;
+      };
       rest = λ k d below. rw (c.split_at_mut-first.ensures.by_index.1 k d) (c.requires.levels (1 + k) d (omega arith));
       wide = c.requires.wide;
       capacities = refl;
@@ -543,7 +666,8 @@ best_at-returns-then-count-eq0-clause-answers g t c =
     let rules = g.G.Game.rules c.args.game.now in
     let state = g.G.Game.state c.args.game.now c.args.from.now in
     let worths = map (worst rules c.args.asked.role c.args.asked.depth c.args.asked.at state) (rules.legal state c.args.asked.role) in
-    let size : length worths ≡ length (rules.legal state c.args.asked.role) = length-map (rules.legal state c.args.asked.role) (worst rules c.args.asked.role c.args.asked.depth c.args.asked.at state) in
+    let size : length worths ≡ length (rules.legal state c.args.asked.role) = length-map (rules.legal state c.args.asked.role)
+    (worst rules c.args.asked.role c.args.asked.depth c.args.asked.at state) in
     let some = legal_some rules state c.args.asked.role c.requires.«open» c.requires.role in
     let none = c.if-count-eq0.true in
     let past = c.gather_own.ensures.all (omega (arith, c.runs.invariant.some)) in
@@ -559,7 +683,8 @@ best_at-returns-then-count-eq0-clause-answers g t c =
 pub best_at-returns-then-count-eq0-clause-levels : goal.best_at-returns-then-count-eq0-clause-levels
 best_at-returns-then-count-eq0-clause-levels g t c =
     let roles = (g.G.Game.rules c.args.game.now).roles in
-    let P = λ (level : Level g.row.G-Pos.Denot g.row.G-Many.Denot). IsLevelOf (g.G.Game.fits c.args.game.now) (g.G.Game.fits_many c.args.game.now) roles level in
+    let P = λ (level : Level g.row.G-Pos.Denot g.row.G-Many.Denot). IsLevelOf (g.G.Game.fits c.args.game.now) (g.G.Game.fits_many c.args.game.now)
+    roles level in
     let kept = c.runs.invariant.level in
     All-first_and_rest P c.split_at_mut-first.result.0.now c.runs.rest _ c.split_at_mut-first.ensures.front_len
     (record { position = kept.position; cursor = kept.cursor; run = c.gather_own.ensures.run; many = kept.many }) c.runs.invariant.rest
@@ -574,11 +699,18 @@ best_at-returns-then-count-eq0-clause-capacities g t c =
     let begun : level_capacities of_position of_many now ≡ level_capacities of_position of_many old =
     c.runs.invariant.capacities
     ∙ four_joined (cursor_capacities c.start_turns.new.cursor) (run_capacities old.run) (of_position old.position) (of_many old.many)
-    (cursor_capacities old.cursor) (run_capacities old.run) (of_position old.position) (of_many old.many) c.start_turns.ensures.capacities refl refl refl in
-    let level : Level g.row.G-Pos.Denot g.row.G-Many.Denot = record { position = now.position; cursor = now.cursor; run = c.gather_own.new.run; many = now.many } in
+    (cursor_capacities old.cursor) (run_capacities old.run) (of_position old.position) (of_many old.many) c.start_turns.ensures.capacities refl refl
+    refl in
+    let level : Level g.row.G-Pos.Denot g.row.G-Many.Denot = record {
+      position = now.position;
+      cursor = now.cursor;
+      run = c.gather_own.new.run;
+      many = now.many;
+    } in
     let turned : level_capacities of_position of_many level ≡ level_capacities of_position of_many now =
     four_joined (cursor_capacities now.cursor) (run_capacities c.gather_own.new.run) (of_position now.position) (of_many now.many)
-    (cursor_capacities now.cursor) (run_capacities now.run) (of_position now.position) (of_many now.many) refl c.gather_own.ensures.capacities refl refl in
+    (cursor_capacities now.cursor) (run_capacities now.run) (of_position now.position) (of_many now.many) refl c.gather_own.ensures.capacities refl
+    refl in
     all_kept (level_capacities of_position of_many) c.args.levels.now c.split_at_mut-first.result.0.now c.split_at_mut-first.result.1.now c.runs.rest
     level c.index-first-0.result split.value split.front_len (turned ∙ begun) c.runs.invariant.rest_capacities
 
@@ -600,17 +732,21 @@ best_at-returns-then-best-b-clause-answers g t c =
     let fits_m : SFits w16 c.max-best.result = search facts in
     let raised : to_z w16 (of_z w16 c.max-best.result) ≡ int_max best r =
     to_z-of_z w16 c.max-best.result fits_m ∙ c.max-best.ensures.value ∙ ap (λ z. int_max best z) (to_z-of_z w16 r fits_r) in
-    let each = alone_worst rules c.args.asked.role c.args.asked.depth c.args.asked.at state 0 c.runs.level.cursor.places.items joint c.requires.role c.requires.alone c.runs.invariant.stands in
+    let each = alone_worst rules c.args.asked.role c.args.asked.depth c.args.asked.at state 0 c.runs.level.cursor.places.items joint c.requires.role
+    c.requires.alone c.runs.invariant.stands in
     let found : map value_of (g.G.Game.states c.args.game.now c.steps.new.out) ≡ take run.count (drop c.runs.place worths) =
-    ap (map value_of) (c.steps.ensures.after ∙ ap (λ (js : List (SmallVec ℕ)). map (λ (j : SmallVec ℕ). rules.after state j.items) (take run.count js)) c.deref.ensures.value)
+    ap (map value_of) (c.steps.ensures.after
+    ∙ ap (λ (js : List (SmallVec ℕ)). map (λ (j : SmallVec ℕ). rules.after state j.items) (take run.count js)) c.deref.ensures.value)
     ∙ worths_after value_of (rules.after state) (take run.count run.joints.items)
     ∙ ap (λ (ts : List Turn). map (λ t. value_of (rules.after state t)) ts) c.gather_own.ensures.turns
     ∙ own_worths (λ t. value_of (rules.after state t)) (λ m. set joint c.args.asked.role m) own_worth each (take run.count (drop c.runs.place legal))
     ∙ map_part own_worth c.runs.place run.count legal in
-    let answers : Answers (greatest (take run.count (drop c.runs.place worths))) best b r = subst (λ (ws : List ℕ). Answers (greatest ws) best b r) found c.greatest_at-greatest.ensures.answers in
+    let answers : Answers (greatest (take run.count (drop c.runs.place worths))) best b r = subst (λ (ws : List ℕ). Answers (greatest ws) best b r)
+    found c.greatest_at-greatest.ensures.answers in
     let size : length worths ≡ length legal = length-map legal own_worth in
     let some = c.if-count-eq0.false in
-    let most = run_most worths c.runs.place run.count a b best r (omega arith) (omega (arith, c.gather_own.ensures.within)) c.runs.invariant.at_most answers in
+    let most = run_most worths c.runs.place run.count a b best r (omega arith) (omega (arith, c.gather_own.ensures.within)) c.runs.invariant.at_most
+    answers in
     let ea : a ≡ c.args.a = to_z-of_z w16 c.args.a c.ranges.a in
     let eb : b ≡ c.args.b = to_z-of_z w16 c.args.b c.ranges.b in
     rw (← ea, ← eb, raised) (cut_above (greatest worths) a b (int_max best r) (rw raised at (le_z_true b _ c.if-best-b.true)) most)
@@ -618,9 +754,15 @@ best_at-returns-then-best-b-clause-answers g t c =
 pub best_at-returns-then-best-b-clause-levels : goal.best_at-returns-then-best-b-clause-levels
 best_at-returns-then-best-b-clause-levels g t c =
     let roles = (g.G.Game.rules c.args.game.now).roles in
-    let P = λ (level : Level g.row.G-Pos.Denot g.row.G-Many.Denot). IsLevelOf (g.G.Game.fits c.args.game.now) (g.G.Game.fits_many c.args.game.now) roles level in
+    let P = λ (level : Level g.row.G-Pos.Denot g.row.G-Many.Denot). IsLevelOf (g.G.Game.fits c.args.game.now) (g.G.Game.fits_many c.args.game.now)
+    roles level in
     All-first_and_rest P c.split_at_mut-first.result.0.now c.greatest_at-greatest.new.levels _ c.split_at_mut-first.ensures.front_len
-    (record { position = c.greatest_at-greatest.ensures.position; cursor = c.runs.invariant.level.cursor; run = c.gather_own.ensures.run; many = c.steps.ensures.many })
+    (record {
+      position = c.greatest_at-greatest.ensures.position;
+      cursor = c.runs.invariant.level.cursor;
+      run = c.gather_own.ensures.run;
+      many = c.steps.ensures.many;
+    })
     c.greatest_at-greatest.ensures.levels
 
 pub best_at-returns-then-best-b-clause-capacities : goal.best_at-returns-then-best-b-clause-capacities
@@ -633,15 +775,19 @@ best_at-returns-then-best-b-clause-capacities g t c =
     let begun : level_capacities of_position of_many now ≡ level_capacities of_position of_many old =
     c.runs.invariant.capacities
     ∙ four_joined (cursor_capacities c.start_turns.new.cursor) (run_capacities old.run) (of_position old.position) (of_many old.many)
-    (cursor_capacities old.cursor) (run_capacities old.run) (of_position old.position) (of_many old.many) c.start_turns.ensures.capacities refl refl refl in
+    (cursor_capacities old.cursor) (run_capacities old.run) (of_position old.position) (of_many old.many) c.start_turns.ensures.capacities refl refl
+    refl in
     let level : Level g.row.G-Pos.Denot g.row.G-Many.Denot =
     record { position = c.greatest_at-greatest.new.position; cursor = now.cursor; run = c.gather_own.new.run; many = c.steps.new.out } in
     let turned : level_capacities of_position of_many level ≡ level_capacities of_position of_many now =
-    four_joined (cursor_capacities now.cursor) (run_capacities c.gather_own.new.run) (of_position c.greatest_at-greatest.new.position) (of_many c.steps.new.out)
+    four_joined (cursor_capacities now.cursor) (run_capacities c.gather_own.new.run) (of_position c.greatest_at-greatest.new.position)
+    (of_many c.steps.new.out)
     (cursor_capacities now.cursor) (run_capacities now.run) (of_position now.position) (of_many now.many)
     refl c.gather_own.ensures.capacities c.greatest_at-greatest.ensures.position_capacities c.steps.ensures.many_capacities in
-    all_kept (level_capacities of_position of_many) c.args.levels.now c.split_at_mut-first.result.0.now c.split_at_mut-first.result.1.now c.greatest_at-greatest.new.levels
-    level c.index-first-0.result split.value split.front_len (turned ∙ begun) (c.greatest_at-greatest.ensures.capacities ∙ c.runs.invariant.rest_capacities)
+    all_kept (level_capacities of_position of_many) c.args.levels.now c.split_at_mut-first.result.0.now c.split_at_mut-first.result.1.now
+    c.greatest_at-greatest.new.levels
+    level c.index-first-0.result split.value split.front_len (turned ∙ begun) (c.greatest_at-greatest.ensures.capacities
+    ∙ c.runs.invariant.rest_capacities)
 
 pub best_at-runs-preserved : goal.best_at-runs-preserved
 best_at-runs-preserved g t c =
@@ -661,14 +807,17 @@ best_at-runs-preserved g t c =
     let fits_m : SFits w16 c.max-best.result = search facts in
     let raised : to_z w16 (of_z w16 c.max-best.result) ≡ int_max best r =
     to_z-of_z w16 c.max-best.result fits_m ∙ c.max-best.ensures.value ∙ ap (λ z. int_max best z) (to_z-of_z w16 r fits_r) in
-    let each = alone_worst rules c.args.asked.role c.args.asked.depth c.args.asked.at state 0 c.runs.level.cursor.places.items joint c.requires.role c.requires.alone c.runs.invariant.stands in
+    let each = alone_worst rules c.args.asked.role c.args.asked.depth c.args.asked.at state 0 c.runs.level.cursor.places.items joint c.requires.role
+    c.requires.alone c.runs.invariant.stands in
     let found : map value_of (g.G.Game.states c.args.game.now c.steps.new.out) ≡ take run.count (drop c.runs.place worths) =
-    ap (map value_of) (c.steps.ensures.after ∙ ap (λ (js : List (SmallVec ℕ)). map (λ (j : SmallVec ℕ). rules.after state j.items) (take run.count js)) c.deref.ensures.value)
+    ap (map value_of) (c.steps.ensures.after
+    ∙ ap (λ (js : List (SmallVec ℕ)). map (λ (j : SmallVec ℕ). rules.after state j.items) (take run.count js)) c.deref.ensures.value)
     ∙ worths_after value_of (rules.after state) (take run.count run.joints.items)
     ∙ ap (λ (ts : List Turn). map (λ t. value_of (rules.after state t)) ts) c.gather_own.ensures.turns
     ∙ own_worths (λ t. value_of (rules.after state t)) (λ m. set joint c.args.asked.role m) own_worth each (take run.count (drop c.runs.place legal))
     ∙ map_part own_worth c.runs.place run.count legal in
-    let answers : Answers (greatest (take run.count (drop c.runs.place worths))) best b r = subst (λ (ws : List ℕ). Answers (greatest ws) best b r) found c.greatest_at-greatest.ensures.answers in
+    let answers : Answers (greatest (take run.count (drop c.runs.place worths))) best b r = subst (λ (ws : List ℕ). Answers (greatest ws) best b r)
+    found c.greatest_at-greatest.ensures.answers in
     let size : length worths ≡ length legal = length-map legal own_worth in
     let some = c.if-count-eq0.false in
     let inside : c.runs.place + run.count ≤ length worths = omega (arith, c.gather_own.ensures.within) in
@@ -676,11 +825,17 @@ best_at-runs-preserved g t c =
     let of_position = g.G.Game.capacities c.args.game.now in
     let of_many = g.G.Game.many_capacities c.args.game.now in
     record {
-      level = record { position = c.greatest_at-greatest.ensures.position; cursor = c.runs.invariant.level.cursor; run = c.gather_own.ensures.run; many = c.steps.ensures.many };
+      level = record {
+        position = c.greatest_at-greatest.ensures.position;
+        cursor = c.runs.invariant.level.cursor;
+        run = c.gather_own.ensures.run;
+        many = c.steps.ensures.many;
+      };
       rest = c.greatest_at-greatest.ensures.levels;
       wide = c.greatest_at-greatest.ensures.wide;
       capacities =
-          four_joined (cursor_capacities now.cursor) (run_capacities c.gather_own.new.run) (of_position c.greatest_at-greatest.new.position) (of_many c.steps.new.out)
+          four_joined (cursor_capacities now.cursor) (run_capacities c.gather_own.new.run) (of_position c.greatest_at-greatest.new.position)
+          (of_many c.steps.new.out)
           (cursor_capacities now.cursor) (run_capacities now.run) (of_position now.position) (of_many now.many)
           refl c.gather_own.ensures.capacities c.greatest_at-greatest.ensures.position_capacities c.steps.ensures.many_capacities
           ∙ c.runs.invariant.capacities;
@@ -702,6 +857,7 @@ best_at-overflow_add-place g t c =
     let rules = g.G.Game.rules c.args.game.now in
     let state = g.G.Game.state c.args.game.now c.args.from.now in
     let law = g.met.G.Game g.world.𝓛 g.world.𝓜 g.world.𝓡 ((λ _ x. x), (λ x. x), (λ x. x), λ x. x) in
-    let few = legal_count rules state c.args.asked.role (law.legal_ascending c.args.game.now state c.args.asked.role c.requires.role) (law.legal_within c.args.game.now state c.args.asked.role c.requires.role)
+    let few = legal_count rules state c.args.asked.role (law.legal_ascending c.args.game.now state c.args.asked.role c.requires.role)
+    (law.legal_within c.args.game.now state c.args.asked.role c.requires.role)
     (law.moves_within c.args.game.now c.args.asked.role c.requires.role) in
     omega (arith, c.gather_own.ensures.within)

@@ -35,7 +35,8 @@ invariant-value_at-loop-own g l =
       above : l.a ≤ℤ l.best;
       below : l.best <ℤ l.b;
       at_most : l.best ≤ℤ int_max (pos (value rules l.asked.role l.asked.depth l.asked.at state)) l.a;
-      seen : (k : ℕ) → k < l.place → int_min (pos (worst rules l.asked.role (l.asked.depth - 1) l.asked.at state (get_or (rules.legal state l.asked.role) k 0))) l.b ≤ℤ l.best;
+      seen : (k : ℕ) → k < l.place → int_min (pos
+          (worst rules l.asked.role (l.asked.depth - 1) l.asked.at state (get_or (rules.legal state l.asked.role) k 0))) l.b ≤ℤ l.best;
     }
 
 abbrev pub decreases-value_at-loop-own : goal.decreases-value_at-loop-own
@@ -50,7 +51,8 @@ invariant-worst_at-runs g l =
     let state = g.G.Game.state l.game l.from in
     let lists = choices rules state l.asked.role l.own in
     let all = worst rules l.asked.role l.asked.depth l.asked.at state l.own in
-    let left = least (map (λ j. value rules l.asked.role l.asked.depth l.asked.at (rules.after state j)) (l.level.cursor.joint.items ∷ later lists l.level.cursor.places.items)) in
+    let left = least (map (λ j. value rules l.asked.role l.asked.depth l.asked.at (rules.after state j))
+    (l.level.cursor.joint.items ∷ later lists l.level.cursor.places.items)) in
     let of_position = g.G.Game.capacities l.game in
     let of_many = g.G.Game.many_capacities l.game in
     record {

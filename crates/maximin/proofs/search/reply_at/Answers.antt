@@ -29,7 +29,12 @@ loop-upper-init g c =
     let first = c.requires.levels 0 c.index-first-0.result (omega arith) in
     let there = c.split_at_mut-first.ensures.by_index.0 0 c.index-first-0.result (omega arith) in
     record {
-      level = record { position = rw there first.position; cursor = c.start_turns.ensures.cursor; run = rw there first.run; many = rw there first.many };
+      level = record {
+        position = rw there first.position;
+        cursor = c.start_turns.ensures.cursor;
+        run = rw there first.run;
+        many = rw there first.many;
+      };
       rest = λ k d below. rw (c.split_at_mut-first.ensures.by_index.1 k d) (c.requires.levels (1 + k) d (omega arith));
       wide = c.requires.wide;
       capacities = refl;
@@ -38,7 +43,8 @@ loop-upper-init g c =
       deep = omega arith;
       capacity = refl;
       stands = c.start_turns.ensures.stands;
-      is_first = first_start worth turns all (c.start_turns.new.cursor.joint.items ∷ later lists c.start_turns.new.cursor.places.items) c.args.out.now.items c.start_turns.ensures.first refl
+      is_first = first_start worth turns all (c.start_turns.new.cursor.joint.items ∷ later lists c.start_turns.new.cursor.places.items)
+          c.args.out.now.items c.start_turns.ensures.first refl
           (worst_at_most rules c.args.asked.role (λ s r. law.goal_within c.args.game.now s r) c.args.asked.depth c.args.asked.at state c.args.own);
     }
 
@@ -47,7 +53,8 @@ step-requires-clause-joint g c =
     let rules = g.G.Game.rules c.args.game.now in
     let state = g.G.Game.state c.args.game.now c.args.from.now in
     let law = g.met.G.Game g.world.𝓛 g.world.𝓜 g.world.𝓡 ((λ _ x. x), (λ x. x), (λ x. x), λ x. x) in
-    turn_known rules state c.args.asked.role c.args.own c.loop-upper.level.cursor.places.items c.loop-upper.level.cursor.joint.items c.loop-upper.invariant.stands c.requires.own
+    turn_known rules state c.args.asked.role c.args.own c.loop-upper.level.cursor.places.items c.loop-upper.level.cursor.joint.items
+    c.loop-upper.invariant.stands c.requires.own
     (λ q below. law.legal_within c.args.game.now state q below)
 
 pub returns-then-not-next_turn-clause-reply : goal.returns-then-not-next_turn-clause-reply
@@ -69,16 +76,19 @@ returns-then-not-next_turn-clause-reply g c =
     elim c.if-worth-upper.branch [
       | then-worth-upper w ↦
           rw (w.upper-is, same, w.out-is, w.write_joint.ensures.items)
-          (first_lowered worth turns all joint behind upper r c.loop-upper.out.items answers (rw same at (lt_z_true _ upper w.if-worth-upper.true)) c.loop-upper.invariant.is_first)
+          (first_lowered worth turns all joint behind upper r c.loop-upper.out.items answers (rw same at (lt_z_true _ upper w.if-worth-upper.true))
+          c.loop-upper.invariant.is_first)
       | else-worth-upper w ↦
           rw (w.upper-is, w.out-is)
-          (first_kept worth turns all joint behind upper r c.loop-upper.out.items answers (rw same at (lt_z_false _ upper w.if-worth-upper.false)) c.loop-upper.invariant.is_first)
+          (first_kept worth turns all joint behind upper r c.loop-upper.out.items answers (rw same at (lt_z_false _ upper w.if-worth-upper.false))
+          c.loop-upper.invariant.is_first)
     ] in
     first_end worth turns all joint behind (to_z w16 c.if-worth-upper.upper-bits) c.if-worth-upper.out.items c.if-not-next_turn.ensures.none at
 
 pub returns-then-not-next_turn-clause-levels : goal.returns-then-not-next_turn-clause-levels
 returns-then-not-next_turn-clause-levels g c =
-    let P = λ (level : Level g.row.G-Pos.Denot g.row.G-Many.Denot). IsLevelOf (g.G.Game.fits c.args.game.now) (g.G.Game.fits_many c.args.game.now) (g.G.Game.rules c.args.game.now).roles level in
+    let P = λ (level : Level g.row.G-Pos.Denot g.row.G-Many.Denot). IsLevelOf (g.G.Game.fits c.args.game.now) (g.G.Game.fits_many c.args.game.now)
+    (g.G.Game.rules c.args.game.now).roles level in
     let kept = c.loop-upper.invariant.level in
     All-first_and_rest P c.split_at_mut-first.result.0.now c.value_at-worth.new.levels _ c.split_at_mut-first.ensures.front_len
     (record { position = c.step.ensures.fits; cursor = c.next_turn.ensures.cursor; run = kept.run; many = kept.many }) c.value_at-worth.ensures.levels
@@ -102,16 +112,23 @@ loop-upper-preserved g c =
     elim c.if-worth-upper.branch [
       | then-worth-upper w ↦
           rw (w.upper-is, same, w.out-is, w.write_joint.ensures.items)
-          (first_lowered worth turns all joint behind upper r c.loop-upper.out.items answers (rw same at (lt_z_true _ upper w.if-worth-upper.true)) c.loop-upper.invariant.is_first)
+          (first_lowered worth turns all joint behind upper r c.loop-upper.out.items answers (rw same at (lt_z_true _ upper w.if-worth-upper.true))
+          c.loop-upper.invariant.is_first)
       | else-worth-upper w ↦
           rw (w.upper-is, w.out-is)
-          (first_kept worth turns all joint behind upper r c.loop-upper.out.items answers (rw same at (lt_z_false _ upper w.if-worth-upper.false)) c.loop-upper.invariant.is_first)
+          (first_kept worth turns all joint behind upper r c.loop-upper.out.items answers (rw same at (lt_z_false _ upper w.if-worth-upper.false))
+          c.loop-upper.invariant.is_first)
     ] in
     let now = c.loop-upper.level in
     let of_position = g.G.Game.capacities c.args.game.now in
     let of_many = g.G.Game.many_capacities c.args.game.now in
     record {
-      level = record { position = c.step.ensures.fits; cursor = c.next_turn.ensures.cursor; run = c.loop-upper.invariant.level.run; many = c.loop-upper.invariant.level.many };
+      level = record {
+        position = c.step.ensures.fits;
+        cursor = c.next_turn.ensures.cursor;
+        run = c.loop-upper.invariant.level.run;
+        many = c.loop-upper.invariant.level.many;
+      };
       rest = c.value_at-worth.ensures.levels;
       wide = c.value_at-worth.ensures.wide;
       capacities =
@@ -141,11 +158,19 @@ returns-then-not-next_turn-clause-capacities g c =
     let begun : level_capacities of_position of_many now ≡ level_capacities of_position of_many old =
     c.loop-upper.invariant.capacities
     ∙ four_joined (cursor_capacities c.start_turns.new.cursor) (run_capacities old.run) (of_position old.position) (of_many old.many)
-    (cursor_capacities old.cursor) (run_capacities old.run) (of_position old.position) (of_many old.many) c.start_turns.ensures.capacities refl refl refl in
-    let level : Level g.row.G-Pos.Denot g.row.G-Many.Denot = record { position = c.step.new.q; cursor = c.next_turn.new.cursor; run = now.run; many = now.many } in
+    (cursor_capacities old.cursor) (run_capacities old.run) (of_position old.position) (of_many old.many) c.start_turns.ensures.capacities refl refl
+    refl in
+    let level : Level g.row.G-Pos.Denot g.row.G-Many.Denot = record {
+      position = c.step.new.q;
+      cursor = c.next_turn.new.cursor;
+      run = now.run;
+      many = now.many;
+    } in
     let turned : level_capacities of_position of_many level ≡ level_capacities of_position of_many now =
     four_joined (cursor_capacities c.next_turn.new.cursor) (run_capacities now.run) (of_position c.step.new.q) (of_many now.many)
     (cursor_capacities now.cursor) (run_capacities now.run) (of_position now.position) (of_many now.many)
     c.next_turn.ensures.capacities refl c.step.ensures.capacities refl in
-    all_kept (level_capacities of_position of_many) c.args.levels.now c.split_at_mut-first.result.0.now c.split_at_mut-first.result.1.now c.value_at-worth.new.levels
-    level c.index-first-0.result split.value split.front_len (turned ∙ begun) (c.value_at-worth.ensures.capacities ∙ c.loop-upper.invariant.rest_capacities)
+    all_kept (level_capacities of_position of_many) c.args.levels.now c.split_at_mut-first.result.0.now c.split_at_mut-first.result.1.now
+    c.value_at-worth.new.levels
+    level c.index-first-0.result split.value split.front_len (turned ∙ begun)
+    (c.value_at-worth.ensures.capacities ∙ c.loop-upper.invariant.rest_capacities)

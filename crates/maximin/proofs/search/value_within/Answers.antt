@@ -42,4 +42,5 @@ returns-clause-answers g c =
     to_z-of_z w16 c.max-low.result fits_low ∙ c.max-low.ensures.value ∙ ap (λ z. int_max z (pos 0)) (to_z-of_z w16 c.args.a c.ranges.a) in
     let high_is : high ≡ int_min c.args.b (pos 100) =
     to_z-of_z w16 c.min-high.result fits_high ∙ c.min-high.ensures.value ∙ ap (λ z. int_min z (pos 100)) (to_z-of_z w16 c.args.b c.ranges.b) in
-    rw (to_z-of_z w16 c.value_at.result fits_r) (within_goals worth c.args.a c.args.b low high c.value_at.result few low_is high_is c.value_at.ensures.answers)
+    rw (to_z-of_z w16 c.value_at.result fits_r)
+    (within_goals worth c.args.a c.args.b low high c.value_at.result few low_is high_is c.value_at.ensures.answers)

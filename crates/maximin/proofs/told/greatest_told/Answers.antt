@@ -24,5 +24,6 @@ loop-place-preserved g c =
     let part : here ≤ all = greatest_worth_above value_of states c.loop-place.place (omega (arith, c.requires.count, c.loop-place-test.true)) in
     rw raised record {
       at_least = raised_above a lower worth c.loop-place.invariant.at_least;
-      at_most = told_high c.told_worth.result here all a lower worth c.told_worth.ensures part c.unwrap_or-worth.ensures c.loop-place.invariant.at_most;
+      at_most = told_high c.told_worth.result here all a lower worth c.told_worth.ensures part c.unwrap_or-worth.ensures
+          c.loop-place.invariant.at_most;
     }

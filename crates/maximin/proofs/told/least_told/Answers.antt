@@ -24,5 +24,6 @@ loop-place-preserved g c =
     let part : all ≤ here = least_worth_below value_of states c.loop-place.place (omega (arith, c.requires.count, c.loop-place-test.true)) in
     rw lowered record {
       at_most = lowered_below b upper worth c.loop-place.invariant.at_most;
-      at_least = told_low c.told_worth.result here all b upper worth c.told_worth.ensures part c.unwrap_or-worth.ensures c.loop-place.invariant.at_least;
+      at_least = told_low c.told_worth.result here all b upper worth c.told_worth.ensures part c.unwrap_or-worth.ensures
+          c.loop-place.invariant.at_least;
     }

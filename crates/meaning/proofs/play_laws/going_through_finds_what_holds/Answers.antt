@@ -2,4 +2,11 @@ use Rattle.meaning.proofs.Evaluation.{holding_exact, after_listed, legal_listed,
 use Rattle.meaning.proofs.play_laws.going_through_finds_what_holds.Goals as goal
 
 pub returns : goal.returns
-returns c = record { found = holding_exact; after = after_listed; legal = legal_listed; ended = ended_tested; stuck = stuck_tested; goal = goal_tested }
+returns c = record {
+  found = holding_exact;
+  after = after_listed;
+  legal = legal_listed;
+  ended = ended_tested;
+  stuck = stuck_tested;
+  goal = goal_tested;
+}

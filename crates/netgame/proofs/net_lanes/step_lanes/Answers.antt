@@ -14,7 +14,8 @@ pub run_kept-requires-clause-kept : goal.run_kept-requires-clause-kept
 run_kept-requires-clause-kept c =
     let game = c.args.game.now in
     let n = length game.played.starts.items in
-    let many : kept_in game.lane_plan.next ≡ n = ∥∥₁_elim game.laned.next (Prim.hlevel props) (λ of. of.size ∙ length-map-range_with_len (λ p. get_or game.net.transitions.items p 0) 0 n) in
+    let many : kept_in game.lane_plan.next ≡ n = ∥∥₁_elim game.laned.next (Prim.hlevel props)
+    (λ of. of.size ∙ length-map-range_with_len (λ p. get_or game.net.transitions.items p 0) 0 n) in
     c.requires.to ∙ sym many
 
 pub returns-clause-after : goal.returns-clause-after
@@ -23,5 +24,7 @@ returns-clause-after c =
     let words = c.write_sources.new.words.items in
     let states = c.run_kept.new.out.items in
     let size = c.run_kept.ensures.size in
-    tells_next_states game.played game.net game.compiled game.lane_plan game.laned c.args.from.now words states c.args.joints.now c.requires.few c.requires.joints c.requires.spread (size ∙ c.requires.to) c.write_sources.ensures.base c.write_sources.ensures.given
-    (λ net kept i of lt. subst (λ (ws : List ℕ). IsTurnWordOf net ws (get_or kept i 0) (get_or states i 0)) c.deref.ensures.value (c.run_kept.ensures.told net kept i of (omega arith)))
+    tells_next_states game.played game.net game.compiled game.lane_plan game.laned c.args.from.now words states c.args.joints.now c.requires.few
+    c.requires.joints c.requires.spread (size ∙ c.requires.to) c.write_sources.ensures.base c.write_sources.ensures.given
+    (λ net kept i of lt. subst (λ (ws : List ℕ). IsTurnWordOf net ws (get_or kept i 0) (get_or states i 0)) c.deref.ensures.value
+    (c.run_kept.ensures.told net kept i of (omega arith)))

@@ -15,7 +15,8 @@ any_told-out-requires-clause-places c =
     let kinds = kinds_of game.played in
     let plan = game.lane_plan in
     subst (λ (ps : List ℕ). All (λ (p : ℕ). p < kept_in plan.asked) ps) (sym (c.deref-3.ensures.value ∙ game.laned.ends))
-    (subst (λ (n : ℕ). All (λ (p : ℕ). p < n) (ends_of (places_of kinds) kinds)) (sym (kept_count game.played game.net plan game.laned)) (ends_within kinds))
+    (subst (λ (n : ℕ). All (λ (p : ℕ). p < n) (ends_of (places_of kinds) kinds)) (sym (kept_count game.played game.net plan game.laned))
+    (ends_within kinds))
 
 pub returns-clause-many : goal.returns-clause-many
 returns-clause-many c =
@@ -27,7 +28,8 @@ returns-clause-many c =
     let room = c.run.new.room.items in
     let few = c.requires.few in
     let ran : HasRun plan.asked states room = subst (λ (ws : List ℕ). HasRun plan.asked ws room) c.deref.ensures.value c.run.ensures.run in
-    let lent : HasRun plan.asked states c.deref-2.result.now = subst (λ (ws : List ℕ). HasRun plan.asked states ws) (sym c.deref-2.ensures.value) ran in
+    let lent : HasRun plan.asked states c.deref-2.result.now = subst (λ (ws : List ℕ). HasRun plan.asked states ws) (sym c.deref-2.ensures.value) ran
+    in
     record {
       states = c.requires.states;
       room = c.run.ensures.size ∙ c.requires.room;
@@ -35,7 +37,8 @@ returns-clause-many c =
       ran = λ some. ran;
       ended = λ k lt.
           let on : ℕ → Bool = λ p. holds_lane g states k (asked_at kinds p) in
-          c.any_told-out.ensures k on (tells_asked g game.net game.compiled plan game.laned states c.deref-2.result.now k c.requires.states lent (omega arith))
+          c.any_told-out.ensures k on (tells_asked g game.net game.compiled plan game.laned states c.deref-2.result.now k c.requires.states lent
+          (omega arith))
           ∙ ap (list_any on) (c.deref-3.ensures.value ∙ game.laned.ends)
           ∙ told_ends kinds (holds_lane g states k);
     }

@@ -11,7 +11,9 @@ loop-k-preserved c = λ net kept words i of run lt.
     elim (cases_eq i k) [
       | inl same ↦
           subst (λ (j : ℕ). IsTurnWordOf net words (get_or kept j 0) (get_or (set old k c.word.result) j 0)) (sym same)
-          (subst (λ (w : ℕ). IsTurnWordOf net words (get_or kept k 0) w) (sym (get_or-set_same old k c.word.result 0 (omega arith))) (c.word.ensures.turns net kept words of run))
+          (subst (λ (w : ℕ). IsTurnWordOf net words (get_or kept k 0) w) (sym (get_or-set_same old k c.word.result 0 (omega arith)))
+          (c.word.ensures.turns net kept words of run))
       | inr other ↦
-          subst (λ (w : ℕ). IsTurnWordOf net words (get_or kept i 0) w) (sym (get_or-set_other old k i c.word.result 0 other)) (c.loop-k.invariant net kept words i of run (omega arith))
+          subst (λ (w : ℕ). IsTurnWordOf net words (get_or kept i 0) w) (sym (get_or-set_other old k i c.word.result 0 other))
+          (c.loop-k.invariant net kept words i of run (omega arith))
     ]

@@ -1,6 +1,6 @@
 use Rattle.std.proofs.Common.{◌≡◌, ◌+◌, ◌<◌, ℕ, List, ◌++◌, suc, length, ap, ◌∙◌, arith, Option, None}
 use Rattle.ground.specs.GroundView.{kinds_of}
-use Rattle.game.proofs.ManyStates.{get_or_any}
+use Rattle.game.proofs.Facts.{get_or_any}
 use Rattle.rulegame.specs.GroundFacts.{few_moves}
 use Rattle.netgame.specs.LanePlans.{legal_named, legal_pair, legals_below}
 use Rattle.netgame.proofs.net_planning.list_legals.Goals as goal
@@ -22,7 +22,8 @@ loop-number-preserved c =
     let more : suc n ≡ n + 1 = omega arith in
     let size = c.in_ok-found.ensures.size in
     let lt : n < length c.in_ok-found.found.items = omega arith in
-    let here : c.index.result.now ≡ legal_named kinds role n (length kinds) = c.index.ensures ∙ get_or_any c.in_ok-found.found.items n _ None lt ∙ c.in_ok-found.ensures.each n (omega arith) in
+    let here : c.index.result.now ≡ legal_named kinds role n (length kinds) = c.index.ensures ∙ get_or_any c.in_ok-found.found.items n _ None lt
+    ∙ c.in_ok-found.ensures.each n (omega arith) in
     c.in_ok-add_legal.ensures
     ∙ ap (λ (o : Option ℕ). c.loop-number.list.items ++ legal_pair places o n) here
     ∙ ap (λ (ls : List (ℕ × ℕ)). ls ++ legal_pair places (legal_named kinds role n (length kinds)) n) c.loop-number.invariant

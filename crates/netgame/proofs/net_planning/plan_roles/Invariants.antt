@@ -9,5 +9,6 @@ use Rattle.netgame.proofs.net_planning.plan_roles.Given as goal
 abbrev pub invariant-loop-role : goal.invariant-loop-role
 invariant-loop-role l = record {
   size : length l.plans.items ≡ l.role;
-  each : (r : ℕ) (d : RoleAsked) → r < l.role → IsRoleAskedOf l.places (kinds_of l.ground) r (length (texts_at (inputs_of l.ground) r)) (get_or l.plans.items r d);
+  each : (r : ℕ) (d : RoleAsked) → r < l.role → IsRoleAskedOf l.places (kinds_of l.ground) r (length (texts_at (inputs_of l.ground) r))
+      (get_or l.plans.items r d);
 }

@@ -17,4 +17,5 @@ returns-clause-after c =
     let one : lane_states g m ≡ after c.args.joint.now ∷ [] = c.net_steps.ensures.after ∙ ap (map after) c.from_ref.ensures.value in
     let size : length (lane_states g m) ≡ m.count = states_count (lane_state m.states.items n) m.count in
     let count : m.count ≡ 1 = sym size ∙ ap (λ (ss : List State). length ss) one in
-    c.take_first.ensures.taken ∙ sym (state_at (lane_state m.states.items n) m.count 0 (omega (arith, count))) ∙ ap (λ (ss : List State). get_or ss 0 []) one
+    c.take_first.ensures.taken ∙ sym (state_at (lane_state m.states.items n) m.count 0 (omega (arith, count)))
+    ∙ ap (λ (ss : List State). get_or ss 0 []) one

@@ -40,9 +40,11 @@ best_told-requires-clause-places c =
     let plan = game.lane_plan in
     let role = c.args.role in
     let n = length (texts_at (inputs_of game.played) role) in
-    let here = subst (λ (a : RoleAsked). IsRoleAskedOf (places_of kinds) kinds role n a) (sym c.index.ensures) (game.laned.roles role c.index.result.now c.requires.role) in
+    let here = subst (λ (a : RoleAsked). IsRoleAskedOf (places_of kinds) kinds role n a) (sym c.index.ensures)
+    (game.laned.roles role c.index.result.now c.requires.role) in
     subst (λ (ls : List (ℕ × ℕ)). All (λ (l : ℕ × ℕ). l.0 < kept_in plan.asked) ls) (sym (c.deref-then-lane_bit-eq1.ensures.value ∙ here.goals))
-    (subst (λ (m : ℕ). All (λ (l : ℕ × ℕ). l.0 < m) (goals_of (places_of kinds) kinds role)) (sym (kept_count game.played game.net plan game.laned)) (goals_within kinds role))
+    (subst (λ (m : ℕ). All (λ (l : ℕ × ℕ). l.0 < m) (goals_of (places_of kinds) kinds role)) (sym (kept_count game.played game.net plan game.laned))
+    (goals_within kinds role))
 
 pub returns-then-lane_bit-eq1 : goal.returns-then-lane_bit-eq1
 returns-then-lane_bit-eq1 c =
@@ -61,9 +63,11 @@ returns-then-lane_bit-eq1 c =
     let lt : k < length (lane_states g m) = c.requires.lane in
     let lane : k < m.count = omega arith in
     let kept : get_or (lane_states g m) k [] ≡ lane_state states n k = state_at (lane_state states n) m.count k lane in
-    let here = subst (λ (a : RoleAsked). IsRoleAskedOf (places_of kinds) kinds role moves a) (sym c.index.ensures) (game.laned.roles role c.index.result.now c.requires.role) in
+    let here = subst (λ (a : RoleAsked). IsRoleAskedOf (places_of kinds) kinds role moves a) (sym c.index.ensures)
+    (game.laned.roles role c.index.result.now c.requires.role) in
     let on : ℕ → Bool = λ p. holds_lane g states k (asked_at kinds p) in
-    let ran : HasRun plan.asked states c.deref.result.now = subst (λ (ws : List ℕ). HasRun plan.asked states ws) (sym c.deref.ensures.value) (c.requires.many.ran (omega arith)) in
+    let ran : HasRun plan.asked states c.deref.result.now = subst (λ (ws : List ℕ). HasRun plan.asked states ws) (sym c.deref.ensures.value)
+    (c.requires.many.ran (omega arith)) in
     let ended : ends kinds (holds_in g (lane_state states n k)) ≡ true =
     sym (c.requires.many.ended k lane) ∙ ap (λ (v : ℕ). v == 1) (sym c.lane_bit.ensures.value ∙ c.if-lane_bit-eq1.true) in
     let goal : c.best_told.result ≡ best_goal kinds (holds_in g (lane_state states n k)) role =
@@ -87,4 +91,5 @@ returns c =
     let lane : k < m.count = omega arith in
     let kept : get_or (lane_states g m) k [] ≡ lane_state states n k = state_at (lane_state states n) m.count k lane in
     let bit : (c.lane_bit.result == 1) ≡ false = ne_eqb c.lane_bit.result 1 c.if-lane_bit-eq1.false in
-    subst (λ (s : State). ends kinds (holds_in g s) ≡ false) (sym kept) (sym (c.requires.many.ended k lane) ∙ ap (λ (v : ℕ). v == 1) (sym c.lane_bit.ensures.value) ∙ bit)
+    subst (λ (s : State). ends kinds (holds_in g s) ≡ false) (sym kept)
+    (sym (c.requires.many.ended k lane) ∙ ap (λ (v : ℕ). v == 1) (sym c.lane_bit.ensures.value) ∙ bit)

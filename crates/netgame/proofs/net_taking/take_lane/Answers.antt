@@ -10,11 +10,13 @@ returns-clause-spread c =
     let old = c.args.lanes.now in
     let room = ap length c.deref_mut.ensures.value in
     let same = written_over c.put_taken.new.lanes old.items old.len old.ok.0 (c.put_taken.auto.lanes ∙ room) in
-    subst AreSpread (sym same) (spread_words c.put_taken.new.lanes (length c.args.states.now) (lane c.args.states.now c.args.k) (c.put_taken.auto.lanes ∙ room ∙ c.requires.room) c.put_taken.ensures)
+    subst AreSpread (sym same) (spread_words c.put_taken.new.lanes (length c.args.states.now) (lane c.args.states.now c.args.k)
+    (c.put_taken.auto.lanes ∙ room ∙ c.requires.room) c.put_taken.ensures)
 
 pub returns-clause-told : goal.returns-clause-told
 returns-clause-told c =
     let old = c.args.lanes.now in
     let n = length c.args.states.now in
     let same = written_over c.put_taken.new.lanes old.items old.len old.ok.0 (c.put_taken.auto.lanes ∙ ap length c.deref_mut.ensures.value) in
-    ap (λ (ws : List ℕ). lane_state ws n 0) same ∙ same_state (lane c.put_taken.new.lanes 0) (lane c.args.states.now c.args.k) n (λ p lt. c.put_taken.ensures p 0 lt (omega arith))
+    ap (λ (ws : List ℕ). lane_state ws n 0) same ∙ same_state (lane c.put_taken.new.lanes 0) (lane c.args.states.now c.args.k) n
+    (λ p lt. c.put_taken.ensures p 0 lt (omega arith))

@@ -10,7 +10,8 @@ use Rattle.netgame.proofs.net_taking.take_roles.Given as goal
 abbrev pub invariant-loop-role : goal.invariant-loop-role
 invariant-loop-role l = record {
   room : HaveRoom (inputs_of l.game.played) l.roles.items;
-  read : (r : ℕ) (d : RoleState) → r < l.role → IsRoleRead (kinds_of l.game.played) (holds_lane l.game.played l.many.states.items l.k) r (length (texts_at (inputs_of l.game.played) r)) (get_or l.roles.items r d);
+  read : (r : ℕ) (d : RoleState) → r < l.role → IsRoleRead (kinds_of l.game.played) (holds_lane l.game.played l.many.states.items l.k) r
+      (length (texts_at (inputs_of l.game.played) r)) (get_or l.roles.items r d);
   capacities : all_capacities l.roles.items ≡ all_capacities l.initial.roles.items;
   capacity : vec_capacity l.roles ≡ vec_capacity l.initial.roles;
 }

@@ -65,7 +65,8 @@ returns-clause-ended c =
     let written : lane_state lanes n 0 ≡ lane_state c.deref.result.now n k =
     subst (λ (l : ℕ). lane_state lanes l 0 ≡ lane_state c.deref.result.now l k) whole c.take_lane.ensures.told in
     let kept : lane_state lanes n 0 ≡ lane_state states n k = written ∙ ap (λ (ws : List ℕ). lane_state ws n k) c.deref.ensures.value in
-    ap (λ (v : ℕ). v == 1) c.lane_bit.ensures.value ∙ c.requires.many.ended k (omega arith) ∙ ap (λ (s : State). ends (kinds_of g) (holds_in g s)) (sym kept)
+    ap (λ (v : ℕ). v == 1) c.lane_bit.ensures.value ∙ c.requires.many.ended k (omega arith)
+    ∙ ap (λ (s : State). ends (kinds_of g) (holds_in g s)) (sym kept)
 
 pub returns-clause-read : goal.returns-clause-read
 returns-clause-read c =

@@ -2,7 +2,7 @@ use Rattle.std.proofs.Common.{◌∙◌, w16, rules as facts}
 use Rattle.std.proofs.lemmas.Int.{to_z-of_z}
 use mir.Val.{SFits}
 use Rattle.game.specs.Value.{value}
-use Rattle.maximin.proofs.Bounds.{value_at_most}
+use Rattle.maximin.proofs.Facts.{value_at_most}
 use Rattle.replies.proofs.Exact.{exact_answer}
 use Rattle.replies.proofs.alone.found_alone.Goals as goal
 

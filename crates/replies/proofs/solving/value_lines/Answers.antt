@@ -2,7 +2,7 @@ use Rattle.std.proofs.Common.{w16, ◌∙◌, ap, ◌<◌, rules as facts}
 use Rattle.std.proofs.lemmas.Int.{to_z-of_z}
 use mir.Val.{SFits}
 use Rattle.std.specs.Prelude.{nat_abs}
-use Rattle.game.proofs.PlayRange.{choice_within}
+use Rattle.game.proofs.Facts.{choice_within}
 use Rattle.replies.specs.Histories.{named}
 use Rattle.replies.proofs.Solved.{lines_are}
 use Rattle.replies.proofs.solving.value_lines.Goals as goal

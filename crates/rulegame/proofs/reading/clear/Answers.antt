@@ -8,6 +8,7 @@ loop-place-preserved c =
     let size : length c.loop-place.marks.items ≡ length c.args.marks.now.items = c.loop-place.invariant.size in
     record {
       size = ap length c.put_mark.ensures.written ∙ length-set c.loop-place.marks.items c.loop-place.place false ∙ size;
-      each = mark_more (λ k. false) c.loop-place.marks.items _ c.loop-place.place false (omega arith) c.put_mark.ensures.written refl c.loop-place.invariant.each;
+      each = mark_more (λ k. false) c.loop-place.marks.items _ c.loop-place.place false (omega arith) c.put_mark.ensures.written refl
+          c.loop-place.invariant.each;
       capacity = c.put_mark.ensures.capacity ∙ c.loop-place.invariant.capacity;
     }

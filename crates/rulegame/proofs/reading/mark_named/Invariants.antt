@@ -6,6 +6,7 @@ use Rattle.rulegame.proofs.reading.mark_named.Given as goal
 abbrev pub invariant-loop-place : goal.invariant-loop-place
 invariant-loop-place l = record {
   size : length l.marks.items ≡ length l.initial.marks.items;
-  each : (k : ℕ) → k < length l.initial.marks.items → get_or l.marks.items k false ≡ names_among (take l.place l.list) (λ a. get_or l.right.items a false) l.by k;
+  each : (k : ℕ) → k < length l.initial.marks.items → get_or l.marks.items k false ≡ names_among (take l.place l.list)
+      (λ a. get_or l.right.items a false) l.by k;
   capacity : vec_capacity l.marks ≡ vec_capacity l.initial.marks;
 }

@@ -1,7 +1,7 @@
 use Rattle.std.proofs.Common.{◌≡◌, ◌+◌, List, [], ◌∷◌, length, get_or, sym, subst, ap, ◌∙◌, arith}
 use Rattle.std.proofs.lemmas.List.{length-append}
 use Rattle.rulegame.specs.declared.rule_many.RuleBase.{RuleBase}
-use Rattle.game.proofs.ManyStates.{push_all}
+use Rattle.game.proofs.Facts.{push_all}
 use Rattle.rulegame.proofs.rule_many.new_bases.Goals as goal
 
 pub loop-i-preserved : goal.loop-i-preserved
@@ -14,5 +14,6 @@ loop-i-preserved c =
     record {
       size = ap length pushed ∙ length-append old (new ∷ []) ∙ (let z : length old + 1 ≡ c.loop-i._i + 1 = omega arith in z);
       each = λ k d lt. subst (λ (ps : List RuleBase). length (get_or ps k d).marks.items ≡ many) (sym pushed)
-          (push_all (λ (p : RuleBase). length p.marks.items ≡ many) old new c.in_ok-new_base.ensures (λ i e l. c.loop-i.invariant.each i e (omega arith)) k d (omega arith));
+          (push_all (λ (p : RuleBase). length p.marks.items ≡ many) old new c.in_ok-new_base.ensures
+          (λ i e l. c.loop-i.invariant.each i e (omega arith)) k d (omega arith));
     }

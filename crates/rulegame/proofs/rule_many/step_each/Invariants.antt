@@ -11,7 +11,8 @@ abbrev pub invariant-loop-k : goal.invariant-loop-k
 invariant-loop-k l = record {
   right : length l.right.items ≡ length l.initial.right.items;
   room : HaveBaseRoom l.game.played l.states.items;
-  after : (i : ℕ) (d : RuleBase) → i < l.k → marked (get_or l.states.items i d).marks.items ≡ (rules_of l.game.played).after (marked l.p.base.items) (joint_at l.joints i);
+  after : (i : ℕ) (d : RuleBase) → i < l.k → marked (get_or l.states.items i d).marks.items ≡ (rules_of l.game.played).after (marked l.p.base.items)
+      (joint_at l.joints i);
   right_capacity : vec_capacity l.right ≡ vec_capacity l.initial.right;
   capacities : all_base_capacities l.states.items ≡ all_base_capacities l.initial.states.items;
   capacity : vec_capacity l.states ≡ vec_capacity l.initial.states;

@@ -3,7 +3,7 @@ use Rattle.std.proofs.Math.ListN.{length-set}
 use Rattle.rulegame.specs.declared.rule_pos.RoleState.{RoleState}
 use Rattle.rulegame.specs.RuleState.{IsCopied, role_capacities}
 use Rattle.rulegame.proofs.Marks.{flat_map-set}
-use Rattle.game.proofs.ManyStates.{get_or_any}
+use Rattle.game.proofs.Facts.{get_or_any}
 use Rattle.rulegame.proofs.States.{read_more}
 use Rattle.rulegame.proofs.rule_pos.copy_roles.Goals as goal
 
@@ -22,9 +22,11 @@ loop-role-preserved c =
           (λ e.
           subst (λ (f : RoleState). IsCopied (get_or from k e) f new)
           (c.index_mut.ensures.value ∙ get_or_any fs k _ e (omega arith) ∙ c.loop-role.invariant.rest k e (omega arith))
-          (subst (λ (f : RoleState). IsCopied f c.index_mut.result.now new) (c.index-from-role.is ∙ get_or_any from k _ e (omega arith)) c.copy_role.ensures.copied))
+          (subst (λ (f : RoleState). IsCopied f c.index_mut.result.now new) (c.index-from-role.is ∙ get_or_any from k _ e (omega arith))
+          c.copy_role.ensures.copied))
           c.loop-role.invariant.done;
       rest = λ r d past. get_or-set_other fs k r new d (λ e. absurd (omega arith)) ∙ c.loop-role.invariant.rest r d (omega arith);
-      capacities = flat_map-set role_capacities fs k new _ (c.copy_role.ensures.capacities ∙ ap role_capacities c.index_mut.ensures.value) ∙ c.loop-role.invariant.capacities;
+      capacities = flat_map-set role_capacities fs k new _ (c.copy_role.ensures.capacities ∙ ap role_capacities c.index_mut.ensures.value)
+          ∙ c.loop-role.invariant.capacities;
       capacity = c.loop-role.invariant.capacity;
     }

@@ -10,6 +10,7 @@ loop-proposition-preserved c =
     let whole : length c.args.base.now.items ≡ length c.args.ground.now.starts.items = c.requires in
     record {
       size = ap length c.put_mark.ensures.written ∙ length-set c.loop-proposition.base.items k _ ∙ size;
-      each = mark_more (λ p. get_or c.args.ground.now.starts.items p false) c.loop-proposition.base.items _ k _ (omega arith) c.put_mark.ensures.written
+      each = mark_more (λ p. get_or c.args.ground.now.starts.items p false) c.loop-proposition.base.items _ k _ (omega arith)
+          c.put_mark.ensures.written
           c.starts.ensures c.loop-proposition.invariant.each;
     }

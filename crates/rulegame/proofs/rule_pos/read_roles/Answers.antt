@@ -13,8 +13,10 @@ loop-role-preserved c =
     let size : length fs ≡ length inputs = c.loop-role.invariant.room.size in
     record {
       room = room_set inputs fs c.loop-role.role c.read_role.new.out c.loop-role.invariant.room (omega arith) c.read_role.ensures.room;
-      read = read_more (λ r f. IsRoleRead (kinds_of c.args.game.now.played) (λ a. get_or c.args.right.now.items a false) r (length (texts_at inputs r)) f) fs c.loop-role.role c.read_role.new.out (omega arith)
+      read = read_more (λ r f. IsRoleRead (kinds_of c.args.game.now.played) (λ a. get_or c.args.right.now.items a false) r
+          (length (texts_at inputs r)) f) fs c.loop-role.role c.read_role.new.out (omega arith)
           c.read_role.ensures.read c.loop-role.invariant.read;
-      capacities = flat_map-set role_capacities fs c.loop-role.role c.read_role.new.out _ (c.read_role.ensures.capacities ∙ ap role_capacities c.index_mut.ensures.value) ∙ c.loop-role.invariant.capacities;
+      capacities = flat_map-set role_capacities fs c.loop-role.role c.read_role.new.out _
+          (c.read_role.ensures.capacities ∙ ap role_capacities c.index_mut.ensures.value) ∙ c.loop-role.invariant.capacities;
       capacity = c.loop-role.invariant.capacity;
     }

@@ -9,7 +9,8 @@ use Rattle.rulegame.proofs.rule_pos.read_roles.Given as goal
 abbrev pub invariant-loop-role : goal.invariant-loop-role
 invariant-loop-role l = record {
   room : HaveRoom (inputs_of l.game.played) l.roles.items;
-  read : (r : ℕ) (d : RoleState) → r < l.role → IsRoleRead (kinds_of l.game.played) (λ a. get_or l.right.items a false) r (length (texts_at (inputs_of l.game.played) r)) (get_or l.roles.items r d);
+  read : (r : ℕ) (d : RoleState) → r < l.role → IsRoleRead (kinds_of l.game.played) (λ a. get_or l.right.items a false) r
+      (length (texts_at (inputs_of l.game.played) r)) (get_or l.roles.items r d);
   capacities : all_capacities l.roles.items ≡ all_capacities l.initial.roles.items;
   capacity : vec_capacity l.roles ≡ vec_capacity l.initial.roles;
 }

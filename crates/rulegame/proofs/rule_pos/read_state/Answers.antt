@@ -11,7 +11,8 @@ use Rattle.rulegame.proofs.rule_pos.read_state.Goals as goal
 pub has_ended-p-requires : goal.has_ended-p-requires
 has_ended-p-requires c =
     let game = c.args.game.now in
-    sought_within Ends (kinds_of game.played) game.plan.ends.items c.deref-2.result.now (length c.evaluate.new.right.items) game.planned.ends c.deref-2.ensures.value c.evaluate.ensures.marks.size
+    sought_within Ends (kinds_of game.played) game.plan.ends.items c.deref-2.result.now (length c.evaluate.new.right.items) game.planned.ends
+    c.deref-2.ensures.value c.evaluate.ensures.marks.size
 
 pub returns-clause-state : goal.returns-clause-state
 returns-clause-state c =
@@ -21,10 +22,12 @@ returns-clause-state c =
     let read = λ (a : ℕ). get_or right a false in
     let now = holds kinds (instances_of g) (marked c.args.p.now.base.items) [] in
     let m : AreMarks right (length kinds) now =
-    subst (λ (bs : List Bool). AreMarks right (length kinds) (holds kinds (instances_of g) (marked bs) [])) c.deref.ensures.value c.evaluate.ensures.marks in
+    subst (λ (bs : List Bool). AreMarks right (length kinds) (holds kinds (instances_of g) (marked bs) [])) c.deref.ensures.value
+    c.evaluate.ensures.marks in
     record {
       room = record { base = c.requires.base; right = m.size; roles = c.read_roles.ensures.room };
-      ended = c.has_ended-p.ensures ∙ ap (λ (ps : List Standing). ends_among ps read) (c.deref-2.ensures.value ∙ c.args.game.now.planned.ends) ∙ ends_all kinds read
+      ended = c.has_ended-p.ensures ∙ ap (λ (ps : List Standing). ends_among ps read) (c.deref-2.ensures.value ∙ c.args.game.now.planned.ends)
+          ∙ ends_all kinds read
           ∙ ends_same kinds read now m.each;
       roles = reads_same kinds read now (inputs_of g) c.read_roles.new.roles.items m.each c.read_roles.ensures.read;
     }

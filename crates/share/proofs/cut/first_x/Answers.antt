@@ -6,7 +6,8 @@ use Rattle.share.proofs.cut.first_x.Goals as goal
 pub returns : goal.returns
 returns c =
     let past = c.loop-place-test.false in
-    sym (position_or_len_is is_x c.args.text.now (length c.args.text.now) 0 (omega arith) (λ k below. c.loop-place.invariant.none k (omega (arith, past))) (λ inside. absurd (omega arith)))
+    sym (position_or_len_is is_x c.args.text.now (length c.args.text.now) 0 (omega arith)
+    (λ k below. c.loop-place.invariant.none k (omega (arith, past))) (λ inside. absurd (omega arith)))
 
 pub returns-then-text-place-eq120 : goal.returns-then-text-place-eq120
 returns-then-text-place-eq120 c =

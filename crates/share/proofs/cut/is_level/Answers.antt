@@ -17,9 +17,11 @@ returns-then-level-lt10-clause-no c e same =
 pub returns-else-level-lt10-clause-yes : goal.returns-else-level-lt10-clause-yes
 returns-else-level-lt10-clause-yes c e =
     let bytes : c.as_slice-else-level-lt10.result.now ≡ 49 ∷ (48 + c.args.level % 10) ∷ [] = search facts in
-    two_bytes c.args.level (omega arith) (omega arith) ∙ sym bytes ∙ sym (same_text c.args.text.now c.as_slice-else-level-lt10.result.now (sym e ∙ c.is_text-else-level-lt10.ensures))
+    two_bytes c.args.level (omega arith) (omega arith) ∙ sym bytes
+    ∙ sym (same_text c.args.text.now c.as_slice-else-level-lt10.result.now (sym e ∙ c.is_text-else-level-lt10.ensures))
 
 pub returns-else-level-lt10-clause-no : goal.returns-else-level-lt10-clause-no
 returns-else-level-lt10-clause-no c e same =
     let bytes : c.as_slice-else-level-lt10.result.now ≡ 49 ∷ (48 + c.args.level % 10) ∷ [] = search facts in
-    other_text c.args.text.now c.as_slice-else-level-lt10.result.now (sym e ∙ c.is_text-else-level-lt10.ensures) (sym same ∙ two_bytes c.args.level (omega arith) (omega arith) ∙ sym bytes)
+    other_text c.args.text.now c.as_slice-else-level-lt10.result.now (sym e ∙ c.is_text-else-level-lt10.ensures)
+    (sym same ∙ two_bytes c.args.level (omega arith) (omega arith) ∙ sym bytes)

@@ -7,7 +7,8 @@ pub answer_single-requires-clause-some : goal.answer_single-requires-clause-some
 answer_single-requires-clause-some g c = let some = c.levels-levels.ensures.lawful.some in omega (arith, some, c.requires.desk.count)
 
 pub answer_middle-requires-clause-few : goal.answer_middle-requires-clause-few
-answer_middle-requires-clause-few g c κs within = few_of_two c.in-Two.first c.in-Two.second (subst IsCut (sym c.in-Two.ensures.is) c.in-Two.ensures.lawful)
+answer_middle-requires-clause-few g c κs within = few_of_two c.in-Two.first c.in-Two.second
+    (subst IsCut (sym c.in-Two.ensures.is) c.in-Two.ensures.lawful)
 
 pub answer_first-requires-clause-few : goal.answer_first-requires-clause-few
 answer_first-requires-clause-few g c κs within =

@@ -3,9 +3,7 @@ use Rattle.std.proofs.lemmas.Int.{to_z-of_z}
 use mir.Val.{SFits, to_z}
 use Rattle.std.specs.Prelude.{pos}
 use Rattle.game.specs.Value.{Answers}
-use Rattle.maximin.proofs.Windows.{lt_z_true, lt_z_false}
-use Rattle.maximin.proofs.Bounds.{worst_at_most}
-use Rattle.maximin.proofs.Best.{worst_at_place, best_raised, best_kept}
+use Rattle.maximin.proofs.Facts.{lt_z_true, lt_z_false, worst_at_most, worst_at_place, best_raised, best_kept}
 use Rattle.share.proofs.SoFar.{best_value, best_choice}
 use Rattle.share.proofs.single.answer_single.Goals as goal
 use Rattle.share.proofs.single.answer_single.Goals.{then-worst-best, else-worst-best}
@@ -19,7 +17,8 @@ loop-own-preserved g c =
     let worth = worst_at_place rules node.role node.depth node.at state in
     let best = to_z w16 c.loop-own.best-bits in
     let few : worth c.loop-own.own ≤ 100 =
-    worst_at_most rules node.role (λ s r. law.goal_within node.game.now s r) (node.depth - 1) node.at state (get_or (rules.legal state node.role) c.loop-own.own 0) in
+    worst_at_most rules node.role (λ s r. law.goal_within node.game.now s r) (node.depth - 1) node.at state
+    (get_or (rules.legal state node.role) c.loop-own.own 0) in
     let r = c.worst_of-worst.result in
     let answers : Answers (worth c.loop-own.own) best (pos 101) r = c.worst_of-worst.ensures.answers in
     let fits : SFits w16 r = search facts in
@@ -43,11 +42,13 @@ returns-clause-value g c =
     let node = c.args.node.now in
     let rules = g.G.Game.rules node.game.now in
     let state = g.G.Game.state node.game.now node.from.now in
-    best_value rules state node.role node.depth node.at node.plan record { known = node.known; turn = node.turn; planned = node.planned } c.loop-own.own (to_z w16 c.loop-own.best-bits) c.loop-own.first node.going (search facts) c.loop-own.invariant.is_best
+    best_value rules state node.role node.depth node.at node.plan record { known = node.known; turn = node.turn; planned = node.planned }
+    c.loop-own.own (to_z w16 c.loop-own.best-bits) c.loop-own.first node.going (search facts) c.loop-own.invariant.is_best
 
 pub returns-clause-first : goal.returns-clause-first
 returns-clause-first g c =
     let node = c.args.node.now in
     let rules = g.G.Game.rules node.game.now in
     let state = g.G.Game.state node.game.now node.from.now in
-    best_choice rules state node.role node.depth node.at node.plan record { known = node.known; turn = node.turn; planned = node.planned } c.loop-own.own (to_z w16 c.loop-own.best-bits) c.loop-own.first node.going (search facts) c.loop-own.invariant.is_best
+    best_choice rules state node.role node.depth node.at node.plan record { known = node.known; turn = node.turn; planned = node.planned }
+    c.loop-own.own (to_z w16 c.loop-own.best-bits) c.loop-own.first node.going (search facts) c.loop-own.invariant.is_best

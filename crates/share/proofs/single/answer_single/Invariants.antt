@@ -1,6 +1,6 @@
 use Rattle.std.proofs.Common.{◌≤◌}
 use Rattle.maximin.specs.Room.{IsRoomOf, room_depth}
-use Rattle.maximin.proofs.Best.{IsBest, worst_at_place}
+use Rattle.maximin.proofs.Facts.{IsBest, worst_at_place}
 use Rattle.share.specs.Step.{IsStepOf}
 use Rattle.share.proofs.single.answer_single.Given as goal
 
@@ -11,6 +11,7 @@ invariant-loop-own g l =
     record {
       is_best : IsBest (worst_at_place rules l.node.role l.node.depth l.node.at state) l.own l.best l.first;
       step : IsStepOf (g.G.Game.fits l.node.game.now) rules.roles l.step;
-      room : IsRoomOf (g.G.Game.fits l.node.game.now) (g.G.Game.fits_wide l.node.game.now) (g.G.Game.fits_many l.node.game.now) rules.roles l.rest.room;
+      room : IsRoomOf (g.G.Game.fits l.node.game.now) (g.G.Game.fits_wide l.node.game.now) (g.G.Game.fits_many l.node.game.now) rules.roles
+          l.rest.room;
       deep : l.node.depth ≤ room_depth l.rest.room;
     }

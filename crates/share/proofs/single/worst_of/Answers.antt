@@ -24,7 +24,8 @@ loop-reply-preserved g c =
     let found : Answers (table c.loop-reply.reply) (kept c.args.best) (kept upper) (kept r) = rw best at c.value_behind-worth.ensures.answers in
     let old : IsLeast table c.loop-reply.reply (kept c.args.best) (kept upper) = rw best at c.loop-reply.invariant.least in
     record {
-      least = rw (best, same_n) (least_more table c.loop-reply.reply (kept c.args.best) (kept upper) (kept r) (kept next) old found (rw same_r at c.lesser-upper.ensures.lesser));
+      least = rw (best, same_n) (least_more table c.loop-reply.reply (kept c.args.best) (kept upper) (kept r) (kept next) old found
+          (rw same_r at c.lesser-upper.ensures.lesser));
       range = rw same_n c.lesser-upper.ensures.range;
       step = c.value_behind-worth.ensures.step;
       room = c.value_behind-worth.ensures.room;
@@ -37,6 +38,8 @@ returns-clause-answers g c =
     let rules = g.G.Game.rules node.game.now in
     let state = g.G.Game.state node.game.now node.from.now in
     let table = table_of (task_value rules node.role node.depth node.at state) c.args.own in
-    let old : IsLeast table c.loop-reply.reply (kept c.args.best) (kept (to_z w16 c.loop-reply.upper-bits)) = rw (to_z-of_z w16 c.args.best c.ranges.best) at c.loop-reply.invariant.least in
-    worst_found rules state node.role node.depth node.at node.plan record { known = node.known; turn = node.turn; planned = node.planned } c.args.own c.loop-reply.reply c.args.best (to_z w16 c.loop-reply.upper-bits)
+    let old : IsLeast table c.loop-reply.reply (kept c.args.best) (kept (to_z w16 c.loop-reply.upper-bits)) = rw
+    (to_z-of_z w16 c.args.best c.ranges.best) at c.loop-reply.invariant.least in
+    worst_found rules state node.role node.depth node.at node.plan record { known = node.known; turn = node.turn; planned = node.planned } c.args.own
+    c.loop-reply.reply c.args.best (to_z w16 c.loop-reply.upper-bits)
     c.requires.own (search facts) (search facts) (c.loop-reply.invariant.range.0) old

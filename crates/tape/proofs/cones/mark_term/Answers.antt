@@ -6,7 +6,8 @@ use Rattle.tape.proofs.cones.mark_term.Goals as goal
 
 pub mark_all-requires : goal.mark_all-requires
 mark_all-requires c =
-    reads_below c.args.net.now.base (gates_of c.args.net.now) c.args.n (gate_with c.gate-name.result.0 c.gate-name.result.1.now) (length c.args.marks.now.items)
+    reads_below c.args.net.now.base (gates_of c.args.net.now) c.args.n (gate_with c.gate-name.result.0 c.gate-name.result.1.now)
+    (length c.args.marks.now.items)
     c.args.net.now.in_order c.gate-name.ensures (omega (arith, c.requires.count, c.requires.node))
 
 pub returns-then-is_and-clause-marked : goal.returns-then-is_and-clause-marked
@@ -16,7 +17,8 @@ returns-then-is_and-clause-marked c =
 
 pub returns-then-is_and-clause-above : goal.returns-then-is_and-clause-above
 returns-then-is_and-clause-above c = λ m h. c.mark_all.ensures.above c.args.n m
-    (reads_below c.args.net.now.base (gates_of c.args.net.now) c.args.n (gate_with c.gate-name.result.0 c.gate-name.result.1.now) c.args.n c.args.net.now.in_order c.gate-name.ensures (omega arith))
+    (reads_below c.args.net.now.base (gates_of c.args.net.now) c.args.n (gate_with c.gate-name.result.0 c.gate-name.result.1.now) c.args.n
+    c.args.net.now.in_order c.gate-name.ensures (omega arith))
     (omega arith)
 
 pub returns-clause-marked : goal.returns-clause-marked

@@ -15,4 +15,5 @@ loop-number-preserved c = record {
 }
 
 pub returns-clause-marked : goal.returns-clause-marked
-returns-clause-marked c = all_terms (gates_of c.args.net.now) c.loop-number.marks.items c.args.numbers.now c.loop-number.number-index c.loop-number-test.false c.loop-number.invariant.marked
+returns-clause-marked c = all_terms (gates_of c.args.net.now) c.loop-number.marks.items c.args.numbers.now c.loop-number.number-index
+    c.loop-number-test.false c.loop-number.invariant.marked

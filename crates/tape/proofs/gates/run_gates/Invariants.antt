@@ -6,7 +6,8 @@ use Rattle.tape.proofs.gates.run_gates.Given as goal
 abbrev pub invariant-fours : goal.invariant-fours
 invariant-fours l = record {
   within : l.i ≤ length l.gates;
-  same : (k n : ℕ) → k < 64 → pass (l.first + 2 * l.i) (drop l.i l.gates) (is_lane_on l.room k) n ≡ pass l.first l.gates (is_lane_on l.initial.room k) n;
+  same : (k n : ℕ) → k < 64 → pass (l.first + 2 * l.i) (drop l.i l.gates) (is_lane_on l.room k) n ≡ pass l.first l.gates (is_lane_on l.initial.room k)
+      n;
 }
 
 abbrev pub invariant-rest : goal.invariant-rest

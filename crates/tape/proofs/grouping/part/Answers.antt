@@ -20,12 +20,16 @@ loop-literal-preserved c =
     elim c.match-place_in.branch [
       | in-Some w ↦ rw (w.marks-is, w.rest-is) record {
         size = simp length-set c.loop-literal.invariant.size;
-        value = λ v. part_marked v xs c.loop-literal.rest.items from i w.in-Some.place _ c.loop-literal.marks c.loop-literal-test.true (omega (arith, w.in-Some.ensures.within, c.loop-literal.invariant.size, c.requires.room)) refl w.in-Some.ensures.place (c.loop-literal.invariant.value v);
+        value = λ v. part_marked v xs c.loop-literal.rest.items from i w.in-Some.place _ c.loop-literal.marks c.loop-literal-test.true
+            (omega (arith, w.in-Some.ensures.within, c.loop-literal.invariant.size, c.requires.room)) refl w.in-Some.ensures.place
+            (c.loop-literal.invariant.value v);
         below = c.loop-literal.invariant.below;
       }
       | in-None+in_ok-push-in-None w ↦ rw (w.marks-is, w.rest-is) record {
         size = c.loop-literal.invariant.size;
-        value = λ v. part_left v xs c.loop-literal.rest.items w.push.new.self.items from i _ c.loop-literal.marks c.loop-literal-test.true refl w.in_ok-push-in-None.ensures.items (c.loop-literal.invariant.value v);
-        below = λ n all. subst (λ (ys : List ℕ). All (λ j. j < n) ys) (sym w.in_ok-push-in-None.ensures.items) (All-push (λ j. j < n) c.loop-literal.rest.items _ (c.loop-literal.invariant.below n all) (all i 0 c.loop-literal-test.true));
+        value = λ v. part_left v xs c.loop-literal.rest.items w.push.new.self.items from i _ c.loop-literal.marks c.loop-literal-test.true refl
+            w.in_ok-push-in-None.ensures.items (c.loop-literal.invariant.value v);
+        below = λ n all. subst (λ (ys : List ℕ). All (λ j. j < n) ys) (sym w.in_ok-push-in-None.ensures.items)
+            (All-push (λ j. j < n) c.loop-literal.rest.items _ (c.loop-literal.invariant.below n all) (all i 0 c.loop-literal-test.true));
       }
     ]

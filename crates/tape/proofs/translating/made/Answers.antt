@@ -10,10 +10,13 @@ invariant_of-result c = record {
   ordered = c.in_ok-literals.ensures.kept.built.tape;
   given = c.in_ok-literals.ensures.kept.first;
   sources_below = subst (λ (ns : List ℕ). All (λ (n : ℕ). n < c.above-most.result) ns) c.deref-2.ensures.value c.above-most.ensures;
-  kept_within = kept_slots c.args.net.now c.args.sources.words.items c.args.kept.now c.translate.new.builder c.in_ok-literals.literals.items c.deref.result.now c.gather.new.queue.items
+  kept_within = kept_slots c.args.net.now c.args.sources.words.items c.args.kept.now c.translate.new.builder c.in_ok-literals.literals.items
+      c.deref.result.now c.gather.new.queue.items
       c.in_ok-literals.ensures.kept c.deref.ensures.value c.in_ok-gather.ensures;
 }
 
 pub returns : goal.returns
-returns c = tape_of c.args.net.now c.args.sources.words.items c.args.kept.now c.translate.new.builder c.args.groups.items c.in_ok-literals.literals.items c.deref.result.now _
-    (c.in_ok-literals.ensures.groups ∙ ap (λ (v : Vec Group). v.items) c.in_ok-builder.ensures.3) c.in_ok-literals.ensures.kept c.deref.ensures.value refl refl refl c.in_ok-gather.ensures
+returns c = tape_of c.args.net.now c.args.sources.words.items c.args.kept.now c.translate.new.builder c.args.groups.items
+    c.in_ok-literals.literals.items c.deref.result.now _
+    (c.in_ok-literals.ensures.groups ∙ ap (λ (v : Vec Group). v.items) c.in_ok-builder.ensures.3) c.in_ok-literals.ensures.kept c.deref.ensures.value
+    refl refl refl c.in_ok-gather.ensures

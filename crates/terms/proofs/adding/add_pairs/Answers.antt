@@ -6,20 +6,47 @@ use Rattle.terms.proofs.AtPlaces.{at_end}
 use Rattle.terms.proofs.adding.add_pairs.Goals as goal
 
 pub loop-term-init : goal.loop-term-init
-loop-term-init c = each_begins c.args.arena.now c.args.atoms.now.keys (λ words t. atom2 (word_at words c.args.word) (term_at (trees words c.args.arena.now.keys) c.args.first) t) c.args.terms.now c.requires.terms
+loop-term-init c = each_begins c.args.arena.now c.args.atoms.now.keys
+    (λ words t. atom2 (word_at words c.args.word) (term_at (trees words c.args.arena.now.keys) c.args.first) t) c.args.terms.now c.requires.terms
 
 pub add_atom-requires : goal.add_atom-requires
 add_atom-requires c =
-    fits_key c.args.arena.now c.loop-term.arena c.args.atoms.now.keys c.loop-term.atoms.keys (λ words t. atom2 (word_at words c.args.word) (term_at (trees words c.args.arena.now.keys) c.args.first) t) c.args.terms.now (get_or c.args.terms.now c.loop-term.term-index 0) (drop (c.loop-term.term-index + 1) c.args.terms.now) c.args.word (c.args.first ∷ ((get_or c.args.terms.now c.loop-term.term-index 0) ∷ []))
-    (subst (λ (l : List ℕ). AddingEach c.args.arena.now c.loop-term.arena c.args.atoms.now.keys c.loop-term.atoms.keys (λ words t. atom2 (word_at words c.args.word) (term_at (trees words c.args.arena.now.keys) c.args.first) t) c.args.terms.now l) (number_next c.args.terms.now c.args.terms.now c.loop-term.term-index refl c.loop-term-test.true) c.loop-term.invariant) c.requires.word (c.requires.first, ((subst (λ (l : List ℕ). AddingEach c.args.arena.now c.loop-term.arena c.args.atoms.now.keys c.loop-term.atoms.keys (λ words t. atom2 (word_at words c.args.word) (term_at (trees words c.args.arena.now.keys) c.args.first) t) c.args.terms.now l) (number_next c.args.terms.now c.args.terms.now c.loop-term.term-index refl c.loop-term-test.true) c.loop-term.invariant).below.0, tt))
+    fits_key c.args.arena.now c.loop-term.arena c.args.atoms.now.keys c.loop-term.atoms.keys
+    (λ words t. atom2 (word_at words c.args.word) (term_at (trees words c.args.arena.now.keys) c.args.first) t) c.args.terms.now
+    (get_or c.args.terms.now c.loop-term.term-index 0) (drop (c.loop-term.term-index + 1) c.args.terms.now) c.args.word
+    (c.args.first ∷ ((get_or c.args.terms.now c.loop-term.term-index 0) ∷ []))
+    (subst (λ (l : List ℕ). AddingEach c.args.arena.now c.loop-term.arena c.args.atoms.now.keys c.loop-term.atoms.keys
+    (λ words t. atom2 (word_at words c.args.word) (term_at (trees words c.args.arena.now.keys) c.args.first) t) c.args.terms.now l)
+    (number_next c.args.terms.now c.args.terms.now c.loop-term.term-index refl c.loop-term-test.true) c.loop-term.invariant) c.requires.word (
+      c.requires.first,
+      (
+        (subst (λ (l : List ℕ). AddingEach c.args.arena.now c.loop-term.arena c.args.atoms.now.keys c.loop-term.atoms.keys
+            (λ words t. atom2 (word_at words c.args.word) (term_at (trees words c.args.arena.now.keys) c.args.first) t) c.args.terms.now l)
+            (number_next c.args.terms.now c.args.terms.now c.loop-term.term-index refl c.loop-term-test.true) c.loop-term.invariant).below.0,
+        tt,
+      ),
+    )
 
 pub loop-term-preserved : goal.loop-term-preserved
 loop-term-preserved c =
-    each_next c.args.arena.now c.loop-term.arena c.add_atom.new.arena c.args.atoms.now.keys c.loop-term.atoms.keys c.add_atom.new.atoms.keys (λ words t. atom2 (word_at words c.args.word) (term_at (trees words c.args.arena.now.keys) c.args.first) t) c.args.terms.now (get_or c.args.terms.now c.loop-term.term-index 0) (drop (c.loop-term.term-index + 1) c.args.terms.now) (c.args.word ∷ (c.args.first ∷ ((get_or c.args.terms.now c.loop-term.term-index 0) ∷ [])))
-    (subst (λ (l : List ℕ). AddingEach c.args.arena.now c.loop-term.arena c.args.atoms.now.keys c.loop-term.atoms.keys (λ words t. atom2 (word_at words c.args.word) (term_at (trees words c.args.arena.now.keys) c.args.first) t) c.args.terms.now l) (number_next c.args.terms.now c.args.terms.now c.loop-term.term-index refl c.loop-term-test.true) c.loop-term.invariant) c.in_ok-add_atom.ensures.front c.in_ok-add_atom.ensures.sizes
-    (λ words t front. pair_tree words c.args.arena.now c.loop-term.arena c.args.word c.args.first (get_or c.args.terms.now c.loop-term.term-index 0) c.requires.first (subst (λ (l : List ℕ). AddingEach c.args.arena.now c.loop-term.arena c.args.atoms.now.keys c.loop-term.atoms.keys (λ words t. atom2 (word_at words c.args.word) (term_at (trees words c.args.arena.now.keys) c.args.first) t) c.args.terms.now l) (number_next c.args.terms.now c.args.terms.now c.loop-term.term-index refl c.loop-term-test.true) c.loop-term.invariant).below.0 front) c.in_ok-add_atom.ensures.added
+    each_next c.args.arena.now c.loop-term.arena c.add_atom.new.arena c.args.atoms.now.keys c.loop-term.atoms.keys c.add_atom.new.atoms.keys
+    (λ words t. atom2 (word_at words c.args.word) (term_at (trees words c.args.arena.now.keys) c.args.first) t) c.args.terms.now
+    (get_or c.args.terms.now c.loop-term.term-index 0) (drop (c.loop-term.term-index + 1) c.args.terms.now)
+    (c.args.word ∷ (c.args.first ∷ ((get_or c.args.terms.now c.loop-term.term-index 0) ∷ [])))
+    (subst (λ (l : List ℕ). AddingEach c.args.arena.now c.loop-term.arena c.args.atoms.now.keys c.loop-term.atoms.keys
+    (λ words t. atom2 (word_at words c.args.word) (term_at (trees words c.args.arena.now.keys) c.args.first) t) c.args.terms.now l)
+    (number_next c.args.terms.now c.args.terms.now c.loop-term.term-index refl c.loop-term-test.true) c.loop-term.invariant)
+    c.in_ok-add_atom.ensures.front c.in_ok-add_atom.ensures.sizes
+    (λ words t front. pair_tree words c.args.arena.now c.loop-term.arena c.args.word c.args.first (get_or c.args.terms.now c.loop-term.term-index 0)
+    c.requires.first (subst (λ (l : List ℕ). AddingEach c.args.arena.now c.loop-term.arena c.args.atoms.now.keys c.loop-term.atoms.keys
+    (λ words t. atom2 (word_at words c.args.word) (term_at (trees words c.args.arena.now.keys) c.args.first) t) c.args.terms.now l)
+    (number_next c.args.terms.now c.args.terms.now c.loop-term.term-index refl c.loop-term-test.true) c.loop-term.invariant).below.0 front)
+    c.in_ok-add_atom.ensures.added
 
 pub returns-clause-added : goal.returns-clause-added
 returns-clause-added c =
-    each_ends c.args.arena.now c.loop-term.arena c.args.atoms.now.keys c.loop-term.atoms.keys (λ words t. atom2 (word_at words c.args.word) (term_at (trees words c.args.arena.now.keys) c.args.first) t) c.args.terms.now
-    (subst (λ (l : List ℕ). AddingEach c.args.arena.now c.loop-term.arena c.args.atoms.now.keys c.loop-term.atoms.keys (λ words t. atom2 (word_at words c.args.word) (term_at (trees words c.args.arena.now.keys) c.args.first) t) c.args.terms.now l) (at_end c.args.terms.now c.args.terms.now c.loop-term.term-index refl c.loop-term-test.false) c.loop-term.invariant)
+    each_ends c.args.arena.now c.loop-term.arena c.args.atoms.now.keys c.loop-term.atoms.keys
+    (λ words t. atom2 (word_at words c.args.word) (term_at (trees words c.args.arena.now.keys) c.args.first) t) c.args.terms.now
+    (subst (λ (l : List ℕ). AddingEach c.args.arena.now c.loop-term.arena c.args.atoms.now.keys c.loop-term.atoms.keys
+    (λ words t. atom2 (word_at words c.args.word) (term_at (trees words c.args.arena.now.keys) c.args.first) t) c.args.terms.now l)
+    (at_end c.args.terms.now c.args.terms.now c.loop-term.term-index refl c.loop-term-test.false) c.loop-term.invariant)

@@ -5,5 +5,6 @@ use Rattle.terms.proofs.stating.add_second_parts.Given as goal
 
 abbrev pub invariant-loop-atom : goal.invariant-loop-atom
 invariant-loop-atom l =
-    (l.fn.terms.items ++ second_parts l.arena.keys l.word l.role l.fn.atoms ≡ l.terms.items ++ second_parts l.arena.keys l.word l.role (drop l.atom-index l.atoms))
+    (l.fn.terms.items ++ second_parts l.arena.keys l.word l.role l.fn.atoms ≡ l.terms.items ++ second_parts l.arena.keys l.word l.role
+    (drop l.atom-index l.atoms))
     × AreBelow (length l.arena.keys) (drop l.atom-index l.atoms)

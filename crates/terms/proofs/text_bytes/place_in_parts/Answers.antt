@@ -13,7 +13,8 @@ pub length_of-length-requires : goal.length_of-length-requires
 length_of-length-requires c = (let b = c.loop-part.invariant.below in let h = c.loop-part-test.true in here_below _ _ _ h b)
 
 pub returns-then-left-length : goal.returns-then-left-length
-returns-then-left-length c = λ words e n b o. part_found _ _ _ _ _ c.loop-part.invariant _ (omega arith) c.length_of-length.ensures (omega arith) c.if-left-length.true words e n b o
+returns-then-left-length c = λ words e n b o. part_found _ _ _ _ _ c.loop-part.invariant _ (omega arith) c.length_of-length.ensures (omega arith)
+    c.if-left-length.true words e n b o
 
 pub loop-part-preserved : goal.loop-part-preserved
 loop-part-preserved c = seek_next _ _ _ _ _ c.loop-part.invariant _ (omega arith) c.length_of-length.ensures (omega arith)

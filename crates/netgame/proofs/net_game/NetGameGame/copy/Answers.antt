@@ -26,5 +26,6 @@ returns-clause-fits c =
       spread = subst AreSpread (sym same) c.requires.from.spread;
       ended = c.requires.from.ended ∙ ap (λ (ws : List ℕ). ends (kinds_of g) (holds_in g (lane_state ws n 0))) (sym same);
       roles = subst (λ (ws : List ℕ). AreRead (kinds_of g) (holds_in g (lane_state ws n 0)) (inputs_of g) new) (sym same)
-          (copied_read (kinds_of g) (holds_in g (lane_state c.args.p.now.lanes.items n 0)) (inputs_of g) from old new c.requires.from.room.roles copied c.requires.from.roles);
+          (copied_read (kinds_of g) (holds_in g (lane_state c.args.p.now.lanes.items n 0)) (inputs_of g) from old new c.requires.from.room.roles
+          copied c.requires.from.roles);
     }

@@ -25,7 +25,8 @@ reads-requires-clause-rises c =
     let same = length-gates 0 net.nodes.list.items net.nodes.operands.items in
     let below = c.requires in
     let lt : c.args.n < length net.nodes.list.items = omega arith in
-    (here_is net.base net.nodes.list.items net.nodes.operands.items c.args.n c.start.result c.index-node.result.now net.nodes.laid net.in_order lt c.start.ensures c.index-node.ensures).rises
+    (here_is net.base net.nodes.list.items net.nodes.operands.items c.args.n c.start.result c.index-node.result.now net.nodes.laid net.in_order lt
+    c.start.ensures c.index-node.ensures).rises
 
 pub reads-requires-clause-within : goal.reads-requires-clause-within
 reads-requires-clause-within c =
@@ -33,7 +34,8 @@ reads-requires-clause-within c =
     let same = length-gates 0 net.nodes.list.items net.nodes.operands.items in
     let below = c.requires in
     let lt : c.args.n < length net.nodes.list.items = omega arith in
-    let here = here_is net.base net.nodes.list.items net.nodes.operands.items c.args.n c.start.result c.index-node.result.now net.nodes.laid net.in_order lt c.start.ensures c.index-node.ensures in
+    let here = here_is net.base net.nodes.list.items net.nodes.operands.items c.args.n c.start.result c.index-node.result.now net.nodes.laid
+    net.in_order lt c.start.ensures c.index-node.ensures in
     let inside = here.within in
     let operands = ap length c.deref.ensures.value in
     omega arith
@@ -45,6 +47,8 @@ returns c =
     let below = c.requires in
     let lt : c.args.n < length net.nodes.list.items = omega arith in
     let node = c.index-node.result.now in
-    let here = here_is net.base net.nodes.list.items net.nodes.operands.items c.args.n c.start.result node net.nodes.laid net.in_order lt c.start.ensures c.index-node.ensures in
+    let here = here_is net.base net.nodes.list.items net.nodes.operands.items c.args.n c.start.result node net.nodes.laid net.in_order lt
+    c.start.ensures c.index-node.ensures in
     here.is
-    ∙ ap (λ (xs : List ℕ). Some (gate_with node.name xs)) (sym (c.reads.ensures ∙ ap (λ (os : List ℕ). slice_range os c.start.result node.end) c.deref.ensures.value))
+    ∙ ap (λ (xs : List ℕ). Some (gate_with node.name xs))
+    (sym (c.reads.ensures ∙ ap (λ (os : List ℕ). slice_range os c.start.result node.end) c.deref.ensures.value))

@@ -3,8 +3,8 @@ use Rattle.std.proofs.lemmas.Int.{to_z-of_z}
 use Rattle.std.specs.Prelude.{IfSome, pos}
 use Rattle.game.specs.Rules.{IsTurn, Turn}
 use Rattle.game.specs.Value.{value, worst, reply_of}
-use Rattle.game.proofs.PlayRange.{choice_within, reply_within}
-use Rattle.maximin.proofs.Stays.{choice_stays, reply_stays}
+use Rattle.game.proofs.Facts.{choice_within, reply_within}
+use Rattle.maximin.proofs.Facts.{choice_stays, reply_stays}
 use Rattle.replies.proofs.LineLemmas.{choice_legal}
 use Rattle.replies.proofs.play.Play.turn.Goals as goal
 

@@ -22,5 +22,6 @@ returns-clause-fits c =
       };
       ended = c.requires.from.ended ∙ ap (λ (bs : List Bool). ends (kinds_of g) (holds_in g (marked bs))) (sym same);
       roles = subst (λ (bs : List Bool). AreRead (kinds_of g) (holds_in g (marked bs)) (inputs_of g) new) (sym same)
-          (copied_read (kinds_of g) (holds_in g (marked c.args.p.now.base.items)) (inputs_of g) from old new c.requires.from.room.roles copied c.requires.from.roles);
+          (copied_read (kinds_of g) (holds_in g (marked c.args.p.now.base.items)) (inputs_of g) from old new c.requires.from.room.roles copied
+          c.requires.from.roles);
     }

@@ -3,11 +3,25 @@ use Rattle.std.specs.Prelude.{is_some}
 use Rattle.std.specs.Fmt.{decimal}
 use Rattle.std.specs.List.{slice_split}
 use Rattle.share.specs.Cuts.{is_x}
-use Rattle.share.proofs.Numerals.{Refused, when_none, refused_first, refused_second, refused_third, refused_more, some_pieces, none_pieces, read_cut, read_none, one_level, more_levels}
+use Rattle.share.proofs.Numerals.{
+  Refused,
+  when_none,
+  refused_first,
+  refused_second,
+  refused_third,
+  refused_more,
+  some_pieces,
+  none_pieces,
+  read_cut,
+  read_none,
+  one_level,
+  more_levels,
+}
 use Rattle.share.proofs.cut.Cut.parse.Goals as goal
 
 pub returns-in_err-first-clause-none : goal.returns-in_err-first-clause-none
-returns-in_err-first-clause-none c = when_none c.from_residual.result (Refused c.args.text.now) (refused_first c.args.text.now c.in_err-first.ensures.none)
+returns-in_err-first-clause-none c = when_none c.from_residual.result (Refused c.args.text.now)
+    (refused_first c.args.text.now c.in_err-first.ensures.none)
 
 pub returns-in_default-clause-some : goal.returns-in_default-clause-some
 returns-in_default-clause-some c =
@@ -56,7 +70,8 @@ returns-in_err-third-clause-none c =
     let second = c.in_ok-second.second in
     let after = c.in-Some-rest.rest.now in
     let later : slice_split is_x next ≡ decimal second ∷ slice_split is_x after = rw c.in-Some-rest.is at c.in_ok-second.ensures.some in
-    when_none c.from_residual-in_err-third.result (Refused text) (refused_third text (decimal first) (decimal second) next after parts later c.in_err-third.ensures.none)
+    when_none c.from_residual-in_err-third.result (Refused text)
+    (refused_third text (decimal first) (decimal second) next after parts later c.in_err-third.ensures.none)
 
 pub returns-then-is_some-clause-none : goal.returns-then-is_some-clause-none
 returns-then-is_some-clause-none c =
@@ -69,7 +84,8 @@ returns-then-is_some-clause-none c =
     let later : slice_split is_x next ≡ decimal second ∷ slice_split is_x after = rw c.in-Some-rest.is at c.in_ok-second.ensures.some in
     let third = c.in_ok-third.third in
     let some : is_some c.in_ok-third.rest ≡ true = search facts in
-    refused_more text (decimal first) (decimal second) (decimal third) next after _ parts later c.in_ok-third.ensures.some (some_pieces _ c.in_ok-third.rest some)
+    refused_more text (decimal first) (decimal second) (decimal third) next after _ parts later c.in_ok-third.ensures.some
+    (some_pieces _ c.in_ok-third.rest some)
 
 pub returns-clause-some : goal.returns-clause-some
 returns-clause-some c =
@@ -82,9 +98,12 @@ returns-clause-some c =
     let later : slice_split is_x next ≡ decimal second ∷ slice_split is_x after = rw c.in-Some-rest.is at c.in_ok-second.ensures.some in
     let third = c.in_ok-third.third in
     let none : is_some c.in_ok-third.rest ≡ false = search facts in
-    let last : slice_split is_x after ≡ decimal third ∷ [] = c.in_ok-third.ensures.some ∙ ap (λ xs. decimal third ∷ xs) (none_pieces _ c.in_ok-third.rest none) in
-    let all : slice_split is_x text ≡ decimal first ∷ decimal second ∷ decimal third ∷ [] = parts ∙ ap (λ xs. decimal first ∷ xs) (later ∙ ap (λ xs. decimal second ∷ xs) last) in
-    let each = more_levels first (second ∷ third ∷ []) c.in_ok-first.ensures.level (more_levels second (third ∷ []) c.in_ok-second.ensures.level (one_level third c.in_ok-third.ensures.level)) in
+    let last : slice_split is_x after ≡ decimal third ∷ [] = c.in_ok-third.ensures.some
+    ∙ ap (λ xs. decimal third ∷ xs) (none_pieces _ c.in_ok-third.rest none) in
+    let all : slice_split is_x text ≡ decimal first ∷ decimal second ∷ decimal third ∷ [] = parts
+    ∙ ap (λ xs. decimal first ∷ xs) (later ∙ ap (λ xs. decimal second ∷ xs) last) in
+    let each = more_levels first (second ∷ third ∷ []) c.in_ok-first.ensures.level
+    (more_levels second (third ∷ []) c.in_ok-second.ensures.level (one_level third c.in_ok-third.ensures.level)) in
     read_cut text (first ∷ second ∷ third ∷ []) each all c.new-2.result c.new-2.ensures.some
 
 pub returns-clause-none : goal.returns-clause-none
@@ -98,7 +117,10 @@ returns-clause-none c =
     let later : slice_split is_x next ≡ decimal second ∷ slice_split is_x after = rw c.in-Some-rest.is at c.in_ok-second.ensures.some in
     let third = c.in_ok-third.third in
     let none : is_some c.in_ok-third.rest ≡ false = search facts in
-    let last : slice_split is_x after ≡ decimal third ∷ [] = c.in_ok-third.ensures.some ∙ ap (λ xs. decimal third ∷ xs) (none_pieces _ c.in_ok-third.rest none) in
-    let all : slice_split is_x text ≡ decimal first ∷ decimal second ∷ decimal third ∷ [] = parts ∙ ap (λ xs. decimal first ∷ xs) (later ∙ ap (λ xs. decimal second ∷ xs) last) in
-    let each = more_levels first (second ∷ third ∷ []) c.in_ok-first.ensures.level (more_levels second (third ∷ []) c.in_ok-second.ensures.level (one_level third c.in_ok-third.ensures.level)) in
+    let last : slice_split is_x after ≡ decimal third ∷ [] = c.in_ok-third.ensures.some
+    ∙ ap (λ xs. decimal third ∷ xs) (none_pieces _ c.in_ok-third.rest none) in
+    let all : slice_split is_x text ≡ decimal first ∷ decimal second ∷ decimal third ∷ [] = parts
+    ∙ ap (λ xs. decimal first ∷ xs) (later ∙ ap (λ xs. decimal second ∷ xs) last) in
+    let each = more_levels first (second ∷ third ∷ []) c.in_ok-first.ensures.level
+    (more_levels second (third ∷ []) c.in_ok-second.ensures.level (one_level third c.in_ok-third.ensures.level)) in
     read_none text (first ∷ second ∷ third ∷ []) each all c.new-2.result c.new-2.ensures.none

@@ -11,7 +11,8 @@ loop-preserved g c =
     let step = c.in_ok-step.step in
     let items : c.push_reserved.new.self.items ≡ c.loop.steps.items ++ step ∷ [] = c.push_reserved.ensures.items in
     record {
-      steps = subst (All (IsStepOf fits roles)) (sym items) (All-push (IsStepOf fits roles) c.loop.steps.items step c.loop.invariant.steps c.in_ok-step.ensures);
+      steps = subst (All (IsStepOf fits roles)) (sym items)
+          (All-push (IsStepOf fits roles) c.loop.steps.items step c.loop.invariant.steps c.in_ok-step.ensures);
       count = omega (arith, ap length items, length-append c.loop.steps.items (step ∷ []), c.loop.invariant.count);
       place = omega (arith, c.push_reserved.ensures.capacity, c.loop.invariant.place);
     }

@@ -8,5 +8,6 @@ abbrev pub invariant-loop-number : goal.invariant-loop-number
 invariant-loop-number l = record {
   step : IsStep l.fn.self l.self;
   literals : All (λ i. i < slots_of l.self) l.queue.items;
-  value : (bits : ℕ → Bool) → AreOneOf l.fn.self.groups.items bits → any_of (value_of l.self bits) l.queue.items ≡ any_of (value_of l.fn.self bits) l.fn.queue.items;
+  value : (bits : ℕ → Bool) → AreOneOf l.fn.self.groups.items bits → any_of (value_of l.self bits) l.queue.items ≡ any_of (value_of l.fn.self bits)
+      l.fn.queue.items;
 }

@@ -9,9 +9,12 @@ returns-in-Some-clause-kept c = known_inside _ _ _ _ _ c.in-Some.number c.self.v
 pub invariant_of-self-in-Ok-1 : goal.invariant_of-self-in-Ok-1
 invariant_of-self-in-Ok-1 c =
     held_more _ _ _ _ _ _ _ c.self.invariant (key_inside _ _ _ _ _ c.self.invariant c.self.view_is c.requires) c.in_default.ensures
-    (c.key_length-length.ensures.exact ∙ ap (λ (ls : List ℕ). key_length ls c.args.key.now) c.deref.ensures.value) c.key_length-length.ensures.cut c.in_ok-push.ensures.items c.in-Ok.ensures.kept
+    (c.key_length-length.ensures.exact ∙ ap (λ (ls : List ℕ). key_length ls c.args.key.now) c.deref.ensures.value) c.key_length-length.ensures.cut
+    c.in_ok-push.ensures.items c.in-Ok.ensures.kept
 
 pub returns-clause-numbered : goal.returns-clause-numbered
 returns-clause-numbered c =
-    numbered_inside _ _ _ (held_more _ _ _ _ _ _ _ c.self.invariant (key_inside _ _ _ _ _ c.self.invariant c.self.view_is c.requires) c.in_default.ensures
-    (c.key_length-length.ensures.exact ∙ ap (λ (ls : List ℕ). key_length ls c.args.key.now) c.deref.ensures.value) c.key_length-length.ensures.cut c.in_ok-push.ensures.items c.in-Ok.ensures.kept)
+    numbered_inside _ _ _ (held_more _ _ _ _ _ _ _ c.self.invariant (key_inside _ _ _ _ _ c.self.invariant c.self.view_is c.requires)
+    c.in_default.ensures
+    (c.key_length-length.ensures.exact ∙ ap (λ (ls : List ℕ). key_length ls c.args.key.now) c.deref.ensures.value) c.key_length-length.ensures.cut
+    c.in_ok-push.ensures.items c.in-Ok.ensures.kept)

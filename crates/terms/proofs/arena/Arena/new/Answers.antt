@@ -5,7 +5,8 @@ use Rattle.terms.proofs.arena.Arena.new.Goals as goal
 
 pub loop-symbol-preserved : goal.loop-symbol-preserved
 loop-symbol-preserved c =
-    begun_next _ _ _ _ _ _ _ c.loop-symbol.invariant (omega arith) (c.cut.ensures ∙ ap (λ (w : List ℕ). cut (length w)) c.symbol.ensures) c.in_ok-push.ensures.items c.in_ok-intern.ensures.kept
+    begun_next _ _ _ _ _ _ _ c.loop-symbol.invariant (omega arith) (c.cut.ensures ∙ ap (λ (w : List ℕ). cut (length w)) c.symbol.ensures)
+    c.in_ok-push.ensures.items c.in_ok-intern.ensures.kept
 
 pub invariant_of-result : goal.invariant_of-result
 invariant_of-result c = begun_held _ _ _ _ _ c.count_symbols.ensures (omega arith) c.loop-symbol.invariant

@@ -5,4 +5,5 @@ pub returns-in_ok-push-in-Closing-clause-writes : goal.returns-in_ok-push-in-Clo
 returns-in_ok-push-in-Closing-clause-writes c = rw c.in-Closing.is (closed _ _ _ _ _ c.in_ok-push-in-Closing.ensures.items)
 
 pub returns-in_ok-begin_term-in-Term-clause-writes : goal.returns-in_ok-begin_term-in-Term-clause-writes
-returns-in_ok-begin_term-in-Term-clause-writes c = rw c.in-Term.is (spaced _ _ _ _ _ _ _ _ c.in_ok-push-in-Term.ensures.items c.in_ok-begin_term-in-Term.ensures)
+returns-in_ok-begin_term-in-Term-clause-writes c = rw c.in-Term.is
+    (spaced _ _ _ _ _ _ _ _ c.in_ok-push-in-Term.ensures.items c.in_ok-begin_term-in-Term.ensures)

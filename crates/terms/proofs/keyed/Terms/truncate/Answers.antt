@@ -4,4 +4,5 @@ use Rattle.terms.proofs.keyed.Terms.truncate.Goals as goal
 
 pub returns : goal.returns
 returns c =
-    ap (λ vs. map (λ v. v.items) vs) c.truncate.ensures.keys ∙ sym (take-map (λ v. v.items) c.args.many c.self.inside.keys.keys) ∙ ap (λ (ks : List (List ℕ)). take c.args.many ks) c.self.view_is
+    ap (λ vs. map (λ v. v.items) vs) c.truncate.ensures.keys ∙ sym (take-map (λ v. v.items) c.args.many c.self.inside.keys.keys)
+    ∙ ap (λ (ks : List (List ℕ)). take c.args.many ks) c.self.view_is
