@@ -1,6 +1,6 @@
 // Which move and which reply the number of a task stands for.
 ghost use Rattle.std.specs.Prelude.{◌≡◌, ◌<◌, ◌≤◌, IfOk, IfSome, IfNone};
-ghost use Rattle.board.specs.Values.{task_count, move_of, reply_of, starts_from};
+ghost use Rattle.board.specs.Values.{most_tasks, task_count, move_of, reply_of, starts_from};
 ghost use Rattle.board.specs.Seats.{setup_on};
 
 use super::parts::Board;
@@ -9,7 +9,7 @@ use std::alloc::{AllocError, Global};
 
 /// The number of each move's first task, and after them the number of tasks.
 pub(crate) fn starts_of(alloc: Global, replies: &[u32]) -> Result<Vec<u32, Global>, AllocError>
-    requires { task_count replies.now ≤ 65536 }
+    requires { task_count replies.now ≤ most_tasks }
     ensures { IfOk result (λ starts. starts.items ≡ starts_from 0 replies.now) }
 {
     let mut starts = Vec::new(alloc);

@@ -1,11 +1,11 @@
 // What every game has.
-ghost use Rattle.std.specs.Prelude.{◌≡◌, ◌≢◌, ℕ, ◌<◌, ◌≤◌, ◌^◌, List, [], length, map, get_or, All, IfOk, slice_get};
+ghost use Rattle.std.specs.Prelude.{true, ◌≡◌, ◌≢◌, ℕ, ◌<◌, ◌≤◌, ◌^◌, List, [], length, map, get_or, All, IfOk, slice_get};
 ghost use Rattle.std.specs.Ordering.{nat_cmp};
 ghost use Rattle.std.specs.Cmp.Lexicographic.{slice_cmp};
 ghost use Rattle.std.specs.List.Sorted.{IsStrictlyIncreasing};
 ghost use Rattle.std.specs.declared.cmp.Ordering.TheVariants.{Less};
 ghost use Rattle.game.specs.Rules.{Rules, IsTurn};
-ghost use Rattle.game.specs.Told.{IsTold};
+ghost use Rattle.game.specs.Told.{IsTold, end_worth};
 
 use crate::joint::Joint;
 use crate::told::Told;
@@ -17,7 +17,7 @@ pub trait Game: Sync {
     /// A state of the game, in whatever form the game keeps it.
     type Pos: Send + Sync + Drop;
 
-    /// Working room for `steps`.
+    /// Working room for `steps` and `judge`.
     type Wide: Send + Drop;
 
     /// Up to 64 states of the game.
@@ -43,6 +43,9 @@ pub trait Game: Sync {
 
     /// `w` was made for this game.
     ghost fits_wide: { Self → Self.Wide → Type 0 };
+
+    /// The states that `w` can tell the end of.
+    ghost judged: { Self → Self.Wide → List (List ℕ) };
 
     /// `m` was made for this game.
     ghost fits_many: { Self → Self.Many → Type 0 };
@@ -114,7 +117,7 @@ pub trait Game: Sync {
         ensures same { state self.now q.new ≡ state self.now p.now }
         ensures capacities { capacities self.now q.new ≡ capacities self.now q.old };
 
-    /// Working room for `steps`.
+    /// Working room for `steps` and `judge`.
     fn new_wide(&self) -> Result<Self::Wide, AllocError>
         ensures { IfOk result (λ w. fits_wide self.now w) };
 
@@ -158,6 +161,27 @@ pub trait Game: Sync {
         requires place { place < length (states self.now many.now) }
         requires role { role < (rules self.now).roles }
         ensures { IsTold (rules self.now) (get_or (states self.now many.now) place []) role result };
+
+    /// Plays each of 1 to 64 joint moves for the end of the game alone: `w` can then tell of each state after one, in their order,
+    /// whether the game has ended there. The states are not kept. The answer is false where this is no quicker than `steps`, and
+    /// then nothing was played.
+    fn judge(&self, p: &Self::Pos, joints: &[Joint], w: &mut Self::Wide) -> bool
+        requires from { fits self.now p.now }
+        requires some { 0 < length joints.now }
+        requires few { length joints.now ≤ 64 }
+        requires joints { All (λ j. IsTurn (rules self.now) j.items) joints.now }
+        requires wide { fits_wide self.now w.old }
+        ensures wide { fits_wide self.now w.new }
+        ensures after { result ≡ true
+            → judged self.now w.new ≡ map (λ j. (rules self.now).after (state self.now p.now) j.items) joints.now }
+        ensures wide_capacities { wide_capacities self.now w.new ≡ wide_capacities self.now w.old };
+
+    /// The goal value of a role in the state at a place of those that `w` can tell the end of, if the game has ended there.
+    fn verdict(&self, w: &Self::Wide, place: usize, role: usize) -> Option<u8>
+        requires wide { fits_wide self.now w.now }
+        requires place { place < length (judged self.now w.now) }
+        requires role { role < (rules self.now).roles }
+        ensures { result ≡ end_worth (rules self.now) (get_or (judged self.now w.now) place []) role };
 
     ghost goal_within: { (g : Self) (s : List ℕ) (r : ℕ) → (rules g).goal s r ≤ 100 };
 

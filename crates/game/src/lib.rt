@@ -14,6 +14,7 @@ pub mod table;
 #[cfg(test)]
 mod tests;
 mod told;
+pub mod watched;
 
 pub use at_bound::AtBound;
 pub use fault::HistoryFault;

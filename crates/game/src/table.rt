@@ -1,5 +1,5 @@
 // A game of one turn, small enough to know each of its values by heart.
-ghost use Rattle.std.specs.Prelude.{◌≡◌, ⊤, ◌<◌, ◌≤◌, ◌+◌, ◌*◌, ℕ, All, EachIndex, slice_index, length, [], ◌∷◌, codes};
+ghost use Rattle.std.specs.Prelude.{◌≡◌, ◌<◌, ◌≤◌, ◌+◌, ◌*◌, ℕ, All, EachIndex, slice_index, length, [], ◌∷◌, codes};
 ghost use Rattle.game.specs.Joints.{joint_at};
 ghost use Rattle.game.specs.Rules.{IsTurn};
 ghost use Rattle.game.specs.Table.{table_rules, side_name, choice_name};
@@ -23,10 +23,6 @@ pub struct Table {
 pub struct Chosen {
     pub cell: u8,
 }
-
-/// No working room: cells are found one by one.
-#[derive(Drop)]
-pub struct NoRoom {}
 
 /// Up to 64 choices.
 #[derive(Drop)]
@@ -65,7 +61,7 @@ impl Game for Table {
 
     type Pos = Chosen;
 
-    type Wide = NoRoom;
+    type Wide = Cells;
 
     type Many = Cells;
 
@@ -81,7 +77,9 @@ impl Game for Table {
 
     ghost capacities = { λ _ _. [] };
 
-    ghost fits_wide = { λ _ _. ⊤ };
+    ghost fits_wide = { λ _ w. AreCells w };
+
+    ghost judged = { λ _ w. chosen_states w };
 
     ghost fits_many = { λ _ m. AreCells m };
 
@@ -140,8 +138,11 @@ impl Game for Table {
         q.cell = p.cell;
     }
 
-    fn new_wide(&self) -> Result<NoRoom, AllocError> {
-        Ok(NoRoom {})
+    fn new_wide(&self) -> Result<Cells, AllocError> {
+        Ok(Cells {
+            cells: [0; 64],
+            count: 0,
+        })
     }
 
     fn new_many(&self) -> Result<Cells, AllocError> {
@@ -151,7 +152,7 @@ impl Game for Table {
         })
     }
 
-    fn steps(&self, _p: &Chosen, joints: &[Joint], _w: &mut NoRoom, out: &mut Cells) {
+    fn steps(&self, _p: &Chosen, joints: &[Joint], _w: &mut Cells, out: &mut Cells) {
         choose_each(joints, &mut out.cells);
         out.count = joints.len();
     }
@@ -172,6 +173,22 @@ impl Game for Table {
             return Told::Ended(self.goal(&p, role));
         }
         Told::Open
+    }
+
+    fn judge(&self, _p: &Chosen, joints: &[Joint], w: &mut Cells) -> bool {
+        choose_each(joints, &mut w.cells);
+        w.count = joints.len();
+        true
+    }
+
+    fn verdict(&self, w: &Cells, place: usize, role: usize) -> Option<u8> {
+        let p = Chosen {
+            cell: w.cells[place],
+        };
+        if self.ended(&p) {
+            return Some(self.goal(&p, role));
+        }
+        None
     }
 
     ghost goal_within = { λ g s r. goal_at_most g.worth g.ends s r g.at_most_100 };

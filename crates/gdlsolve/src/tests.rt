@@ -3,7 +3,6 @@ mod beginnings;
 mod bounds;
 mod broken;
 mod checks;
-mod counting;
 mod cuts;
 mod devices;
 mod games;

@@ -34,8 +34,9 @@ use Rattle.kif.specs.Tree.{name_eq}
 use Rattle.terms.specs.Arena.{Held, cut}
 use Rattle.terms.specs.AtomTexts.{term_text, atom_texts, IsAtomTable}
 use Rattle.ground.specs.Grounds.{text_at}
-use Rattle.terms.specs.Vectors.{texts_of}
-use Rattle.terms.specs.Keys.{word_at, AreBelow}
+use Rattle.rules.specs.RuleSets.{texts_of}
+use Rattle.clauses.specs.Marks.{AreBelow}
+use Rattle.clauses.specs.Numbers.{word_at}
 use Rattle.meaning.specs.Most.{limits}
 use Rattle.terms.proofs.Facts.{here_below}
 

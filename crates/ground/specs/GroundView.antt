@@ -6,7 +6,7 @@ use Rattle.ground.specs.declared.ground.Ground.{Ground}
 use Rattle.ground.specs.declared.ground.Instance.{Instance}
 use Rattle.terms.specs.AtomTexts.{listed_texts}
 use Rattle.ground.specs.Grounds.{Kept, kept_of, IsGroundOf}
-use Rattle.terms.specs.Vectors.{texts_of}
+use Rattle.rules.specs.RuleSets.{texts_of}
 
 abbrev pub roles_of : Ground → List (List ℕ)
 roles_of g = texts_of g.roles.items

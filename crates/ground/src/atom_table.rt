@@ -4,7 +4,7 @@ ghost use Rattle.kif.specs.Tree.{name_eq};
 ghost use Rattle.terms.specs.Arena.{sizes_of};
 ghost use Rattle.terms.specs.AtomTexts.{atom_texts, term_text, IsAtomTable};
 ghost use Rattle.ground.specs.Grounds.{text_at};
-ghost use Rattle.terms.specs.Vectors.{texts_of};
+ghost use Rattle.rules.specs.RuleSets.{texts_of};
 ghost use Rattle.meaning.specs.Most.{limits};
 ghost use Rattle.ground.specs.SetWords.{words_of};
 
@@ -26,7 +26,7 @@ pub struct AtomTable {
 impl Model for AtomTable {
     ghost use Rattle.std.specs.Prelude.{ℕ, List};
     ghost use Rattle.terms.specs.AtomTexts.{atom_texts, IsAtomTable};
-    ghost use Rattle.terms.specs.Vectors.{texts_of};
+    ghost use Rattle.rules.specs.RuleSets.{texts_of};
 
     ghost Value = { List (List ℕ) };
 

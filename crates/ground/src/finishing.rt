@@ -1,11 +1,11 @@
 // The instances once all atoms have numbers.
-ghost use Rattle.std.specs.Prelude.{◌≡◌, ◌<◌, ◌++◌, [], ◌∷◌, length, map, filter, nat_eq, replicate, slice_set, IfOk, OnOk};
+ghost use Rattle.std.specs.Prelude.{◌≡◌, ◌<◌, ◌≤◌, ◌++◌, [], ◌∷◌, length, map, nat_eq, replicate, slice_range, slice_set, IfOk, OnOk};
 ghost use Rattle.ground.specs.Finishing.{is_read_in, readings_in, numbered_in, ArePlaces, HavePlacesBelow};
-ghost use Rattle.ground.specs.Founds.{numbers_of};
+ghost use Rattle.ground.specs.Founds.{IsFoundList, numbers_of_list};
 ghost use Rattle.ground.specs.Grounds.{kept_of};
 ghost use Rattle.meaning.specs.InOrder.{first_place};
 
-use crate::found::Found;
+use crate::found::FoundList;
 use crate::ground::Instance;
 use indexmap::IndexSet;
 use std::alloc::{AllocError, Global};
@@ -64,29 +64,16 @@ fn place_of(atoms: &IndexSet<usize>, places: &[u32], term: usize) -> u32
     searched_place(atoms, term)
 }
 
-/// Whether a literal may be right in one state and wrong in another: it is positive, or its atom has a number.
-fn is_read(atoms: &IndexSet<usize>, places: &[u32], literal: (usize, bool)) -> bool
-    requires few { length atoms.now.keys < 4294967296 }
-    requires places { ArePlaces atoms.now.keys places.now }
+/// Whether a literal may be right in one state and wrong in another, where its atom has this place: it is positive, or its atom
+/// has a number.
+fn is_read(atoms: &IndexSet<usize>, literal: (usize, bool), place: u32) -> bool
+    requires { place ≡ first_place (nat_eq literal.0) atoms.now.keys }
     ensures { result ≡ is_read_in atoms.now.keys literal }
 {
     if !literal.1 {
         return true;
     }
-    (place_of(atoms, places, literal.0) as usize) < atoms.len()
-}
-
-/// How many literals are read.
-fn count_read(atoms: &IndexSet<usize>, places: &[u32], body: &[(usize, bool)]) -> usize
-    requires few { length atoms.now.keys < 4294967296 }
-    requires places { ArePlaces atoms.now.keys places.now }
-    ensures { result ≡ length (filter (is_read_in atoms.now.keys) body.now) }
-{
-    let mut count = 0;
-    for literal in body {
-        count += usize::from(is_read(atoms, places, *literal));
-    }
-    count
+    (place as usize) < atoms.len()
 }
 
 /// Adds a literal if it is read.
@@ -100,52 +87,68 @@ fn add_read(
     requires places { ArePlaces atoms.now.keys places.now }
     ensures { OnOk result (read.new.items ≡ read.old.items ++ readings_in atoms.now.keys (literal ∷ [])) }
 {
-    if !is_read(atoms, places, literal) {
+    let place = place_of(atoms, places, literal.0);
+    if !is_read(atoms, literal, place) {
         return Ok(());
     }
-    read.push((place_of(atoms, places, literal.0), literal.1))?;
+    read.push((place, literal.1))?;
     Ok(())
 }
 
-/// The literals that are read, in order.
+/// The literals that are read, in order. They are gathered in a vector that is used again.
 fn body_of(
     alloc: Global,
     atoms: &IndexSet<usize>,
     places: &[u32],
-    body: &[(usize, bool)],
+    literals: &[(usize, bool)],
+    read: &mut Vec<(u32, bool)>,
 ) -> Result<Vec<(u32, bool)>, AllocError>
     requires few { length atoms.now.keys < 4294967296 }
     requires places { ArePlaces atoms.now.keys places.now }
-    ensures { IfOk result (λ read. read.items ≡ readings_in atoms.now.keys body.now) }
+    ensures { IfOk result (λ body. body.items ≡ readings_in atoms.now.keys literals.now) }
 {
-    let mut read = Vec::with_capacity(alloc, count_read(atoms, places, body))?;
-    for literal in body {
-        add_read(atoms, places, &mut read, *literal)?;
+    read.clear();
+    for literal in literals {
+        add_read(atoms, places, read, *literal)?;
     }
-    Ok(read)
+    Vec::from_slice(alloc, read)
+}
+
+/// The literals from one place up to another.
+fn literals_between(literals: &[(usize, bool)], start: usize, end: usize) -> &[(usize, bool)]
+    requires rises { start ≤ end }
+    requires within { end ≤ length literals.now }
+    ensures { result.now ≡ slice_range literals.now start end }
+{
+    &literals[start..end]
 }
 
 /// The instances by the numbers of their atoms, where there are some number of terms. Each body has just the room that it
 /// needs.
 pub fn instances_of(
     alloc: Global,
-    found: &[Found],
+    found: &FoundList,
     atoms: &IndexSet<usize>,
     terms: usize,
 ) -> Result<Vec<Instance>, AllocError>
     requires atoms { length atoms.now.keys < 4294967296 }
-    requires places { HavePlacesBelow 4294967296 (map numbers_of found.now) }
-    ensures { IfOk result (λ instances. map kept_of instances.items ≡ map (numbered_in atoms.now.keys) (map numbers_of found.now)) }
+    requires places { HavePlacesBelow 4294967296 (numbers_of_list found.now) }
+    requires laid { IsFoundList found.now }
+    ensures { IfOk result (λ instances. map kept_of instances.items ≡ map (numbered_in atoms.now.keys) (numbers_of_list found.now)) }
 {
     let places = places_of(alloc, atoms.as_slice(), terms)?;
-    let mut instances = Vec::with_capacity(alloc, found.len())?;
-    for one in found {
-        let body = body_of(alloc, atoms, &places, &one.body)?;
+    let mut instances = Vec::with_capacity(alloc, found.entries.len())?;
+    let mut read = Vec::new(alloc);
+    let mut start = 0;
+    for entry in &found.entries {
+        let literals = literals_between(&found.literals, start, entry.end);
+        let body = body_of(alloc, atoms, &places, literals, &mut read)?;
         instances.push(Instance {
-            alternative: one.alternative as u32,
-            head: place_of(atoms, &places, one.head),
+            alternative: entry.alternative as u32,
+            head: place_of(atoms, &places, entry.head),
             body,
         })?;
+        start = entry.end;
     }
     Ok(instances)
 }

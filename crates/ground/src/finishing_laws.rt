@@ -8,7 +8,9 @@ ghost use Rattle.terms.specs.Arena.{Held};
 ghost use Rattle.terms.specs.Dropping.{AreShown, dropped_in};
 ghost use Rattle.ground.specs.Finishing.{numbered_in};
 ghost use Rattle.ground.specs.Grounds.{Kept, numbered};
-ghost use Rattle.terms.specs.Keys.{AreBelow, AreDifferentWords, term_at, trees};
+ghost use Rattle.clauses.specs.Marks.{AreBelow};
+ghost use Rattle.clauses.specs.Numbers.{AreDifferent};
+ghost use Rattle.terms.specs.Keys.{term_at, trees};
 ghost use Rattle.meaning.specs.Listed.{IsWellFormed};
 ghost use Rattle.meaning.specs.Listing.{listing, base_list};
 ghost use Rattle.meaning.specs.Play.{starts, dropped};
@@ -17,15 +19,15 @@ ghost use Rattle.terms.specs.Starting.{starts_in};
 
 /// What the last pass makes of the numbers of terms is what the definitions make of the listing.
 pub fn the_last_pass_is_the_definition()
-    ensures instances { (rules : List Alternative) (words : List (List ℕ)) → AreDifferentWords words
+    ensures instances { (rules : List Alternative) (words : List (List ℕ)) → AreDifferent words
         → (held : Held) (atoms : List ℕ) (found : List Kept) → IsListed rules words held atoms found (listing rules)
         → map (numbered_in atoms) found ≡ map (numbered rules) (listing rules).kept }
-    ensures starts { (rules : List Alternative) → IsWellFormed rules → (words : List (List ℕ)) → AreDifferentWords words
+    ensures starts { (rules : List Alternative) → IsWellFormed rules → (words : List (List ℕ)) → AreDifferent words
         → (held : Held) (atoms : List ℕ) (found : List Kept) → IsListed rules words held atoms found (listing rules)
         → (init : ℕ) → IsNumberOf words init w_init → (bases : List ℕ) → AreBelow (length (trees words held.keys)) bases
         → map (term_at (trees words held.keys)) bases ≡ base_list rules
         → map (starts_in held.keys atoms init) bases ≡ map (starts rules) (base_list rules) }
-    ensures dropped { (rules : List Alternative) (words : List (List ℕ)) → AreDifferentWords words
+    ensures dropped { (rules : List Alternative) (words : List (List ℕ)) → AreDifferent words
         → (held : Held) (atoms : List ℕ) (found : List Kept) → IsListed rules words held atoms found (listing rules)
         → (named : Keywords) → AreKeywords words named → (bases roles : List ℕ) (inputs : List (List ℕ))
         → AreShown rules (trees words held.keys) bases roles inputs

@@ -1,7 +1,7 @@
 // What an instantiation gives: the kept instances, and where their atoms stand in play.
 ghost use Rattle.std.specs.Prelude.{◌≡◌, length, map};
 ghost use Rattle.ground.specs.Grounds.{IsSomeGround, kept_of};
-ghost use Rattle.terms.specs.Vectors.{texts_of};
+ghost use Rattle.rules.specs.RuleSets.{texts_of};
 
 use crate::atom_table::AtomTable;
 use meaning::Kind;

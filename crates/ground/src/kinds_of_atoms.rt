@@ -2,7 +2,8 @@
 ghost use Rattle.std.specs.Prelude.{List, ◌≡◌, length, map, IfOk};
 ghost use Rattle.profile.specs.Clause.{Atom, tree_of};
 ghost use Rattle.rules.specs.RuleSetView.{lists_of_set, rules_in};
-ghost use Rattle.terms.specs.Keys.{AreBelow, term_at, trees};
+ghost use Rattle.clauses.specs.Marks.{AreBelow};
+ghost use Rattle.terms.specs.Keys.{term_at, trees};
 ghost use Rattle.meaning.specs.Kinds.{kind_of};
 ghost use Rattle.meaning.specs.Marked.{AreMarked};
 ghost use Rattle.terms.specs.Tables.{AreTables};

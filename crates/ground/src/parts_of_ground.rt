@@ -4,7 +4,7 @@ ghost use Rattle.rules.specs.RuleSetView.{rules_in};
 ghost use Rattle.ground.specs.AllListed.{IsAllListed, ArePartsOf};
 ghost use Rattle.terms.specs.Vectors.{items_of};
 ghost use Rattle.ground.specs.Contexts.{terms_named};
-ghost use Rattle.ground.specs.Founds.{numbers_of};
+ghost use Rattle.ground.specs.Founds.{IsFoundList, numbers_of_list};
 ghost use Rattle.ground.specs.Grounds.{kept_of};
 ghost use Rattle.meaning.specs.Limits.{excess_in};
 ghost use Rattle.ground.specs.SetWords.{words_of};
@@ -37,8 +37,9 @@ pub fn parts_of(
     tables: &Tables,
 ) -> Result<Parts, AllocError>
     requires listed { IsAllListed (rules_in rules.now) (words_of rules.now) listed.now.arena listed.now.atoms.keys
-        (map numbers_of listed.now.found.items) listed.now.fixed_atoms
+        (numbers_of_list listed.now.found) listed.now.fixed_atoms
         listed.now.context.roles.items listed.now.context.base.items (items_of listed.now.context.inputs.items) }
+    requires laid { IsFoundList listed.now.found }
     requires within { excess_in (rules_in rules.now) ≡ None }
     requires roles { tables.now.roles.keys ≡ terms_named listed.now.context.roles.items }
     requires base { tables.now.base.keys ≡ terms_named listed.now.context.base.items }

@@ -1,6 +1,7 @@
 // The roles, base propositions and inputs as sets of terms, and their texts.
 ghost use Rattle.std.specs.Prelude.{◌≡◌, [], map, IfOk};
-ghost use Rattle.terms.specs.Vectors.{items_of, texts_of};
+ghost use Rattle.rules.specs.RuleSets.{texts_of};
+ghost use Rattle.terms.specs.Vectors.{items_of};
 ghost use Rattle.ground.specs.Contexts.{terms_named, texts_named};
 ghost use Rattle.terms.specs.Atoms.{with_numbers};
 

@@ -11,4 +11,5 @@ mod Beside
 mod Stays
 mod OwnTurns
 mod Runs
+mod Ends
 pub mod Facts

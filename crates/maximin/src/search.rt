@@ -1,13 +1,15 @@
 // The search, level by level.
 ghost use Rattle.std.specs.Prelude.{◌≡◌, ◌<◌, ◌≤◌, ◌<ℤ◌, ◌≤ℤ◌, pos, negsuc, false, Some, [], All, length, map, get_or, if◌then◌else◌};
 ghost use Rattle.game.specs.AtBound.{bound_worth};
-ghost use Rattle.game.specs.Rules.{is_stuck as stuck};
+ghost use Rattle.game.specs.Rules.{is_stuck as stuck, IsTurn};
 ghost use Rattle.game.specs.Value.{Answers, choice_of, greatest, least, reply_of, value, worst};
 ghost use Rattle.maximin.specs.Alone.{IsAlone};
-ghost use Rattle.maximin.specs.Level.{IsLevelOf, all_capacities};
+ghost use Rattle.maximin.specs.Level.{IsLevelOf, level_capacities, all_capacities};
+ghost use Rattle.maximin.specs.Run.{turns_in};
 
 use crate::alone::{gather_own, is_alone};
 use crate::cursor::{next_turn, start_turns, write_joint};
+use crate::end::{greatest_judged, judge_last, least_judged};
 use crate::level::Level;
 use crate::run::{LONGEST_RUN, gather};
 use crate::told::{greatest_told, least_told, told_worth};
@@ -132,25 +134,67 @@ pub fn worst_at<G: Game>(
             most,
             &mut level.run,
         );
-        let count = level.run.count;
-        game.steps(from, &level.run.joints[..count], wide, &mut level.many);
-        let least = least_at(
-            game,
-            &level.many,
-            count,
-            asked,
-            a,
-            upper,
-            wide,
-            &mut level.position,
-            rest,
-        );
+        let least = least_after(game, from, asked, a, upper, wide, level, rest);
         upper = upper.min(least);
         if upper <= a || !more {
             return upper;
         }
         most = LONGEST_RUN.min(most * 8);
     }
+}
+
+/// The least value of the states after the joint moves of a level's run, within a window.
+#[cycle(search)]
+fn least_after<G: Game>(
+    game: &G,
+    from: &G::Pos,
+    asked: Asked,
+    a: i16,
+    b: i16,
+    wide: &mut G::Wide,
+    level: &mut Level<G::Pos, G::Many>,
+    levels: &mut [Level<G::Pos, G::Many>],
+) -> i16
+    requires fits { G.fits game.now from.now }
+    requires role { asked.role < (G.rules game.now).roles }
+    requires deep { asked.depth ≤ length levels.old }
+    requires wide { G.fits_wide game.now wide.old }
+    requires some { 0 < level.old.run.count }
+    requires known { All (IsTurn (G.rules game.now)) (turns_in level.old.run) }
+    requires level { IsLevelOf (G.fits game.now) (G.fits_many game.now) (G.rules game.now).roles level.old }
+    requires levels { All (IsLevelOf (G.fits game.now) (G.fits_many game.now) (G.rules game.now).roles) levels.old }
+    requires low { negsuc 1 ≤ℤ a }
+    requires order { a <ℤ b }
+    requires high { b ≤ℤ pos 101 }
+    ensures answers { Answers (least (map (λ j. value (G.rules game.now) asked.role asked.depth asked.at
+        ((G.rules game.now).after (G.state game.now from.now) j)) (turns_in level.old.run))) a b result }
+    ensures wide { G.fits_wide game.now wide.new }
+    ensures wide_capacities { G.wide_capacities game.now wide.new ≡ G.wide_capacities game.now wide.old }
+    ensures cursor { level.new.cursor ≡ level.old.cursor }
+    ensures level { IsLevelOf (G.fits game.now) (G.fits_many game.now) (G.rules game.now).roles level.new }
+    ensures level_capacities { level_capacities (G.capacities game.now) (G.many_capacities game.now) level.new
+        ≡ level_capacities (G.capacities game.now) (G.many_capacities game.now) level.old }
+    ensures levels { All (IsLevelOf (G.fits game.now) (G.fits_many game.now) (G.rules game.now).roles) levels.new }
+    ensures capacities { all_capacities (G.capacities game.now) (G.many_capacities game.now) levels.new
+        ≡ all_capacities (G.capacities game.now) (G.many_capacities game.now) levels.old }
+{
+    let count = level.run.count;
+    let joints = &level.run.joints[..count];
+    if judge_last(game, from, joints, asked, wide) {
+        return least_judged(game, wide, count, asked, a, b);
+    }
+    game.steps(from, joints, wide, &mut level.many);
+    least_at(
+        game,
+        &level.many,
+        count,
+        asked,
+        a,
+        b,
+        wide,
+        &mut level.position,
+        levels,
+    )
 }
 
 /// The value of one of many states, within a window.
@@ -288,18 +332,7 @@ fn best_at<G: Game>(
         if count == 0 {
             return best;
         }
-        game.steps(from, &level.run.joints[..count], wide, &mut level.many);
-        let greatest = greatest_at(
-            game,
-            &level.many,
-            count,
-            asked,
-            best,
-            b,
-            wide,
-            &mut level.position,
-            rest,
-        );
+        let greatest = greatest_after(game, from, asked, best, b, wide, level, rest);
         best = best.max(greatest);
         if best >= b {
             return best;
@@ -307,6 +340,60 @@ fn best_at<G: Game>(
         place += count;
         most = LONGEST_RUN.min(8 * most);
     }
+}
+
+/// The greatest value of the states after the joint moves of a level's run, within a window.
+#[cycle(search)]
+fn greatest_after<G: Game>(
+    game: &G,
+    from: &G::Pos,
+    asked: Asked,
+    a: i16,
+    b: i16,
+    wide: &mut G::Wide,
+    level: &mut Level<G::Pos, G::Many>,
+    levels: &mut [Level<G::Pos, G::Many>],
+) -> i16
+    requires fits { G.fits game.now from.now }
+    requires role { asked.role < (G.rules game.now).roles }
+    requires deep { asked.depth ≤ length levels.old }
+    requires wide { G.fits_wide game.now wide.old }
+    requires some { 0 < level.old.run.count }
+    requires known { All (IsTurn (G.rules game.now)) (turns_in level.old.run) }
+    requires level { IsLevelOf (G.fits game.now) (G.fits_many game.now) (G.rules game.now).roles level.old }
+    requires levels { All (IsLevelOf (G.fits game.now) (G.fits_many game.now) (G.rules game.now).roles) levels.old }
+    requires low { negsuc 1 ≤ℤ a }
+    requires order { a <ℤ b }
+    requires high { b ≤ℤ pos 101 }
+    ensures answers { Answers (greatest (map (λ j. value (G.rules game.now) asked.role asked.depth asked.at
+        ((G.rules game.now).after (G.state game.now from.now) j)) (turns_in level.old.run))) a b result }
+    ensures wide { G.fits_wide game.now wide.new }
+    ensures wide_capacities { G.wide_capacities game.now wide.new ≡ G.wide_capacities game.now wide.old }
+    ensures cursor { level.new.cursor ≡ level.old.cursor }
+    ensures level { IsLevelOf (G.fits game.now) (G.fits_many game.now) (G.rules game.now).roles level.new }
+    ensures level_capacities { level_capacities (G.capacities game.now) (G.many_capacities game.now) level.new
+        ≡ level_capacities (G.capacities game.now) (G.many_capacities game.now) level.old }
+    ensures levels { All (IsLevelOf (G.fits game.now) (G.fits_many game.now) (G.rules game.now).roles) levels.new }
+    ensures capacities { all_capacities (G.capacities game.now) (G.many_capacities game.now) levels.new
+        ≡ all_capacities (G.capacities game.now) (G.many_capacities game.now) levels.old }
+{
+    let count = level.run.count;
+    let joints = &level.run.joints[..count];
+    if judge_last(game, from, joints, asked, wide) {
+        return greatest_judged(game, wide, count, asked, a, b);
+    }
+    game.steps(from, joints, wide, &mut level.many);
+    greatest_at(
+        game,
+        &level.many,
+        count,
+        asked,
+        a,
+        b,
+        wide,
+        &mut level.position,
+        levels,
+    )
 }
 
 /// The greatest value of some states, within a window.

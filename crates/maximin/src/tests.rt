@@ -4,126 +4,11 @@ ghost use Rattle.std.specs.Prelude.{◌<◌, ◌<ℤ◌, ◌≤ℤ◌, pos, negs
 use crate::{Room, choice, choice_by_value, first_reply, reply_by_value, value_in};
 use game::AtBound::{Goal, Zero};
 use game::table::{Chosen, Table};
-use game::{Game, Joint, Told};
+use game::watched::Watched;
+use game::{AtBound, Game, Joint};
 use smallvec::SmallVec;
 use std::alloc::{AllocError, Global};
 use std::sync::atomic::{AtomicUsize, Ordering};
-
-/// A game that counts the states that are asked of it: those of a step, and those taken out of many.
-#[derive(Drop)]
-struct Counted<G> {
-    inner: G,
-    steps: AtomicUsize,
-}
-
-impl<G: Game> Game for Counted<G> {
-    type Pos = G::Pos;
-
-    type Wide = G::Wide;
-
-    type Many = G::Many;
-
-    ghost rules = { λ g. G.rules g.inner };
-
-    ghost role_name = { λ g. G.role_name g.inner };
-
-    ghost move_name = { λ g. G.move_name g.inner };
-
-    ghost fits = { λ g. G.fits g.inner };
-
-    ghost state = { λ g. G.state g.inner };
-
-    ghost capacities = { λ g. G.capacities g.inner };
-
-    ghost fits_wide = { λ g. G.fits_wide g.inner };
-
-    ghost fits_many = { λ g. G.fits_many g.inner };
-
-    ghost states = { λ g. G.states g.inner };
-
-    ghost wide_capacities = { λ g. G.wide_capacities g.inner };
-
-    ghost many_capacities = { λ g. G.many_capacities g.inner };
-
-    fn roles(&self) -> usize {
-        self.inner.roles()
-    }
-
-    fn role_text(&self, role: usize) -> &[u8] {
-        self.inner.role_text(role)
-    }
-
-    fn moves(&self, role: usize) -> usize {
-        self.inner.moves(role)
-    }
-
-    fn move_text(&self, role: usize, number: u32) -> &[u8] {
-        self.inner.move_text(role, number)
-    }
-
-    fn fresh(&self) -> Result<G::Pos, AllocError> {
-        self.inner.fresh()
-    }
-
-    fn ended(&self, p: &G::Pos) -> bool {
-        self.inner.ended(p)
-    }
-
-    fn goal(&self, p: &G::Pos, role: usize) -> u8 {
-        self.inner.goal(p, role)
-    }
-
-    fn legal(&self, p: &G::Pos, role: usize, place: usize) -> Option<u32> {
-        self.inner.legal(p, role, place)
-    }
-
-    fn step(&self, p: &G::Pos, joint: &Joint, q: &mut G::Pos) {
-        self.steps.fetch_add(1, Ordering::SeqCst);
-        self.inner.step(p, joint, q);
-    }
-
-    fn copy(&self, p: &G::Pos, q: &mut G::Pos) {
-        self.inner.copy(p, q);
-    }
-
-    fn new_wide(&self) -> Result<G::Wide, AllocError> {
-        self.inner.new_wide()
-    }
-
-    fn new_many(&self) -> Result<G::Many, AllocError> {
-        self.inner.new_many()
-    }
-
-    fn steps(&self, p: &G::Pos, joints: &[Joint], w: &mut G::Wide, out: &mut G::Many) {
-        self.inner.steps(p, joints, w, out);
-    }
-
-    fn abreast(&self) -> usize {
-        self.inner.abreast()
-    }
-
-    fn take(&self, many: &G::Many, place: usize, q: &mut G::Pos) {
-        self.steps.fetch_add(1, Ordering::SeqCst);
-        self.inner.take(many, place, q);
-    }
-
-    /// Nothing, so that each state that is looked at is taken and counted.
-    fn told(&self, _many: &G::Many, _place: usize, _role: usize) -> Told {
-        Told::Nothing
-    }
-
-    ghost goal_within = { λ g. G.goal_within g.inner };
-
-    ghost moves_within = { λ g. G.moves_within g.inner };
-
-    ghost legal_within = { λ g. G.legal_within g.inner };
-
-    ghost legal_ascending = { λ g. G.legal_ascending g.inner };
-
-    ghost moves_in_printed_order = { λ g. G.moves_in_printed_order g.inner };
-
-    ghost role_names_differ = { λ g. G.role_names_differ g.inner };
-}
 
 /// The value of the start state within a window, found through the bound alone, as in every caller.
 fn value_of<G: Game>(g: &G, alloc: Global, window: (i16, i16)) -> Result<i16, AllocError>
@@ -285,29 +170,29 @@ fn answer_in_a_window(rt: HostRuntime) -> Result<(), AllocError> {
 
 #[test]
 fn narrow_window_steps_less(rt: HostRuntime) -> Result<(), AllocError> {
-    let game = Counted {
+    let game = Watched {
         inner: LEVEL,
-        steps: AtomicUsize::new(0),
+        watch: AtomicUsize::new(0),
     };
     assert_eq!(rt; value_of(&game, rt.alloc(), (-1, 101))?, 30);
-    assert_eq!(rt; game.steps.swap(0, Ordering::SeqCst), 8);
+    assert_eq!(rt; game.watch.swap(0, Ordering::SeqCst), 8);
     // The first reply to each side is worth no more than 60 already.
     let low = value_of(&game, rt.alloc(), (60, 101))?;
     assert!(rt; 30 <= low && low <= 60);
-    assert_eq!(rt; game.steps.swap(0, Ordering::SeqCst), 2);
+    assert_eq!(rt; game.watch.swap(0, Ordering::SeqCst), 2);
     // The first side is worth 10, so the second is not looked at.
     let high = value_of(&game, rt.alloc(), (0, 10))?;
     assert!(rt; 10 <= high && high <= 30);
-    assert_eq!(rt; game.steps.load(Ordering::SeqCst), 4);
+    assert_eq!(rt; game.watch.load(Ordering::SeqCst), 4);
     Ok(())
 }
 
 // The row's second side is worth 30. Nothing is behind it, so it is not looked at.
 #[test]
 fn choice_by_a_known_value_steps_less(rt: HostRuntime) -> Result<(), AllocError> {
-    let game = Counted {
+    let game = Watched {
         inner: LEVEL,
-        steps: AtomicUsize::new(0),
+        watch: AtomicUsize::new(0),
     };
     let mut room = Room::new(rt.alloc(), &game, 1)?;
     let start = game.fresh()?;
@@ -315,23 +200,23 @@ fn choice_by_a_known_value_steps_less(rt: HostRuntime) -> Result<(), AllocError>
         choice_by_value(&game, &start, 0, 1, Zero, 30, &mut room),
         Some(1)
     );
-    assert_eq!(rt; game.steps.load(Ordering::SeqCst), 2);
+    assert_eq!(rt; game.watch.load(Ordering::SeqCst), 2);
     Ok(())
 }
 
 // Of the row's first side cell 1 is the first that is worth 10.
 #[test]
 fn reply_by_a_known_value_steps_less(rt: HostRuntime) -> Result<(), AllocError> {
-    let game = Counted {
+    let game = Watched {
         inner: LEVEL,
-        steps: AtomicUsize::new(0),
+        watch: AtomicUsize::new(0),
     };
     let mut room = Room::new(rt.alloc(), &game, 1)?;
     let start = game.fresh()?;
     let mut reply = SmallVec::new(rt.alloc());
     reply_by_value(&game, &start, 0, 0, 1, Zero, 10, &mut room, &mut reply);
     assert_eq!(rt; reply.as_slice(), [0, 0, 1].as_slice());
-    assert_eq!(rt; game.steps.load(Ordering::SeqCst), 2);
+    assert_eq!(rt; game.watch.load(Ordering::SeqCst), 2);
     Ok(())
 }
 
@@ -380,5 +265,45 @@ fn ends_of_the_range_are_known_values(rt: HostRuntime) -> Result<(), AllocError>
     );
     reply_by_value(&table, &start, 1, 0, 1, Zero, 0, &mut room, &mut reply);
     assert_eq!(rt; reply.as_slice(), [0, 0, 0].as_slice());
+    Ok(())
+}
+
+/// The value of the start state for a role a turn ahead.
+fn value_for<G: Game>(g: &G, alloc: Global, role: usize, at: AtBound) -> Result<i16, AllocError>
+    requires { role < (G.rules g.now).roles }
+{
+    let mut room = Room::new(alloc, g, 1)?;
+    let start = g.fresh()?;
+    Ok(value_in(g, &start, role, 1, at, -1, 101, &mut room))
+}
+
+/// The values of the start state for three roles, each by either bound.
+fn values_of<G: Game>(g: &G, alloc: Global) -> Result<[i16; 6], AllocError>
+    requires { 2 < (G.rules g.now).roles }
+{
+    Ok([
+        value_for(g, alloc, 0, Zero)?,
+        value_for(g, alloc, 0, Goal)?,
+        value_for(g, alloc, 1, Zero)?,
+        value_for(g, alloc, 1, Goal)?,
+        value_for(g, alloc, 2, Zero)?,
+        value_for(g, alloc, 2, Goal)?,
+    ])
+}
+
+// In the second cell the game goes on, and the layer has no move. The table judges the last turn, and the watched game steps it.
+#[test]
+fn judged_turn_has_the_values_of_a_stepped_one(rt: HostRuntime) -> Result<(), AllocError> {
+    let table = Table {
+        worth: [30, 95, 40, 90, 60, 50, 70, 80],
+        ends: [true, false, true, true, true, true, true, true],
+    };
+    assert_eq!(rt; values_of(&table, rt.alloc())?, [50, 50, 10, 10, 30, 30]);
+    let game = Watched {
+        inner: table,
+        watch: AtomicUsize::new(0),
+    };
+    assert_eq!(rt; values_of(&game, rt.alloc())?, [50, 50, 10, 10, 30, 30]);
+    assert!(rt; game.watch.load(Ordering::SeqCst) > 0);
     Ok(())
 }

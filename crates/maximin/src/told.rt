@@ -27,7 +27,8 @@ pub fn least_told<G: Game>(game: &G, many: &G::Many, count: usize, asked: Asked,
     requires count { count ≡ length (G.states game.now many.now) }
     requires role { asked.role < (G.rules game.now).roles }
     ensures at_most { result ≤ℤ b }
-    ensures at_least { int_min (pos (least (map (value (G.rules game.now) asked.role asked.depth asked.at) (G.states game.now many.now)))) b ≤ℤ result }
+    ensures at_least { int_min (pos (least (map (value (G.rules game.now) asked.role asked.depth asked.at) (G.states game.now many.now)))) b ≤ℤ
+        result }
 {
     let mut upper = b;
     for place in 0..count {

@@ -9,46 +9,47 @@ use Rattle.profile.proofs.Facts.{or_cases, or_left, or_right, not_true}
 use Rattle.meaning.specs.Meaning.{atom1, IsBase, IsInput}
 use Rattle.meaning.specs.Listing.{role_list, base_list, input_list}
 use Rattle.meaning.specs.Listed.{IsWellFormed}
-use Rattle.meaning.specs.Play.{is_tree_among, misses_base, misses_input, is_dropped}
+use Rattle.profile.specs.Profile.{is_tree_in}
+use Rattle.meaning.specs.Play.{misses_base, misses_input, is_dropped}
 use Rattle.meaning.specs.Effects.{HasNoEffect}
 use Rattle.meaning.proofs.Fold.{roles_exact, bases_exact, inputs_exact}
 
-tree_among_yes : (t : Tree) (ts : List Tree) → is_tree_among t ts ≡ true → IsAmong t ts
+tree_among_yes : (t : Tree) (ts : List Tree) → is_tree_in t ts ≡ true → IsAmong t ts
 tree_among_yes t [] h = absurd cc
 tree_among_yes t (u ∷ us) h = go (or_cases _ _ h) (tree_among_yes t us)
   where
-    go : (tree_eq t u ≡ true) ⊎ (is_tree_among t us ≡ true) → (is_tree_among t us ≡ true → IsAmong t us) → (t ≡ u) ⊎ IsAmong t us
+    go : (tree_eq t u ≡ true) ⊎ (is_tree_in t us ≡ true) → (is_tree_in t us ≡ true → IsAmong t us) → (t ≡ u) ⊎ IsAmong t us
     go (inl e) more = inl (tree_eq_yes t u e)
     go (inr k) more = inr (more k)
 
-yes_tree_among : (t : Tree) (ts : List Tree) → IsAmong t ts → is_tree_among t ts ≡ true
+yes_tree_among : (t : Tree) (ts : List Tree) → IsAmong t ts → is_tree_in t ts ≡ true
 yes_tree_among t [] a = absurd a
 yes_tree_among t (u ∷ us) (inl e) = or_left _ _ (subst (λ (v : Tree). tree_eq t v ≡ true) e (tree_eq_self t))
-yes_tree_among t (u ∷ us) (inr a) = or_right (tree_eq t u) (is_tree_among t us) (yes_tree_among t us a)
+yes_tree_among t (u ∷ us) (inr a) = or_right (tree_eq t u) (is_tree_in t us) (yes_tree_among t us a)
 
 differs : (b : Bool) → (b ≡ true → ⊥) → not b ≡ true
 differs true n = absurd (n refl)
 differs false n = refl
 
 module _ (rules : List Alternative) (w : IsWellFormed rules) where
-  base_missed : (p : Tree) → (not (is_tree_among p (base_list rules)) ≡ true) ↔ (IsBase rules p → ⊥)
+  base_missed : (p : Tree) → (not (is_tree_in p (base_list rules)) ≡ true) ↔ (IsBase rules p → ⊥)
   base_missed p = (
     (λ e h. let f = yes_tree_among p (base_list rules) ((bases_exact rules w p).1 h) in let g = not_true _ e in cc),
-    (λ n. differs (is_tree_among p (base_list rules)) (λ e. n ((bases_exact rules w p).0 (tree_among_yes p (base_list rules) e)))),
+    (λ n. differs (is_tree_in p (base_list rules)) (λ e. n ((bases_exact rules w p).0 (tree_among_yes p (base_list rules) e)))),
   )
 
-  input_missed : (r m : Tree) → (not (is_tree_among r (role_list rules) && is_tree_among m (input_list rules r)) ≡ true) ↔ (IsInput rules r m → ⊥)
-  input_missed r m = (there, (λ n. differs (is_tree_among r (role_list rules) && is_tree_among m (input_list rules r)) (back n)))
+  input_missed : (r m : Tree) → (not (is_tree_in r (role_list rules) && is_tree_in m (input_list rules r)) ≡ true) ↔ (IsInput rules r m → ⊥)
+  input_missed r m = (there, (λ n. differs (is_tree_in r (role_list rules) && is_tree_in m (input_list rules r)) (back n)))
     where
-      there : not (is_tree_among r (role_list rules) && is_tree_among m (input_list rules r)) ≡ true → IsInput rules r m → ⊥
+      there : not (is_tree_in r (role_list rules) && is_tree_in m (input_list rules r)) ≡ true → IsInput rules r m → ⊥
       there e h =
           let f = true_and _ _ (yes_tree_among r (role_list rules) ((roles_exact rules w r).1 h.0))
           (yes_tree_among m (input_list rules r) ((inputs_exact rules w r m h.0).1 h)) in
           let g = not_true _ e in cc
 
-      back : (IsInput rules r m → ⊥) → (is_tree_among r (role_list rules) && is_tree_among m (input_list rules r)) ≡ true → ⊥
+      back : (IsInput rules r m → ⊥) → (is_tree_in r (role_list rules) && is_tree_in m (input_list rules r)) ≡ true → ⊥
       back n e =
-          let k = both (is_tree_among r (role_list rules)) (is_tree_among m (input_list rules r)) e in
+          let k = both (is_tree_in r (role_list rules)) (is_tree_in m (input_list rules r)) e in
           let role = (roles_exact rules w r).0 (tree_among_yes r (role_list rules) k.0) in
           n ((inputs_exact rules w r m role).0 (tree_among_yes m (input_list rules r) k.1))
 
@@ -98,7 +99,7 @@ module _ (rules : List Alternative) (w : IsWellFormed rules) where
   dropped_complete : (x : Atom) → HasNoEffect rules x → is_dropped rules x ≡ true
   dropped_complete x (inl h) = go h.1
     where
-      miss : not (is_tree_among h.0 (base_list rules)) ≡ true
+      miss : not (is_tree_in h.0 (base_list rules)) ≡ true
       miss = (base_missed h.0).1 h.2
 
       go : (x ≡ atom1 w_init h.0) ⊎ (x ≡ atom1 w_next h.0) → is_dropped rules x ≡ true

@@ -11,7 +11,8 @@ use Rattle.meaning.specs.Meaning.{atom0, atom1, atom2, nothing}
 use Rattle.meaning.specs.Listing.{listing}
 use Rattle.meaning.specs.Gates.{gate}
 use Rattle.meaning.specs.Kinds.{kind_of}
-use Rattle.meaning.specs.Play.{dropped, start_list, is_tree_among}
+use Rattle.profile.specs.Profile.{is_tree_in}
+use Rattle.meaning.specs.Play.{dropped, start_list}
 use Rattle.meaning.specs.Evaluation.{after_list, legal_list, is_ended}
 
 -- the propositions done and same have the numbers 8 and 9, and the inputs 10 to 13
@@ -89,11 +90,11 @@ match_over : legal_list (alternatives (items_in match_text)) (λ t. tree_eq t (n
 unfolding items_in match_text
 match_over = refl
 
-tictactoe_legal : map text (legal_list (alternatives (items_in tictactoe_text)) (λ t. is_tree_among t (start_list (alternatives (items_in tictactoe_text)))) (name (codes "xplayer")))
+tictactoe_legal : map text (legal_list (alternatives (items_in tictactoe_text)) (λ t. is_tree_in t (start_list (alternatives (items_in tictactoe_text)))) (name (codes "xplayer")))
     ≡ codes "(mark 1 1)" ∷ codes "(mark 1 2)" ∷ codes "(mark 1 3)" ∷ codes "(mark 2 1)" ∷ codes "(mark 2 2)" ∷ codes "(mark 2 3)" ∷ codes "(mark 3 1)" ∷ codes "(mark 3 2)" ∷ codes "(mark 3 3)" ∷ []
 unfolding items_in tictactoe_text
 tictactoe_legal = refl
 
-tictactoe_waits : map text (legal_list (alternatives (items_in tictactoe_text)) (λ t. is_tree_among t (start_list (alternatives (items_in tictactoe_text)))) (name (codes "oplayer"))) ≡ codes "noop" ∷ []
+tictactoe_waits : map text (legal_list (alternatives (items_in tictactoe_text)) (λ t. is_tree_in t (start_list (alternatives (items_in tictactoe_text)))) (name (codes "oplayer"))) ≡ codes "noop" ∷ []
 unfolding items_in tictactoe_text
 tictactoe_waits = refl

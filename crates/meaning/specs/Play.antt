@@ -1,10 +1,11 @@
 -- Goals and legal moves in a state, and the heads that have no effect.
 use Rattle.std.specs.Prelude.{ℕ, Bool, false, not, ◌&&◌, ◌||◌, ◌≡◌, ◌<◌, ◌≤◌, ◌⊎◌, ◌↔◌, List, [], ◌∷◌, length, decimal, filter}
 use Rattle.std.specs.declared.cmp.Ordering.TheVariants.{Less}
-use Rattle.kif.specs.Tree.{Tree, name, Trees, no_trees, tree, tree_eq, printed_cmp}
+use Rattle.kif.specs.Tree.{Tree, name, Trees, no_trees, tree, printed_cmp}
 use Rattle.profile.specs.Words.{w_init, w_next, w_legal, w_goal}
 use Rattle.profile.specs.Clause.{Atom, Alternative, relation_of, is_word}
 use Rattle.profile.specs.Dependence.{IsAmong}
+use Rattle.profile.specs.Profile.{is_tree_in}
 use Rattle.meaning.specs.InOrder.{AreInOrder}
 use Rattle.meaning.specs.Meaning.{State, Joint, Holds, nobody, atom1, atom2, IsInStart, IsInAfter, IsLegal}
 use Rattle.meaning.specs.Listing.{is_atom_in, fixed_listing, listing, role_list, base_list, input_list}
@@ -45,19 +46,15 @@ starts rules p = is_atom_in (atom1 w_init p) (fixed_listing rules).atoms
 abbrev pub start_list : List Alternative → List Tree
 start_list rules = filter (starts rules) (base_list rules)
 
-abbrev pub is_tree_among : Tree → List Tree → Bool
-is_tree_among t [] = false
-is_tree_among t (u ∷ us) = tree_eq t u || is_tree_among t us
-
 abbrev pub misses_base : List Alternative → Trees → Bool
 misses_base rules no_trees = false
-misses_base rules (tree p no_trees) = not (is_tree_among p (base_list rules))
+misses_base rules (tree p no_trees) = not (is_tree_in p (base_list rules))
 misses_base rules (tree p (tree t ts)) = false
 
 abbrev pub misses_input : List Alternative → Trees → Bool
 misses_input rules no_trees = false
 misses_input rules (tree r no_trees) = false
-misses_input rules (tree r (tree m no_trees)) = not (is_tree_among r (role_list rules) && is_tree_among m (input_list rules r))
+misses_input rules (tree r (tree m no_trees)) = not (is_tree_in r (role_list rules) && is_tree_in m (input_list rules r))
 misses_input rules (tree r (tree m (tree t ts))) = false
 
 -- an `init` or `next` outside `Base`, or a `legal` of no role or outside its inputs

@@ -23,6 +23,9 @@ use Rattle.std.proofs.Common.{
   max,
   zero,
   suc,
+  Option,
+  Some,
+  None,
 }
 use Rattle.std.specs.Prelude.{◌==◌}
 use Rattle.std.specs.Int.{bit_at}
@@ -54,3 +57,21 @@ put_behind false xs count x lt =
 pub bit_of : (f : Bool → ℕ) → f true ≡ 1 → f false ≡ 0 → (b : Bool) → f b ≡ cond b 1 0
 bit_of f one none true = one
 bit_of f one none false = none
+
+-- the worth of an end, by whether there is one
+
+pub worth_ended : (b : Bool) (v x : ℕ) → b ≡ true → v ≡ x → Some v ≡ cond b (Some x) None
+worth_ended true v x e same = ap Some same
+worth_ended false v x e same = absurd cc
+
+pub worth_open : (b : Bool) (x : ℕ) → b ≡ false → None ≡ cond b (Some x) None
+worth_open true x e = absurd cc
+worth_open false x e = refl
+
+pub told_ended : (b : Bool) (v x : ℕ) → Some v ≡ cond b (Some x) None → (b ≡ true) × (v ≡ x)
+told_ended true v x e = (refl, cc)
+told_ended false v x e = absurd cc
+
+pub told_open : (b : Bool) (x : ℕ) → None ≡ cond b (Some x) None → b ≡ false
+told_open true x e = absurd cc
+told_open false x e = refl

@@ -56,11 +56,13 @@ use Rattle.tape.specs.Tapes.{kept_in, HasRun, IsLane, IsJointOf, IsTurnTapeOf, I
 use Rattle.game.specs.Joints.{moves_of, joint_at}
 use Rattle.game.specs.Rules.{State, IsTurn}
 use Rattle.rulegame.specs.declared.naming.Naming.TheVariants.{ByNext}
+use Rattle.netgame.specs.declared.lane_plan.Asking.{Asking}
 use Rattle.netgame.specs.declared.lane_plan.LanePlan.{LanePlan}
+use Rattle.netgame.specs.declared.lane_plan.Telling.{Telling}
 use Rattle.rulegame.specs.RulePlay.{no_turn, kind_at, holds, is_named}
 use Rattle.rulegame.specs.RuleState.{rules_of}
-use Rattle.netgame.specs.NetState.{is_shown, is_lane_on, told_state, lane_state, view_of, AreSpread}
-use Rattle.netgame.specs.LanePlans.{shown_below, asked_at, asked_nodes, next_below, IsLanePlanOf}
+use Rattle.netgame.specs.NetState.{is_asked, is_lane_on, told_state, lane_state, view_of, AreSpread}
+use Rattle.netgame.specs.LanePlans.{shown_below, asked_at, asked_nodes, next_below, IsTellingOf, IsLanePlanOf}
 use Rattle.netgame.specs.NetLanes.{holds_lane, Tells, AreAfter}
 use Rattle.rulegame.proofs.Facts.{filters_agree}
 use Rattle.netgame.proofs.NetFacts.{base_count, inputs_count}
@@ -89,36 +91,37 @@ lane_alone net states l size = record {
 }
 
 -- an atom at a place among those that are asked is asked
-asked_shown : (kinds : List Kind) (p : ℕ) → p < length (shown_below kinds (length kinds)) → (asked_at kinds p < length kinds)
-    × (is_shown (kind_at kinds (asked_at kinds p)) ≡ true)
-asked_shown kinds p lt =
-    filter_all (λ a. is_shown (kind_at kinds a)) (λ a. (a < length kinds) × (is_shown (kind_at kinds a) ≡ true)) 0 (length kinds)
+asked_shown : (asking : Asking) (kinds : List Kind) (p : ℕ) → p < length (shown_below asking kinds (length kinds))
+    → (asked_at asking kinds p < length kinds) × (is_asked asking (kind_at kinds (asked_at asking kinds p)) ≡ true)
+asked_shown asking kinds p lt =
+    filter_all (λ a. is_asked asking (kind_at kinds a)) (λ a. (a < length kinds) × (is_asked asking (kind_at kinds a) ≡ true)) 0 (length kinds)
     (λ k from to e. (omega arith, e)) p 0 lt
 
 -- the tape of what is asked keeps a node for each atom that is asked
-pub kept_count : (g : Ground) (net : Net) (plan : LanePlan) → IsLanePlanOf g net plan
-    → kept_in plan.asked ≡ length (shown_below (kinds_of g) (length (kinds_of g)))
-kept_count g net plan laned = ∥∥₁_elim laned.asked (Prim.hlevel props) (λ of. of.size ∙ asked_count net.views.items (kinds_of g))
+pub kept_count : (g : Ground) (net : Net) (t : Telling) → IsTellingOf g net t
+    → kept_in t.tape ≡ length (shown_below t.asking (kinds_of g) (length (kinds_of g)))
+kept_count g net t told = ∥∥₁_elim told.tape (Prim.hlevel props) (λ of. of.size ∙ asked_count t.asking net.views.items (kinds_of g))
 
 -- what a pass over the tape of what is asked tells
-pub tells_asked : (g : Ground) (net : Net) → ∥ IsNetOf g net ∥₁ → (plan : LanePlan) → IsLanePlanOf g net plan → (states room : List ℕ) (k : ℕ)
+pub tells_asked : (g : Ground) (net : Net) → ∥ IsNetOf g net ∥₁ → (t : Telling) → IsTellingOf g net t → (states room : List ℕ) (k : ℕ)
     → length states ≡ length g.starts.items
-    → HasRun plan.asked states room → k < 64 → Tells plan.asked room k (λ p. holds_lane g states k (asked_at (kinds_of g) p))
-tells_asked g net made plan laned states room k size ran lk p w below h =
-    ∥∥₁_elim laned.asked (Prim.hlevel props) (λ of.
+    → HasRun t.tape states room → k < 64 → Tells t.tape room k (λ p. holds_lane g states k (asked_at t.asking (kinds_of g) p))
+tells_asked g net made t told states room k size ran lk p w below h =
+    ∥∥₁_elim told.tape (Prim.hlevel props) (λ of.
+    let asking = t.asking in
     let kinds = kinds_of g in
     let views = net.views.items in
     let many = of.size in
-    let count = asked_count views kinds in
-    let here : p < length (shown_below kinds (length kinds)) = omega arith in
+    let count = asked_count asking views kinds in
+    let here : p < length (shown_below asking kinds (length kinds)) = omega arith in
     let base = base_count g net made in
     let whole : length states ≡ net.base = omega arith in
-    let node = asked_node views kinds p here in
-    let shown = asked_shown kinds p here in
-    let bit : bit_at w k ≡ value (gates_of net) (lane states k) no_turn (view_of views (asked_at kinds p)) =
-    h net (asked_nodes views kinds) states of ran k (lane states k) no_turn lk (lane_alone net states k whole)
+    let node = asked_node asking views kinds p here in
+    let shown = asked_shown asking kinds p here in
+    let bit : bit_at w k ≡ value (gates_of net) (lane states k) no_turn (view_of views (asked_at asking kinds p)) =
+    h net (asked_nodes asking views kinds) states of ran k (lane states k) no_turn lk (lane_alone net states k whole)
     ∙ ap (value (gates_of net) (lane states k) no_turn) node in
-    ap (λ (v : ℕ). v == 1) bit ∙ (view_told g net made (lane states k) (λ n. bit_at-lt _ _) (asked_at kinds p) shown.0 shown.1).told)
+    ap (λ (v : ℕ). v == 1) bit ∙ (view_told g net made (lane states k) (λ n. bit_at-lt _ _) asking (asked_at asking kinds p) shown.0 shown.1).told)
 
 -- states whose bits agree
 pub same_state : (f g : ℕ → ℕ) (n : ℕ) → ((p : ℕ) → p < n → f p ≡ g p) → told_state f n ≡ told_state g n

@@ -44,9 +44,11 @@ use Rattle.rulegame.specs.declared.naming.Naming.TheVariants.{ByLegal}
 use Rattle.rulegame.specs.declared.plan.Sought.TheVariants.{Goals, Ends}
 use Rattle.rulegame.specs.declared.plan.Standing.{Standing}
 use Rattle.rulegame.specs.RulePlay.{kind_at, names, is_named, named_below, some_below, is_terminal, ends, best_goal}
-use Rattle.rulegame.specs.Plans.{standing_at, all_standing, greatest_of}
+use Rattle.game.specs.Value.{greatest}
+use Rattle.rulegame.specs.Plans.{standing_at, all_standing}
 use Rattle.rulegame.proofs.Facts.{ends_all, goals_all, filter_range_more, greatest_snoc, legal_only}
-use Rattle.netgame.specs.NetState.{is_shown, Alike}
+use Rattle.netgame.specs.declared.lane_plan.Asking.{Asking}
+use Rattle.netgame.specs.NetState.{asks_moves, is_asked, Alike}
 use Rattle.netgame.specs.LanePlans.{shown_below, asked_at, places_of, legal_named, legal_pair, legals_below, goal_pair, goals_of, ends_of}
 use Rattle.netgame.specs.NetLanes.{told_moves, told_goal}
 use Rattle.netgame.proofs.NetReads.{one_legal}
@@ -97,7 +99,7 @@ goal_more on ls i d best new lt before next =
     let f : ℕ × ℕ → ℕ = λ l. cond (on l.0) l.1 0 in
     let x = get_or ls i d in
     let all : told_goal on (take (i + 1) ls) ≡ max (told_goal on (take i ls)) (f x) =
-    ap (told_goal on) (take_more ls i d lt) ∙ ap greatest_of (map-append f (take i ls) (x ∷ [])) ∙ greatest_snoc (map f (take i ls)) (f x) in
+    ap (told_goal on) (take_more ls i d lt) ∙ ap greatest (map-append f (take i ls) (x ∷ [])) ∙ greatest_snoc (map f (take i ls)) (f x) in
     omega arith
 
 and_true : (a : Bool) → (a && true) ≡ a
@@ -133,28 +135,28 @@ none_pushed (o ∷ os) h (suc m) = none_pushed os (λ k. h (suc k)) m
 
 -- What holds at the places of atoms is what holds of the atoms.
 
-module _ (kinds : List Kind) (f : ℕ → Bool) where
+module _ (asking : Asking) (kinds : List Kind) (f : ℕ → Bool) where
   abbrev on : ℕ → Bool
-  on p = f (asked_at kinds p)
+  on p = f (asked_at asking kinds p)
 
   abbrev seen : ℕ → Bool
-  seen a = on (slice_index (places_of kinds) a)
+  seen a = on (slice_index (places_of asking kinds) a)
 
-  seen_alike : Alike kinds seen f
-  seen_alike a lt shown = ap f (placed_at kinds a lt shown).at
+  seen_alike : Alike asking kinds seen f
+  seen_alike a lt shown = ap f (placed_at asking kinds a lt shown).at
 
-  pub told_ends : list_any on (ends_of (places_of kinds) kinds) ≡ ends kinds f
+  pub told_ends : list_any on (ends_of (places_of asking kinds) kinds) ≡ ends kinds f
   told_ends =
-      any_map on (λ (p : Standing). slice_index (places_of kinds) p.atom) (all_standing Ends kinds)
+      any_map on (λ (p : Standing). slice_index (places_of asking kinds) p.atom) (all_standing Ends kinds)
       ∙ any_where (λ (p : Standing). seen p.atom) (λ (p : Standing). is_terminal p.kind) (all_standing Ends kinds) (ends_only kinds)
       ∙ ends_all kinds seen
-      ∙ ends_alike kinds seen f seen_alike
+      ∙ ends_alike asking kinds seen f seen_alike
 
-  pub told_goals : (r : ℕ) → told_goal on (goals_of (places_of kinds) kinds r) ≡ best_goal kinds f r
+  pub told_goals : (r : ℕ) → told_goal on (goals_of (places_of asking kinds) kinds r) ≡ best_goal kinds f r
   told_goals r =
-      ap greatest_of (map_map (λ (l : ℕ × ℕ). cond (on l.0) l.1 0) (goal_pair (places_of kinds) r) (all_standing (Goals r) kinds))
+      ap greatest (map_map (λ (l : ℕ × ℕ). cond (on l.0) l.1 0) (goal_pair (places_of asking kinds) r) (all_standing (Goals r) kinds))
       ∙ goals_all kinds seen r
-      ∙ goals_alike kinds seen f r seen_alike
+      ∙ goals_alike asking kinds seen f r seen_alike
 
   named_by : (r m i : ℕ) → IsOnce kinds r → i ≤ length kinds → some_below (λ a. seen a && names (ByLegal r) (kind_at kinds a) m) i ≡ held seen
       (legal_named kinds r m i)
@@ -177,30 +179,31 @@ module _ (kinds : List Kind) (f : ℕ → Bool) where
       go false e rest = ap (λ (b : Bool). some_below (λ a. seen a && names (ByLegal r) (kind_at kinds a) m) i || b) (none_and (seen i))
           ∙ or-false (some_below (λ a. seen a && names (ByLegal r) (kind_at kinds a) m) i) ∙ rest
 
-  pair_moves : (o : Option ℕ) (m : ℕ) → told_moves on (legal_pair (places_of kinds) o m) ≡ cond (held seen o) (m ∷ []) []
+  pair_moves : (o : Option ℕ) (m : ℕ) → told_moves on (legal_pair (places_of asking kinds) o m) ≡ cond (held seen o) (m ∷ []) []
   pair_moves None m = refl
-  pair_moves (Some a) m = one_move (seen a) (slice_index (places_of kinds) a, m)
+  pair_moves (Some a) m = one_move (seen a) (slice_index (places_of asking kinds) a, m)
 
-  seen_moves : (r n : ℕ) → IsOnce kinds r → told_moves on (legals_below (places_of kinds) kinds r n) ≡ named_below kinds seen (ByLegal r) n
+  seen_moves : (r n : ℕ) → IsOnce kinds r → told_moves on (legals_below (places_of asking kinds) kinds r n) ≡ named_below kinds seen (ByLegal r) n
   seen_moves r zero once = refl
   seen_moves r (suc n) once =
       let more : n + 1 ≡ suc n = omega arith in
       let o = legal_named kinds r n (length kinds) in
-      moves_append on (legals_below (places_of kinds) kinds r n) (legal_pair (places_of kinds) o n)
-      ∙ ap (λ (ns : List ℕ). ns ++ told_moves on (legal_pair (places_of kinds) o n)) (seen_moves r n once)
+      moves_append on (legals_below (places_of asking kinds) kinds r n) (legal_pair (places_of asking kinds) o n)
+      ∙ ap (λ (ns : List ℕ). ns ++ told_moves on (legal_pair (places_of asking kinds) o n)) (seen_moves r n once)
       ∙ ap (λ (ns : List ℕ). named_below kinds seen (ByLegal r) n ++ ns) (pair_moves o n)
       ∙ ap (λ (b : Bool). named_below kinds seen (ByLegal r) n ++ cond b (n ∷ []) []) (sym (named_by r n (length kinds) once (omega arith)))
       ∙ sym (filter_range_more (is_named kinds seen (ByLegal r)) n)
       ∙ ap (named_below kinds seen (ByLegal r)) more
 
-  told_legals_once : (r n : ℕ) → IsOnce kinds r → told_moves on (legals_below (places_of kinds) kinds r n) ≡ named_below kinds f (ByLegal r) n
-  told_legals_once r n once = seen_moves r n once ∙ legals_alike kinds seen f r n seen_alike
+  told_legals_once : asks_moves asking ≡ true → (r n : ℕ) → IsOnce kinds r
+      → told_moves on (legals_below (places_of asking kinds) kinds r n) ≡ named_below kinds f (ByLegal r) n
+  told_legals_once moves r n once = seen_moves r n once ∙ legals_alike asking moves kinds seen f r n seen_alike
 
-pub told_legals : (g : Ground) (f : ℕ → Bool) (r n : ℕ)
-    → told_moves (λ p. f (asked_at (kinds_of g) p)) (legals_below (places_of (kinds_of g)) (kinds_of g) r n) ≡ named_below (kinds_of g) f (ByLegal r)
-    n
-told_legals g f r n =
-    told_legals_once (kinds_of g) f r n (λ m a b la lb ha hb. one_legal g r m a b la lb (legal_only r m (kind_at (kinds_of g) a) ha)
+pub told_legals : (asking : Asking) → asks_moves asking ≡ true → (g : Ground) (f : ℕ → Bool) (r n : ℕ)
+    → told_moves (λ p. f (asked_at asking (kinds_of g) p)) (legals_below (places_of asking (kinds_of g)) (kinds_of g) r n)
+    ≡ named_below (kinds_of g) f (ByLegal r) n
+told_legals asking moves g f r n =
+    told_legals_once asking (kinds_of g) f moves r n (λ m a b la lb ha hb. one_legal g r m a b la lb (legal_only r m (kind_at (kinds_of g) a) ha)
     (legal_only r m (kind_at (kinds_of g) b) hb))
 
 -- The places are those of what is asked.
@@ -217,39 +220,42 @@ legal_found kinds r m (suc i) a e = go (names (ByLegal r) (kind_at kinds i) m) r
         (omega arith, ap (λ (k : ℕ). names (ByLegal r) (kind_at kinds k) m) (sym same) ∙ here)
     go false here found rest = let before = rest found in let lt = before.0 in (omega arith, before.1)
 
-module _ (kinds : List Kind) where
-  below : (a : ℕ) → a < length kinds → is_shown (kind_at kinds a) ≡ true → slice_index (places_of kinds) a < length (shown_below kinds (length kinds))
-  below a lt shown = (placed_at kinds a lt shown).below
+module _ (asking : Asking) (kinds : List Kind) where
+  below : (a : ℕ) → a < length kinds → is_asked asking (kind_at kinds a) ≡ true
+      → slice_index (places_of asking kinds) a < length (shown_below asking kinds (length kinds))
+  below a lt shown = (placed_at asking kinds a lt shown).below
 
-  pub ends_within : All (λ (p : ℕ). p < length (shown_below kinds (length kinds))) (ends_of (places_of kinds) kinds)
+  pub ends_within : All (λ (p : ℕ). p < length (shown_below asking kinds (length kinds))) (ends_of (places_of asking kinds) kinds)
   ends_within =
-      let most = length (shown_below kinds (length kinds)) in
-      All-map (λ (p : ℕ). p < most) (λ (p : Standing). slice_index (places_of kinds) p.atom) (all_standing Ends kinds)
-      (standing_shown Ends kinds (λ a. slice_index (places_of kinds) a < most) end_shown below)
+      let most = length (shown_below asking kinds (length kinds)) in
+      All-map (λ (p : ℕ). p < most) (λ (p : Standing). slice_index (places_of asking kinds) p.atom) (all_standing Ends kinds)
+      (standing_shown asking Ends kinds (λ a. slice_index (places_of asking kinds) a < most) (end_shown asking) below)
 
-  pub goals_within : (r : ℕ) → All (λ (l : ℕ × ℕ). l.0 < length (shown_below kinds (length kinds))) (goals_of (places_of kinds) kinds r)
+  pub goals_within : (r : ℕ) → All (λ (l : ℕ × ℕ). l.0 < length (shown_below asking kinds (length kinds))) (goals_of (places_of asking kinds) kinds r)
   goals_within r =
-      let most = length (shown_below kinds (length kinds)) in
-      All-map (λ (l : ℕ × ℕ). l.0 < most) (goal_pair (places_of kinds) r) (all_standing (Goals r) kinds)
-      (standing_shown (Goals r) kinds (λ a. slice_index (places_of kinds) a < most) (goal_sought r) below)
+      let most = length (shown_below asking kinds (length kinds)) in
+      All-map (λ (l : ℕ × ℕ). l.0 < most) (goal_pair (places_of asking kinds) r) (all_standing (Goals r) kinds)
+      (standing_shown asking (Goals r) kinds (λ a. slice_index (places_of asking kinds) a < most) (goal_sought asking r) below)
 
-  pair_within : (o : Option ℕ) (m : ℕ) → ((a : ℕ) → o ≡ Some a → slice_index (places_of kinds) a < length (shown_below kinds (length kinds)))
-      → All (λ (l : ℕ × ℕ). l.0 < length (shown_below kinds (length kinds))) (legal_pair (places_of kinds) o m)
+  pair_within : (o : Option ℕ) (m : ℕ)
+      → ((a : ℕ) → o ≡ Some a → slice_index (places_of asking kinds) a < length (shown_below asking kinds (length kinds)))
+      → All (λ (l : ℕ × ℕ). l.0 < length (shown_below asking kinds (length kinds))) (legal_pair (places_of asking kinds) o m)
   pair_within None m h = λ k d lt. absurd (omega arith)
   pair_within (Some a) m h = one
     where
-      one : All (λ (l : ℕ × ℕ). l.0 < length (shown_below kinds (length kinds))) ((slice_index (places_of kinds) a, m) ∷ [])
+      one : All (λ (l : ℕ × ℕ). l.0 < length (shown_below asking kinds (length kinds))) ((slice_index (places_of asking kinds) a, m) ∷ [])
       one zero d lt = h a refl
       one (suc k) d lt = absurd (omega arith)
 
-  pub legals_within : (r n : ℕ) → All (λ (l : ℕ × ℕ). l.0 < length (shown_below kinds (length kinds))) (legals_below (places_of kinds) kinds r n)
-  legals_within r zero = λ k d lt. absurd (omega arith)
-  legals_within r (suc n) =
-      All-append (λ (l : ℕ × ℕ). l.0 < length (shown_below kinds (length kinds))) (legals_below (places_of kinds) kinds r n)
-      (legal_pair (places_of kinds) (legal_named kinds r n (length kinds)) n)
-      (legals_within r n)
+  pub legals_within : asks_moves asking ≡ true → (r n : ℕ)
+      → All (λ (l : ℕ × ℕ). l.0 < length (shown_below asking kinds (length kinds))) (legals_below (places_of asking kinds) kinds r n)
+  legals_within moves r zero = λ k d lt. absurd (omega arith)
+  legals_within moves r (suc n) =
+      All-append (λ (l : ℕ × ℕ). l.0 < length (shown_below asking kinds (length kinds))) (legals_below (places_of asking kinds) kinds r n)
+      (legal_pair (places_of asking kinds) (legal_named kinds r n (length kinds)) n)
+      (legals_within moves r n)
       (pair_within (legal_named kinds r n (length kinds)) n
-      (λ a e. let found = legal_found kinds r n (length kinds) a e in below a found.0 (legal_shown r n (kind_at kinds a) found.1)))
+      (λ a e. let found = legal_found kinds r n (length kinds) a e in below a found.0 (legal_shown asking moves r n (kind_at kinds a) found.1)))
 
 one_at_most : (places : List ℕ) (o : Option ℕ) (m : ℕ) → length (legal_pair places o m) ≤ 1
 one_at_most places None m = omega arith

@@ -17,6 +17,9 @@ use Rattle.std.specs.Prelude.{
   sum,
   slice_index,
   vec_capacity,
+  Option,
+  Some,
+  None,
   if◌then◌else◌,
 }
 use Rattle.std.specs.Int.{bit_at}
@@ -28,11 +31,13 @@ use Rattle.propnet.specs.declared.net.Net.{Net}
 use Rattle.tape.specs.declared.tape.Tape.{Tape}
 use Rattle.tape.specs.Tapes.{slots_in, kept_in, IsTapeOf, HasRun, IsWordOf}
 use Rattle.netgame.specs.declared.lane_plan.LanePlan.{LanePlan}
-use Rattle.netgame.specs.declared.net_many.NetWide.{NetWide}
+use Rattle.netgame.specs.declared.lane_plan.Telling.{Telling}
 use Rattle.netgame.specs.declared.net_many.NetMany.{NetMany}
+use Rattle.netgame.specs.declared.net_many.NetTurn.{NetTurn}
+use Rattle.netgame.specs.declared.net_many.NetWide.{NetWide}
 use Rattle.netgame.specs.declared.net_pos.NetPos.{NetPos}
 use Rattle.game.specs.Rules.{State}
-use Rattle.rulegame.specs.Plans.{greatest_of}
+use Rattle.game.specs.Value.{greatest}
 use Rattle.rulegame.specs.RulePlay.{ends}
 use Rattle.rulegame.specs.RuleState.{holds_in, rules_of, HaveRoom, AreRead, all_capacities}
 use Rattle.netgame.specs.NetState.{lane_state, kept_state, AreSpread}
@@ -64,33 +69,46 @@ told_moves on ls = map (λ (l : ℕ × ℕ). l.1) (filter (λ (l : ℕ × ℕ). 
 
 -- the greatest value whose place holds, or 0
 abbrev pub told_goal : (ℕ → Bool) → List (ℕ × ℕ) → ℕ
-told_goal on ls = greatest_of (map (λ (l : ℕ × ℕ). if on l.0 then l.1 else 0) ls)
+told_goal on ls = greatest (map (λ (l : ℕ × ℕ). if on l.0 then l.1 else 0) ls)
 
--- there is room for 64 states and for what is asked of them, and both are of each of the states that there are
-pub record IsNetMany (g : Ground) (plan : LanePlan) (m : NetMany) : Type 0 where
+-- there is room for 64 states and for what a tape tells of them, and both are of each of the states that there are
+pub record IsNetMany (g : Ground) (t : Telling) (m : NetMany) : Type 0 where
   pub states : length m.states.items ≡ length g.starts.items
-  pub room : length m.room.items ≡ slots_in plan.asked
+  pub room : length m.room.items ≡ slots_in t.tape
   pub few : m.count ≤ 64
-  pub ran : 0 < m.count → HasRun plan.asked m.states.items m.room.items
+  pub ran : 0 < m.count → HasRun t.tape m.states.items m.room.items
   pub ended : (k : ℕ) → k < m.count → (bit_at m.ended k == 1) ≡ ends (kinds_of g) (holds_lane g m.states.items k)
 
--- there is room for the words that passes over the tapes are given and write
-pub record HasWideRoom (net : Net) (plan : LanePlan) (w : NetWide) : Type 0 where
+-- the same of a tape that may be there; where it is not, there are no states
+abbrev pub IsLast : Ground → Option Telling → NetMany → Type 0
+IsLast g (Some t) m = IsNetMany g t m
+IsLast g None m = m.count ≡ 0
+
+-- there is room for the words that passes over the tape of the next state are given and write
+pub record HasTurnRoom (net : Net) (plan : LanePlan) (w : NetTurn) : Type 0 where
   pub words : length w.words.items ≡ net.base + sum net.inputs.items
   pub next : length w.next.items ≡ slots_in plan.next
 
-abbrev pub wide_capacities : NetWide → List ℕ
-wide_capacities w = vec_capacity w.words ∷ vec_capacity w.next ∷ []
+-- there is also room for the states that are judged
+pub record HasWideRoom (g : Ground) (net : Net) (plan : LanePlan) (w : NetWide) : Type 0 where
+  pub turn : HasTurnRoom net plan w.turn
+  pub last : IsLast g plan.last w.last
+
+abbrev pub turn_capacities : NetTurn → List ℕ
+turn_capacities w = vec_capacity w.words ∷ vec_capacity w.next ∷ []
 
 abbrev pub many_capacities : NetMany → List ℕ
 many_capacities m = vec_capacity m.states ∷ vec_capacity m.room ∷ []
+
+abbrev pub wide_capacities : NetWide → List ℕ
+wide_capacities w = turn_capacities w.turn ++ many_capacities w.last
 
 -- there is room for a state of the game, and for the passes that lead to it
 pub record HasNetRoom (g : Ground) (net : Net) (plan : LanePlan) (p : NetPos) : Type 0 where
   pub lanes : length p.lanes.items ≡ length g.starts.items
   pub roles : HaveRoom (inputs_of g) p.roles.items
-  pub wide : HasWideRoom net plan p.wide
-  pub many : IsNetMany g plan p.many
+  pub turn : HasTurnRoom net plan p.turn
+  pub many : IsNetMany g plan.asked p.many
 
 -- what is told of the state is so
 pub record IsNetState (g : Ground) (net : Net) (plan : LanePlan) (p : NetPos) : Type 0 where
@@ -102,4 +120,4 @@ pub record IsNetState (g : Ground) (net : Net) (plan : LanePlan) (p : NetPos) : 
 -- the capacities of what the state keeps
 abbrev pub net_capacities : NetPos → List ℕ
 net_capacities p =
-    vec_capacity p.lanes ∷ vec_capacity p.roles ∷ all_capacities p.roles.items ++ (wide_capacities p.wide ++ many_capacities p.many)
+    vec_capacity p.lanes ∷ vec_capacity p.roles ∷ all_capacities p.roles.items ++ (turn_capacities p.turn ++ many_capacities p.many)

@@ -5,6 +5,8 @@ use Rattle.meaning.specs.declared.kind.Kind.{Kind}
 use Rattle.meaning.specs.declared.kind.Kind.TheVariants.{Fixed, Now, Does, Next, Legal, Goal, Terminal, Other}
 use Rattle.ground.specs.declared.ground.Ground.{Ground}
 use Rattle.propnet.specs.Values.{lane}
+use Rattle.netgame.specs.declared.lane_plan.Asking.{Asking}
+use Rattle.netgame.specs.declared.lane_plan.Asking.TheVariants.{EndAlone, WithMoves}
 use Rattle.netgame.specs.declared.net_pos.NetPos.{NetPos}
 use Rattle.game.specs.Rules.{State}
 use Rattle.rulegame.specs.RulePlay.{kind_at}
@@ -29,24 +31,29 @@ AreSpread words = (p k : ℕ) → k < 64 → lane words k p ≡ lane words 0 p
 abbrev pub view_of : List (Option ℕ) → ℕ → ℕ
 view_of views a = unwrap_or (get_or views a None) 0
 
--- what is asked of each state: its end, goals and legal moves
-abbrev pub is_shown : Kind → Bool
-is_shown Fixed = false
-is_shown (Now p) = false
-is_shown (Does r m) = false
-is_shown (Next p) = false
-is_shown (Legal r m) = true
-is_shown (Goal r v) = true
-is_shown Terminal = true
-is_shown Other = false
+-- whether the legal moves are asked too
+abbrev pub asks_moves : Asking → Bool
+asks_moves EndAlone = false
+asks_moves WithMoves = true
+
+-- what is asked of each state: its end and goals, and its legal moves
+abbrev pub is_asked : Asking → Kind → Bool
+is_asked asking Fixed = false
+is_asked asking (Now p) = false
+is_asked asking (Does r m) = false
+is_asked asking (Next p) = false
+is_asked asking (Legal r m) = asks_moves asking
+is_asked asking (Goal r v) = true
+is_asked asking Terminal = true
+is_asked asking Other = false
 
 -- two tests agree on the atoms that are asked
-abbrev pub Alike : List Kind → (ℕ → Bool) → (ℕ → Bool) → Type 0
-Alike kinds f g = (a : ℕ) → a < length kinds → is_shown (kind_at kinds a) ≡ true → f a ≡ g a
+abbrev pub Alike : Asking → List Kind → (ℕ → Bool) → (ℕ → Bool) → Type 0
+Alike asking kinds f g = (a : ℕ) → a < length kinds → is_asked asking (kind_at kinds a) ≡ true → f a ≡ g a
 
 -- the views of the atoms that are asked are below n
-abbrev pub AreViewsBelow : List Kind → List (Option ℕ) → ℕ → Type 0
-AreViewsBelow kinds views n = (a : ℕ) → a < length kinds → is_shown (kind_at kinds a) ≡ true → view_of views a < n
+abbrev pub AreViewsBelow : Asking → List Kind → List (Option ℕ) → ℕ → Type 0
+AreViewsBelow asking kinds views n = (a : ℕ) → a < length kinds → is_asked asking (kind_at kinds a) ≡ true → view_of views a < n
 
 -- the state that is kept
 abbrev pub kept_state : Ground → NetPos → State

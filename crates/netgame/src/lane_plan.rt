@@ -2,13 +2,38 @@
 
 use tape::Tape;
 
-/// Where the atoms that tell of a role stand among those that are asked of a state.
+/// Which atoms are asked of a state.
+#[derive(Clone, Copy)]
+pub enum Asking {
+    /// Those that tell whether the game has ended, and the goals.
+    EndAlone,
+    /// The legal moves too.
+    WithMoves,
+}
+
+/// Where the `goal` atoms of a role stand among those that are asked.
 #[derive(Drop)]
-pub struct RoleAsked {
-    /// The place of each `legal`, with the move that it names, ascending by move.
-    pub(crate) legals: Vec<(u32, u32)>,
-    /// The place of each `goal`, with its value.
+pub struct RoleGoals {
+    /// The place of each, with its value.
     pub(crate) goals: Vec<(u32, u8)>,
+}
+
+/// Where the `legal` atoms of a role stand among those that are asked.
+#[derive(Drop)]
+pub struct RoleLegals {
+    /// The place of each, with the move that it names, ascending by move.
+    pub(crate) legals: Vec<(u32, u32)>,
+}
+
+/// A tape that tells what is asked of a state.
+#[derive(Drop)]
+pub struct Telling {
+    pub(crate) asking: Asking,
+    /// It keeps the nodes that tell of the atoms that are asked, in order.
+    pub(crate) tape: Tape,
+    /// The places of those that end the game.
+    pub(crate) ends: Vec<u32>,
+    pub(crate) goals: Vec<RoleGoals>,
 }
 
 /// The tapes of play.
@@ -16,9 +41,9 @@ pub struct RoleAsked {
 pub struct LanePlan {
     /// It keeps the transition of each base proposition, in order.
     pub(crate) next: Tape,
-    /// It keeps the nodes that tell of the atoms that are asked of a state, in order.
-    pub(crate) asked: Tape,
-    /// The places of those that end the game.
-    pub(crate) ends: Vec<u32>,
-    pub(crate) roles: Vec<RoleAsked>,
+    /// What play asks of a state that it goes on from.
+    pub(crate) asked: Telling,
+    pub(crate) legals: Vec<RoleLegals>,
+    /// What is asked of a state that play does not go on from, where a tape of its own pays for that.
+    pub(crate) last: Option<Telling>,
 }

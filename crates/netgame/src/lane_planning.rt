@@ -1,17 +1,22 @@
 // Makes the tapes of play.
-ghost use Rattle.std.specs.Prelude.{◌≡◌, ◌<◌, ◌++◌, ℕ, [], ◌∷◌, length, map, OnOk, IfOk, if◌then◌else◌};
+ghost use Rattle.std.specs.Prelude.{◌≡◌, ◌<◌, ◌++◌, ℕ, [], ◌∷◌, length, map, OnOk, IfOk, Some, if◌then◌else◌};
 ghost use Rattle.ground.specs.GroundView.{kinds_of};
 ghost use Rattle.propnet.specs.Builders.{IsNetOf};
-ghost use Rattle.netgame.specs.NetState.{is_shown as shown, view_of};
-ghost use Rattle.netgame.specs.LanePlans.{places_of, asked_nodes, next_below, IsLanePlanOf};
+ghost use Rattle.tape.specs.Tapes.{IsTurnTapeOf};
+ghost use Rattle.netgame.specs.declared.lane_plan.Telling.{Telling};
+ghost use Rattle.netgame.specs.NetState.{is_asked as asked, view_of};
+ghost use Rattle.netgame.specs.LanePlans.{places_of, asked_nodes, next_below, IsTellingOf, IsLanePlanOf};
 
-use crate::lane_plan::LanePlan;
-use crate::net_planning::{list_ends, plan_roles};
+use crate::lane_plan::{Asking, LanePlan, Telling};
+use crate::net_planning::{list_ends, plan_goals, plan_legals};
 use ground::{Ground, Kind};
 use propnet::Net;
 use rulegame::kind_of;
 use std::alloc::{AllocError, Global};
 use tape::Tape;
+
+/// Where what play asks of a state takes more words than these, a tape of the end alone is hardly shorter, and takes long to make.
+const LONGEST_ASKED: usize = 1 << 14;
 
 /// Which atoms are asked of a state.
 #[derive(Drop)]
@@ -23,10 +28,14 @@ struct Asked {
 }
 
 /// Whether atoms of this kind are asked of a state.
-fn is_shown(kind: Kind) -> bool
-    ensures { result ≡ shown kind }
+fn is_asked(asking: Asking, kind: Kind) -> bool
+    ensures { result ≡ asked asking kind }
 {
-    matches!(kind, Kind::Legal(..) | Kind::Goal(..) | Kind::Terminal)
+    match kind {
+        Kind::Legal(..) => matches!(asking, Asking::WithMoves),
+        Kind::Goal(..) | Kind::Terminal => true,
+        _ => false,
+    }
 }
 
 /// The number of the node that tells of an atom.
@@ -36,26 +45,32 @@ fn node_of(net: &Net, atom: u32) -> u32
     net.view(atom).unwrap_or(0)
 }
 
-/// Lists the node that tells of an atom, if atoms of its kind are asked.
-fn add_asked(net: &Net, kind: Kind, atom: u32, nodes: &mut Vec<u32>) -> Result<(), AllocError>
-    ensures { OnOk result (nodes.new.items ≡ nodes.old.items ++ (if shown kind then view_of net.now.views.items atom ∷ [] else [])) }
+/// Lists the node that tells of an atom, if it is asked.
+fn add_asked(net: &Net, asks: bool, atom: u32, nodes: &mut Vec<u32>) -> Result<(), AllocError>
+    ensures { OnOk result (nodes.new.items ≡ nodes.old.items ++ (if asks then view_of net.now.views.items atom ∷ [] else [])) }
 {
-    if is_shown(kind) {
+    if asks {
         nodes.push(node_of(net, atom))?;
     }
     Ok(())
 }
 
 /// The atoms that are asked of a state.
-fn list_asked(alloc: Global, ground: &Ground, net: &Net) -> Result<Asked, AllocError>
-    ensures places { IfOk result (λ asked. asked.places.items ≡ places_of (kinds_of ground.now)) }
-    ensures nodes { IfOk result (λ asked. asked.nodes.items ≡ asked_nodes net.now.views.items (kinds_of ground.now)) }
+fn list_asked(
+    alloc: Global,
+    ground: &Ground,
+    net: &Net,
+    asking: Asking,
+) -> Result<Asked, AllocError>
+    ensures places { IfOk result (λ all. all.places.items ≡ places_of asking (kinds_of ground.now)) }
+    ensures nodes { IfOk result (λ all. all.nodes.items ≡ asked_nodes asking net.now.views.items (kinds_of ground.now)) }
 {
     let mut places = Vec::new(alloc);
     let mut nodes = Vec::new(alloc);
     for atom in 0..ground.atoms() {
         places.push(nodes.len() as u32)?;
-        add_asked(net, kind_of(ground, atom), atom as u32, &mut nodes)?;
+        let asks = is_asked(asking, kind_of(ground, atom));
+        add_asked(net, asks, atom as u32, &mut nodes)?;
     }
     Ok(Asked { places, nodes })
 }
@@ -72,6 +87,55 @@ fn list_next(alloc: Global, ground: &Ground, net: &Net) -> Result<Vec<u32>, Allo
     Ok(nodes)
 }
 
+/// The tape of the transitions.
+fn make_next(alloc: Global, ground: &Ground, net: &Net) -> Result<Tape, AllocError>
+    requires { ∥ IsNetOf ground.now net.now ∥₁ }
+    ensures { IfOk result (λ tape. IsTurnTapeOf net.now (next_below net.now (length ground.now.starts.items)) tape) }
+{
+    let next = list_next(alloc, ground, net)?;
+    Tape::of_turns(alloc, net, &next)
+}
+
+/// The tape that tells what is asked of a state.
+fn make_telling(
+    alloc: Global,
+    ground: &Ground,
+    net: &Net,
+    asking: Asking,
+    asked: &Asked,
+) -> Result<Telling, AllocError>
+    requires made { ∥ IsNetOf ground.now net.now ∥₁ }
+    requires places { asked.now.places.items ≡ places_of asking (kinds_of ground.now) }
+    requires nodes { asked.now.nodes.items ≡ asked_nodes asking net.now.views.items (kinds_of ground.now) }
+    ensures told { IfOk result (IsTellingOf ground.now net.now) }
+    ensures asking { IfOk result (λ telling. telling.asking ≡ asking) }
+{
+    Ok(Telling {
+        asking,
+        tape: Tape::new(alloc, net, &asked.nodes)?,
+        ends: list_ends(alloc, ground, &asked.places)?,
+        goals: plan_goals(alloc, ground, &asked.places)?,
+    })
+}
+
+/// The tape of the end alone, where it pays beside one that takes so many words.
+fn make_last(
+    alloc: Global,
+    ground: &Ground,
+    net: &Net,
+    words: usize,
+) -> Result<Option<Telling>, AllocError>
+    requires { ∥ IsNetOf ground.now net.now ∥₁ }
+    ensures { IfOk result (λ last. (t : Telling) → last ≡ Some t → IsTellingOf ground.now net.now t) }
+{
+    if words > LONGEST_ASKED {
+        return Ok(None);
+    }
+    let asked = list_asked(alloc, ground, net, Asking::EndAlone)?;
+    let last = make_telling(alloc, ground, net, Asking::EndAlone, &asked)?;
+    Ok(Some(last))
+}
+
 /// The tapes of a network.
 pub(crate) fn make_lane_plan(
     alloc: Global,
@@ -81,12 +145,13 @@ pub(crate) fn make_lane_plan(
     requires { ∥ IsNetOf ground.now net.now ∥₁ }
     ensures { IfOk result (IsLanePlanOf ground.now net.now) }
 {
-    let next = list_next(alloc, ground, net)?;
-    let asked = list_asked(alloc, ground, net)?;
+    let all = list_asked(alloc, ground, net, Asking::WithMoves)?;
+    let asked = make_telling(alloc, ground, net, Asking::WithMoves, &all)?;
+    let last = make_last(alloc, ground, net, asked.tape.words())?;
     Ok(LanePlan {
-        next: Tape::of_turns(alloc, net, &next)?,
-        asked: Tape::new(alloc, net, &asked.nodes)?,
-        ends: list_ends(alloc, ground, &asked.places)?,
-        roles: plan_roles(alloc, ground, &asked.places)?,
+        next: make_next(alloc, ground, net)?,
+        asked,
+        legals: plan_legals(alloc, ground, &all.places)?,
+        last,
     })
 }

@@ -5,11 +5,11 @@ ghost use Rattle.netgame.specs.LanePlans.{IsLanePlanOf};
 
 use crate::lane_plan::LanePlan;
 use crate::lane_planning::make_lane_plan;
-use crate::net_lanes::{net_steps, new_net_many, new_net_wide};
+use crate::net_lanes::{net_judge, net_steps, new_net_many, new_net_wide};
 use crate::net_many::{NetMany, NetWide};
 use crate::net_playing::{start_net_state, step_net_state};
 use crate::net_pos::NetPos;
-use crate::net_taking::{net_take, net_told};
+use crate::net_taking::{net_take, net_told, net_verdict};
 use game::{Game, Joint, Told};
 use ground::Ground;
 use propnet::Net;
@@ -77,9 +77,11 @@ impl Game for NetGame {
 
     ghost capacities = { λ _ p. net_capacities p };
 
-    ghost fits_wide = { λ g w. HasWideRoom g.net g.lane_plan w };
+    ghost fits_wide = { λ g w. HasWideRoom g.played g.net g.lane_plan w };
 
-    ghost fits_many = { λ g m. IsNetMany g.played g.lane_plan m };
+    ghost judged = { λ g w. lane_states g.played w.last };
+
+    ghost fits_many = { λ g m. IsNetMany g.played g.lane_plan.asked m };
 
     ghost states = { λ g m. lane_states g.played m };
 
@@ -134,11 +136,11 @@ impl Game for NetGame {
     }
 
     fn new_many(&self) -> Result<NetMany, AllocError> {
-        new_net_many(self)
+        new_net_many(self, &self.lane_plan.asked)
     }
 
     fn steps(&self, p: &NetPos, joints: &[Joint], w: &mut NetWide, out: &mut NetMany) {
-        net_steps(self, p, joints, w, out);
+        net_steps(self, &self.lane_plan.asked, p, joints, &mut w.turn, out);
     }
 
     /// As many as there may be: a pass over a tape costs the same for one as for all.
@@ -152,6 +154,14 @@ impl Game for NetGame {
 
     fn told(&self, many: &NetMany, place: usize, role: usize) -> Told {
         net_told(self, many, place, role)
+    }
+
+    fn judge(&self, p: &NetPos, joints: &[Joint], w: &mut NetWide) -> bool {
+        net_judge(self, p, joints, w)
+    }
+
+    fn verdict(&self, w: &NetWide, place: usize, role: usize) -> Option<u8> {
+        net_verdict(self, w, place, role)
     }
 
     ghost goal_within = { λ g s r. goal_at_most g.played s r };

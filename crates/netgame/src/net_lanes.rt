@@ -1,13 +1,26 @@
 // The states after up to 64 joint moves at a time, and what is told of them.
-ghost use Rattle.std.specs.Prelude.{◌≡◌, ◌<◌, ◌≤◌, All, length, map, vec_capacity, IfOk};
+ghost use Rattle.std.specs.Prelude.{◌≡◌, ◌<◌, ◌≤◌, All, true, length, map, vec_capacity, IfOk};
 ghost use Rattle.game.specs.Rules.{IsTurn};
 ghost use Rattle.tape.specs.Tapes.{slots_in};
 ghost use Rattle.rulegame.specs.RuleState.{rules_of};
 ghost use Rattle.netgame.specs.NetState.{kept_state, AreSpread};
-ghost use Rattle.netgame.specs.NetLanes.{lane_states, AreAfter, IsNetMany, IsNetState, HasWideRoom, wide_capacities, many_capacities};
+ghost use Rattle.netgame.specs.LanePlans.{IsTellingOf};
+ghost use Rattle.netgame.specs.NetLanes.{
+  lane_states,
+  AreAfter,
+  IsNetMany,
+  IsNetState,
+  IsLast,
+  HasTurnRoom,
+  HasWideRoom,
+  turn_capacities,
+  many_capacities,
+  wide_capacities,
+};
 
+use crate::lane_plan::Telling;
 use crate::net_game::NetGame;
-use crate::net_many::{NetMany, NetWide};
+use crate::net_many::{NetMany, NetTurn, NetWide};
 use crate::net_passes::{run, run_kept, write_sources};
 use crate::net_pos::NetPos;
 use crate::net_telling::any_told;
@@ -19,86 +32,131 @@ fn step_lanes(
     game: &NetGame,
     from: &[u64],
     joints: &[Joint],
-    w: &mut NetWide,
+    turn: &mut NetTurn,
     states: &mut Vec<u64>,
 )
     requires from { length from.now ≡ length game.now.played.starts.items }
     requires spread { AreSpread from.now }
     requires few { length joints.now ≤ 64 }
     requires joints { All (λ j. IsTurn (rules_of game.now.played) j.items) joints.now }
-    requires wide { HasWideRoom game.now.net game.now.lane_plan w.old }
+    requires turn { HasTurnRoom game.now.net game.now.lane_plan turn.old }
     requires to { length states.old.items ≡ length game.now.played.starts.items }
-    ensures wide { HasWideRoom game.now.net game.now.lane_plan w.new }
+    ensures turn { HasTurnRoom game.now.net game.now.lane_plan turn.new }
     ensures after { AreAfter game.now.played from.now joints.now states.new.items }
     ensures size { length states.new.items ≡ length states.old.items }
-    ensures wide_capacities { wide_capacities w.new ≡ wide_capacities w.old }
+    ensures turn_capacities { turn_capacities turn.new ≡ turn_capacities turn.old }
     ensures capacity { vec_capacity states.new ≡ vec_capacity states.old }
 {
-    write_sources(&game.net, from, joints, &mut w.words);
-    run_kept(&game.lane_plan.next, &w.words, &mut w.next, states);
+    write_sources(&game.net, from, joints, &mut turn.words);
+    run_kept(&game.lane_plan.next, &turn.words, &mut turn.next, states);
 }
 
 /// Passes over what is asked of so many states that the words keep.
-pub(crate) fn tell_lanes(game: &NetGame, count: usize, out: &mut NetMany)
+pub(crate) fn tell_lanes(game: &NetGame, telling: &Telling, count: usize, out: &mut NetMany)
+    requires telling { IsTellingOf game.now.played game.now.net telling.now }
     requires few { count ≤ 64 }
     requires states { length out.old.states.items ≡ length game.now.played.starts.items }
-    requires room { length out.old.room.items ≡ slots_in game.now.lane_plan.asked }
-    ensures many { IsNetMany game.now.played game.now.lane_plan out.new }
+    requires room { length out.old.room.items ≡ slots_in telling.now.tape }
+    ensures many { IsNetMany game.now.played telling.now out.new }
     ensures count { out.new.count ≡ count }
     ensures states { out.new.states.items ≡ out.old.states.items }
     ensures many_capacities { many_capacities out.new ≡ many_capacities out.old }
 {
-    let plan = &game.lane_plan;
-    run(&plan.asked, &out.states, &mut out.room);
-    out.ended = any_told(&plan.asked, &out.room, &plan.ends);
+    run(&telling.tape, &out.states, &mut out.room);
+    out.ended = any_told(&telling.tape, &out.room, &telling.ends);
     out.count = count;
 }
 
-/// Working room.
-pub(crate) fn new_net_wide(game: &NetGame) -> Result<NetWide, AllocError>
-    ensures { IfOk result (HasWideRoom game.now.net game.now.lane_plan) }
+/// Room for the passes that lead to states.
+pub(crate) fn new_net_turn(game: &NetGame) -> Result<NetTurn, AllocError>
+    ensures { IfOk result (HasTurnRoom game.now.net game.now.lane_plan) }
 {
     let alloc = game.alloc;
-    Ok(NetWide {
+    Ok(NetTurn {
         words: vec![in alloc; 0u64; game.net.sources()]?,
         next: vec![in alloc; 0u64; game.lane_plan.next.words()]?,
     })
 }
 
 /// Room for states, with none in it.
-pub(crate) fn new_net_many(game: &NetGame) -> Result<NetMany, AllocError>
-    ensures { IfOk result (IsNetMany game.now.played game.now.lane_plan) }
+pub(crate) fn new_net_many(game: &NetGame, telling: &Telling) -> Result<NetMany, AllocError>
+    ensures { IfOk result (IsNetMany game.now.played telling.now) }
 {
     let alloc = game.alloc;
     Ok(NetMany {
         states: vec![in alloc; 0u64; game.played.base()]?,
-        room: vec![in alloc; 0u64; game.lane_plan.asked.words()]?,
+        room: vec![in alloc; 0u64; telling.tape.words()]?,
         ended: 0,
         count: 0,
     })
 }
 
+/// Room for the states that are judged, where some are.
+fn new_last(game: &NetGame) -> Result<NetMany, AllocError>
+    ensures { IfOk result (IsLast game.now.played game.now.lane_plan.last) }
+{
+    match &game.lane_plan.last {
+        Some(last) => new_net_many(game, last),
+        None => Ok(NetMany {
+            states: Vec::new(game.alloc),
+            room: Vec::new(game.alloc),
+            ended: 0,
+            count: 0,
+        }),
+    }
+}
+
+/// Working room.
+pub(crate) fn new_net_wide(game: &NetGame) -> Result<NetWide, AllocError>
+    ensures { IfOk result (HasWideRoom game.now.played game.now.net game.now.lane_plan) }
+{
+    let turn = new_net_turn(game)?;
+    let last = new_last(game)?;
+    Ok(NetWide { turn, last })
+}
+
 /// Writes the states after another and each of up to 64 joint moves, and what is asked of them.
 pub(crate) fn net_steps(
     game: &NetGame,
+    telling: &Telling,
     p: &NetPos,
     joints: &[Joint],
-    w: &mut NetWide,
+    turn: &mut NetTurn,
     out: &mut NetMany,
 )
+    requires telling { IsTellingOf game.now.played game.now.net telling.now }
     requires from { IsNetState game.now.played game.now.net game.now.lane_plan p.now }
-    requires some { 0 < length joints.now }
     requires few { length joints.now ≤ 64 }
     requires joints { All (λ j. IsTurn (rules_of game.now.played) j.items) joints.now }
-    requires wide { HasWideRoom game.now.net game.now.lane_plan w.old }
-    requires to { IsNetMany game.now.played game.now.lane_plan out.old }
-    ensures wide { HasWideRoom game.now.net game.now.lane_plan w.new }
-    ensures many { IsNetMany game.now.played game.now.lane_plan out.new }
+    requires turn { HasTurnRoom game.now.net game.now.lane_plan turn.old }
+    requires to { IsNetMany game.now.played telling.now out.old }
+    ensures turn { HasTurnRoom game.now.net game.now.lane_plan turn.new }
+    ensures many { IsNetMany game.now.played telling.now out.new }
     ensures after { lane_states game.now.played out.new ≡ map (λ j. (rules_of game.now.played).after (kept_state game.now.played p.now) j.items)
         joints.now }
-    ensures wide_capacities { wide_capacities w.new ≡ wide_capacities w.old }
+    ensures turn_capacities { turn_capacities turn.new ≡ turn_capacities turn.old }
     ensures many_capacities { many_capacities out.new ≡ many_capacities out.old }
 {
-    step_lanes(game, &p.lanes, joints, w, &mut out.states);
-    tell_lanes(game, joints.len(), out);
+    step_lanes(game, &p.lanes, joints, turn, &mut out.states);
+    tell_lanes(game, telling, joints.len(), out);
+}
+
+/// Plays each of up to 64 joint moves for the end of the game alone, where there is a tape for it.
+pub(crate) fn net_judge(game: &NetGame, p: &NetPos, joints: &[Joint], w: &mut NetWide) -> bool
+    requires from { IsNetState game.now.played game.now.net game.now.lane_plan p.now }
+    requires few { length joints.now ≤ 64 }
+    requires joints { All (λ j. IsTurn (rules_of game.now.played) j.items) joints.now }
+    requires wide { HasWideRoom game.now.played game.now.net game.now.lane_plan w.old }
+    ensures wide { HasWideRoom game.now.played game.now.net game.now.lane_plan w.new }
+    ensures after { result ≡ true → lane_states game.now.played w.new.last
+        ≡ map (λ j. (rules_of game.now.played).after (kept_state game.now.played p.now) j.items) joints.now }
+    ensures capacities { wide_capacities w.new ≡ wide_capacities w.old }
+{
+    match &game.lane_plan.last {
+        Some(last) => {
+            net_steps(game, last, p, joints, &mut w.turn, &mut w.last);
+            true
+        }
+        None => false,
+    }
 }

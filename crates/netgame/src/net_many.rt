@@ -1,8 +1,8 @@
 // Up to 64 states of a game over a network, and what is told of them.
 
-/// Working room: words with a bit for each state.
+/// Room for the passes that lead to states: words with a bit for each state.
 #[derive(Drop)]
-pub struct NetWide {
+pub struct NetTurn {
     /// A word for each base proposition, and one for each input behind them.
     pub(crate) words: Vec<u64>,
     /// What the tape of the next state writes.
@@ -14,10 +14,17 @@ pub struct NetWide {
 pub struct NetMany {
     /// Bit k of word p: whether base proposition p is in state k.
     pub(crate) states: Vec<u64>,
-    /// What the tape of what is asked wrote for these states.
+    /// What a tape of what is asked wrote for these states.
     pub(crate) room: Vec<u64>,
     /// Bit k: whether the game has ended in state k.
     pub(crate) ended: u64,
     /// How many states there are.
     pub(crate) count: usize,
+}
+
+/// Working room, and the states that were judged last.
+#[derive(Drop)]
+pub struct NetWide {
+    pub(crate) turn: NetTurn,
+    pub(crate) last: NetMany,
 }

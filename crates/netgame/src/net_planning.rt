@@ -4,10 +4,11 @@ ghost use Rattle.ground.specs.Grounds.{texts_at};
 ghost use Rattle.ground.specs.GroundView.{kinds_of, inputs_of};
 ghost use Rattle.rulegame.specs.declared.naming.Naming.TheVariants.{ByLegal};
 ghost use Rattle.rulegame.specs.RulePlay.{names};
-ghost use Rattle.netgame.specs.declared.lane_plan.RoleAsked.{RoleAsked};
-ghost use Rattle.netgame.specs.LanePlans.{legal_named, legal_pair, legals_below, goal_pair, goals_of, ends_of, IsRoleAskedOf};
+ghost use Rattle.netgame.specs.declared.lane_plan.RoleGoals.{RoleGoals};
+ghost use Rattle.netgame.specs.declared.lane_plan.RoleLegals.{RoleLegals};
+ghost use Rattle.netgame.specs.LanePlans.{legal_named, legal_pair, legals_below, goal_pair, goals_of, ends_of};
 
-use crate::lane_plan::RoleAsked;
+use crate::lane_plan::{RoleGoals, RoleLegals};
 use ground::{Ground, Kind};
 use rulegame::{Naming, Sought, Standing, kind_of, list_standing, number_of, value_of};
 use std::alloc::{AllocError, Global};
@@ -139,35 +140,38 @@ fn list_legals(
     Ok(list)
 }
 
-/// Where what tells of a role stands.
-fn plan_role(
+/// The places of the goals of each role.
+pub(crate) fn plan_goals(
     alloc: Global,
     ground: &Ground,
     places: &[u32],
-    role: usize,
-) -> Result<RoleAsked, AllocError>
-    requires { role < length (inputs_of ground.now) }
-    ensures { IfOk result (IsRoleAskedOf places.now (kinds_of ground.now) role (length (texts_at (inputs_of ground.now) role))) }
-{
-    Ok(RoleAsked {
-        legals: list_legals(alloc, ground, places, role)?,
-        goals: list_goals(alloc, ground, places, role)?,
-    })
-}
-
-/// Where what tells of each role stands.
-pub(crate) fn plan_roles(
-    alloc: Global,
-    ground: &Ground,
-    places: &[u32],
-) -> Result<Vec<RoleAsked>, AllocError>
+) -> Result<Vec<RoleGoals>, AllocError>
     ensures size { IfOk result (λ plans. length plans.items ≡ length (inputs_of ground.now)) }
-    ensures each { IfOk result (λ plans. (r : ℕ) (d : RoleAsked) → r < length (inputs_of ground.now)
-        → IsRoleAskedOf places.now (kinds_of ground.now) r (length (texts_at (inputs_of ground.now) r)) (get_or plans.items r d)) }
+    ensures each { IfOk result (λ plans. (r : ℕ) (d : RoleGoals) → r < length (inputs_of ground.now)
+        → (get_or plans.items r d).goals.items ≡ goals_of places.now (kinds_of ground.now) r) }
 {
     let mut plans = Vec::new(alloc);
     for role in 0..ground.roles() {
-        plans.push(plan_role(alloc, ground, places, role)?)?;
+        let goals = list_goals(alloc, ground, places, role)?;
+        plans.push(RoleGoals { goals })?;
+    }
+    Ok(plans)
+}
+
+/// The places of the legal atoms of each role.
+pub(crate) fn plan_legals(
+    alloc: Global,
+    ground: &Ground,
+    places: &[u32],
+) -> Result<Vec<RoleLegals>, AllocError>
+    ensures size { IfOk result (λ plans. length plans.items ≡ length (inputs_of ground.now)) }
+    ensures each { IfOk result (λ plans. (r : ℕ) (d : RoleLegals) → r < length (inputs_of ground.now)
+        → (get_or plans.items r d).legals.items ≡ legals_below places.now (kinds_of ground.now) r (length (texts_at (inputs_of ground.now) r))) }
+{
+    let mut plans = Vec::new(alloc);
+    for role in 0..ground.roles() {
+        let legals = list_legals(alloc, ground, places, role)?;
+        plans.push(RoleLegals { legals })?;
     }
     Ok(plans)
 }

@@ -7,7 +7,7 @@ ghost use Rattle.netgame.specs.NetState.{is_lane_on, lane_state, kept_state};
 ghost use Rattle.netgame.specs.NetLanes.{HasNetRoom, IsNetState, net_capacities};
 
 use crate::net_game::NetGame;
-use crate::net_lanes::{net_steps, new_net_many, new_net_wide, tell_lanes};
+use crate::net_lanes::{net_steps, new_net_many, new_net_turn, tell_lanes};
 use crate::net_pos::NetPos;
 use crate::net_taking::take_told;
 use game::Joint;
@@ -56,7 +56,8 @@ pub(crate) fn step_net_state(game: &NetGame, p: &NetPos, joint: &Joint, q: &mut 
     ensures after { kept_state game.now.played q.new ≡ (rules_of game.now.played).after (kept_state game.now.played p.now) joint.now.items }
     ensures capacities { net_capacities q.new ≡ net_capacities q.old }
 {
-    net_steps(game, p, from_ref(joint), &mut q.wide, &mut q.many);
+    let asked = &game.lane_plan.asked;
+    net_steps(game, asked, p, from_ref(joint), &mut q.turn, &mut q.many);
     take_first(game, q);
 }
 
@@ -66,15 +67,16 @@ pub(crate) fn start_net_state(game: &NetGame) -> Result<NetPos, AllocError>
     ensures start { IfOk result (λ p. kept_state game.now.played p ≡ marked game.now.played.starts.items) }
 {
     let alloc = game.alloc;
-    let wide = new_net_wide(game)?;
-    let mut many = new_net_many(game)?;
+    let asked = &game.lane_plan.asked;
+    let turn = new_net_turn(game)?;
+    let mut many = new_net_many(game, asked)?;
     write_start(&game.played, &mut many.states);
-    tell_lanes(game, 1, &mut many);
+    tell_lanes(game, asked, 1, &mut many);
     let mut p = NetPos {
         lanes: vec![in alloc; 0u64; game.played.base()]?,
         roles: new_roles(alloc, &game.played)?,
         ended: false,
-        wide,
+        turn,
         many,
     };
     take_first(game, &mut p);

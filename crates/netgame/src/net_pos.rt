@@ -1,6 +1,6 @@
 // A state of a game over a network, with what is told of it.
 
-use crate::net_many::{NetMany, NetWide};
+use crate::net_many::{NetMany, NetTurn};
 use rulegame::RoleState;
 
 /// A state, and what is told of it.
@@ -11,7 +11,7 @@ pub struct NetPos {
     pub(crate) roles: Vec<RoleState>,
     pub(crate) ended: bool,
     /// Room for the passes that lead to the state, to be written over.
-    pub(crate) wide: NetWide,
+    pub(crate) turn: NetTurn,
     /// Room for what they tell, to be written over.
     pub(crate) many: NetMany,
 }

@@ -5,12 +5,14 @@ ghost use Rattle.ground.specs.GroundView.{inputs_of, kinds_of};
 ghost use Rattle.propnet.specs.Values.{lane};
 ghost use Rattle.rulegame.specs.RuleState.{HasRoleRoom, IsRoleRead, HaveRoom, AreRead, role_capacities, all_capacities, rules_of};
 ghost use Rattle.netgame.specs.NetState.{lane_state, kept_state, AreSpread};
-ghost use Rattle.netgame.specs.NetLanes.{holds_lane, lane_states, IsNetMany, HasNetRoom, IsNetState, net_capacities};
-ghost use Rattle.rulegame.specs.RulePlay.{ends};
-ghost use Rattle.game.specs.Told.{IsTold};
+ghost use Rattle.netgame.specs.LanePlans.{IsTellingOf};
+ghost use Rattle.netgame.specs.NetLanes.{holds_lane, lane_states, IsNetMany, HasNetRoom, HasWideRoom, IsNetState, net_capacities};
+ghost use Rattle.rulegame.specs.RulePlay.{ends, best_goal};
+ghost use Rattle.game.specs.Told.{IsTold, end_worth};
 
+use crate::lane_plan::Telling;
 use crate::net_game::NetGame;
-use crate::net_many::NetMany;
+use crate::net_many::{NetMany, NetWide};
 use crate::net_pos::NetPos;
 use crate::net_telling::{best_told, list_moves};
 use crate::net_words::{all_alike, lane_bit};
@@ -40,10 +42,36 @@ fn take_lane(states: &[u64], k: usize, lanes: &mut Vec<u64>)
     put_taken(states, k, lanes);
 }
 
+/// The goal value of a role in one of many states.
+fn goal_told(game: &NetGame, telling: &Telling, many: &NetMany, k: usize, role: usize) -> u8
+    requires telling { IsTellingOf game.now.played game.now.net telling.now }
+    requires many { IsNetMany game.now.played telling.now many.now }
+    requires lane { k < many.now.count }
+    requires role { role < length (inputs_of game.now.played) }
+    ensures { result ≡ best_goal (kinds_of game.now.played) (holds_lane game.now.played many.now.states.items k) role }
+{
+    let goals = &telling.goals[role].goals;
+    best_told(&telling.tape, &many.room, k, goals)
+}
+
+/// The goal value of a role in one of many states, if the game has ended there.
+fn end_told(game: &NetGame, telling: &Telling, many: &NetMany, k: usize, role: usize) -> Option<u8>
+    requires telling { IsTellingOf game.now.played game.now.net telling.now }
+    requires many { IsNetMany game.now.played telling.now many.now }
+    requires lane { k < length (lane_states game.now.played many.now) }
+    requires role { role < length (inputs_of game.now.played) }
+    ensures { result ≡ end_worth (rules_of game.now.played) (get_or (lane_states game.now.played many.now) k []) role }
+{
+    if lane_bit(many.ended, k) == 1 {
+        return Some(goal_told(game, telling, many, k, role));
+    }
+    None
+}
+
 /// Writes what is told of a role in one of many states.
 fn take_role(game: &NetGame, many: &NetMany, k: usize, role: usize, out: &mut RoleState)
     requires role { role < length (inputs_of game.now.played) }
-    requires many { IsNetMany game.now.played game.now.lane_plan many.now }
+    requires many { IsNetMany game.now.played game.now.lane_plan.asked many.now }
     requires lane { k < many.now.count }
     requires room { HasRoleRoom (length (texts_at (inputs_of game.now.played) role)) out.old }
     ensures read { IsRoleRead (kinds_of game.now.played) (holds_lane game.now.played many.now.states.items k) role
@@ -52,17 +80,18 @@ fn take_role(game: &NetGame, many: &NetMany, k: usize, role: usize, out: &mut Ro
     ensures capacities { role_capacities out.new ≡ role_capacities out.old }
 {
     let plan = &game.lane_plan;
-    let asked = &plan.roles[role];
-    out.count = list_moves(&plan.asked, &many.room, k, &asked.legals, &mut out.moves);
-    out.goal = best_told(&plan.asked, &many.room, k, &asked.goals);
+    let legals = &plan.legals[role].legals;
+    out.count = list_moves(&plan.asked.tape, &many.room, k, legals, &mut out.moves);
+    out.goal = goal_told(game, &plan.asked, many, k, role);
 }
 
 /// Writes what is told of each role in one of many states.
 fn take_roles(game: &NetGame, many: &NetMany, k: usize, roles: &mut Vec<RoleState>)
-    requires many { IsNetMany game.now.played game.now.lane_plan many.now }
+    requires many { IsNetMany game.now.played game.now.lane_plan.asked many.now }
     requires lane { k < many.now.count }
     requires room { HaveRoom (inputs_of game.now.played) roles.old.items }
-    ensures read { AreRead (kinds_of game.now.played) (holds_lane game.now.played many.now.states.items k) (inputs_of game.now.played) roles.new.items }
+    ensures read { AreRead (kinds_of game.now.played) (holds_lane game.now.played many.now.states.items k) (inputs_of game.now.played)
+        roles.new.items }
     ensures room { HaveRoom (inputs_of game.now.played) roles.new.items }
     ensures capacities { all_capacities roles.new.items ≡ all_capacities roles.old.items }
     ensures capacity { vec_capacity roles.new ≡ vec_capacity roles.old }
@@ -80,7 +109,7 @@ pub(crate) fn take_told(
     lanes: &mut Vec<u64>,
     roles: &mut Vec<RoleState>,
 ) -> bool
-    requires many { IsNetMany game.now.played game.now.lane_plan many.now }
+    requires many { IsNetMany game.now.played game.now.lane_plan.asked many.now }
     requires lane { k < length (lane_states game.now.played many.now) }
     requires lanes { length lanes.old.items ≡ length game.now.played.starts.items }
     requires roles { HaveRoom (inputs_of game.now.played) roles.old.items }
@@ -101,7 +130,7 @@ pub(crate) fn take_told(
 
 /// Writes one of many states, and what is told of it.
 pub(crate) fn net_take(game: &NetGame, many: &NetMany, k: usize, q: &mut NetPos)
-    requires many { IsNetMany game.now.played game.now.lane_plan many.now }
+    requires many { IsNetMany game.now.played game.now.lane_plan.asked many.now }
     requires lane { k < length (lane_states game.now.played many.now) }
     requires to { HasNetRoom game.now.played game.now.net game.now.lane_plan q.old }
     ensures state { IsNetState game.now.played game.now.net game.now.lane_plan q.new }
@@ -113,15 +142,26 @@ pub(crate) fn net_take(game: &NetGame, many: &NetMany, k: usize, q: &mut NetPos)
 
 /// What is told of one of many states.
 pub(crate) fn net_told(game: &NetGame, many: &NetMany, k: usize, role: usize) -> Told
-    requires many { IsNetMany game.now.played game.now.lane_plan many.now }
+    requires many { IsNetMany game.now.played game.now.lane_plan.asked many.now }
     requires lane { k < length (lane_states game.now.played many.now) }
     requires role { role < length (inputs_of game.now.played) }
     ensures { IsTold (rules_of game.now.played) (get_or (lane_states game.now.played many.now) k []) role result }
 {
-    if lane_bit(many.ended, k) == 1 {
-        let plan = &game.lane_plan;
-        let goals = &plan.roles[role].goals;
-        return Told::Ended(best_told(&plan.asked, &many.room, k, goals));
+    match end_told(game, &game.lane_plan.asked, many, k, role) {
+        Some(goal) => Told::Ended(goal),
+        None => Told::Open,
     }
-    Told::Open
+}
+
+/// The goal value of a role in one of the states that were judged, if the game has ended there.
+pub(crate) fn net_verdict(game: &NetGame, w: &NetWide, k: usize, role: usize) -> Option<u8>
+    requires wide { HasWideRoom game.now.played game.now.net game.now.lane_plan w.now }
+    requires lane { k < length (lane_states game.now.played w.now.last) }
+    requires role { role < length (inputs_of game.now.played) }
+    ensures { result ≡ end_worth (rules_of game.now.played) (get_or (lane_states game.now.played w.now.last) k []) role }
+{
+    match &game.lane_plan.last {
+        Some(last) => end_told(game, last, &w.last, k, role),
+        None => None,
+    }
 }

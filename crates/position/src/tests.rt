@@ -2,6 +2,7 @@
 ghost use Rattle.std.specs.Prelude.{◌≡◌, ◌<◌, ◌≤◌, All, length, IfOk, IfSome};
 ghost use Rattle.game.specs.Rules.{IsTurn};
 
+mod judged;
 mod refused;
 
 use crate::{NetGame, RuleGame};

@@ -144,7 +144,8 @@ not_of_atom kinds kept a n r m e =
     in_tail j (inr (p, h)) = let o = at_cond (is_negated kinds kept a) (Not a) p (Input r m) h in let k = o.1 in absurd cc
 
     go : (slice_get (map And (gates_of kinds kept a)) n ≡ Some (Input r m))
-        ⊎ ((p : ℕ) × (slice_get (cond (has_view kinds kept a) (View a ∷ []) [] ++ cond (is_negated kinds kept a) (Not a ∷ []) []) p ≡ Some (Input r m)))
+        ⊎ ((p : ℕ) × (slice_get (cond (has_view kinds kept a) (View a ∷ []) [] ++ cond (is_negated kinds kept a) (Not a ∷ []) []) p ≡ Some (Input r
+        m)))
         → ⊥
     go (inl h) = let o = at_map And (gates_of kinds kept a) n (Input r m) h in let k = o.2 in absurd cc
     go (inr (p, h)) = in_tail p (at_either (cond (has_view kinds kept a) (View a ∷ []) []) (cond (is_negated kinds kept a) (Not a ∷ []) []) p

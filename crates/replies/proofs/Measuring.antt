@@ -1,10 +1,9 @@
 -- How large an instantiation and its network are.
-use Rattle.std.proofs.Common.{ℕ, zero, suc, ◌≡◌, ◌+◌, ◌≤◌, ◌<◌, ◌^◌, inr, List, [], ◌∷◌, ◌++◌, length, map, take, refl, sym, ◌∙◌, ap, arith, codes}
+use Rattle.std.proofs.Common.{ℕ, zero, suc, ◌≡◌, ◌+◌, ◌≤◌, ◌<◌, ◌^◌, inr, List, [], ◌∷◌, length, map, take, refl, sym, ◌∙◌, ap, arith}
 use Rattle.std.proofs.lemmas.List.{length-map, take_all}
 use Rattle.kif.specs.Tree.{Tree, text}
 use Rattle.profile.specs.Clause.{Alternative}
 use Rattle.profile.specs.Items.{alternatives}
-use Rattle.profile.specs.Profile.{HasNoFault}
 use Rattle.ground.specs.declared.ground.Ground.{Ground}
 use Rattle.meaning.specs.declared.kind.Kind.{Kind}
 use Rattle.ground.specs.Fits.{count_all}
@@ -24,7 +23,6 @@ use Rattle.propnet.specs.Network.{Gate}
 use Rattle.propnet.specs.Nets.{gates_of}
 use Rattle.replies.specs.declared.status.Status.{Status}
 use Rattle.replies.specs.declared.status.Status.TheVariants.{Answer}
-use Rattle.replies.specs.Answers.{Reply, answer}
 use Rattle.replies.specs.Games.{IsItsGround}
 use Rattle.replies.specs.Networks.{nodes_of, net_lines, measures, IsNetReply}
 

@@ -1,5 +1,5 @@
 -- A text that names no role is refused, and one that names a role asks for its search.
-use Rattle.std.proofs.Common.{ℕ, ◌≡◌, inl, inr, List, Option, Some, None, codes}
+use Rattle.std.proofs.Common.{ℕ, ◌≡◌, inl, inr, List, Some, None, codes}
 use Rattle.std.specs.Prelude.{Result, Ok, Err, IfOk}
 use Rattle.kif.specs.Refusal.{refusal_line}
 use Rattle.game.specs.declared.at_bound.AtBound.{AtBound}

@@ -1,6 +1,6 @@
 -- Each role and history has one reply to `solve`.
 use Rattle.std.proofs.Common.{ℕ, ◌+◌, ◌<◌, ◌≡◌, ◌++◌, ◌∷◌, [], inl, inr, List, Option, Some, None, map, refl, sym, ◌∙◌, ap, subst}
-use Rattle.std.specs.Prelude.{Result, All, IfSome, find, codes, slice_index}
+use Rattle.std.specs.Prelude.{All, IfSome, find, codes, slice_index}
 use Rattle.std.specs.Fmt.{decimal}
 use Rattle.std.specs.List.{range_with_len}
 use Rattle.std.proofs.lemmas.List.Elements.{All-head, All-tail}
@@ -12,7 +12,6 @@ use Rattle.game.specs.NamedRules.{NamedRules}
 use Rattle.game.specs.Rules.{State, Turn, IsTurn, all_roles}
 use Rattle.game.specs.SamePlay.{SamePlay}
 use Rattle.game.specs.Value.{value, choice_of, line_of}
-use Rattle.game.specs.declared.fault.HistoryFault.{HistoryFault}
 use Rattle.replies.proofs.OneHistory.{some_history, one_history_reply}
 use Rattle.replies.proofs.OneText.{fault_or_trees, not_fault_and_trees}
 use Rattle.replies.specs.Answers.{Reply, refusal}

@@ -1,8 +1,8 @@
 -- A list of exactly one tree names a role, and no other list does.
-use Rattle.std.proofs.Common.{◌≡◌, ◌≢◌, ℕ, List, [], ◌∷◌, length, refl, ap, None, arith, get_or}
+use Rattle.std.proofs.Common.{◌≡◌, ◌≢◌, List, [], ◌∷◌, length, refl, ap, None, arith, get_or}
 use Rattle.std.specs.Prelude.{find}
 use Rattle.kif.specs.declared.expr.Expr.{Expr}
-use Rattle.kif.specs.Tree.{Tree, text, name_eq, trees_of}
+use Rattle.kif.specs.Tree.{text, name_eq, trees_of}
 use Rattle.kif.specs.View.{tree_of, trees_in}
 use Rattle.game.specs.NamedRules.{NamedRules}
 use Rattle.game.specs.Rules.{all_roles}

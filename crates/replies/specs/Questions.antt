@@ -1,5 +1,5 @@
 -- What a command comes to: its reply, or a search after which there is one.
-use Rattle.std.specs.Prelude.{ℕ, ◌<◌, Result, Ok, Err}
+use Rattle.std.specs.Prelude.{◌<◌, Result, Ok, Err}
 use Rattle.game.specs.NamedRules.{NamedRules}
 use Rattle.game.specs.Rules.{State}
 use Rattle.netgame.specs.NetState.{kept_state}

@@ -66,19 +66,8 @@ use Rattle.rulegame.specs.RulePlay.{
   some_below,
   greatest_below,
 }
-use Rattle.rulegame.specs.Plans.{
-  is_told,
-  is_goal_of,
-  seeks,
-  standing_at,
-  standing_below,
-  all_standing,
-  gives,
-  names_among,
-  ends_among,
-  goal_among,
-  greatest_of,
-}
+use Rattle.game.specs.Value.{greatest}
+use Rattle.rulegame.specs.Plans.{is_told, is_goal_of, seeks, standing_at, standing_below, all_standing, gives, names_among, ends_among, goal_among}
 use Rattle.rulegame.proofs.Marks.{filter_range_more, filters_agree, marked_are}
 
 map_if : {A B : Type 0} (f : A → B) (b : Bool) (x : A) → map f (cond b (x ∷ []) []) ≡ cond b (f x ∷ []) []
@@ -121,31 +110,31 @@ max_brackets : (a b c : ℕ) → max a (max b c) ≡ max (max a b) c
 max_brackets a b c = omega arith
 
 -- the greatest of a list with one more
-pub greatest_snoc : (xs : List ℕ) (x : ℕ) → greatest_of (xs ++ x ∷ []) ≡ max (greatest_of xs) x
+pub greatest_snoc : (xs : List ℕ) (x : ℕ) → greatest (xs ++ x ∷ []) ≡ max (greatest xs) x
 greatest_snoc [] x = omega arith
 greatest_snoc (y ∷ xs) x =
-    let rest : greatest_of (xs ++ x ∷ []) ≡ max (greatest_of xs) x = greatest_snoc xs x in
-    ap (max y) rest ∙ max_brackets y (greatest_of xs) x
+    let rest : greatest (xs ++ x ∷ []) ≡ max (greatest xs) x = greatest_snoc xs x in
+    ap (max y) rest ∙ max_brackets y (greatest xs) x
 
 greatest_if : (f : Standing → ℕ) (xs : List Standing) (b : Bool) (x : Standing) → (b ≡ false → f x ≡ 0)
-    → greatest_of (map f (xs ++ cond b (x ∷ []) [])) ≡ max (greatest_of (map f xs)) (f x)
-greatest_if f xs true x h = ap greatest_of (map-append f xs (x ∷ [])) ∙ greatest_snoc (map f xs) (f x)
+    → greatest (map f (xs ++ cond b (x ∷ []) [])) ≡ max (greatest (map f xs)) (f x)
+greatest_if f xs true x h = ap greatest (map-append f xs (x ∷ [])) ∙ greatest_snoc (map f xs) (f x)
 greatest_if f xs false x h =
     let none : f x ≡ 0 = h refl in
-    let same : greatest_of (map f (xs ++ [])) ≡ greatest_of (map f xs) = ap (λ (ys : List Standing). greatest_of (map f ys)) (append-nil xs) in
+    let same : greatest (map f (xs ++ [])) ≡ greatest (map f xs) = ap (λ (ys : List Standing). greatest (map f ys)) (append-nil xs) in
     omega arith
 
 -- the greatest of the listed atoms is that of all
 pub greatest_standing : (f : ℕ → Kind → ℕ) (test : Kind → Bool) (kinds : List Kind) (n : ℕ) → ((a : ℕ) (k : Kind) → test k ≡ false → f a k ≡ 0)
-    → greatest_of (map (λ (p : Standing). f p.atom p.kind) (standing_below test kinds n)) ≡ greatest_below (λ a. f a (kind_at kinds a)) n
+    → greatest (map (λ (p : Standing). f p.atom p.kind) (standing_below test kinds n)) ≡ greatest_below (λ a. f a (kind_at kinds a)) n
 greatest_standing f test kinds zero h = refl
 greatest_standing f test kinds (suc n) h =
     let g = λ (p : Standing). f p.atom p.kind in
     let more : n + 1 ≡ suc n = omega arith in
-    let rest : greatest_of (map g (standing_below test kinds n)) ≡ greatest_below (λ a. f a (kind_at kinds a)) n = greatest_standing f test kinds n h
+    let rest : greatest (map g (standing_below test kinds n)) ≡ greatest_below (λ a. f a (kind_at kinds a)) n = greatest_standing f test kinds n h
     in
-    ap (λ (i : ℕ). greatest_of (map g (standing_below test kinds i))) (sym more)
-    ∙ ap (λ (ps : List Standing). greatest_of (map g ps)) (standing_more test kinds n)
+    ap (λ (i : ℕ). greatest (map g (standing_below test kinds i))) (sym more)
+    ∙ ap (λ (ps : List Standing). greatest (map g ps)) (standing_more test kinds n)
     ∙ greatest_if g (standing_below test kinds n) (test (kind_at kinds n)) (standing_at kinds n) (h n (kind_at kinds n))
     ∙ ap (λ (m : ℕ). max m (f n (kind_at kinds n))) rest
 
@@ -278,12 +267,12 @@ sought_within sought kinds list lent n is same size =
 
 -- one atom more of a loop over a list
 pub greatest_more : (f : Standing → ℕ) (list : List Standing) (i : ℕ) (d : Standing) (best value new : ℕ) → i < length list
-    → best ≡ greatest_of (map f (take i list)) → value ≡ f (get_or list i d)
-    → new ≡ max value best → new ≡ greatest_of (map f (take (i + 1) list))
+    → best ≡ greatest (map f (take i list)) → value ≡ f (get_or list i d)
+    → new ≡ max value best → new ≡ greatest (map f (take (i + 1) list))
 greatest_more f list i d best value new below before here next =
     let split : take (i + 1) list ≡ take i list ++ get_or list i d ∷ [] = take_more list i d below in
-    let all : greatest_of (map f (take (i + 1) list)) ≡ max (greatest_of (map f (take i list))) (f (get_or list i d)) =
-    ap (λ (ps : List Standing). greatest_of (map f ps)) split ∙ ap greatest_of (map-append f (take i list) (get_or list i d ∷ []))
+    let all : greatest (map f (take (i + 1) list)) ≡ max (greatest (map f (take i list))) (f (get_or list i d)) =
+    ap (λ (ps : List Standing). greatest (map f ps)) split ∙ ap greatest (map-append f (take i list) (get_or list i d ∷ []))
     ∙ greatest_snoc (map f (take i list)) (f (get_or list i d)) in
     omega arith
 

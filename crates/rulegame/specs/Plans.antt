@@ -1,5 +1,5 @@
 -- What a plan of play keeps of an instantiation: its instances in flat lists, and the atoms that are asked for in play by kind.
-use Rattle.std.specs.Prelude.{ℕ, ◌≡◌, ◌<◌, Bool, true, false, max, ◌==◌, ◌&&◌, List, [], ◌∷◌, length, map, filter, get_or, is_some, if◌then◌else◌}
+use Rattle.std.specs.Prelude.{ℕ, ◌≡◌, ◌<◌, Bool, true, false, ◌==◌, ◌&&◌, List, [], ◌∷◌, length, map, filter, get_or, is_some, if◌then◌else◌}
 use Rattle.std.specs.List.{list_any, range_with_len}
 use Rattle.meaning.specs.declared.kind.Kind.{Kind}
 use Rattle.meaning.specs.declared.kind.Kind.TheVariants.{Fixed, Now, Does, Next, Legal, Goal, Terminal, Other}
@@ -13,6 +13,7 @@ use Rattle.rulegame.specs.declared.plan.Standing.{Standing}
 use Rattle.rulegame.specs.declared.plan.RolePlan.{RolePlan}
 use Rattle.rulegame.specs.declared.plan.Plan.{Plan}
 use Rattle.game.specs.Rules.{State, Turn}
+use Rattle.game.specs.Value.{greatest}
 use Rattle.rulegame.specs.Flats.{IsFlatOf}
 use Rattle.rulegame.specs.RulePlay.{kind_at, is_given, number_named, names, is_terminal, goal_value}
 
@@ -64,12 +65,8 @@ names_among list right by n = list_any (λ p. right p.atom && names by p.kind n)
 abbrev pub ends_among : List Standing → (ℕ → Bool) → Bool
 ends_among list right = list_any (λ p. right p.atom && is_terminal p.kind) list
 
-abbrev pub greatest_of : List ℕ → ℕ
-greatest_of [] = 0
-greatest_of (x ∷ xs) = max x (greatest_of xs)
-
 abbrev pub goal_among : List Standing → (ℕ → Bool) → ℕ → ℕ
-goal_among list right r = greatest_of (map (λ p. if right p.atom then goal_value r p.kind else 0) list)
+goal_among list right r = greatest (map (λ p. if right p.atom then goal_value r p.kind else 0) list)
 
 -- the lists of a role
 pub record IsRolePlanOf (kinds : List Kind) (r : ℕ) (plan : RolePlan) : Type 0 where

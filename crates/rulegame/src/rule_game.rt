@@ -1,5 +1,5 @@
 // The game of an instantiation.
-ghost use Rattle.std.specs.Prelude.{◌≡◌, IfOk};
+ghost use Rattle.std.specs.Prelude.{◌≡◌, IfOk, []};
 ghost use Rattle.rulegame.specs.Plans.{IsPlanOf};
 
 use crate::plan::Plan;
@@ -60,6 +60,8 @@ impl Game for RuleGame {
     ghost capacities = { λ _ p. capacities p };
 
     ghost fits_wide = { λ g w. IsWideOf g.played w };
+
+    ghost judged = { λ _ _. [] };
 
     ghost fits_many = { λ g m. IsManyOf g.played m };
 
@@ -142,6 +144,15 @@ impl Game for RuleGame {
     /// Nothing: what holds in a state is found when it is taken.
     fn told(&self, _many: &RuleMany, _place: usize, _role: usize) -> Told {
         Told::Nothing
+    }
+
+    /// Nothing is judged: what holds in a state is found when it is stepped to.
+    fn judge(&self, _p: &RulePos, _joints: &[Joint], _w: &mut RuleWide) -> bool {
+        false
+    }
+
+    fn verdict(&self, _w: &RuleWide, _place: usize, _role: usize) -> Option<u8> {
+        None
     }
 
     ghost goal_within = { λ g s r. goal_at_most g.played s r };

@@ -2,7 +2,7 @@
 ghost use Rattle.std.specs.Prelude.{◌<ℤ◌, ◌≤ℤ◌, pos, negsuc, IfOk};
 
 use crate::play_tests::{FOUR, LIVE, game_of};
-use crate::watched::{Watch, Watched};
+use game::watched::{Watch, Watched};
 use game::{AtBound, Game, Joint, replay};
 use kif::read;
 use maximin::{Room, value_in};
@@ -54,6 +54,8 @@ impl Watch for &Steps {
     fn stepped(&self, _joint: &Joint) {
         self.made.fetch_add(1, Ordering::SeqCst);
     }
+
+    fn gave(&self) {}
 }
 
 /// Searches after a turn, once for the value and once below a window, and asserts how many steps each made.

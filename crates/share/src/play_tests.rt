@@ -1,8 +1,8 @@
 // Answers over games of rules, whose workers meet.
 ghost use Rattle.std.specs.Prelude.{◌<◌};
 
-use crate::watched::{Watch, Watched};
 use crate::{Answer, Cut, Gate, solve};
+use game::watched::{Watch, Watched};
 use game::{AtBound, Game, Joint};
 use ground::instantiate;
 use kif::read;
@@ -201,6 +201,8 @@ impl Watch for &Late {
             self.steps.fetch_add(1, Ordering::SeqCst);
         }
     }
+
+    fn gave(&self) {}
 }
 
 impl Gate for Late {
@@ -301,6 +303,8 @@ impl Watch for Meeting {
             }
         }
     }
+
+    fn gave(&self) {}
 }
 
 fn meeting_of(one: [u32; 2], other: [u32; 2]) -> Meeting {
@@ -364,6 +368,8 @@ impl Watch for &Bounds {
             self.later.fetch_add(1, Ordering::SeqCst);
         }
     }
+
+    fn gave(&self) {}
 }
 
 impl Gate for Bounds {

@@ -53,7 +53,7 @@ use Rattle.tape.specs.Marks.{is_and_gate, is_or_gate, is_marked, term_nodes, All
 use Rattle.tape.specs.Tapes.{AreSources}
 use Rattle.tape.specs.Sources.{is_source, source_word, IsGivenAt, AreSourcesOf}
 use Rattle.tape.specs.Translating.{AreKept, AreTermsOf, IsTermOf, IsMeant, IsTranslated}
-use Rattle.std.specs.Global.{Vec}
+use Rattle.smallvec.specs.SmallVec.{SmallVec}
 use Rattle.tape.specs.Terms.{some_of, AreBelow}
 use Rattle.tape.proofs.Folds.{and_true}
 use Rattle.tape.proofs.Literals.{groups_before}
@@ -189,8 +189,8 @@ term_on v state joint u literals bits (And i) r reads e h = all_on v u literals 
 term_on v state joint u literals bits (View a) r reads e h = and_true (u (get_or literals r 0)) ∙ h 0 (omega arith)
 term_on v state joint u literals bits (Transition p) r reads e h = and_true (u (get_or literals r 0)) ∙ h 0 (omega arith)
 
-terms_on : (v : ℕ → ℕ) (u : ℕ → Bool) → ((n : ℕ) → v n < 2) → (reads : List ℕ) (terms : List (Vec ℕ)) → length terms ≡ length reads
-    → ((k : ℕ) (d : Vec ℕ) → k < length reads → all_of u (get_or terms k d).items ≡ (v (get_or reads k 0) == 1))
+terms_on : (v : ℕ → ℕ) (u : ℕ → Bool) → ((n : ℕ) → v n < 2) → (reads : List ℕ) (terms : List (SmallVec ℕ)) → length terms ≡ length reads
+    → ((k : ℕ) (d : SmallVec ℕ) → k < length reads → all_of u (get_or terms k d).items ≡ (v (get_or reads k 0) == 1))
     → some_of u terms ≡ (net.any_of v reads == 1)
 terms_on v u bits [] [] s h = refl
 terms_on v u bits [] (t ∷ ts) s h = absurd (omega arith)
@@ -217,7 +217,7 @@ nodes_below false r m reads h a = only r m h
     only r m h (suc k) d l = absurd (omega arith)
 
 -- all that is known of what an or reads
-module _ (n : Net) (marks : List Bool) (words : List ℕ) (m : ℕ) (gate : Gate) (b : Builder) (literals : List ℕ) (terms : List (Vec ℕ))
+module _ (n : Net) (marks : List Bool) (words : List ℕ) (m : ℕ) (gate : Gate) (b : Builder) (literals : List ℕ) (terms : List (SmallVec ℕ))
     (e : slice_get (gates_of n) m ≡ Some gate) (inside : m < length (gates_of n))
     (is : is_or_gate gate.name ≡ true) (closed : IsClosedFrom (gates_of n) 0 marks) (on : is_marked marks m ≡ true)
     (t : IsTranslated n marks words m b literals)
@@ -243,7 +243,7 @@ module _ (n : Net) (marks : List Bool) (words : List ℕ) (m : ℕ) (gate : Gate
       l)
       (all k 0 h g.0 g.1 i 0 l)
 
-  term_is : (k : ℕ) (d : Vec ℕ) (h : k < length gate.reads) → (get_or terms k d).items ≡ map (λ i. get_or literals i 0) (nodes k h)
+  term_is : (k : ℕ) (d : SmallVec ℕ) (h : k < length gate.reads) → (get_or terms k d).items ≡ map (λ i. get_or literals i 0) (nodes k h)
   unfolding nodes there
   term_is k d h = are.each k d h (there k h).0 (there k h).1
 
@@ -431,16 +431,16 @@ term_found gates literals n name reads term b e f t = λ gate g.
     subst (λ (x : Gate). term ≡ map (λ m. get_or literals m 0) (term_nodes (is_and_gate x.name) n x.reads)) same
     (subst (λ (x : Bool). term ≡ map (λ m. get_or literals m 0) (term_nodes x n reads)) (sym f) t)
 
-pub terms_more : (gates : List Gate) (literals numbers : List ℕ) (old new : List (Vec ℕ)) (i x : ℕ) (term : Vec ℕ) → length old ≡ i
+pub terms_more : (gates : List Gate) (literals numbers : List ℕ) (old new : List (SmallVec ℕ)) (i x : ℕ) (term : SmallVec ℕ) → length old ≡ i
     → x ≡ get_or numbers i 0 → IsTermOf gates literals x term.items
-    → new ≡ old ++ (term ∷ []) → ((k : ℕ) → k < i → (d : Vec ℕ) → IsTermOf gates literals (get_or numbers k 0) (get_or old k d).items)
-    → (k : ℕ) → k < i + 1 → (d : Vec ℕ) → IsTermOf gates literals (get_or numbers k 0) (get_or new k d).items
+    → new ≡ old ++ (term ∷ []) → ((k : ℕ) → k < i → (d : SmallVec ℕ) → IsTermOf gates literals (get_or numbers k 0) (get_or old k d).items)
+    → (k : ℕ) → k < i + 1 → (d : SmallVec ℕ) → IsTermOf gates literals (get_or numbers k 0) (get_or new k d).items
 terms_more gates literals numbers old new i x term size read here e before = rw e (below_more _ _ first last)
   where
-    first : (k : ℕ) → k < i → (d : Vec ℕ) → IsTermOf gates literals (get_or numbers k 0) (get_or (old ++ (term ∷ [])) k d).items
+    first : (k : ℕ) → k < i → (d : SmallVec ℕ) → IsTermOf gates literals (get_or numbers k 0) (get_or (old ++ (term ∷ [])) k d).items
     first k h d = let l : k < length old = omega arith in rw (get_or_append_left old (term ∷ []) d k l) (before k h d)
 
-    last : (d : Vec ℕ) → IsTermOf gates literals (get_or numbers i 0) (get_or (old ++ (term ∷ [])) i d).items
+    last : (d : SmallVec ℕ) → IsTermOf gates literals (get_or numbers i 0) (get_or (old ++ (term ∷ [])) i d).items
     last d = let at : get_or (old ++ (term ∷ [])) i d ≡ term = rw (← size) (get_or-append_seam old term [] d) in rw (at, ← read) here
 
 pub ok_then : {E : Type 0} → (r : Result ℕ E) (P Q : ℕ → Type 0) → ((l : ℕ) → P l → Q l) → IfOk r P → IfOk r Q

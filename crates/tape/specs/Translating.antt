@@ -1,5 +1,5 @@
 -- From the nodes of a network to literals.
-use Rattle.std.specs.Global.{Vec}
+use Rattle.smallvec.specs.SmallVec.{SmallVec}
 use Rattle.std.specs.Prelude.{ℕ, Bool, true, List, map, length, Some, slice_get, slice_index_or, ◌≡◌, ◌+◌, ◌*◌, ◌<◌, ◌==◌, slice_index, All}
 use Rattle.propnet.specs.declared.net.Net.{Net}
 use Rattle.propnet.specs.Network.{Gate, value as node_value}
@@ -17,9 +17,9 @@ IsTermOf gates literals n term = (gate : Gate) → slice_get gates n ≡ Some ga
     → term ≡ map (λ m. slice_index literals m) (term_nodes (is_and_gate gate.name) n gate.reads)
 
 -- a term for each of some nodes
-pub record AreTermsOf (gates : List Gate) (literals numbers : List ℕ) (terms : List (Vec ℕ)) : Type 0 where
+pub record AreTermsOf (gates : List Gate) (literals numbers : List ℕ) (terms : List (SmallVec ℕ)) : Type 0 where
   pub size : length terms ≡ length numbers
-  pub each : (k : ℕ) (d : Vec ℕ) → k < length numbers → IsTermOf gates literals (slice_index numbers k) (slice_index_or terms k d).items
+  pub each : (k : ℕ) (d : SmallVec ℕ) → k < length numbers → IsTermOf gates literals (slice_index numbers k) (slice_index_or terms k d).items
 
 -- the literal has the value of node n, where the words that stand in front of the gates are those of a state and a joint move, and
 -- one of each group is 1

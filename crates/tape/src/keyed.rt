@@ -1,9 +1,14 @@
-//! Terms by one of their literals.
+//! Terms, and terms by one of their literals.
 use crate::gates::Literal;
+use smallvec::SmallVec;
+use std::alloc::Global;
+
+/// An and of literals. Few have more than so many, and those with no more take no memory of their own.
+pub(crate) type Term = SmallVec<Literal, 6, Global>;
 
 /// An and of literals, as one of them and the others.
 #[derive(Drop)]
 pub(crate) struct Keyed {
     pub(crate) key: Literal,
-    pub(crate) rest: Vec<Literal>,
+    pub(crate) rest: Term,
 }

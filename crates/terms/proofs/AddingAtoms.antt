@@ -1,10 +1,8 @@
 -- Further atoms are numbered one after the other.
 use Rattle.std.proofs.Common.{
   ℕ,
-  zero,
   suc,
   ◌<◌,
-  ◌≤◌,
   ◌+◌,
   Bool,
   true,
@@ -28,14 +26,15 @@ use Rattle.std.proofs.Common.{
   ◌∙◌,
   arith,
 }
-use Rattle.std.proofs.lemmas.List.{map-append, length-map, map_more, drop_all}
-use Rattle.std.proofs.Math.Seq.{take_all}
+use Rattle.std.proofs.lemmas.List.{length-map}
 use Rattle.kif.specs.Tree.{Tree, trees_of}
 use Rattle.profile.specs.Clause.{Atom, tree_at, tree_of}
 use Rattle.profile.specs.Safety.{is_name_in}
-use Rattle.terms.specs.Arena.{Held, AreNumbered, sizes_of, cut}
-use Rattle.terms.specs.Atoms.{IsFrontOf, AreAtoms, with_number, with_numbers, AreTermsOf, HasGrown, AddsAtoms}
-use Rattle.terms.specs.Keys.{AreBelow, IsKey, key_at, with_key, word_of, parts_of, word_at, term_at, tree_of_key, trees}
+use Rattle.terms.specs.Arena.{Held, AreNumbered, cut}
+use Rattle.clauses.specs.Numbers.{Begins, word_at}
+use Rattle.terms.specs.Atoms.{with_number, with_numbers, AreTermsOf, AddsAtoms}
+use Rattle.clauses.specs.Marks.{AreBelow}
+use Rattle.terms.specs.Keys.{IsKey, key_at, with_key, word_of, parts_of, term_at, tree_of_key, trees}
 use Rattle.meaning.specs.Meaning.{atom1, atom2}
 use Rattle.terms.proofs.AtomLemmas.{
   front_itself,
@@ -53,10 +52,10 @@ use Rattle.terms.proofs.AtomLemmas.{
 }
 use Rattle.terms.proofs.KeyTrees.{tree_of_number, length_trees}
 
-pub key_front : (keys : List (List ℕ)) (key : List ℕ) (all : List (List ℕ)) → all ≡ with_key keys key → IsFrontOf keys all
-key_front keys key all e = subst (λ (ks : List (List ℕ)). IsFrontOf keys ks) (sym e) (go (is_name_in key keys))
+pub key_front : (keys : List (List ℕ)) (key : List ℕ) (all : List (List ℕ)) → all ≡ with_key keys key → Begins keys all
+key_front keys key all e = subst (λ (ks : List (List ℕ)). Begins keys ks) (sym e) (go (is_name_in key keys))
   where
-    go : (b : Bool) → IsFrontOf keys (cond b keys (keys ++ key ∷ []))
+    go : (b : Bool) → Begins keys (cond b keys (keys ++ key ∷ []))
     go true = front_itself keys
     go false = (key ∷ [], refl)
 
@@ -94,7 +93,7 @@ added_one words old new before after key k x is_key keys sizes numbered inside i
 
 -- the loop over terms
 pub record AddingEach (old now : Held) (before after : List ℕ) (atom : List (List ℕ) → Tree → Atom) (all rest : List ℕ) : Type 0 where
-  pub front : IsFrontOf old.keys now.keys
+  pub front : Begins old.keys now.keys
   pub sizes : now.sizes ≡ old.sizes
   pub below : AreBelow (length old.keys) rest
   pub adds : (words : List (List ℕ)) → AreTermsOf words old → (done : List Atom) × (AddsAtoms words old now before after done
@@ -110,8 +109,8 @@ each_begins held atoms atom all b = record {
 }
 
 pub each_next : (old now new : Held) (before after more : List ℕ) (atom : List (List ℕ) → Tree → Atom) (all : List ℕ) (n : ℕ) (rest key : List ℕ)
-    → AddingEach old now before after atom all (n ∷ rest) → IsFrontOf now.keys new.keys → new.sizes ≡ now.sizes
-    → ((words : List (List ℕ)) → AreTermsOf words old → IsFrontOf old.keys now.keys
+    → AddingEach old now before after atom all (n ∷ rest) → Begins now.keys new.keys → new.sizes ≡ now.sizes
+    → ((words : List (List ℕ)) → AreTermsOf words old → Begins old.keys now.keys
     → tree_of (atom words (term_at (trees words old.keys) n)) ≡ tree_of_key words (trees words now.keys) key)
     → ((words : List (List ℕ)) → AreTermsOf words now → (x : Atom) → tree_of x ≡ tree_of_key words (trees words now.keys) key
     → AddsAtoms words now new after more (x ∷ []))
@@ -166,14 +165,14 @@ fits_key old now before after atom all n rest w ps s h b =
     let e = ap length s.sizes in
     (omega (arith, h, e), below_more (length old.keys) (length now.keys) ps (front_length old.keys now.keys s.front) b)
 
-pub single_tree : (words : List (List ℕ)) (old now : Held) (w n : ℕ) → n < length old.keys → IsFrontOf old.keys now.keys
+pub single_tree : (words : List (List ℕ)) (old now : Held) (w n : ℕ) → n < length old.keys → Begins old.keys now.keys
     → tree_of (atom1 (word_at words w) (term_at (trees words old.keys) n)) ≡ tree_of_key words (trees words now.keys) (w ∷ (n ∷ []))
 single_tree words old now w n h f =
     let long = length_trees words [] old.keys in
     ap (λ (t : Tree). tree_of (atom1 (word_at words w) t))
     (sym (term_front (trees words old.keys) (trees words now.keys) (trees_front words old.keys now.keys f) n (omega (arith, h, long))))
 
-pub pair_tree : (words : List (List ℕ)) (old now : Held) (w r n : ℕ) → r < length old.keys → n < length old.keys → IsFrontOf old.keys now.keys
+pub pair_tree : (words : List (List ℕ)) (old now : Held) (w r n : ℕ) → r < length old.keys → n < length old.keys → Begins old.keys now.keys
     → tree_of (atom2 (word_at words w) (term_at (trees words old.keys) r) (term_at (trees words old.keys) n)) ≡ tree_of_key words
     (trees words now.keys) (w ∷ (r ∷ (n ∷ [])))
 pair_tree words old now w r n k h f =

@@ -39,9 +39,12 @@ use Rattle.profile.specs.Words.{w_init, w_next, w_legal}
 use Rattle.terms.specs.Dropping.{is_input_in, is_dropped_in, dropped_in, AreListsBelow, AreShown}
 use Rattle.terms.specs.Atoms.{AreAtoms}
 use Rattle.meaning.specs.InOrder.{first_place}
-use Rattle.terms.specs.Keys.{key_at, word_of, parts_of, word_at, term_at, trees, AreBelow, IsKey, AreKeys, AreDifferentWords}
+use Rattle.clauses.specs.Marks.{AreBelow}
+use Rattle.clauses.specs.Numbers.{word_at, AreDifferent}
+use Rattle.terms.specs.Keys.{key_at, word_of, parts_of, term_at, trees, IsKey, AreKeys}
 use Rattle.meaning.specs.Listing.{role_list, base_list, input_list}
-use Rattle.meaning.specs.Play.{is_tree_among, is_dropped}
+use Rattle.profile.specs.Profile.{is_tree_in}
+use Rattle.meaning.specs.Play.{is_dropped}
 use Rattle.terms.proofs.AtomLemmas.{same_test, nat_eq_self}
 use Rattle.terms.proofs.KeyTrees.{parts_of_tree, tree_of_number, different, length_trees}
 
@@ -98,7 +101,7 @@ two_missed false true false d = refl
 two_missed false false true d = refl
 two_missed false false false d = refl
 
-module _ (words : List (List ℕ)) (differ : AreDifferentWords words) where
+module _ (words : List (List ℕ)) (differ : AreDifferent words) where
   word_same : (v k : ℕ) (word : List ℕ) → v < length words → IsNumberOf words k word → (v == k) ≡ name_eq (word_at words v) word
   word_same v k word h n = same_test (v == k) (name_eq (word_at words v) word) there back
     where
@@ -128,7 +131,7 @@ module _ (words : List (List ℕ)) (differ : AreDifferentWords words) where
 
     -- a term is among some exactly where its number is
     among_same : (t : ℕ) → t < length (trees words keys) → (ns : List ℕ) → AreBelow (length (trees words keys)) ns
-        → list_any (nat_eq t) ns ≡ is_tree_among (term_at (trees words keys) t) (map (term_at (trees words keys)) ns)
+        → list_any (nat_eq t) ns ≡ is_tree_in (term_at (trees words keys) t) (map (term_at (trees words keys)) ns)
     among_same t h [] b = refl
     among_same t h (n ∷ ns) b =
         let first = term_same t n h b.0 in
@@ -138,7 +141,7 @@ module _ (words : List (List ℕ)) (differ : AreDifferentWords words) where
         → (f : Tree → List Tree) (roles : List ℕ) (inputs : List (List ℕ))
         → AreBelow (length (trees words keys)) roles → AreListsBelow (length (trees words keys)) inputs
         → map (λ ns. map (term_at (trees words keys)) ns) inputs ≡ map f (map (term_at (trees words keys)) roles)
-        → is_input_in roles inputs r m ≡ (is_tree_among (term_at (trees words keys) r) (map (term_at (trees words keys)) roles) && is_tree_among
+        → is_input_in roles inputs r m ≡ (is_tree_in (term_at (trees words keys) r) (map (term_at (trees words keys)) roles) && is_tree_in
         (term_at (trees words keys) m) (f (term_at (trees words keys) r)))
     input_same r m h k f [] [] b c e = refl
     input_same r m h k f [] (i ∷ is) b c e = absurd cc
@@ -152,17 +155,17 @@ module _ (words : List (List ℕ)) (differ : AreDifferentWords words) where
         first = cc
 
         go : (t : Bool) → nat_eq r n ≡ t → nat_eq r n ≡ tree_eq (term_at (trees words keys) r) (term_at (trees words keys) n)
-            → is_input_in ns is r m ≡ (is_tree_among (term_at (trees words keys) r) (map (term_at (trees words keys)) ns) && is_tree_among
+            → is_input_in ns is r m ≡ (is_tree_in (term_at (trees words keys) r) (map (term_at (trees words keys)) ns) && is_tree_in
             (term_at (trees words keys) m) (f (term_at (trees words keys) r)))
             → list_any (nat_eq m) (slice_index_or (i ∷ is) (cond (nat_eq r n) zero (suc (first_place (nat_eq r) ns))) [])
-            ≡ ((tree_eq (term_at (trees words keys) r) (term_at (trees words keys) n) || is_tree_among (term_at (trees words keys) r)
-            (map (term_at (trees words keys)) ns)) && is_tree_among (term_at (trees words keys) m) (f (term_at (trees words keys) r)))
+            ≡ ((tree_eq (term_at (trees words keys) r) (term_at (trees words keys) n) || is_tree_in (term_at (trees words keys) r)
+            (map (term_at (trees words keys)) ns)) && is_tree_in (term_at (trees words keys) m) (f (term_at (trees words keys) r)))
         go true z s more =
             let same : r ≡ n = eqb-true r n z in
             let lists : map (term_at (trees words keys)) i ≡ f (term_at (trees words keys) r) = first
             ∙ ap (λ (j : ℕ). f (term_at (trees words keys) j)) (sym same) in
             let test : tree_eq (term_at (trees words keys) r) (term_at (trees words keys) n) ≡ true = sym s ∙ z in
-            let there = among_same m k i c.0 ∙ ap (is_tree_among (term_at (trees words keys) m)) lists in
+            let there = among_same m k i c.0 ∙ ap (is_tree_in (term_at (trees words keys) m)) lists in
             rw z (rw test there)
         go false z s more =
             let test : tree_eq (term_at (trees words keys) r) (term_at (trees words keys) n) ≡ false = sym s ∙ z in
@@ -170,17 +173,17 @@ module _ (words : List (List ℕ)) (differ : AreDifferentWords words) where
 
     module _ (named : Keywords) (k : AreKeywords words named) (rules : List Alternative) (bases roles : List ℕ) (inputs : List (List ℕ))
         (shown : AreShown rules (trees words keys) bases roles inputs) where
-      base_missed : (t : ℕ) → t < length (trees words keys) → list_any (nat_eq t) bases ≡ is_tree_among (term_at (trees words keys) t)
+      base_missed : (t : ℕ) → t < length (trees words keys) → list_any (nat_eq t) bases ≡ is_tree_in (term_at (trees words keys) t)
           (base_list rules)
-      base_missed t h = among_same t h bases shown.bases_in ∙ ap (is_tree_among (term_at (trees words keys) t)) shown.bases_are
+      base_missed t h = among_same t h bases shown.bases_in ∙ ap (is_tree_in (term_at (trees words keys) t)) shown.bases_are
 
       input_missed : (r m : ℕ) → r < length (trees words keys) → m < length (trees words keys)
-          → is_input_in roles inputs r m ≡ (is_tree_among (term_at (trees words keys) r) (role_list rules) && is_tree_among
+          → is_input_in roles inputs r m ≡ (is_tree_in (term_at (trees words keys) r) (role_list rules) && is_tree_in
           (term_at (trees words keys) m) (input_list rules (term_at (trees words keys) r)))
       input_missed r m h l =
           input_same r m h l (input_list rules) roles inputs shown.roles_in shown.inputs_in
           (shown.inputs_are ∙ ap (map (input_list rules)) (sym shown.roles_are))
-          ∙ ap (λ (rs : List Tree). is_tree_among (term_at (trees words keys) r) rs && is_tree_among (term_at (trees words keys) m)
+          ∙ ap (λ (rs : List Tree). is_tree_in (term_at (trees words keys) r) rs && is_tree_in (term_at (trees words keys) m)
           (input_list rules (term_at (trees words keys) r))) shown.roles_are
 
       by_key : (key : List ℕ) (n : ℕ) → n ≤ length (trees words keys) → IsKey (length words) n key
@@ -197,7 +200,7 @@ module _ (words : List (List ℕ)) (differ : AreDifferentWords words) where
           ∙ ap (λ (s : Bool). (name_eq (word_at words v) w_init || s) && not (list_any (nat_eq t) bases)) b
           ∙ ap (λ (s : Bool). (name_eq (word_at words v) w_init || name_eq (word_at words v) w_next) && not s) c
           ∙ one_missed (name_eq (word_at words v) w_init) (name_eq (word_at words v) w_next)
-          (is_tree_among (term_at (trees words keys) t) (base_list rules)) (name_eq (word_at words v) w_legal)
+          (is_tree_in (term_at (trees words keys) t) (base_list rules)) (name_eq (word_at words v) w_legal)
       by_key (v ∷ (t ∷ (u ∷ []))) n m h =
           let less = h.1.0 in
           let more = h.1.1.0 in
@@ -206,7 +209,7 @@ module _ (words : List (List ℕ)) (differ : AreDifferentWords words) where
           ap (λ (s : Bool). s && not (is_input_in roles inputs t u)) a
           ∙ ap (λ (s : Bool). name_eq (word_at words v) w_legal && not s) c
           ∙ two_missed (name_eq (word_at words v) w_init) (name_eq (word_at words v) w_next) (name_eq (word_at words v) w_legal)
-          (is_tree_among (term_at (trees words keys) t) (role_list rules) && is_tree_among (term_at (trees words keys) u)
+          (is_tree_in (term_at (trees words keys) t) (role_list rules) && is_tree_in (term_at (trees words keys) u)
           (input_list rules (term_at (trees words keys) t)))
       by_key (v ∷ (t ∷ (u ∷ (x ∷ xs)))) n m h = none_missed _ _
 

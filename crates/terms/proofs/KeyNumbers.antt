@@ -173,3 +173,6 @@ true_or_false b e f = let g = sym e ∙ f in absurd cc
 
 pub counted : {K : Type 0} (items : K → List ℕ) (ks : List K) (ws : List (List ℕ)) → map items ks ≡ ws → length ks ≡ length ws
 counted items ks ws e = sym (length-map ks items) ∙ ap length e
+
+pub with_next : (ws new : List (List ℕ)) (w : List ℕ) → ((k : ℕ) → k < length ws → key_at ws k ≡ w → ⊥) → new ≡ ws ++ w ∷ [] → new ≡ with_key ws w
+with_next ws new w none e = e ∙ ap (λ (b : Bool). cond b ws (ws ++ w ∷ [])) (sym (not_in ws w none))

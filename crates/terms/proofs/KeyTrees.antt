@@ -30,22 +30,9 @@ use Rattle.std.proofs.Common.{
 use Rattle.kif.specs.Tree.{Tree, Trees, no_trees, tree, trees_of}
 use Rattle.profile.specs.Clause.{tree_at}
 use Rattle.profile.specs.Safety.{is_name_in}
-use Rattle.terms.specs.Keys.{
-  key_at,
-  with_key,
-  word_of,
-  parts_of,
-  word_at,
-  term_at,
-  tree_of_key,
-  trees_behind,
-  trees,
-  AreBelow,
-  IsKey,
-  AreDifferentWords,
-  AreKeys,
-  AreDifferent,
-}
+use Rattle.clauses.specs.Marks.{AreBelow}
+use Rattle.clauses.specs.Numbers.{word_at, AreDifferent}
+use Rattle.terms.specs.Keys.{key_at, with_key, word_of, parts_of, term_at, tree_of_key, trees_behind, trees, IsKey, AreKeys, AreDifferentTerms}
 use Rattle.terms.proofs.KeyNumbers.{is_in, last_or_before, more_different, true_or_false}
 
 pub below_more : (m n : ℕ) (xs : List ℕ) → m ≤ n → AreBelow m xs → AreBelow n xs
@@ -152,7 +139,7 @@ same_parts terms n h (p ∷ ps) (q ∷ qs) b c e =
     let rest : trees_of (map (term_at terms) ps) ≡ trees_of (map (term_at terms) qs) = cc in
     ap (λ (k : ℕ). k ∷ ps) (h p q b.0 c.0 first) ∙ ap (λ (xs : List ℕ). q ∷ xs) (same_parts terms n h ps qs b.1 c.1 rest)
 
-different_up_to : (words : List (List ℕ)) → AreDifferentWords words → (keys : List (List ℕ)) → AreKeys (length words) keys
+different_up_to : (words : List (List ℕ)) → AreDifferent words → (keys : List (List ℕ)) → AreKeys (length words) keys
     → (n i j : ℕ) → i < n → i < length keys → j < length keys → term_at (trees words keys) i ≡ term_at (trees words keys) j → i ≡ j
 different_up_to words d keys w zero i j h a b e = absurd (let bad : ⊥ = omega (arith, h) in bad)
 different_up_to words d keys w (suc n) i j h a b e =
@@ -170,8 +157,8 @@ different_up_to words d keys w (suc n) i j h a b e =
     let word = d (word_of p) (word_of q) (word_in (length words) i p (w.each i a)) (word_in (length words) j q (w.each j b)) s.word in
     w.once i j a b (same_key (length words) i j p q (w.each i a) (w.each j b) word parts)
 
-pub different : (words : List (List ℕ)) → AreDifferentWords words → (keys : List (List ℕ)) → AreKeys (length words) keys
-    → AreDifferent (trees words keys)
+pub different : (words : List (List ℕ)) → AreDifferent words → (keys : List (List ℕ)) → AreKeys (length words) keys
+    → AreDifferentTerms (trees words keys)
 different words d keys w i j a b e =
     let long = length_trees words [] keys in
     different_up_to words d keys w (suc i) i j (omega arith) (omega (arith, a, long)) (omega (arith, b, long)) e

@@ -43,7 +43,9 @@ use Rattle.profile.specs.Words.{w_true, w_does, w_next, w_legal, w_goal, w_termi
 use Rattle.rules.specs.declared.rule_set.Keywords.{Keywords}
 use Rattle.meaning.specs.declared.kind.Kind.{Kind}
 use Rattle.meaning.specs.declared.kind.Kind.TheVariants.{Fixed, Now, Does, Next, Legal, Goal, Terminal, Other}
-use Rattle.terms.specs.Keys.{key_at, word_at, term_at, tree_of_key, trees, AreBelow, AreDifferent, AreDifferentWords, IsKey}
+use Rattle.clauses.specs.Marks.{AreBelow}
+use Rattle.clauses.specs.Numbers.{word_at, AreDifferent}
+use Rattle.terms.specs.Keys.{key_at, term_at, tree_of_key, trees, AreDifferentTerms, IsKey}
 use Rattle.terms.specs.Arena.{AreNumbered}
 use Rattle.meaning.specs.Kinds.{place_in, value_of, one_number, two_numbers, kind_at, kind_of}
 use Rattle.meaning.specs.Listing.{role_list, base_list, input_list}
@@ -52,7 +54,7 @@ use Rattle.terms.proofs.KeyTrees.{different, length_trees, tree_of_number, parts
 
 -- A word by its number.
 
-pub word_test : (words : List (List ℕ)) → AreDifferentWords words → (n : ℕ) (v : List ℕ) → IsNumberOf words n v → (w : ℕ) → w < length words
+pub word_test : (words : List (List ℕ)) → AreDifferent words → (n : ℕ) (v : List ℕ) → IsNumberOf words n v → (w : ℕ) → w < length words
     → name_eq (word_at words w) v ≡ (w == n)
 word_test words d n v i w h = go (w == n) refl
   where
@@ -67,7 +69,7 @@ word_test words d n v i w h = go (w == n) refl
 
 -- A place by numbers.
 
-tree_test : (terms : List Tree) → AreDifferent terms → (n m : ℕ) → n < length terms → m < length terms
+tree_test : (terms : List Tree) → AreDifferentTerms terms → (n m : ℕ) → n < length terms → m < length terms
     → tree_eq (term_at terms n) (term_at terms m) ≡ (n == m)
 tree_test terms d n m h k = go (n == m) refl
   where
@@ -87,7 +89,7 @@ none_up : (o : Option ℕ) → option_map (λ (k : ℕ). k + 0) o ≡ o
 none_up None = refl
 none_up (Some k) = ap (λ (n : ℕ). Some n) (let e : k + 0 ≡ k = omega arith in e)
 
-places_from : (terms : List Tree) → AreDifferent terms → (n : ℕ) → n < length terms → (i : ℕ) (ms : List ℕ) → AreBelow (length terms) ms
+places_from : (terms : List Tree) → AreDifferentTerms terms → (n : ℕ) → n < length terms → (i : ℕ) (ms : List ℕ) → AreBelow (length terms) ms
     → position_from (λ (m : ℕ). n == m) i ms ≡ option_map (λ (k : ℕ). k + i) (place_in (term_at terms n) (map (term_at terms) ms))
 places_from terms d n h i [] b = refl
 places_from terms d n h i (m ∷ ms) b =
@@ -105,7 +107,7 @@ places_from terms d n h i (m ∷ ms) b =
         ∙ ap (λ (t : Bool). option_map (λ (k : ℕ). k + i) (cond t (Some zero) (option_map suc (place_in (term_at terms n) (map (term_at terms) ms)))))
         (sym e)
 
-pub place_is : (terms : List Tree) → AreDifferent terms → (n : ℕ) → n < length terms → (ms : List ℕ) → AreBelow (length terms) ms
+pub place_is : (terms : List Tree) → AreDifferentTerms terms → (n : ℕ) → n < length terms → (ms : List ℕ) → AreBelow (length terms) ms
     → place_in (term_at terms n) (map (term_at terms) ms) ≡ place_of n ms
 place_is terms d n h ms b =
     sym (position_from-zero (λ (m : ℕ). n == m) ms ∙ places_from terms d n h 0 ms b ∙ none_up (place_in (term_at terms n) (map (term_at terms) ms)))
@@ -162,11 +164,11 @@ atom_kind rules x w ts b e f t =
 
 -- what is known of the numbers
 pub record Known (words : List (List ℕ)) (k : Keywords) (keys : List (List ℕ)) : Type 0 where
-  pub different_words : AreDifferentWords words
+  pub different_words : AreDifferent words
   pub keywords : AreKeywords words k
   pub numbered : AreNumbered (length words) keys
 
-pub known : (words : List (List ℕ)) (k l : Keywords) (keys : List (List ℕ)) (sizes : List ℕ) → AreDifferentWords words → AreKeywords words l → k ≡ l
+pub known : (words : List (List ℕ)) (k l : Keywords) (keys : List (List ℕ)) (sizes : List ℕ) → AreDifferent words → AreKeywords words l → k ≡ l
     → length sizes ≡ length words → AreNumbered (length sizes) keys → Known words k keys
 known words k l keys sizes d a e f n = record {
   different_words = d;
@@ -174,7 +176,7 @@ known words k l keys sizes d a e f n = record {
   numbered = subst (λ (m : ℕ). AreNumbered m keys) f n;
 }
 
-terms_differ : (words : List (List ℕ)) (k : Keywords) (keys : List (List ℕ)) → Known words k keys → AreDifferent (trees words keys)
+terms_differ : (words : List (List ℕ)) (k : Keywords) (keys : List (List ℕ)) → Known words k keys → AreDifferentTerms (trees words keys)
 terms_differ words k keys n = different words n.different_words keys n.numbered.keyed
 
 tree_is : (words : List (List ℕ)) (k : Keywords) (keys : List (List ℕ)) (number : ℕ) (key : List ℕ) → Known words k keys → number < length keys
@@ -234,7 +236,7 @@ kind_one rules words k keys number key b r roles base inputs place n h e f table
         ∙ sym (atom_kind rules x (word_at words w) (tree (term_at terms p) no_trees) b u f s)
     go (w ∷ (p ∷ (q ∷ ps))) l a i s = absurd (let bad : ⊥ = omega (arith, l) in bad)
 
-both_places : (rules : List Alternative) (terms : List Tree) (roles base : List ℕ) (inputs : List (List ℕ)) → AreDifferent terms
+both_places : (rules : List Alternative) (terms : List Tree) (roles base : List ℕ) (inputs : List (List ℕ)) → AreDifferentTerms terms
     → AreTables rules terms roles base inputs → (p q : ℕ) → p < length terms → q < length terms
     → (role : Option ℕ) → role ≡ place_of p roles → (make : ℕ → ℕ → Kind) → two_numbers make role (input_place inputs role q) ≡ two_numbers make role
     (place_in (term_at terms q) (input_list rules (term_at terms p)))

@@ -39,7 +39,9 @@ use Rattle.std.proofs.lemmas.Grind.{same_number_lists}
 use Rattle.kif.specs.Tree.{Tree, name, text, further_text, trees_of}
 use Rattle.profile.specs.Clause.{tree_at}
 use Rattle.profile.specs.Safety.{is_name_in}
-use Rattle.terms.specs.Keys.{key_at, with_key, word_of, word_at, term_at, tree_of_key, trees_behind, trees, AreBelow, IsKey, AreKeys}
+use Rattle.clauses.specs.Marks.{AreBelow}
+use Rattle.clauses.specs.Numbers.{word_at}
+use Rattle.terms.specs.Keys.{key_at, with_key, word_of, term_at, tree_of_key, trees_behind, trees, IsKey, AreKeys}
 use Rattle.terms.specs.Arena.{Held, cut, sizes_of, lengths_of, with_parts, key_length, AreNumbered, IsHeld}
 use Rattle.meaning.specs.Most.{limits}
 use Rattle.terms.proofs.KeyNumbers.{not_in, last_or_before, with_known}

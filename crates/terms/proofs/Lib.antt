@@ -1,3 +1,5 @@
+mod ListLemmas
+mod ChainLemmas
 mod KeyNumbers
 mod KeyTrees
 mod Lengths

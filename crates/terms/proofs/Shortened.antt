@@ -1,11 +1,12 @@
 -- Terms cut back to the first so many.
-use Rattle.std.proofs.Common.{ℕ, zero, suc, ◌≡◌, ◌<◌, ◌≤◌, List, [], ◌∷◌, ◌++◌, length, map, take, drop, get_or, refl, sym, ◌∙◌, ap, subst, arith}
+use Rattle.std.proofs.Common.{ℕ, zero, suc, ◌≡◌, ◌<◌, ◌≤◌, List, [], ◌∷◌, ◌++◌, length, map, take, drop, get_or, sym, ◌∙◌, ap, subst, arith}
 use Rattle.std.proofs.Math.Seq.{take-append_seam}
 use Rattle.std.proofs.lemmas.List.{get_or-take, take-map, take-take, take-append-drop}
 use Rattle.kif.specs.Tree.{Tree, text}
-use Rattle.terms.specs.Arena.{Held, IsHeld, AreNumbered, cut, sizes_of}
-use Rattle.terms.specs.Atoms.{IsFrontOf, AreTermsOf, HasGrown}
-use Rattle.terms.specs.Keys.{key_at, trees, AreKeys, IsKey}
+use Rattle.terms.specs.Arena.{Held, IsHeld, AreNumbered, cut}
+use Rattle.clauses.specs.Numbers.{Begins}
+use Rattle.terms.specs.Atoms.{AreTermsOf, HasGrown}
+use Rattle.terms.specs.Keys.{key_at, trees, IsKey}
 use Rattle.terms.proofs.AtomLemmas.{trees_front, front_itself}
 use Rattle.terms.proofs.KeyTrees.{length_trees}
 use Rattle.terms.proofs.AtPlaces.{take_length}
@@ -83,5 +84,5 @@ again words old after new n t g n_is keys sizes =
         numbered = subst (λ (ks : List (List ℕ)). AreNumbered (length words) ks) (sym same) t.numbered;
         sizes = g.terms.sizes ∙ sym sizes;
       };
-      front = subst (λ (ks : List (List ℕ)). IsFrontOf old.keys ks) (sym same) (front_itself old.keys);
+      front = subst (λ (ks : List (List ℕ)). Begins old.keys ks) (sym same) (front_itself old.keys);
     }

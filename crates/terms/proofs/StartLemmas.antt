@@ -11,7 +11,9 @@ use Rattle.profile.specs.Words.{w_init}
 use Rattle.profile.proofs.Facts.{atom_eq_yes, atom_eq_self, IsAmong-append_left}
 use Rattle.terms.specs.Arena.{AreNumbered}
 use Rattle.terms.specs.Atoms.{AreAtoms}
-use Rattle.terms.specs.Keys.{key_at, word_at, term_at, trees, tree_of_key, AreBelow, IsKey, AreKeys, AreDifferentWords}
+use Rattle.clauses.specs.Marks.{AreBelow}
+use Rattle.clauses.specs.Numbers.{word_at, AreDifferent}
+use Rattle.terms.specs.Keys.{key_at, term_at, trees, tree_of_key, IsKey, AreKeys}
 use Rattle.meaning.specs.Listed.{IsWellFormed}
 use Rattle.meaning.specs.Listing.{is_atom_in, with_atoms, context_atoms, fixed_listing, listing, Listing}
 use Rattle.meaning.specs.Meaning.{atom1}
@@ -50,7 +52,7 @@ unknown_key keys key none (n ∷ ns) b =
 
 -- What keys of atoms are.
 
-module _ (words : List (List ℕ)) (differ : AreDifferentWords words) (keys : List (List ℕ)) (keyed : AreKeys (length words) keys) where
+module _ (words : List (List ℕ)) (differ : AreDifferent words) (keys : List (List ℕ)) (keyed : AreKeys (length words) keys) where
   numbers_same : (ps qs : List ℕ) → AreBelow (length (trees words keys)) ps → AreBelow (length (trees words keys)) qs
       → trees_of (map (term_at (trees words keys)) ps) ≡ trees_of (map (term_at (trees words keys)) qs) → ps ≡ qs
   numbers_same [] [] b c e = refl
@@ -134,7 +136,7 @@ module _ (rules : List Alternative) (w : IsWellFormed rules) where
           is_atom_in_yes (atom1 w_init p) (listing rules).atoms
           (subst (λ (xs : List Atom). IsAmong (atom1 w_init p) xs) (sym front.1) (IsAmong-append_left (atom1 w_init p) start.atoms front.0 b))
 
-  module _ (words : List (List ℕ)) (differ : AreDifferentWords words) (keys : List (List ℕ)) (keyed : AreKeys (length words) keys) (init : ℕ)
+  module _ (words : List (List ℕ)) (differ : AreDifferent words) (keys : List (List ℕ)) (keyed : AreKeys (length words) keys) (init : ℕ)
       (init_in : init < length words) (init_is : word_at words init ≡ w_init)
       (atoms : List ℕ) (are : AreAtoms (trees words keys) atoms (listing rules).atoms) where
     start_same : (p : ℕ) → p < length (trees words keys) → starts_in keys atoms init p ≡ play.starts rules (term_at (trees words keys) p)

@@ -28,7 +28,8 @@ use Rattle.std.proofs.lemmas.List.{map-append}
 use Rattle.kif.specs.Tree.{Tree, Trees, trees_of, name_eq, tree_eq}
 use Rattle.kif.proofs.Facts.{name_eq_yes, name_eq_self, tree_eq_yes, tree_eq_self}
 use Rattle.profile.specs.Clause.{Atom, relation_of, is_word, tree_of, count_trees}
-use Rattle.terms.specs.Keys.{key_at, word_of, parts_of, word_at, term_at, trees, IsKey, AreKeys, AreDifferentWords}
+use Rattle.clauses.specs.Numbers.{word_at, AreDifferent}
+use Rattle.terms.specs.Keys.{key_at, word_of, parts_of, term_at, trees, IsKey, AreKeys}
 use Rattle.terms.specs.Atoms.{AreAtoms}
 use Rattle.meaning.specs.Listing.{one_term, terms_of, terms_with}
 use Rattle.meaning.specs.Listing as listing
@@ -44,7 +45,7 @@ and_true : (b : Bool) → (b && true) ≡ b
 and_true true = refl
 and_true false = refl
 
-module _ (words : List (List ℕ)) (differ : AreDifferentWords words) where
+module _ (words : List (List ℕ)) (differ : AreDifferent words) where
   -- names are the same exactly where their numbers are
   words_same : (v w : ℕ) → v < length words → w < length words → (v == w) ≡ name_eq (word_at words v) (word_at words w)
   words_same v w h k = same_test (v == w) (name_eq (word_at words v) (word_at words w)) there back

@@ -1,7 +1,6 @@
 -- Single bytes of the texts of terms.
 use Rattle.std.proofs.Common.{
   ℕ,
-  zero,
   suc,
   ◌<◌,
   ◌≤◌,
@@ -14,7 +13,6 @@ use Rattle.std.proofs.Common.{
   ◌++◌,
   length,
   length-append,
-  map,
   drop,
   take,
   get_or,
@@ -24,22 +22,23 @@ use Rattle.std.proofs.Common.{
   subst,
   ◌∙◌,
   arith,
-  min,
   Vec,
 }
 use Rattle.std.specs.Prelude.{slice_index}
 use Rattle.std.proofs.Math.Seq.{drop-cons}
 use Rattle.std.proofs.lemmas.List.{get_or_append_left, get_or-append-add, get_or-map, take_all, length-drop, length-map}
 use Rattle.std.proofs.lemmas.Grind.{get_or_default_zero}
-use Rattle.kif.specs.Tree.{text, further_text, trees_of}
+use Rattle.kif.specs.Tree.{text}
 use Rattle.terms.specs.Arena.{Held, AreNumbered, cut, sizes_of}
 use Rattle.terms.specs.AtomTexts.{term_text, rest_text, IsByteAt, IsPlace}
-use Rattle.terms.specs.Vectors.{texts_of}
-use Rattle.terms.specs.Keys.{AreBelow, IsKey, key_at, parts_of, term_at, tree_of_key, trees, word_at}
+use Rattle.rules.specs.RuleSets.{texts_of}
+use Rattle.clauses.specs.Marks.{AreBelow}
+use Rattle.clauses.specs.Numbers.{word_at}
+use Rattle.terms.specs.Keys.{IsKey, key_at, tree_of_key, trees}
 use Rattle.meaning.specs.Most.{limits}
 use Rattle.terms.specs.declared.text_bytes.Place.{Place}
 use Rattle.terms.specs.declared.text_bytes.Place.TheVariants.{Byte, In}
-use Rattle.terms.proofs.KeyTrees.{below_more, tree_of_number}
+use Rattle.terms.proofs.KeyTrees.{tree_of_number}
 use Rattle.terms.proofs.Lengths.{here_below, next_below}
 
 -- Bytes of two texts.

@@ -5,7 +5,8 @@ use Rattle.profile.specs.Clause.{Alternative, tree_of}
 use Rattle.terms.specs.declared.text_bytes.Place.{Place}
 use Rattle.terms.specs.declared.text_bytes.Place.TheVariants.{Byte, In}
 use Rattle.terms.specs.Arena.{Held, sizes_of}
-use Rattle.terms.specs.Keys.{AreBelow, term_at, trees}
+use Rattle.clauses.specs.Marks.{AreBelow}
+use Rattle.terms.specs.Keys.{term_at, trees}
 use Rattle.meaning.specs.Listing.{listing}
 use Rattle.meaning.specs.Most.{limits}
 

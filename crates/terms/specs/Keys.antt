@@ -1,8 +1,10 @@
 -- Ground terms and atoms as a list of keys: the number of a word, and then the numbers of the parts
 -- among the terms before it.
-use Rattle.std.specs.Prelude.{ℕ, zero, ◌≡◌, ◌<◌, cond, List, [], ◌∷◌, ◌++◌, length, map, slice_index_or, ⊤}
+use Rattle.std.specs.Prelude.{ℕ, zero, ◌≡◌, ◌<◌, cond, List, [], ◌∷◌, ◌++◌, length, map, slice_index_or}
 use Rattle.kif.specs.Tree.{Tree, name, trees_of}
 use Rattle.profile.specs.Clause.{tree_at}
+use Rattle.clauses.specs.Numbers.{word_at}
+use Rattle.clauses.specs.Marks.{AreBelow}
 use Rattle.profile.specs.Safety.{is_name_in}
 
 abbrev pub key_at : List (List ℕ) → ℕ → List ℕ
@@ -20,9 +22,6 @@ abbrev pub parts_of : List ℕ → List ℕ
 parts_of [] = []
 parts_of (w ∷ ps) = ps
 
-abbrev pub word_at : List (List ℕ) → ℕ → List ℕ
-word_at words n = slice_index_or words n []
-
 abbrev pub term_at : List Tree → ℕ → Tree
 term_at terms n = slice_index_or terms n (name [])
 
@@ -38,17 +37,10 @@ trees_behind words done (k ∷ ks) = trees_behind words (done ++ tree_of_key wor
 abbrev pub trees : List (List ℕ) → List (List ℕ) → List Tree
 trees words keys = trees_behind words [] keys
 
-abbrev pub AreBelow : ℕ → List ℕ → Type 0
-AreBelow n [] = ⊤
-AreBelow n (x ∷ xs) = (x < n) × AreBelow n xs
-
 -- the number of one of so many words, and then numbers below n
 abbrev pub IsKey : ℕ → ℕ → List ℕ → Type 0
 IsKey many n [] = ⊥
 IsKey many n (w ∷ ps) = (w < many) × AreBelow n ps
-
-abbrev pub AreDifferentWords : List (List ℕ) → Type 0
-AreDifferentWords words = (i j : ℕ) → i < length words → j < length words → word_at words i ≡ word_at words j → i ≡ j
 
 -- each key stands once, behind its parts, with one of so many words
 pub record AreKeys (many : ℕ) (keys : List (List ℕ)) : Type 0 where
@@ -56,5 +48,5 @@ pub record AreKeys (many : ℕ) (keys : List (List ℕ)) : Type 0 where
   pub once : (i j : ℕ) → i < length keys → j < length keys → key_at keys i ≡ key_at keys j → i ≡ j
 
 -- different numbers are different trees
-abbrev pub AreDifferent : List Tree → Type 0
-AreDifferent terms = (i j : ℕ) → i < length terms → j < length terms → term_at terms i ≡ term_at terms j → i ≡ j
+abbrev pub AreDifferentTerms : List Tree → Type 0
+AreDifferentTerms terms = (i j : ℕ) → i < length terms → j < length terms → term_at terms i ≡ term_at terms j → i ≡ j

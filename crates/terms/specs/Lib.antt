@@ -1,4 +1,6 @@
 pub mod Keys
+pub mod KeyLists
+pub mod Chains
 pub mod Arena
 pub mod Building
 pub mod Writing

@@ -5,7 +5,8 @@ use Rattle.profile.specs.Clause.{Alternative}
 use Rattle.rules.specs.declared.rule_set.Keywords.{Keywords}
 use Rattle.meaning.specs.declared.kind.Kind.{Kind}
 use Rattle.meaning.specs.declared.kind.Kind.TheVariants.{Now, Does, Next, Legal, Goal, Terminal, Other}
-use Rattle.terms.specs.Keys.{term_at, AreBelow}
+use Rattle.clauses.specs.Marks.{AreBelow}
+use Rattle.terms.specs.Keys.{term_at}
 use Rattle.meaning.specs.Kinds.{one_number, two_numbers}
 use Rattle.meaning.specs.Listing.{role_list, base_list, input_list}
 

@@ -1,8 +1,10 @@
 // Further atoms by number.
 ghost use Rattle.std.specs.Prelude.{ℕ, List, [], ◌∷◌, ◌≡◌, ◌<◌, length, map, OnOk};
 ghost use Rattle.profile.specs.Clause.{Atom, tree_of};
-ghost use Rattle.terms.specs.Atoms.{IsFrontOf, AreTermsOf, AddsAtoms};
-ghost use Rattle.terms.specs.Keys.{AreBelow, IsKey, term_at, tree_of_key, trees, word_at};
+ghost use Rattle.clauses.specs.Numbers.{Begins, word_at};
+ghost use Rattle.terms.specs.Atoms.{AreTermsOf, AddsAtoms};
+ghost use Rattle.clauses.specs.Marks.{AreBelow};
+ghost use Rattle.terms.specs.Keys.{IsKey, term_at, tree_of_key, trees};
 ghost use Rattle.meaning.specs.Meaning.{atom1, atom2};
 
 use crate::arena::Arena;
@@ -12,7 +14,7 @@ use std::alloc::AllocError;
 /// Numbers the atom of a key, if it has no number yet.
 fn add_atom(arena: &mut Arena, atoms: &mut IndexSet<usize>, key: &[usize]) -> Result<(), AllocError>
     requires { IsKey (length arena.old.sizes) (length arena.old.keys) key.now }
-    ensures front { OnOk result (IsFrontOf arena.old.keys arena.new.keys) }
+    ensures front { OnOk result (Begins arena.old.keys arena.new.keys) }
     ensures sizes { OnOk result (arena.new.sizes ≡ arena.old.sizes) }
     ensures added { OnOk result ((words : List (List ℕ)) → AreTermsOf words arena.old → (x : Atom)
         → tree_of x ≡ tree_of_key words (trees words arena.old.keys) key.now
@@ -32,7 +34,7 @@ pub fn add_singles(
 ) -> Result<(), AllocError>
     requires word { word < length arena.old.sizes }
     requires terms { AreBelow (length arena.old.keys) terms.now }
-    ensures front { OnOk result (IsFrontOf arena.old.keys arena.new.keys) }
+    ensures front { OnOk result (Begins arena.old.keys arena.new.keys) }
     ensures sizes { OnOk result (arena.new.sizes ≡ arena.old.sizes) }
     ensures added { OnOk result ((words : List (List ℕ)) → AreTermsOf words arena.old
         → AddsAtoms words arena.old arena.new atoms.old.keys atoms.new.keys
@@ -55,7 +57,7 @@ pub fn add_pairs(
     requires word { word < length arena.old.sizes }
     requires first { first < length arena.old.keys }
     requires terms { AreBelow (length arena.old.keys) terms.now }
-    ensures front { OnOk result (IsFrontOf arena.old.keys arena.new.keys) }
+    ensures front { OnOk result (Begins arena.old.keys arena.new.keys) }
     ensures sizes { OnOk result (arena.new.sizes ≡ arena.old.sizes) }
     ensures added { OnOk result ((words : List (List ℕ)) → AreTermsOf words arena.old
         → AddsAtoms words arena.old arena.new atoms.old.keys atoms.new.keys

@@ -22,10 +22,12 @@ ghost use Rattle.std.specs.Prelude.{
 };
 ghost use Rattle.kif.specs.Tree.{text};
 ghost use Rattle.rules.specs.RuleSetView.{lists_of_set};
-ghost use Rattle.terms.specs.Keys.{key_at, term_at, trees, with_key, IsKey, AreBelow, parts_of, word_of};
+ghost use Rattle.clauses.specs.Marks.{AreBelow};
+ghost use Rattle.terms.specs.Keys.{key_at, term_at, trees, with_key, IsKey, parts_of, word_of};
 ghost use Rattle.terms.specs.Arena.{cut, sizes_of, with_parts, key_length, AreNumbered};
 ghost use Rattle.meaning.specs.Most.{limits};
 
+use crate::chains::hash_of;
 use crate::keyed::Terms;
 use rules::RuleSet;
 use std::alloc::{AllocError, Global};
@@ -186,12 +188,13 @@ impl Arena {
         ensures failed { OnErr result (self.new.keys ≡ self.old.keys) }
         ensures numbered { AreNumbered (length self.new.sizes) self.new.keys }
     {
-        if let Some(number) = self.terms.number(key) {
+        let hash = hash_of(key);
+        if let Some(number) = self.terms.number_by(key, hash) {
             return Ok(number);
         }
         let length = key_length(&self.lengths, key);
         self.lengths.push(length)?;
-        let Ok(number) = self.terms.add(key) else {
+        let Ok(number) = self.terms.add_by(key, hash) else {
             self.lengths.pop();
             return Err(AllocError);
         };

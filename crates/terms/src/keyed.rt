@@ -1,8 +1,11 @@
 // Ground terms by number: each different one has one.
-ghost use Rattle.std.specs.Prelude.{ℕ, ◌≡◌, ◌<◌, ◌≢◌, List, length, map, take, IfOk, OnOk, OnErr, MatchOption};
-ghost use Rattle.terms.specs.Keys.{key_at, with_key, IsKey, AreKeys, AreDifferent, AreDifferentWords, trees};
+ghost use Rattle.std.specs.Prelude.{ℕ, ◌≡◌, ◌<◌, ◌≢◌, List, length, take, IfOk, OnOk, OnErr, MatchOption};
+ghost use Rattle.terms.specs.Chains.{key_hash};
+ghost use Rattle.clauses.specs.Numbers.{AreDifferent};
+ghost use Rattle.terms.specs.Keys.{key_at, with_key, IsKey, AreKeys, AreDifferentTerms, trees};
 
-use indexmap::IndexSet;
+use crate::chains::{Chains, add, drop_behind, find, hash_of, make_buckets};
+use crate::key_list::KeyList;
 use std::alloc::{AllocError, Global};
 use std::marker::Model;
 
@@ -11,13 +14,19 @@ use std::marker::Model;
 #[derive(Drop)]
 pub struct Terms {
     alloc: Global,
-    keys: IndexSet<Vec<usize>>,
+    keys: KeyList,
+    chains: Chains,
 }
 
 impl Model for Terms {
+    ghost use Rattle.std.specs.Prelude.{ℕ, List};
+    ghost use Rattle.terms.specs.Chains.{AreKept};
+
     ghost Value = { List (List ℕ) };
 
-    ghost view = { λ s. map (λ v. v.items) s.keys.keys };
+    ghost view = { λ s. s.keys };
+
+    ghost invariant = { λ s. AreKept s.keys s.chains };
 }
 
 impl Terms {
@@ -27,7 +36,11 @@ impl Terms {
     {
         Terms {
             alloc,
-            keys: IndexSet::new(alloc),
+            keys: KeyList::new(alloc),
+            chains: Chains {
+                last: Vec::new(alloc),
+                before: Vec::new(alloc),
+            },
         }
     }
 
@@ -43,10 +56,7 @@ impl Terms {
         requires { number < length self.now }
         ensures { result.now ≡ key_at self.now number }
     {
-        match self.keys.get_index(number) {
-            Some(key) => key,
-            None => &[],
-        }
+        self.keys.get(number)
     }
 
     /// The number of a key, if it has one.
@@ -55,7 +65,17 @@ impl Terms {
             ((k : ℕ) → k < length self.now → key_at self.now k ≢ key.now)
             (λ k. (k < length self.now) × (key_at self.now k ≡ key.now)) }
     {
-        self.keys.get_index_of(key)
+        self.number_by(key, hash_of(key))
+    }
+
+    /// The number of a key with this hash, if it has one.
+    pub fn number_by(&self, key: &[usize], hash: usize) -> Option<usize>
+        requires { hash ≡ key_hash 0 key.now }
+        ensures { MatchOption result
+            ((k : ℕ) → k < length self.now → key_at self.now k ≢ key.now)
+            (λ k. (k < length self.now) × (key_at self.now k ≡ key.now)) }
+    {
+        find(&self.keys, &self.chains, key, hash)
     }
 
     /// The number of a key, which is the next one if it has none yet. After an error the terms are those
@@ -65,10 +85,11 @@ impl Terms {
         ensures kept { OnOk result (self.new ≡ with_key self.old key.now) }
         ensures failed { OnErr result (self.new ≡ self.old) }
     {
-        if let Some(number) = self.number(key) {
+        let hash = hash_of(key);
+        if let Some(number) = self.number_by(key, hash) {
             return Ok(number);
         }
-        self.add(key)
+        self.add_by(key, hash)
     }
 
     /// The number of a key that has none yet, which is the next one. After an error the terms are those
@@ -79,9 +100,21 @@ impl Terms {
         ensures kept { OnOk result (self.new ≡ with_key self.old key.now) }
         ensures failed { OnErr result (self.new ≡ self.old) }
     {
+        self.add_by(key, hash_of(key))
+    }
+
+    /// The number of a key with this hash that has none yet, which is the next one. After an error the
+    /// terms are those before.
+    pub fn add_by(&mut self, key: &[usize], hash: usize) -> Result<usize, AllocError>
+        requires next { (k : ℕ) → k < length self.old → key_at self.old k ≢ key.now }
+        requires hash { hash ≡ key_hash 0 key.now }
+        ensures found { IfOk result (λ k. (k < length self.new) × (key_at self.new k ≡ key.now)) }
+        ensures kept { OnOk result (self.new ≡ with_key self.old key.now) }
+        ensures failed { OnErr result (self.new ≡ self.old) }
+    {
         let number = self.keys.len();
-        let owned = Vec::from_slice(self.alloc, key)?;
-        self.keys.insert(owned)?;
+        make_buckets(self.alloc, &self.keys, &mut self.chains)?;
+        add(&mut self.keys, &mut self.chains, key, hash)?;
         Ok(number)
     }
 
@@ -89,15 +122,15 @@ impl Terms {
     pub fn truncate(&mut self, many: usize)
         ensures { self.new ≡ take many self.old }
     {
-        self.keys.truncate(many);
+        drop_behind(&mut self.keys, &mut self.chains, many);
     }
 }
 
 /// Different numbers are different trees, and keys stay so when one more is numbered whose parts are
 /// numbered already.
 pub fn numbers_are_trees()
-    ensures different { (words : List (List ℕ)) → AreDifferentWords words
-        → (keys : List (List ℕ)) → AreKeys (length words) keys → AreDifferent (trees words keys) }
+    ensures different { (words : List (List ℕ)) → AreDifferent words
+        → (keys : List (List ℕ)) → AreKeys (length words) keys → AreDifferentTerms (trees words keys) }
     ensures kept { (many : ℕ) (keys : List (List ℕ)) (key : List ℕ) → AreKeys many keys → IsKey many (length keys) key
         → AreKeys many (with_key keys key) }
 {}

@@ -5,8 +5,10 @@
 mod adding;
 mod arena;
 mod building;
+mod chains;
 mod decimals;
 mod dropping;
+mod key_list;
 mod keyed;
 mod kind_of_term;
 mod naming;

@@ -1,7 +1,7 @@
 // Which base propositions hold at the start.
 ghost use Rattle.std.specs.Prelude.{◌≡◌, length, map, IfOk};
 ghost use Rattle.terms.specs.Arena.{AreNumbered};
-ghost use Rattle.terms.specs.Keys.{AreBelow};
+ghost use Rattle.clauses.specs.Marks.{AreBelow};
 ghost use Rattle.terms.specs.Starting.{has_key, starts_in};
 
 use crate::arena::Arena;

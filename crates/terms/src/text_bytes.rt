@@ -2,8 +2,8 @@
 ghost use Rattle.std.specs.Prelude.{ℕ, List, ◌≡◌, ◌<◌, ◌≤◌, length, slice_index};
 ghost use Rattle.terms.specs.Arena.{sizes_of};
 ghost use Rattle.terms.specs.AtomTexts.{term_text, rest_text, IsPlace};
-ghost use Rattle.terms.specs.Vectors.{texts_of};
-ghost use Rattle.terms.specs.Keys.{AreBelow};
+ghost use Rattle.rules.specs.RuleSets.{texts_of};
+ghost use Rattle.clauses.specs.Marks.{AreBelow};
 ghost use Rattle.meaning.specs.Most.{limits};
 
 use crate::arena::Arena;

@@ -1,5 +1,5 @@
-use Rattle.std.proofs.Common.{arith, rules, ◌∙◌, sym}
-use Rattle.terms.specs.Vectors.{texts_of}
+use Rattle.std.proofs.Common.{arith, ◌∙◌, sym}
+use Rattle.rules.specs.RuleSets.{texts_of}
 use Rattle.ground.proofs.TextTables.{same_length, other_length, same_begins, byte_differs, byte_same, all_same, exact_length}
 use Rattle.ground.proofs.atom_table.is_term_text.Goals as goal
 

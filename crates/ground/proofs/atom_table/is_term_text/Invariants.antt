@@ -1,5 +1,5 @@
 use Rattle.terms.specs.AtomTexts.{term_text}
-use Rattle.terms.specs.Vectors.{texts_of}
+use Rattle.rules.specs.RuleSets.{texts_of}
 use Rattle.ground.proofs.TextTables.{AreSameTo}
 use Rattle.ground.proofs.atom_table.is_term_text.Given as goal
 

@@ -1,6 +1,6 @@
 use Rattle.std.proofs.Common.{◌≡◌}
 use Rattle.std.specs.Prelude.{take}
-use Rattle.terms.specs.Vectors.{texts_of}
+use Rattle.rules.specs.RuleSets.{texts_of}
 use Rattle.ground.specs.SetWords.{words_of}
 use Rattle.ground.proofs.atom_table.names_of.Given as goal
 

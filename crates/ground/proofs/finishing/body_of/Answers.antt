@@ -4,5 +4,5 @@ use Rattle.ground.proofs.finishing.body_of.Goals as goal
 
 pub loop-literal-preserved : goal.loop-literal-preserved
 loop-literal-preserved c =
-    body_next c.args.atoms.now.keys c.args.body.now c.loop-literal.literal-index _ c.loop-literal.read.items c.add_read.new.read.items (search rules)
-    (search rules) c.loop-literal.invariant c.in_ok-add_read.ensures
+    body_next c.args.atoms.now.keys c.args.literals.now c.loop-literal.literal-index _ c.loop-literal.read.items c.add_read.new.read.items
+    (search rules) (search rules) c.loop-literal.invariant c.in_ok-add_read.ensures

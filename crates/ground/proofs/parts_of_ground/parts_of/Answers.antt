@@ -1,12 +1,10 @@
-use Rattle.std.proofs.Common.{◌∙◌, map, ap, List, length, subst, sym}
+use Rattle.std.proofs.Common.{◌∙◌, map, ap, length, refl, subst, sym}
 use Rattle.std.proofs.lemmas.List.{length-map}
 use Rattle.rules.specs.RuleSets.{AreKeywords}
 use Rattle.rules.specs.declared.rule_set.Keywords.{Keywords}
 use Rattle.rules.specs.RuleSetView.{rules_in, roles_in}
 use Rattle.terms.specs.Vectors.{items_of}
-use Rattle.ground.specs.declared.found.Found.{Found}
-use Rattle.ground.specs.Finishing.{HavePlacesBelow}
-use Rattle.ground.specs.Founds.{numbers_of}
+use Rattle.ground.specs.Founds.{numbers_of_list}
 use Rattle.ground.specs.SetWords.{words_of}
 use Rattle.ground.proofs.AcceptedSets.{set_few}
 use Rattle.ground.proofs.ContextStepLemmas.{below_is}
@@ -16,74 +14,73 @@ use Rattle.ground.proofs.parts_of_ground.parts_of.Goals as goal
 pub starts_of-requires-clause-numbered : goal.starts_of-requires-clause-numbered
 starts_of-requires-clause-numbered c =
     numbered_here (rules_in c.args.rules.now) (words_of c.args.rules.now) c.args.listed.now.arena c.args.listed.now.atoms.keys
-    (map numbers_of c.args.listed.now.found.items) c.args.listed.now.fixed_atoms
+    (numbers_of_list c.args.listed.now.found) c.args.listed.now.fixed_atoms
     c.args.listed.now.context.roles.items c.args.listed.now.context.base.items (items_of c.args.listed.now.context.inputs.items) c.requires.listed
 
 pub starts_of-requires-clause-atoms : goal.starts_of-requires-clause-atoms
 starts_of-requires-clause-atoms c =
     atoms_here (rules_in c.args.rules.now) (words_of c.args.rules.now) c.args.listed.now.arena c.args.listed.now.atoms.keys
-    (map numbers_of c.args.listed.now.found.items) c.args.listed.now.fixed_atoms
+    (numbers_of_list c.args.listed.now.found) c.args.listed.now.fixed_atoms
     c.args.listed.now.context.roles.items c.args.listed.now.context.base.items (items_of c.args.listed.now.context.inputs.items) c.requires.listed
 
 pub kinds_of_atoms-requires-clause-symbols : goal.kinds_of_atoms-requires-clause-symbols
 kinds_of_atoms-requires-clause-symbols c =
     sizes_here (rules_in c.args.rules.now) (words_of c.args.rules.now) c.args.listed.now.arena c.args.listed.now.atoms.keys
-    (map numbers_of c.args.listed.now.found.items) c.args.listed.now.fixed_atoms
+    (numbers_of_list c.args.listed.now.found) c.args.listed.now.fixed_atoms
     c.args.listed.now.context.roles.items c.args.listed.now.context.base.items (items_of c.args.listed.now.context.inputs.items) c.requires.listed
 
 pub kinds_of_atoms-requires-clause-within : goal.kinds_of_atoms-requires-clause-within
 kinds_of_atoms-requires-clause-within c =
     below_is _ _ _ c.as_slice-atoms.ensures.keys
     (atoms_here (rules_in c.args.rules.now) (words_of c.args.rules.now) c.args.listed.now.arena c.args.listed.now.atoms.keys
-    (map numbers_of c.args.listed.now.found.items) c.args.listed.now.fixed_atoms
+    (numbers_of_list c.args.listed.now.found) c.args.listed.now.fixed_atoms
     c.args.listed.now.context.roles.items c.args.listed.now.context.base.items (items_of c.args.listed.now.context.inputs.items) c.requires.listed)
 
 pub kinds_of_atoms-requires-clause-tables : goal.kinds_of_atoms-requires-clause-tables
 kinds_of_atoms-requires-clause-tables c =
     are_tables (rules_in c.args.rules.now) (words_of c.args.rules.now) c.args.listed.now.arena c.args.listed.now.atoms.keys
-    (map numbers_of c.args.listed.now.found.items) c.args.listed.now.fixed_atoms
+    (numbers_of_list c.args.listed.now.found) c.args.listed.now.fixed_atoms
     c.args.listed.now.context.roles.items c.args.listed.now.context.base.items (items_of c.args.listed.now.context.inputs.items) c.requires.listed
     c.requires.within _ _ _ c.requires.roles c.requires.base c.requires.inputs
 
 pub instances_of-requires-clause-atoms : goal.instances_of-requires-clause-atoms
 instances_of-requires-clause-atoms c =
     few_numbers (rules_in c.args.rules.now) (words_of c.args.rules.now) c.args.listed.now.arena c.args.listed.now.atoms.keys
-    (map numbers_of c.args.listed.now.found.items) c.args.listed.now.fixed_atoms
+    (numbers_of_list c.args.listed.now.found) c.args.listed.now.fixed_atoms
     c.args.listed.now.context.roles.items c.args.listed.now.context.base.items (items_of c.args.listed.now.context.inputs.items) c.requires.listed
     c.requires.within
 
 pub instances_of-requires-clause-places : goal.instances_of-requires-clause-places
 instances_of-requires-clause-places c =
-    subst (λ (fs : List Found). HavePlacesBelow 4294967296 (map numbers_of fs)) (sym c.deref.ensures.value)
-    (places_few (rules_in c.args.rules.now) (words_of c.args.rules.now) c.args.listed.now.arena c.args.listed.now.atoms.keys
-    (map numbers_of c.args.listed.now.found.items) c.args.listed.now.fixed_atoms
+    places_few (rules_in c.args.rules.now) (words_of c.args.rules.now) c.args.listed.now.arena c.args.listed.now.atoms.keys
+    (numbers_of_list c.args.listed.now.found) c.args.listed.now.fixed_atoms
     c.args.listed.now.context.roles.items c.args.listed.now.context.base.items (items_of c.args.listed.now.context.inputs.items) c.requires.listed
-    (set_few (rules_in c.args.rules.now) (roles_in c.args.rules.now) c.args.rules.now.accepted))
+    (set_few (rules_in c.args.rules.now) (roles_in c.args.rules.now) c.args.rules.now.accepted)
 
 pub count_dropped-dropped-requires-clause-atoms : goal.count_dropped-dropped-requires-clause-atoms
 count_dropped-dropped-requires-clause-atoms c =
     below_is _ _ _ c.as_slice-atoms.ensures.keys
     (atoms_here (rules_in c.args.rules.now) (words_of c.args.rules.now) c.args.listed.now.arena c.args.listed.now.atoms.keys
-    (map numbers_of c.args.listed.now.found.items) c.args.listed.now.fixed_atoms
+    (numbers_of_list c.args.listed.now.found) c.args.listed.now.fixed_atoms
     c.args.listed.now.context.roles.items c.args.listed.now.context.base.items (items_of c.args.listed.now.context.inputs.items) c.requires.listed)
 
 pub count_dropped-dropped-requires-clause-beside :
     goal.count_dropped-dropped-requires-clause-beside
 count_dropped-dropped-requires-clause-beside c =
-    ap length c.deref-2.ensures.value ∙ sym (length-map c.args.tables.now.inputs.items _)
+    ap length c.deref.ensures.value ∙ sym (length-map c.args.tables.now.inputs.items _)
     ∙ each_role (rules_in c.args.rules.now) (words_of c.args.rules.now) c.args.listed.now.arena c.args.listed.now.atoms.keys
-    (map numbers_of c.args.listed.now.found.items) c.args.listed.now.fixed_atoms
+    (numbers_of_list c.args.listed.now.found) c.args.listed.now.fixed_atoms
     c.args.listed.now.context.roles.items c.args.listed.now.context.base.items (items_of c.args.listed.now.context.inputs.items) c.requires.listed _ _
     c.requires.roles c.requires.inputs
 
 pub returns : goal.returns
 returns c =
     parts_are (rules_in c.args.rules.now) (words_of c.args.rules.now) c.args.listed.now.arena c.args.listed.now.atoms.keys
-    (map numbers_of c.args.listed.now.found.items) c.args.listed.now.fixed_atoms
+    (numbers_of_list c.args.listed.now.found) c.args.listed.now.fixed_atoms
     c.args.listed.now.context.roles.items c.args.listed.now.context.base.items (items_of c.args.listed.now.context.inputs.items) c.requires.listed
     c.args.rules.now.sound.words c.keywords-words.result
     (subst (λ (k : Keywords). AreKeywords (words_of c.args.rules.now) k) (sym c.keywords-words.ensures) c.args.rules.now.sound.keywords) _ _ _
     c.requires.base c.requires.roles c.requires.inputs
-    _ c.as_slice-bases.ensures.keys _ c.as_slice-atoms.ensures.keys _ (ap (λ (fs : List Found). map numbers_of fs) c.deref.ensures.value) _
-    (ap (map (λ s. s.keys)) c.deref-2.ensures.value)
+    _ c.as_slice-bases.ensures.keys _ c.as_slice-atoms.ensures.keys _ refl _
+    (ap (map (λ s. s.keys)) c.deref.ensures.value)
     _ c.in_ok-starts.ensures _ c.in_ok-kinds.ensures _ c.in_ok-kept.ensures _ c.count_dropped-dropped.ensures

@@ -1,6 +1,6 @@
 use Rattle.std.proofs.Common.{◌≡◌, ◌++◌, drop}
 use Rattle.ground.specs.Contexts.{texts_named}
-use Rattle.terms.specs.Vectors.{texts_of}
+use Rattle.rules.specs.RuleSets.{texts_of}
 use Rattle.ground.proofs.tables.texts_named.Given as goal
 
 abbrev pub invariant-loop-one : goal.invariant-loop-one

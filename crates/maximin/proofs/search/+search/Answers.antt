@@ -335,10 +335,10 @@ worst_at-runs-init g t c =
       at_most = start_most all left a b same;
     }
 
-pub worst_at-steps-requires-clause-joints : goal.worst_at-steps-requires-clause-joints
-worst_at-steps-requires-clause-joints g t c =
-    let rules = g.G.Game.rules c.args.game.now in
-    known_each (λ j. IsTurn rules j) (take c.gather-more.new.run.count c.deref.result.now) (rw c.deref.ensures.value c.gather-more.ensures.known)
+pub worst_at-least_after-least-requires-clause-level : goal.worst_at-least_after-least-requires-clause-level
+worst_at-least_after-least-requires-clause-level g t c κs within =
+    let kept = c.runs.invariant.level in
+    record { position = kept.position; cursor = c.gather-more.ensures.cursor; run = c.gather-more.ensures.run; many = kept.many }
 
 pub worst_at-returns-then-upper-a-clause-answers : goal.worst_at-returns-then-upper-a-clause-answers
 worst_at-returns-then-upper-a-clause-answers g t c =
@@ -353,17 +353,13 @@ worst_at-returns-then-upper-a-clause-answers g t c =
     let left = c.runs.level.cursor.joint.items ∷ later lists c.runs.level.cursor.places.items in
     let a = to_z w16 (of_z w16 c.args.a) in
     let b = to_z w16 (of_z w16 c.args.b) in
-    let r = c.least_at-least.result in
+    let r = c.least_after-least.result in
     let upper = to_z w16 c.runs.upper-bits in
     let fits_r : SFits w16 r = search facts in
     let fits_m : SFits w16 c.min-upper.result = search facts in
     let lowered : to_z w16 (of_z w16 c.min-upper.result) ≡ int_min upper r =
     to_z-of_z w16 c.min-upper.result fits_m ∙ c.min-upper.ensures.value ∙ ap (λ z. int_min upper z) (to_z-of_z w16 r fits_r) in
-    let worths : map value_of (g.G.Game.states c.args.game.now c.steps.new.out) ≡ map worth (turns_in run) =
-    ap (map value_of) (c.steps.ensures.after
-    ∙ ap (λ (js : List (SmallVec ℕ)). map (λ (j : SmallVec ℕ). rules.after state j.items) (take run.count js)) c.deref.ensures.value)
-    ∙ worths_after value_of (rules.after state) (take run.count run.joints.items) in
-    let answers : Answers here a upper r = subst (λ (ws : List ℕ). Answers (least ws) a upper r) worths c.least_at-least.ensures.answers in
+    let answers : Answers here a upper r = c.least_after-least.ensures.answers in
     let some : 0 < length (turns_in run) = some_taken run.joints.items run.count c.gather-more.ensures.some
     (omega (arith, c.gather-more.ensures.run.size)) in
     let part : all ≤ here =
@@ -395,21 +391,11 @@ worst_at-returns-then-upper-a-clause-levels g t c =
     let one = c.split_at_mut-first.ensures.front_len in
     elim c.then-upper-a.branch [
       | worst_at-then-upper-a-via-then-upper-a w ↦
-          rw w.levels-is (All-first_and_rest P front c.least_at-least.new.levels _ one
-          (record {
-            position = c.least_at-least.ensures.position;
-            cursor = c.gather-more.ensures.cursor;
-            run = c.gather-more.ensures.run;
-            many = c.steps.ensures.many;
-          }) c.least_at-least.ensures.levels)
+          rw w.levels-is (All-first_and_rest P front c.least_after-least.new.levels _ one
+          c.least_after-least.ensures.level c.least_after-least.ensures.levels)
       | worst_at-then-upper-a-via-else-upper-a+then-not-more w ↦
-          rw w.levels-is (All-first_and_rest P front c.least_at-least.new.levels _ one
-          (record {
-            position = c.least_at-least.ensures.position;
-            cursor = c.gather-more.ensures.cursor;
-            run = c.gather-more.ensures.run;
-            many = c.steps.ensures.many;
-          }) c.least_at-least.ensures.levels)
+          rw w.levels-is (All-first_and_rest P front c.least_after-least.new.levels _ one
+          c.least_after-least.ensures.level c.least_after-least.ensures.levels)
     ]
 
 pub worst_at-returns-then-upper-a-clause-capacities : goal.worst_at-returns-then-upper-a-clause-capacities
@@ -424,17 +410,15 @@ worst_at-returns-then-upper-a-clause-capacities g t c =
     ∙ four_joined (cursor_capacities c.start_turns.new.cursor) (run_capacities old.run) (of_position old.position) (of_many old.many)
     (cursor_capacities old.cursor) (run_capacities old.run) (of_position old.position) (of_many old.many) c.start_turns.ensures.capacities refl refl
     refl in
-    let level : Level g.row.G-Pos.Denot g.row.G-Many.Denot =
-    record { position = c.least_at-least.new.position; cursor = c.gather-more.new.cursor; run = c.gather-more.new.run; many = c.steps.new.out } in
-    let turned : level_capacities of_position of_many level ≡ level_capacities of_position of_many now =
-    four_joined (cursor_capacities c.gather-more.new.cursor) (run_capacities c.gather-more.new.run) (of_position c.least_at-least.new.position)
-    (of_many c.steps.new.out)
+    let turned : level_capacities of_position of_many c.least_after-least.new.level ≡ level_capacities of_position of_many now =
+    c.least_after-least.ensures.level_capacities
+    ∙ four_joined (cursor_capacities c.gather-more.new.cursor) (run_capacities c.gather-more.new.run) (of_position now.position) (of_many now.many)
     (cursor_capacities now.cursor) (run_capacities now.run) (of_position now.position) (of_many now.many)
-    c.gather-more.ensures.cursor_capacities c.gather-more.ensures.run_capacities c.least_at-least.ensures.position_capacities
-    c.steps.ensures.many_capacities in
+    c.gather-more.ensures.cursor_capacities c.gather-more.ensures.run_capacities refl refl in
     let kept = all_kept (level_capacities of_position of_many) c.args.levels.now c.split_at_mut-first.result.0.now c.split_at_mut-first.result.1.now
-    c.least_at-least.new.levels
-    level c.index-first-0.result split.value split.front_len (turned ∙ begun) (c.least_at-least.ensures.capacities ∙ c.runs.invariant.rest_capacities)
+    c.least_after-least.new.levels
+    c.least_after-least.new.level c.index-first-0.result split.value split.front_len (turned ∙ begun) (c.least_after-least.ensures.capacities
+    ∙ c.runs.invariant.rest_capacities)
     in
     elim c.then-upper-a.branch [
       | worst_at-then-upper-a-via-then-upper-a w ↦ rw w.levels-is kept
@@ -449,8 +433,9 @@ worst_at-runs-smaller g t c =
     let run = c.gather-more.new.run in
     let some : 0 < length (turns_in run) = some_taken run.joints.items run.count c.gather-more.ensures.some
     (omega (arith, c.gather-more.ensures.run.size)) in
-    fewer_behind c.runs.level.cursor.joint.items c.gather-more.new.cursor.joint.items (later lists c.runs.level.cursor.places.items) (turns_in run)
-    (later lists c.gather-more.new.cursor.places.items) c.if-not-more.ensures.more some
+    rw c.least_after-least.ensures.cursor (fewer_behind c.runs.level.cursor.joint.items c.gather-more.new.cursor.joint.items (later lists
+    c.runs.level.cursor.places.items) (turns_in run)
+    (later lists c.gather-more.new.cursor.places.items) c.if-not-more.ensures.more some)
 
 pub worst_at-runs-preserved : goal.worst_at-runs-preserved
 worst_at-runs-preserved g t c =
@@ -466,17 +451,13 @@ worst_at-runs-preserved g t c =
     let left = least (map worth (c.gather-more.new.cursor.joint.items ∷ later lists c.gather-more.new.cursor.places.items)) in
     let a = to_z w16 (of_z w16 c.args.a) in
     let b = to_z w16 (of_z w16 c.args.b) in
-    let r = c.least_at-least.result in
+    let r = c.least_after-least.result in
     let upper = to_z w16 c.runs.upper-bits in
     let fits_r : SFits w16 r = search facts in
     let fits_m : SFits w16 c.min-upper.result = search facts in
     let lowered : to_z w16 (of_z w16 c.min-upper.result) ≡ int_min upper r =
     to_z-of_z w16 c.min-upper.result fits_m ∙ c.min-upper.ensures.value ∙ ap (λ z. int_min upper z) (to_z-of_z w16 r fits_r) in
-    let worths : map value_of (g.G.Game.states c.args.game.now c.steps.new.out) ≡ map worth (turns_in run) =
-    ap (map value_of) (c.steps.ensures.after
-    ∙ ap (λ (js : List (SmallVec ℕ)). map (λ (j : SmallVec ℕ). rules.after state j.items) (take run.count js)) c.deref.ensures.value)
-    ∙ worths_after value_of (rules.after state) (take run.count run.joints.items) in
-    let answers : Answers here a upper r = subst (λ (ws : List ℕ). Answers (least ws) a upper r) worths c.least_at-least.ensures.answers in
+    let answers : Answers here a upper r = c.least_after-least.ensures.answers in
     let some : 0 < length (turns_in run) = some_taken run.joints.items run.count c.gather-more.ensures.some
     (omega (arith, c.gather-more.ensures.run.size)) in
     let next : least (map worth before) ≡ min here left =
@@ -489,32 +470,25 @@ worst_at-runs-preserved g t c =
     let of_position = g.G.Game.capacities c.args.game.now in
     let of_many = g.G.Game.many_capacities c.args.game.now in
     record {
-      level = record {
-        position = c.least_at-least.ensures.position;
-        cursor = c.gather-more.ensures.cursor;
-        run = c.gather-more.ensures.run;
-        many = c.steps.ensures.many;
-      };
-      rest = c.least_at-least.ensures.levels;
-      wide = c.least_at-least.ensures.wide;
-      capacities =
-          four_joined (cursor_capacities c.gather-more.new.cursor) (run_capacities c.gather-more.new.run) (of_position c.least_at-least.new.position)
-          (of_many c.steps.new.out)
-          (cursor_capacities now.cursor) (run_capacities now.run) (of_position now.position) (of_many now.many)
-          c.gather-more.ensures.cursor_capacities c.gather-more.ensures.run_capacities c.least_at-least.ensures.position_capacities
-          c.steps.ensures.many_capacities
+      level = c.least_after-least.ensures.level;
+      rest = c.least_after-least.ensures.levels;
+      wide = c.least_after-least.ensures.wide;
+      capacities = c.least_after-least.ensures.level_capacities
+          ∙ four_joined (cursor_capacities c.gather-more.new.cursor) (run_capacities c.gather-more.new.run) (of_position now.position)
+          (of_many now.many) (cursor_capacities now.cursor) (run_capacities now.run) (of_position now.position) (of_many now.many)
+          c.gather-more.ensures.cursor_capacities c.gather-more.ensures.run_capacities refl refl
           ∙ c.runs.invariant.capacities;
-      rest_capacities = c.least_at-least.ensures.capacities ∙ c.runs.invariant.rest_capacities;
-      wide_capacities = c.least_at-least.ensures.wide_capacities ∙ c.steps.ensures.wide_capacities ∙ c.runs.invariant.wide_capacities;
+      rest_capacities = c.least_after-least.ensures.capacities ∙ c.runs.invariant.rest_capacities;
+      wide_capacities = c.least_after-least.ensures.wide_capacities ∙ c.runs.invariant.wide_capacities;
       deep = omega arith;
       some = omega (arith, c.min-most.ensures, c.runs.invariant.some);
       few = omega (arith, c.min-most.ensures);
-      stands = c.if-not-more.ensures.stands;
+      stands = rw c.least_after-least.ensures.cursor c.if-not-more.ensures.stands;
       above = le_z_false _ a c.if-upper-a.false;
       below = rw lowered (lowered_below b upper r c.runs.invariant.below);
       at_least = rw lowered low;
-      part = omega (arith, next, c.runs.invariant.part);
-      at_most = rw lowered (lowered_most all here left a upper r (rw next at c.runs.invariant.at_most) answers);
+      part = rw c.least_after-least.ensures.cursor (omega (arith, next, c.runs.invariant.part));
+      at_most = rw (lowered, c.least_after-least.ensures.cursor) (lowered_most all here left a upper r (rw next at c.runs.invariant.at_most) answers);
     }
 
 pub greatest_at-loop-child-preserved : goal.greatest_at-loop-child-preserved
@@ -656,10 +630,10 @@ best_at-gather_own-requires-clause-joint g t c κs within =
     turn_known rules state c.args.asked.role 0 c.runs.level.cursor.places.items c.runs.level.cursor.joint.items c.runs.invariant.stands (omega arith)
     (λ q below. law.legal_within c.args.game.now state q below)
 
-pub best_at-steps-requires-clause-joints : goal.best_at-steps-requires-clause-joints
-best_at-steps-requires-clause-joints g t c =
-    let rules = g.G.Game.rules c.args.game.now in
-    known_each (λ j. IsTurn rules j) (take c.gather_own.new.run.count c.deref.result.now) (rw c.deref.ensures.value c.gather_own.ensures.known)
+pub best_at-greatest_after-greatest-requires-clause-level : goal.best_at-greatest_after-greatest-requires-clause-level
+best_at-greatest_after-greatest-requires-clause-level g t c κs within =
+    let kept = c.runs.invariant.level in
+    record { position = kept.position; cursor = kept.cursor; run = c.gather_own.ensures.run; many = kept.many }
 
 pub best_at-returns-then-count-eq0-clause-answers : goal.best_at-returns-then-count-eq0-clause-answers
 best_at-returns-then-count-eq0-clause-answers g t c =
@@ -727,22 +701,19 @@ best_at-returns-then-best-b-clause-answers g t c =
     let a = to_z w16 (of_z w16 c.args.a) in
     let b = to_z w16 (of_z w16 c.args.b) in
     let best = to_z w16 c.runs.best-bits in
-    let r = c.greatest_at-greatest.result in
+    let r = c.greatest_after-greatest.result in
     let fits_r : SFits w16 r = search facts in
     let fits_m : SFits w16 c.max-best.result = search facts in
     let raised : to_z w16 (of_z w16 c.max-best.result) ≡ int_max best r =
     to_z-of_z w16 c.max-best.result fits_m ∙ c.max-best.ensures.value ∙ ap (λ z. int_max best z) (to_z-of_z w16 r fits_r) in
     let each = alone_worst rules c.args.asked.role c.args.asked.depth c.args.asked.at state 0 c.runs.level.cursor.places.items joint c.requires.role
     c.requires.alone c.runs.invariant.stands in
-    let found : map value_of (g.G.Game.states c.args.game.now c.steps.new.out) ≡ take run.count (drop c.runs.place worths) =
-    ap (map value_of) (c.steps.ensures.after
-    ∙ ap (λ (js : List (SmallVec ℕ)). map (λ (j : SmallVec ℕ). rules.after state j.items) (take run.count js)) c.deref.ensures.value)
-    ∙ worths_after value_of (rules.after state) (take run.count run.joints.items)
-    ∙ ap (λ (ts : List Turn). map (λ t. value_of (rules.after state t)) ts) c.gather_own.ensures.turns
+    let found : map (λ j. value_of (rules.after state j)) (turns_in run) ≡ take run.count (drop c.runs.place worths) =
+    ap (λ (ts : List Turn). map (λ t. value_of (rules.after state t)) ts) c.gather_own.ensures.turns
     ∙ own_worths (λ t. value_of (rules.after state t)) (λ m. set joint c.args.asked.role m) own_worth each (take run.count (drop c.runs.place legal))
     ∙ map_part own_worth c.runs.place run.count legal in
     let answers : Answers (greatest (take run.count (drop c.runs.place worths))) best b r = subst (λ (ws : List ℕ). Answers (greatest ws) best b r)
-    found c.greatest_at-greatest.ensures.answers in
+    found c.greatest_after-greatest.ensures.answers in
     let size : length worths ≡ length legal = length-map legal own_worth in
     let some = c.if-count-eq0.false in
     let most = run_most worths c.runs.place run.count a b best r (omega arith) (omega (arith, c.gather_own.ensures.within)) c.runs.invariant.at_most
@@ -756,14 +727,8 @@ best_at-returns-then-best-b-clause-levels g t c =
     let roles = (g.G.Game.rules c.args.game.now).roles in
     let P = λ (level : Level g.row.G-Pos.Denot g.row.G-Many.Denot). IsLevelOf (g.G.Game.fits c.args.game.now) (g.G.Game.fits_many c.args.game.now)
     roles level in
-    All-first_and_rest P c.split_at_mut-first.result.0.now c.greatest_at-greatest.new.levels _ c.split_at_mut-first.ensures.front_len
-    (record {
-      position = c.greatest_at-greatest.ensures.position;
-      cursor = c.runs.invariant.level.cursor;
-      run = c.gather_own.ensures.run;
-      many = c.steps.ensures.many;
-    })
-    c.greatest_at-greatest.ensures.levels
+    All-first_and_rest P c.split_at_mut-first.result.0.now c.greatest_after-greatest.new.levels _ c.split_at_mut-first.ensures.front_len
+    c.greatest_after-greatest.ensures.level c.greatest_after-greatest.ensures.levels
 
 pub best_at-returns-then-best-b-clause-capacities : goal.best_at-returns-then-best-b-clause-capacities
 best_at-returns-then-best-b-clause-capacities g t c =
@@ -777,16 +742,15 @@ best_at-returns-then-best-b-clause-capacities g t c =
     ∙ four_joined (cursor_capacities c.start_turns.new.cursor) (run_capacities old.run) (of_position old.position) (of_many old.many)
     (cursor_capacities old.cursor) (run_capacities old.run) (of_position old.position) (of_many old.many) c.start_turns.ensures.capacities refl refl
     refl in
-    let level : Level g.row.G-Pos.Denot g.row.G-Many.Denot =
-    record { position = c.greatest_at-greatest.new.position; cursor = now.cursor; run = c.gather_own.new.run; many = c.steps.new.out } in
-    let turned : level_capacities of_position of_many level ≡ level_capacities of_position of_many now =
-    four_joined (cursor_capacities now.cursor) (run_capacities c.gather_own.new.run) (of_position c.greatest_at-greatest.new.position)
-    (of_many c.steps.new.out)
+    let turned : level_capacities of_position of_many c.greatest_after-greatest.new.level ≡ level_capacities of_position of_many now =
+    c.greatest_after-greatest.ensures.level_capacities
+    ∙ four_joined (cursor_capacities now.cursor) (run_capacities c.gather_own.new.run) (of_position now.position) (of_many now.many)
     (cursor_capacities now.cursor) (run_capacities now.run) (of_position now.position) (of_many now.many)
-    refl c.gather_own.ensures.capacities c.greatest_at-greatest.ensures.position_capacities c.steps.ensures.many_capacities in
+    refl c.gather_own.ensures.capacities refl refl in
     all_kept (level_capacities of_position of_many) c.args.levels.now c.split_at_mut-first.result.0.now c.split_at_mut-first.result.1.now
-    c.greatest_at-greatest.new.levels
-    level c.index-first-0.result split.value split.front_len (turned ∙ begun) (c.greatest_at-greatest.ensures.capacities
+    c.greatest_after-greatest.new.levels
+    c.greatest_after-greatest.new.level c.index-first-0.result split.value split.front_len (turned
+    ∙ begun) (c.greatest_after-greatest.ensures.capacities
     ∙ c.runs.invariant.rest_capacities)
 
 pub best_at-runs-preserved : goal.best_at-runs-preserved
@@ -802,22 +766,19 @@ best_at-runs-preserved g t c =
     let a = to_z w16 (of_z w16 c.args.a) in
     let b = to_z w16 (of_z w16 c.args.b) in
     let best = to_z w16 c.runs.best-bits in
-    let r = c.greatest_at-greatest.result in
+    let r = c.greatest_after-greatest.result in
     let fits_r : SFits w16 r = search facts in
     let fits_m : SFits w16 c.max-best.result = search facts in
     let raised : to_z w16 (of_z w16 c.max-best.result) ≡ int_max best r =
     to_z-of_z w16 c.max-best.result fits_m ∙ c.max-best.ensures.value ∙ ap (λ z. int_max best z) (to_z-of_z w16 r fits_r) in
     let each = alone_worst rules c.args.asked.role c.args.asked.depth c.args.asked.at state 0 c.runs.level.cursor.places.items joint c.requires.role
     c.requires.alone c.runs.invariant.stands in
-    let found : map value_of (g.G.Game.states c.args.game.now c.steps.new.out) ≡ take run.count (drop c.runs.place worths) =
-    ap (map value_of) (c.steps.ensures.after
-    ∙ ap (λ (js : List (SmallVec ℕ)). map (λ (j : SmallVec ℕ). rules.after state j.items) (take run.count js)) c.deref.ensures.value)
-    ∙ worths_after value_of (rules.after state) (take run.count run.joints.items)
-    ∙ ap (λ (ts : List Turn). map (λ t. value_of (rules.after state t)) ts) c.gather_own.ensures.turns
+    let found : map (λ j. value_of (rules.after state j)) (turns_in run) ≡ take run.count (drop c.runs.place worths) =
+    ap (λ (ts : List Turn). map (λ t. value_of (rules.after state t)) ts) c.gather_own.ensures.turns
     ∙ own_worths (λ t. value_of (rules.after state t)) (λ m. set joint c.args.asked.role m) own_worth each (take run.count (drop c.runs.place legal))
     ∙ map_part own_worth c.runs.place run.count legal in
     let answers : Answers (greatest (take run.count (drop c.runs.place worths))) best b r = subst (λ (ws : List ℕ). Answers (greatest ws) best b r)
-    found c.greatest_at-greatest.ensures.answers in
+    found c.greatest_after-greatest.ensures.answers in
     let size : length worths ≡ length legal = length-map legal own_worth in
     let some = c.if-count-eq0.false in
     let inside : c.runs.place + run.count ≤ length worths = omega (arith, c.gather_own.ensures.within) in
@@ -825,26 +786,20 @@ best_at-runs-preserved g t c =
     let of_position = g.G.Game.capacities c.args.game.now in
     let of_many = g.G.Game.many_capacities c.args.game.now in
     record {
-      level = record {
-        position = c.greatest_at-greatest.ensures.position;
-        cursor = c.runs.invariant.level.cursor;
-        run = c.gather_own.ensures.run;
-        many = c.steps.ensures.many;
-      };
-      rest = c.greatest_at-greatest.ensures.levels;
-      wide = c.greatest_at-greatest.ensures.wide;
-      capacities =
-          four_joined (cursor_capacities now.cursor) (run_capacities c.gather_own.new.run) (of_position c.greatest_at-greatest.new.position)
-          (of_many c.steps.new.out)
+      level = c.greatest_after-greatest.ensures.level;
+      rest = c.greatest_after-greatest.ensures.levels;
+      wide = c.greatest_after-greatest.ensures.wide;
+      capacities = c.greatest_after-greatest.ensures.level_capacities
+          ∙ four_joined (cursor_capacities now.cursor) (run_capacities c.gather_own.new.run) (of_position now.position) (of_many now.many)
           (cursor_capacities now.cursor) (run_capacities now.run) (of_position now.position) (of_many now.many)
-          refl c.gather_own.ensures.capacities c.greatest_at-greatest.ensures.position_capacities c.steps.ensures.many_capacities
+          refl c.gather_own.ensures.capacities refl refl
           ∙ c.runs.invariant.capacities;
-      rest_capacities = c.greatest_at-greatest.ensures.capacities ∙ c.runs.invariant.rest_capacities;
-      wide_capacities = c.greatest_at-greatest.ensures.wide_capacities ∙ c.steps.ensures.wide_capacities ∙ c.runs.invariant.wide_capacities;
+      rest_capacities = c.greatest_after-greatest.ensures.capacities ∙ c.runs.invariant.rest_capacities;
+      wide_capacities = c.greatest_after-greatest.ensures.wide_capacities ∙ c.runs.invariant.wide_capacities;
       deep = omega arith;
       some = omega (arith, c.min-most.ensures, c.runs.invariant.some);
       few = omega (arith, c.min-most.ensures);
-      stands = c.runs.invariant.stands;
+      stands = rw c.greatest_after-greatest.ensures.cursor c.runs.invariant.stands;
       in_list = omega (arith, c.gather_own.ensures.within);
       above = rw raised (raised_above a best r c.runs.invariant.above);
       below = le_z_false b _ c.if-best-b.false;
@@ -861,3 +816,103 @@ best_at-overflow_add-place g t c =
     (law.legal_within c.args.game.now state c.args.asked.role c.requires.role)
     (law.moves_within c.args.game.now c.args.asked.role c.requires.role) in
     omega (arith, c.gather_own.ensures.within)
+
+pub least_after-judge_last-requires-clause-joints : goal.least_after-judge_last-requires-clause-joints
+least_after-judge_last-requires-clause-joints g t c κs within =
+    let rules = g.G.Game.rules c.args.game.now in
+    known_each (λ j. IsTurn rules j) (take c.args.level.now.run.count c.deref.result.now) (rw c.deref.ensures.value c.requires.known)
+
+pub least_after-steps-requires-clause-joints : goal.least_after-steps-requires-clause-joints
+least_after-steps-requires-clause-joints g t c =
+    let rules = g.G.Game.rules c.args.game.now in
+    known_each (λ j. IsTurn rules j) (take c.args.level.now.run.count c.deref.result.now) (rw c.deref.ensures.value c.requires.known)
+
+pub least_after-returns-then-judge_last-clause-answers : goal.least_after-returns-then-judge_last-clause-answers
+least_after-returns-then-judge_last-clause-answers g t c =
+    let rules = g.G.Game.rules c.args.game.now in
+    let state = g.G.Game.state c.args.game.now c.args.from.now in
+    let value_of : List ℕ → ℕ = λ s. value rules c.args.asked.role c.args.asked.depth c.args.asked.at s in
+    let worth : List ℕ → ℕ = λ j. value_of (rules.after state j) in
+    let run = c.args.level.now.run in
+    let a = to_z w16 (of_z w16 c.args.a) in
+    let b = to_z w16 (of_z w16 c.args.b) in
+    let ea : a ≡ c.args.a = to_z-of_z w16 c.args.a c.ranges.a in
+    let eb : b ≡ c.args.b = to_z-of_z w16 c.args.b c.ranges.b in
+    let r = c.least_judged.result in
+    let fits_r : SFits w16 r = search facts in
+    let worths : map value_of (g.G.Game.judged c.args.game.now c.judge_last.new.wide) ≡ map worth (turns_in run) =
+    ap (map value_of) (c.judge_last.ensures.after c.if-judge_last.true
+    ∙ ap (λ (js : List (SmallVec ℕ)). map (λ (j : SmallVec ℕ). rules.after state j.items) (take run.count js)) c.deref.ensures.value)
+    ∙ worths_after value_of (rules.after state) (take run.count run.joints.items) in
+    rw (to_z-of_z w16 r fits_r)
+    (subst (λ (ws : List ℕ). Answers (least ws) c.args.a c.args.b r) worths (rw (ea, eb) at c.least_judged.ensures))
+
+pub least_after-returns-clause-answers : goal.least_after-returns-clause-answers
+least_after-returns-clause-answers g t c =
+    let rules = g.G.Game.rules c.args.game.now in
+    let state = g.G.Game.state c.args.game.now c.args.from.now in
+    let value_of : List ℕ → ℕ = λ s. value rules c.args.asked.role c.args.asked.depth c.args.asked.at s in
+    let worth : List ℕ → ℕ = λ j. value_of (rules.after state j) in
+    let run = c.args.level.now.run in
+    let a = to_z w16 (of_z w16 c.args.a) in
+    let b = to_z w16 (of_z w16 c.args.b) in
+    let ea : a ≡ c.args.a = to_z-of_z w16 c.args.a c.ranges.a in
+    let eb : b ≡ c.args.b = to_z-of_z w16 c.args.b c.ranges.b in
+    let r = c.least_at.result in
+    let fits_r : SFits w16 r = search facts in
+    let worths : map value_of (g.G.Game.states c.args.game.now c.steps.new.out) ≡ map worth (turns_in run) =
+    ap (map value_of) (c.steps.ensures.after
+    ∙ ap (λ (js : List (SmallVec ℕ)). map (λ (j : SmallVec ℕ). rules.after state j.items) (take run.count js)) c.deref.ensures.value)
+    ∙ worths_after value_of (rules.after state) (take run.count run.joints.items) in
+    rw (to_z-of_z w16 r fits_r)
+    (subst (λ (ws : List ℕ). Answers (least ws) c.args.a c.args.b r) worths (rw (ea, eb) at c.least_at.ensures.answers))
+
+pub greatest_after-judge_last-requires-clause-joints : goal.greatest_after-judge_last-requires-clause-joints
+greatest_after-judge_last-requires-clause-joints g t c κs within =
+    let rules = g.G.Game.rules c.args.game.now in
+    known_each (λ j. IsTurn rules j) (take c.args.level.now.run.count c.deref.result.now) (rw c.deref.ensures.value c.requires.known)
+
+pub greatest_after-steps-requires-clause-joints : goal.greatest_after-steps-requires-clause-joints
+greatest_after-steps-requires-clause-joints g t c =
+    let rules = g.G.Game.rules c.args.game.now in
+    known_each (λ j. IsTurn rules j) (take c.args.level.now.run.count c.deref.result.now) (rw c.deref.ensures.value c.requires.known)
+
+pub greatest_after-returns-then-judge_last-clause-answers : goal.greatest_after-returns-then-judge_last-clause-answers
+greatest_after-returns-then-judge_last-clause-answers g t c =
+    let rules = g.G.Game.rules c.args.game.now in
+    let state = g.G.Game.state c.args.game.now c.args.from.now in
+    let value_of : List ℕ → ℕ = λ s. value rules c.args.asked.role c.args.asked.depth c.args.asked.at s in
+    let worth : List ℕ → ℕ = λ j. value_of (rules.after state j) in
+    let run = c.args.level.now.run in
+    let a = to_z w16 (of_z w16 c.args.a) in
+    let b = to_z w16 (of_z w16 c.args.b) in
+    let ea : a ≡ c.args.a = to_z-of_z w16 c.args.a c.ranges.a in
+    let eb : b ≡ c.args.b = to_z-of_z w16 c.args.b c.ranges.b in
+    let r = c.greatest_judged.result in
+    let fits_r : SFits w16 r = search facts in
+    let worths : map value_of (g.G.Game.judged c.args.game.now c.judge_last.new.wide) ≡ map worth (turns_in run) =
+    ap (map value_of) (c.judge_last.ensures.after c.if-judge_last.true
+    ∙ ap (λ (js : List (SmallVec ℕ)). map (λ (j : SmallVec ℕ). rules.after state j.items) (take run.count js)) c.deref.ensures.value)
+    ∙ worths_after value_of (rules.after state) (take run.count run.joints.items) in
+    rw (to_z-of_z w16 r fits_r)
+    (subst (λ (ws : List ℕ). Answers (greatest ws) c.args.a c.args.b r) worths (rw (ea, eb) at c.greatest_judged.ensures))
+
+pub greatest_after-returns-clause-answers : goal.greatest_after-returns-clause-answers
+greatest_after-returns-clause-answers g t c =
+    let rules = g.G.Game.rules c.args.game.now in
+    let state = g.G.Game.state c.args.game.now c.args.from.now in
+    let value_of : List ℕ → ℕ = λ s. value rules c.args.asked.role c.args.asked.depth c.args.asked.at s in
+    let worth : List ℕ → ℕ = λ j. value_of (rules.after state j) in
+    let run = c.args.level.now.run in
+    let a = to_z w16 (of_z w16 c.args.a) in
+    let b = to_z w16 (of_z w16 c.args.b) in
+    let ea : a ≡ c.args.a = to_z-of_z w16 c.args.a c.ranges.a in
+    let eb : b ≡ c.args.b = to_z-of_z w16 c.args.b c.ranges.b in
+    let r = c.greatest_at.result in
+    let fits_r : SFits w16 r = search facts in
+    let worths : map value_of (g.G.Game.states c.args.game.now c.steps.new.out) ≡ map worth (turns_in run) =
+    ap (map value_of) (c.steps.ensures.after
+    ∙ ap (λ (js : List (SmallVec ℕ)). map (λ (j : SmallVec ℕ). rules.after state j.items) (take run.count js)) c.deref.ensures.value)
+    ∙ worths_after value_of (rules.after state) (take run.count run.joints.items) in
+    rw (to_z-of_z w16 r fits_r)
+    (subst (λ (ws : List ℕ). Answers (greatest ws) c.args.a c.args.b r) worths (rw (ea, eb) at c.greatest_at.ensures.answers))

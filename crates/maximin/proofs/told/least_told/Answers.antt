@@ -1,7 +1,7 @@
 use Rattle.std.proofs.Common.{◌≡◌, ℕ, ◌≤◌, [], List, get_or, arith, ◌∙◌, ap, w16, rules as facts}
 use Rattle.std.proofs.lemmas.Int.{to_z-of_z}
 use mir.Val.{SFits, of_z, to_z}
-use Rattle.std.specs.Prelude.{pos, ◌≤ℤ◌, map}
+use Rattle.std.specs.Prelude.{map}
 use Rattle.std.specs.Int.{int_min}
 use Rattle.game.specs.Value.{value, least}
 use Rattle.maximin.proofs.Windows.{told_low, lowered_below}

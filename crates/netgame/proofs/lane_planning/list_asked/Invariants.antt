@@ -6,6 +6,6 @@ use Rattle.netgame.proofs.lane_planning.list_asked.Given as goal
 -- the atoms before this one that are asked are listed
 abbrev pub invariant-loop-atom : goal.invariant-loop-atom
 invariant-loop-atom l = record {
-  places : l.places.items ≡ places_below (kinds_of l.ground) l.atom;
-  nodes : l.nodes.items ≡ asked_below l.net.views.items (kinds_of l.ground) l.atom;
+  places : l.places.items ≡ places_below l.asking (kinds_of l.ground) l.atom;
+  nodes : l.nodes.items ≡ asked_below l.asking l.net.views.items (kinds_of l.ground) l.atom;
 }

@@ -13,22 +13,24 @@ pub any_told-out-requires-clause-places : goal.any_told-out-requires-clause-plac
 any_told-out-requires-clause-places c =
     let game = c.args.game.now in
     let kinds = kinds_of game.played in
-    let plan = game.lane_plan in
-    subst (λ (ps : List ℕ). All (λ (p : ℕ). p < kept_in plan.asked) ps) (sym (c.deref-3.ensures.value ∙ game.laned.ends))
-    (subst (λ (n : ℕ). All (λ (p : ℕ). p < n) (ends_of (places_of kinds) kinds)) (sym (kept_count game.played game.net plan game.laned))
-    (ends_within kinds))
+    let t = c.args.telling.now in
+    let told = c.requires.telling in
+    subst (λ (ps : List ℕ). All (λ (p : ℕ). p < kept_in t.tape) ps) (sym (c.deref-3.ensures.value ∙ told.ends))
+    (subst (λ (n : ℕ). All (λ (p : ℕ). p < n) (ends_of (places_of t.asking kinds) kinds)) (sym (kept_count game.played game.net t told))
+    (ends_within t.asking kinds))
 
 pub returns-clause-many : goal.returns-clause-many
 returns-clause-many c =
     let game = c.args.game.now in
     let g = game.played in
-    let plan = game.lane_plan in
+    let t = c.args.telling.now in
+    let told = c.requires.telling in
     let kinds = kinds_of g in
     let states = c.args.out.now.states.items in
     let room = c.run.new.room.items in
     let few = c.requires.few in
-    let ran : HasRun plan.asked states room = subst (λ (ws : List ℕ). HasRun plan.asked ws room) c.deref.ensures.value c.run.ensures.run in
-    let lent : HasRun plan.asked states c.deref-2.result.now = subst (λ (ws : List ℕ). HasRun plan.asked states ws) (sym c.deref-2.ensures.value) ran
+    let ran : HasRun t.tape states room = subst (λ (ws : List ℕ). HasRun t.tape ws room) c.deref.ensures.value c.run.ensures.run in
+    let lent : HasRun t.tape states c.deref-2.result.now = subst (λ (ws : List ℕ). HasRun t.tape states ws) (sym c.deref-2.ensures.value) ran
     in
     record {
       states = c.requires.states;
@@ -36,9 +38,9 @@ returns-clause-many c =
       few = few;
       ran = λ some. ran;
       ended = λ k lt.
-          let on : ℕ → Bool = λ p. holds_lane g states k (asked_at kinds p) in
-          c.any_told-out.ensures k on (tells_asked g game.net game.compiled plan game.laned states c.deref-2.result.now k c.requires.states lent
+          let on : ℕ → Bool = λ p. holds_lane g states k (asked_at t.asking kinds p) in
+          c.any_told-out.ensures k on (tells_asked g game.net game.compiled t told states c.deref-2.result.now k c.requires.states lent
           (omega arith))
-          ∙ ap (list_any on) (c.deref-3.ensures.value ∙ game.laned.ends)
-          ∙ told_ends kinds (holds_lane g states k);
+          ∙ ap (list_any on) (c.deref-3.ensures.value ∙ told.ends)
+          ∙ told_ends t.asking kinds (holds_lane g states k);
     }

@@ -9,6 +9,6 @@ take_first-requires-clause-room c =
     record {
       lanes = sym lanes.ok.0 ∙ c.in_ok-vec.ensures.len ∙ c.base.ensures ∙ sym fit;
       roles = c.in_ok-new_roles.ensures;
-      wide = c.in_ok-wide.ensures;
+      turn = c.in_ok-turn.ensures;
       many = c.tell_lanes.ensures.many;
     }

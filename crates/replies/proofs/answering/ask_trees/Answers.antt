@@ -3,7 +3,6 @@ use Rattle.kif.specs.Tree.{Tree, trees_of}
 use Rattle.kif.specs.View.{trees_in}
 use Rattle.kif.proofs.Facts.{list_of-trees_of}
 use Rattle.words.specs.declared.command.Command.{Command}
-use Rattle.replies.specs.Answers.{answer}
 use Rattle.replies.specs.Checking.{IsCheckReply}
 use Rattle.replies.specs.Moving.{IsMovesReply}
 use Rattle.replies.specs.Networks.{IsNetReply}

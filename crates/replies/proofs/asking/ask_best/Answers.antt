@@ -1,4 +1,4 @@
-use Rattle.std.proofs.Common.{ℕ, Some, None, ◌≡◌}
+use Rattle.std.proofs.Common.{ℕ, Some, None}
 use Rattle.std.specs.Prelude.{Ok}
 use Rattle.replies.specs.Histories.{named}
 use Rattle.replies.specs.Solving.{IsRoleNamed}

@@ -1,4 +1,3 @@
-use Rattle.std.proofs.Common.{inr}
 use Rattle.kif.specs.View.{trees_in}
 use Rattle.game.specs.NamedRules.{NamedRules}
 use Rattle.rulegame.specs.RuleState.{named_rules_of}

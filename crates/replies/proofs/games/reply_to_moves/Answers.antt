@@ -1,4 +1,3 @@
-use Rattle.std.proofs.Common.{rules}
 use Rattle.kif.specs.View.{trees_in}
 use Rattle.rulegame.specs.RuleState.{named_rules_of}
 use Rattle.replies.specs.Moving.{IsMovesReply}

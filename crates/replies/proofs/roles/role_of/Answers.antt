@@ -1,5 +1,5 @@
 use Rattle.replies.specs.Histories.{named}
-use Rattle.replies.proofs.OneTree.{no_role, one_role}
+use Rattle.replies.proofs.OneTree.{no_role}
 use Rattle.replies.proofs.roles.role_of.Goals as goal
 
 pub returns-then-trees-ne1-clause-found : goal.returns-then-trees-ne1-clause-found

@@ -1,4 +1,4 @@
-use Rattle.std.proofs.Common.{◌≡◌, ℕ, ◌+◌, ◌-◌, ◌≤◌, ◌++◌}
+use Rattle.std.proofs.Common.{◌≡◌, ◌+◌, ◌-◌, ◌≤◌, ◌++◌}
 use Rattle.std.specs.Prelude.{pos}
 use Rattle.maximin.specs.Room.{room_depth}
 use Rattle.game.specs.Value.{value, choice_of, line_of}

@@ -1,7 +1,8 @@
-use Rattle.std.proofs.Common.{ℕ, ◌+◌, ◌≡◌, List, [], ◌∷◌, length, drop, get_or, subst, refl}
-use Rattle.terms.specs.Keys.{term_at, trees, word_at}
-use Rattle.meaning.specs.Meaning.{atom1, atom2}
-use Rattle.terms.proofs.AddingAtoms.{AddingEach, each_begins, each_next, each_ends, number_next, fits_key, single_tree, pair_tree}
+use Rattle.std.proofs.Common.{ℕ, ◌+◌, List, [], ◌∷◌, drop, get_or, subst, refl}
+use Rattle.clauses.specs.Numbers.{word_at}
+use Rattle.terms.specs.Keys.{term_at, trees}
+use Rattle.meaning.specs.Meaning.{atom2}
+use Rattle.terms.proofs.AddingAtoms.{AddingEach, each_begins, each_next, each_ends, number_next, fits_key, pair_tree}
 use Rattle.terms.proofs.AtPlaces.{at_end}
 use Rattle.terms.proofs.adding.add_pairs.Goals as goal
 

@@ -1,7 +1,6 @@
-use Rattle.std.proofs.Common.{ℕ, List, drop}
-use Rattle.kif.specs.Tree.{Tree}
-use Rattle.terms.specs.Keys.{term_at, trees, word_at}
-use Rattle.meaning.specs.Meaning.{atom1, atom2}
+use Rattle.std.proofs.Common.{drop}
+use Rattle.clauses.specs.Numbers.{word_at}
+use Rattle.meaning.specs.Meaning.{atom1}
 use Rattle.terms.proofs.AddingAtoms.{AddingEach}
 use Rattle.terms.proofs.adding.add_singles.Given as goal
 

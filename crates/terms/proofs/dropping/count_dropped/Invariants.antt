@@ -1,6 +1,6 @@
 use Rattle.std.proofs.Common.{◌≡◌, ◌≤◌, ◌+◌, length, map, drop}
 use Rattle.terms.specs.Dropping.{dropped_in}
-use Rattle.terms.specs.Keys.{AreBelow}
+use Rattle.clauses.specs.Marks.{AreBelow}
 use Rattle.terms.proofs.dropping.count_dropped.Given as goal
 
 abbrev pub invariant-loop-atom : goal.invariant-loop-atom

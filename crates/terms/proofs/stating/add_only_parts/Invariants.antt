@@ -1,6 +1,6 @@
 use Rattle.std.proofs.Common.{◌≡◌, ◌++◌, length, drop}
 use Rattle.terms.specs.Stated.{only_parts}
-use Rattle.terms.specs.Keys.{AreBelow}
+use Rattle.clauses.specs.Marks.{AreBelow}
 use Rattle.terms.proofs.stating.add_only_parts.Given as goal
 
 abbrev pub invariant-loop-atom : goal.invariant-loop-atom

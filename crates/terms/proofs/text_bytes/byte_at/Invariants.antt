@@ -1,6 +1,6 @@
 use Rattle.std.proofs.Common.{◌<◌, ◌≤◌, length}
 use Rattle.terms.specs.AtomTexts.{term_text, IsByteAt}
-use Rattle.terms.specs.Vectors.{texts_of}
+use Rattle.rules.specs.RuleSets.{texts_of}
 use Rattle.meaning.specs.Most.{limits}
 use Rattle.terms.proofs.text_bytes.byte_at.Given as goal
 

@@ -1,22 +1,8 @@
-use Rattle.std.proofs.Common.{ℕ, List, ◌≡◌, ◌<◌, arith, rules, ap, length, ◌∙◌, sym, subst, Fits, w64, get_or}
-use Rattle.std.specs.Prelude.{slice_index}
-use Rattle.std.proofs.lemmas.List.{length-map}
-use Rattle.terms.specs.Vectors.{texts_of}
-use Rattle.terms.specs.Keys.{AreBelow}
+use Rattle.std.proofs.Common.{ℕ, List, arith, length, sym, subst}
+use Rattle.rules.specs.RuleSets.{texts_of}
+use Rattle.clauses.specs.Marks.{AreBelow}
 use Rattle.terms.proofs.KeyTrees.{below_more}
-use Rattle.terms.proofs.TextBytes.{
-  name_of,
-  named_word,
-  word_below,
-  parts_below,
-  some_parts,
-  name_byte,
-  name_long,
-  first_byte,
-  word_byte,
-  place_found,
-  all_parts,
-}
+use Rattle.terms.proofs.TextBytes.{name_of, named_word, parts_below, some_parts, name_byte, name_long, first_byte, word_byte, place_found, all_parts}
 use Rattle.terms.proofs.text_bytes.place_in_term.Goals as goal
 
 pub bounds-key-0 : goal.bounds-key-0

@@ -1,7 +1,7 @@
-use Rattle.std.proofs.Common.{ℕ, List, ◌≡◌, ◌≤◌, ◌∙◌, ap, length, sym, subst, Vec, Global, slice_index}
+use Rattle.std.proofs.Common.{ℕ, List, ◌≤◌, ◌∙◌, ap, length, sym, subst, Vec, Global, slice_index}
 use Rattle.kif.specs.Tree.{name_eq}
 use Rattle.terms.specs.AtomTexts.{term_text}
-use Rattle.terms.specs.Vectors.{texts_of}
+use Rattle.rules.specs.RuleSets.{texts_of}
 use Rattle.meaning.specs.Most.{limits}
 use Rattle.ground.proofs.TextTables.{slice_inside, text_here, term_here, short_here}
 use Rattle.ground.proofs.atom_table.AtomTable.is_text.Goals as goal

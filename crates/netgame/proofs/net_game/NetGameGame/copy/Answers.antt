@@ -19,7 +19,7 @@ returns-clause-fits c =
     record {
       room = record {
         lanes = ap length same ∙ c.requires.from.room.lanes;
-        wide = c.requires.to.room.wide;
+        turn = c.requires.to.room.turn;
         many = c.requires.to.room.many;
         roles = copied_room (inputs_of g) from old new c.requires.from.room.roles c.requires.to.room.roles c.copy_roles.ensures.size copied;
       };

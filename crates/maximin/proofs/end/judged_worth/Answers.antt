@@ -1,0 +1,15 @@
+use Rattle.std.proofs.Common.{◌∙◌, [], ap, get_or, w16, rules as facts}
+use Rattle.std.proofs.lemmas.Int.{to_z-of_z}
+use mir.Val.{SFits}
+use Rattle.std.specs.Prelude.{pos, unwrap_or}
+use Rattle.maximin.proofs.Ends.{last_worth}
+use Rattle.maximin.proofs.end.judged_worth.Goals as goal
+
+pub returns : goal.returns
+returns g c =
+    let rules = g.G.Game.rules c.args.game.now in
+    let state = get_or (g.G.Game.judged c.args.game.now c.args.wide.now) c.args.place [] in
+    let fits : SFits w16 c.from.result = search facts in
+    to_z-of_z w16 c.from.result fits ∙ c.from.ensures
+    ∙ ap pos (c.unwrap_or.ensures ∙ ap (λ found. unwrap_or found 0) c.verdict.ensures
+    ∙ last_worth rules c.args.asked.role c.args.asked.depth c.args.asked.at state c.requires.depth c.requires.bound)

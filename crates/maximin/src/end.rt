@@ -1,0 +1,102 @@
+// The last turn, where all that counts is whether the game ends in it.
+ghost use Rattle.std.specs.Prelude.{◌≡◌, ◌<◌, ◌≤◌, pos, true, [], All, length, map, get_or};
+ghost use Rattle.game.specs.declared.at_bound.AtBound.TheVariants.{Zero};
+ghost use Rattle.game.specs.Rules.{IsTurn};
+ghost use Rattle.game.specs.Value.{Answers, greatest, least, value};
+
+use crate::search::Asked;
+use game::{AtBound, Game, Joint};
+
+/// Plays joint moves for the end of the game alone, where the states after them are those of the last turn, and worth nothing unless
+/// the game has ended. The answer is false where they are to be stepped.
+pub fn judge_last<G: Game>(
+    game: &G,
+    from: &G::Pos,
+    joints: &[Joint],
+    asked: Asked,
+    wide: &mut G::Wide,
+) -> bool
+    requires from { G.fits game.now from.now }
+    requires some { 0 < length joints.now }
+    requires few { length joints.now ≤ 64 }
+    requires joints { All (λ j. IsTurn (G.rules game.now) j.items) joints.now }
+    requires wide { G.fits_wide game.now wide.old }
+    ensures wide { G.fits_wide game.now wide.new }
+    ensures wide_capacities { G.wide_capacities game.now wide.new ≡ G.wide_capacities game.now wide.old }
+    ensures depth { result ≡ true → asked.depth ≡ 0 }
+    ensures bound { result ≡ true → asked.at ≡ Zero }
+    ensures after { result ≡ true
+        → G.judged game.now wide.new ≡ map (λ j. (G.rules game.now).after (G.state game.now from.now) j.items) joints.now }
+{
+    match (asked.depth, asked.at) {
+        (0, AtBound::Zero) => game.judge(from, joints, wide),
+        _ => false,
+    }
+}
+
+/// What one of the judged states is worth.
+fn judged_worth<G: Game>(game: &G, wide: &G::Wide, place: usize, asked: Asked) -> i16
+    requires wide { G.fits_wide game.now wide.now }
+    requires place { place < length (G.judged game.now wide.now) }
+    requires role { asked.role < (G.rules game.now).roles }
+    requires depth { asked.depth ≡ 0 }
+    requires bound { asked.at ≡ Zero }
+    ensures { result ≡ pos
+        (value (G.rules game.now) asked.role asked.depth asked.at (get_or (G.judged game.now wide.now) place [])) }
+{
+    i16::from(game.verdict(wide, place, asked.role).unwrap_or(0))
+}
+
+/// The least value of the judged states, within a window.
+pub fn least_judged<G: Game>(
+    game: &G,
+    wide: &G::Wide,
+    count: usize,
+    asked: Asked,
+    a: i16,
+    b: i16,
+) -> i16
+    requires wide { G.fits_wide game.now wide.now }
+    requires count { count ≡ length (G.judged game.now wide.now) }
+    requires some { 0 < count }
+    requires role { asked.role < (G.rules game.now).roles }
+    requires depth { asked.depth ≡ 0 }
+    requires bound { asked.at ≡ Zero }
+    ensures { Answers (least (map (value (G.rules game.now) asked.role asked.depth asked.at) (G.judged game.now wide.now))) a b result }
+{
+    let mut upper = b;
+    for place in 0..count {
+        upper = upper.min(judged_worth(game, wide, place, asked));
+        if upper <= a {
+            return upper;
+        }
+    }
+    upper
+}
+
+/// The greatest value of the judged states, within a window.
+pub fn greatest_judged<G: Game>(
+    game: &G,
+    wide: &G::Wide,
+    count: usize,
+    asked: Asked,
+    a: i16,
+    b: i16,
+) -> i16
+    requires wide { G.fits_wide game.now wide.now }
+    requires count { count ≡ length (G.judged game.now wide.now) }
+    requires some { 0 < count }
+    requires role { asked.role < (G.rules game.now).roles }
+    requires depth { asked.depth ≡ 0 }
+    requires bound { asked.at ≡ Zero }
+    ensures { Answers (greatest (map (value (G.rules game.now) asked.role asked.depth asked.at) (G.judged game.now wide.now))) a b result }
+{
+    let mut lower = a;
+    for place in 0..count {
+        lower = lower.max(judged_worth(game, wide, place, asked));
+        if lower >= b {
+            return lower;
+        }
+    }
+    lower
+}
