@@ -1,5 +1,5 @@
 // What every game has.
-ghost use Rattle.std.specs.Prelude.{true, ◌≡◌, ◌≢◌, ℕ, ◌<◌, ◌≤◌, ◌^◌, List, [], length, map, get_or, All, IfOk, slice_get};
+ghost use Rattle.std.specs.Prelude.{true, ◌≡◌, ◌≢◌, ℕ, ◌<◌, ◌≤◌, ◌^◌, List, [], None, length, map, get_or, All, IfOk, slice_get};
 ghost use Rattle.std.specs.Ordering.{nat_cmp};
 ghost use Rattle.std.specs.Cmp.Lexicographic.{slice_cmp};
 ghost use Rattle.std.specs.List.Sorted.{IsStrictlyIncreasing};
@@ -176,12 +176,14 @@ pub trait Game: Sync {
             → judged self.now w.new ≡ map (λ j. (rules self.now).after (state self.now p.now) j.items) joints.now }
         ensures wide_capacities { wide_capacities self.now w.new ≡ wide_capacities self.now w.old };
 
-    /// The goal value of a role in the state at a place of those that `w` can tell the end of, if the game has ended there.
+    /// The goal value of a role in the state at a place of those that `w` can tell the end of, if the game has ended there. None where
+    /// `w` tells of fewer.
     fn verdict(&self, w: &Self::Wide, place: usize, role: usize) -> Option<u8>
         requires wide { fits_wide self.now w.now }
-        requires place { place < length (judged self.now w.now) }
         requires role { role < (rules self.now).roles }
-        ensures { result ≡ end_worth (rules self.now) (get_or (judged self.now w.now) place []) role };
+        ensures told { place < length (judged self.now w.now)
+            → result ≡ end_worth (rules self.now) (get_or (judged self.now w.now) place []) role }
+        ensures beyond { length (judged self.now w.now) ≤ place → result ≡ None };
 
     ghost goal_within: { (g : Self) (s : List ℕ) (r : ℕ) → (rules g).goal s r ≤ 100 };
 

@@ -182,6 +182,9 @@ impl Game for Table {
     }
 
     fn verdict(&self, w: &Cells, place: usize, role: usize) -> Option<u8> {
+        if place >= w.count {
+            return None;
+        }
         let p = Chosen {
             cell: w.cells[place],
         };

@@ -1,6 +1,4 @@
 //! A game whose play is watched, for tests.
-ghost use Rattle.std.specs.Prelude.{[]};
-
 use crate::game::Game;
 use crate::joint::Joint;
 use crate::told::Told;
@@ -53,7 +51,7 @@ impl<G: Game, W: Watch> Game for Watched<G, W> {
 
     ghost fits_wide = { λ g. G.fits_wide g.inner };
 
-    ghost judged = { λ _ _. [] };
+    ghost judged = { λ g. G.judged g.inner };
 
     ghost fits_many = { λ g. G.fits_many g.inner };
 
@@ -137,8 +135,8 @@ impl<G: Game, W: Watch> Game for Watched<G, W> {
         false
     }
 
-    fn verdict(&self, _w: &G::Wide, _place: usize, _role: usize) -> Option<u8> {
-        None
+    fn verdict(&self, w: &G::Wide, place: usize, role: usize) -> Option<u8> {
+        self.inner.verdict(w, place, role)
     }
 
     ghost goal_within = { λ g. G.goal_within g.inner };

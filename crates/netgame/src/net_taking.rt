@@ -1,5 +1,5 @@
 // One state out of up to 64.
-ghost use Rattle.std.specs.Prelude.{◌≡◌, ◌<◌, ℕ, [], length, get_or, vec_capacity};
+ghost use Rattle.std.specs.Prelude.{◌≡◌, ◌<◌, ◌≤◌, ℕ, [], None, length, get_or, vec_capacity};
 ghost use Rattle.ground.specs.Grounds.{texts_at};
 ghost use Rattle.ground.specs.GroundView.{inputs_of, kinds_of};
 ghost use Rattle.propnet.specs.Values.{lane};
@@ -153,13 +153,17 @@ pub(crate) fn net_told(game: &NetGame, many: &NetMany, k: usize, role: usize) ->
     }
 }
 
-/// The goal value of a role in one of the states that were judged, if the game has ended there.
+/// The goal value of a role in one of the states that were judged, if the game has ended there. None where fewer were judged.
 pub(crate) fn net_verdict(game: &NetGame, w: &NetWide, k: usize, role: usize) -> Option<u8>
     requires wide { HasWideRoom game.now.played game.now.net game.now.lane_plan w.now }
-    requires lane { k < length (lane_states game.now.played w.now.last) }
     requires role { role < length (inputs_of game.now.played) }
-    ensures { result ≡ end_worth (rules_of game.now.played) (get_or (lane_states game.now.played w.now.last) k []) role }
+    ensures told { k < length (lane_states game.now.played w.now.last)
+        → result ≡ end_worth (rules_of game.now.played) (get_or (lane_states game.now.played w.now.last) k []) role }
+    ensures beyond { length (lane_states game.now.played w.now.last) ≤ k → result ≡ None }
 {
+    if k >= w.last.count {
+        return None;
+    }
     match &game.lane_plan.last {
         Some(last) => end_told(game, last, &w.last, k, role),
         None => None,

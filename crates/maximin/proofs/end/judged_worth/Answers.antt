@@ -11,5 +11,5 @@ returns g c =
     let state = get_or (g.G.Game.judged c.args.game.now c.args.wide.now) c.args.place [] in
     let fits : SFits w16 c.from.result = search facts in
     to_z-of_z w16 c.from.result fits ∙ c.from.ensures
-    ∙ ap pos (c.unwrap_or.ensures ∙ ap (λ found. unwrap_or found 0) c.verdict.ensures
+    ∙ ap pos (c.unwrap_or.ensures ∙ ap (λ found. unwrap_or found 0) (c.verdict.ensures.told c.requires.place)
     ∙ last_worth rules c.args.asked.role c.args.asked.depth c.args.asked.at state c.requires.depth c.requires.bound)
