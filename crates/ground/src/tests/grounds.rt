@@ -132,6 +132,51 @@ fn descriptions_have_their_counts(rt: HostRuntime) -> Result<(), Fail> {
     Ok(())
 }
 
+/// Bodies of one rule or more, with their base propositions, inputs, instances and dropped heads.
+const JOINED: [(&[u8], &[u8]); 5] = [
+    // Literals that share no variable.
+    (
+        b"(role a)(d 1)(d 2)(e 1)(e 2)(e 3)(<= (p ?x ?y) (d ?x) (e ?y))",
+        b"0 0 12 0",
+    ),
+    // A variable that stands twice in a literal.
+    (
+        b"(role a)(e 1 1)(e 1 2)(e 2 2)(e (f 1) (f 1))(e (g 1) 1)(e (g 1) 2)(<= (p ?x) (e ?x ?x))
+            (<= (q ?x) (e (g ?x) ?x))",
+        b"0 0 11 0",
+    ),
+    // Constants in each place, by themselves and in a list.
+    (
+        b"(role a)(e 1 2)(e 2 1)(e 1 1)(d (f 1 2))(d (f 2 2))(d (g 1 2))(<= (p ?x) (e 1 ?x))(<= (q ?x) (e ?x 1))
+            (<= r (e 1 2))(<= s (e 2 2))(<= (t ?x) (d (f 1 ?x)))",
+        b"0 0 13 0",
+    ),
+    // Two ways along a chain of as many variables as there may be.
+    (
+        b"(role a)(e 1 2)(e 2 1)(<= (p ?v0 ?v31) (e ?v0 ?v1) (e ?v1 ?v2) (e ?v2 ?v3) (e ?v3 ?v4) (e ?v4 ?v5)
+            (e ?v5 ?v6) (e ?v6 ?v7) (e ?v7 ?v8) (e ?v8 ?v9) (e ?v9 ?v10) (e ?v10 ?v11) (e ?v11 ?v12)
+            (e ?v12 ?v13) (e ?v13 ?v14) (e ?v14 ?v15) (e ?v15 ?v16) (e ?v16 ?v17) (e ?v17 ?v18)
+            (e ?v18 ?v19) (e ?v19 ?v20) (e ?v20 ?v21) (e ?v21 ?v22) (e ?v22 ?v23) (e ?v23 ?v24)
+            (e ?v24 ?v25) (e ?v25 ?v26) (e ?v26 ?v27) (e ?v27 ?v28) (e ?v28 ?v29) (e ?v29 ?v30)
+            (e ?v30 ?v31))",
+        b"0 0 5 0",
+    ),
+    // States that change, each with each.
+    (
+        b"(role a)(base (c 1))(base (c 2))(base (c 3))(<= (next (c ?x)) (true (c ?x)) (true (c ?y)))",
+        b"3 0 13 0",
+    ),
+];
+
+#[test]
+fn bodies_are_joined(rt: HostRuntime) -> Result<(), Fail> {
+    for (text, want) in JOINED {
+        let got = told(&rt, text)?;
+        assert_eq!(rt; got.as_slice(), want);
+    }
+    Ok(())
+}
+
 /// Nine terms, four of which make a base proposition.
 const NINE: &[u8] = b"(role a)(d 0)(d 1)(d 2)(d 3)(d 4)(d 5)(d 6)(d 7)(d 8)
     (<= (base (n ?a ?b ?c ?d)) (d ?a) (d ?b) (d ?c) (d ?d))";

@@ -1,13 +1,13 @@
 // Answers over games of rules, whose workers meet.
 ghost use Rattle.std.specs.Prelude.{◌<◌};
 
-use crate::{Answer, Cut, Gate, solve};
 use game::watched::{Watch, Watched};
 use game::{AtBound, Game, Joint};
 use ground::instantiate;
 use kif::read;
 use position::RuleGame;
 use rules::RuleSet;
+use share::{Answer, Cut, Gate, solve};
 use std::alloc::{AllocError, AllocGlobal, Global};
 use std::hint::spin_loop;
 use std::process::Abort;
