@@ -11,8 +11,6 @@ mod refusal;
 mod replaying;
 mod stuck;
 pub mod table;
-#[cfg(test)]
-mod tests;
 mod told;
 pub mod watched;
 

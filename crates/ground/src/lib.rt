@@ -24,8 +24,6 @@ mod most;
 mod numbering;
 mod parts_of_ground;
 mod tables;
-#[cfg(test)]
-mod tests;
 
 pub use context_step_laws::the_context_step_is_the_definition;
 pub use fault::GroundFault;

@@ -4,16 +4,12 @@
 mod alone;
 mod answering;
 mod asking;
-#[cfg(test)]
-mod counting_tests;
 mod games;
 mod grounding;
 mod history;
 mod laws;
 mod moving;
 mod play;
-#[cfg(test)]
-mod play_tests;
 mod question;
 mod reply;
 mod roles;

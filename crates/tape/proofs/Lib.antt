@@ -1,8 +1,3 @@
-pub mod Passes
-pub mod Lanes
-pub mod Literals
-pub mod Folds
-pub mod Terms
 pub mod GroupLemmas
 pub mod Marks
 pub mod Meaning

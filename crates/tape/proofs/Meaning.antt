@@ -47,19 +47,19 @@ use Rattle.propnet.specs.NetView.{gate_with}
 use Rattle.tape.proofs.Marks.{same_gate}
 use Rattle.propnet.specs.Building.{Stands}
 use Rattle.propnet.proofs.Facts.{all_of_lt, any_of_lt, value_lt, value_solves, got_map}
-use Rattle.tape.specs.declared.builder.Builder.{Builder}
-use Rattle.tape.specs.Building.{IsBuilt, IsStep, IsLiteral, slots_of, value_of, all_of, any_of}
+use Rattle.gates.specs.declared.builder.Builder.{Builder}
+use Rattle.gates.specs.Building.{IsBuilt, IsStep, IsLiteral, slots_of, value_of, all_of, any_of}
 use Rattle.tape.specs.Marks.{is_and_gate, is_or_gate, is_marked, term_nodes, AllMarked, TermsMarked, IsCovered, IsClosedFrom}
 use Rattle.tape.specs.Tapes.{AreSources}
 use Rattle.tape.specs.Sources.{is_source, source_word, IsGivenAt, AreSourcesOf}
 use Rattle.tape.specs.Translating.{AreKept, AreTermsOf, IsTermOf, IsMeant, IsTranslated}
 use Rattle.smallvec.specs.SmallVec.{SmallVec}
-use Rattle.tape.specs.Terms.{some_of, AreBelow}
-use Rattle.tape.proofs.Folds.{and_true}
-use Rattle.tape.proofs.Literals.{groups_before}
-use Rattle.tape.proofs.Lanes.{given_slot, is_one_min, is_one_not}
-use Rattle.tape.specs.Values.{start, value}
-use Rattle.tape.proofs.Passes.{pass_below}
+use Rattle.gates.specs.Terms.{some_of, AreBelow}
+use Rattle.gates.proofs.Facts.{and_true}
+use Rattle.gates.proofs.Facts.{groups_before}
+use Rattle.gates.proofs.Facts.{given_slot, is_one_min, is_one_not}
+use Rattle.gates.specs.Values.{start, value}
+use Rattle.gates.proofs.Facts.{pass_below}
 
 is_one_max : (a b : ℕ) → a < 2 → b < 2 → (max a b == 1) ≡ ((a == 1) || (b == 1))
 is_one_max zero zero h k = refl
@@ -442,7 +442,3 @@ terms_more gates literals numbers old new i x term size read here e before = rw 
 
     last : (d : SmallVec ℕ) → IsTermOf gates literals (get_or numbers i 0) (get_or (old ++ (term ∷ [])) i d).items
     last d = let at : get_or (old ++ (term ∷ [])) i d ≡ term = rw (← size) (get_or-append_seam old term [] d) in rw (at, ← read) here
-
-pub ok_then : {E : Type 0} → (r : Result ℕ E) (P Q : ℕ → Type 0) → ((l : ℕ) → P l → Q l) → IfOk r P → IfOk r Q
-ok_then (Ok l) P Q f h = f l h
-ok_then (Err e) P Q f h = h

@@ -7,17 +7,17 @@ use Rattle.propnet.specs.declared.net.Net.{Net}
 use Rattle.propnet.specs.Network.{value as node_value}
 use Rattle.propnet.specs.Nets.{gates_of}
 use Rattle.propnet.proofs.Facts.{value_lt}
-use Rattle.tape.specs.declared.gates.Gate.{Gate}
+use Rattle.gates.specs.declared.gates.Gate.{Gate}
 use Rattle.tape.specs.declared.tape.Tape.{Tape}
-use Rattle.tape.specs.Values.{slots, start, pass, value, is_lane_on}
-use Rattle.tape.specs.declared.builder.Builder.{Builder}
-use Rattle.tape.specs.declared.builder.Group.{Group}
-use Rattle.tape.specs.Building.{slots_of, AreOneOf}
+use Rattle.gates.specs.Values.{slots, start, pass, value, is_lane_on}
+use Rattle.gates.specs.declared.builder.Builder.{Builder}
+use Rattle.gates.specs.declared.builder.Group.{Group}
+use Rattle.gates.specs.Building.{slots_of, AreOneOf}
 use Rattle.tape.specs.Grouping.{AreGroups}
 use Rattle.tape.specs.Translating.{AreKept, IsGroupTapeOf}
 use Rattle.std.proofs.lemmas.List.Elements.{All-nil}
 use Rattle.tape.specs.Tapes.{AreSources, IsTapeOf, IsTurnTapeOf, HasRun, IsLane, IsWordOf, IsTurnWordOf}
-use Rattle.tape.proofs.Passes.{pass_agree}
+use Rattle.gates.proofs.Facts.{pass_agree}
 use Rattle.tape.proofs.Meaning.{map_within}
 
 -- The word of a kept node.

@@ -1,7 +1,3 @@
-pub mod Values
-pub mod Props
-pub mod Building
-pub mod Terms
 pub mod Grouping
 pub mod Marks
 pub mod Sources

@@ -7,7 +7,7 @@ use Rattle.propnet.specs.Network.{given, value as node_value}
 use Rattle.propnet.specs.Nets.{gates_of}
 use Rattle.propnet.specs.Placing.{input_number}
 use Rattle.tape.specs.declared.tape.Tape.{Tape}
-use Rattle.tape.specs.Values.{slots, value, is_lane_on}
+use Rattle.gates.specs.Values.{slots, value, is_lane_on}
 
 -- how many words a pass needs
 abbrev pub slots_in : Tape → ℕ

@@ -4,10 +4,10 @@ use Rattle.std.specs.Prelude.{ℕ, Bool, true, List, map, length, Some, slice_ge
 use Rattle.propnet.specs.declared.net.Net.{Net}
 use Rattle.propnet.specs.Network.{Gate, value as node_value}
 use Rattle.propnet.specs.Nets.{gates_of}
-use Rattle.tape.specs.declared.builder.Builder.{Builder}
-use Rattle.tape.specs.Building.{slots_of, value_of, AreOneOf, IsBuilt}
+use Rattle.gates.specs.declared.builder.Builder.{Builder}
+use Rattle.gates.specs.Building.{slots_of, value_of, AreOneOf, IsBuilt}
 use Rattle.tape.specs.Marks.{is_and_gate, is_marked, term_nodes}
-use Rattle.tape.specs.declared.builder.Group.{Group}
+use Rattle.gates.specs.declared.builder.Group.{Group}
 use Rattle.tape.specs.declared.tape.Tape.{Tape}
 use Rattle.tape.specs.Tapes.{AreSources, kept_in, value_in}
 

@@ -4,8 +4,7 @@ ghost use Rattle.propnet.specs.Nets.{gates_of};
 ghost use Rattle.tape.specs.Translating.{IsTermOf, AreTermsOf};
 
 use crate::cones::is_and;
-use crate::gates::Literal;
-use crate::keyed::Term;
+use gates::{Literal, Term};
 use propnet::Net;
 use smallvec::SmallVec;
 use std::alloc::{AllocError, Global};

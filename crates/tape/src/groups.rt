@@ -5,8 +5,8 @@ ghost use Rattle.tape.specs.Grouping.{IsGivenInput, IsGroupOf, AreGroups};
 ghost use Rattle.tape.specs.Marks.{AllMarked};
 ghost use Rattle.tape.specs.Sources.{AreSourcesOf};
 
-use crate::builder::Group;
 use crate::sourcing::{Sources, few, word_of};
+use gates::Group;
 use propnet::Net;
 use std::alloc::{AllocError, Global};
 

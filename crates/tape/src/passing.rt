@@ -3,8 +3,8 @@ ghost use Rattle.std.specs.Prelude.{ℕ, List, ◌≡◌, ◌<◌, length, slice
 ghost use Rattle.propnet.specs.declared.net.Net.{Net};
 ghost use Rattle.tape.specs.Tapes.{slots_in, kept_in, IsTapeOf, IsTurnTapeOf, HasRun, IsWordOf, IsTurnWordOf};
 
-use crate::gates::{fill_sources, run_gates};
 use crate::tape::Tape;
+use gates::{fill_sources, run_gates};
 
 impl Tape {
     /// How many words a pass needs.

@@ -3,8 +3,7 @@ ghost use Rattle.std.specs.Prelude.{◌≡◌, ◌+◌, ◌^◌, ◌<◌, length
 ghost use Rattle.propnet.specs.Nets.{gates_of};
 ghost use Rattle.tape.specs.Sources.{is_source as is_source_name, source_word, AreSourcesOf};
 
-use crate::builder::given;
-use crate::gates::Literal;
+use gates::{Literal, given};
 use propnet::{Name, Net};
 use std::alloc::{AllocError, Global};
 

@@ -1,9 +1,9 @@
 //! A tape.
 ghost use Rattle.std.specs.Prelude.{◌≡◌, ◌+◌, ◌*◌, ◌<◌, length, All};
-ghost use Rattle.tape.specs.Values.{slots, IsTape};
-ghost use Rattle.tape.specs.Props.{tape_props};
+ghost use Rattle.gates.specs.Values.{slots, IsTape};
+ghost use Rattle.gates.specs.Props.{tape_props};
 
-use crate::gates::{Gate, Literal};
+use gates::{Gate, Literal};
 
 /// The and gates that some nodes of a network come to, in order. A pass writes two words for each: its values in 64 lanes, and
 /// their negations. In front of them stand the constants and the given words, likewise with their negations.

@@ -1,19 +1,18 @@
 //! From the kept nodes of a network to a tape.
 ghost use Rattle.std.specs.Prelude.{true, ◌≡◌, ◌+◌, ◌*◌, ◌<◌, ◌≤◌, length, [], All, IfOk, OnOk};
 ghost use Rattle.propnet.specs.Nets.{gates_of};
-ghost use Rattle.tape.specs.Building.{IsBuilt, IsStep};
+ghost use Rattle.gates.specs.Building.{IsBuilt, IsStep};
 ghost use Rattle.tape.specs.Marks.{is_marked, AllMarked, IsClosedFrom};
 ghost use Rattle.tape.specs.Sources.{AreSourcesOf};
 ghost use Rattle.tape.specs.Tapes.{IsTapeOf, IsTurnTapeOf};
 ghost use Rattle.tape.specs.Translating.{AreKept, IsGroupTapeOf, IsMeant, IsTranslated};
 
-use crate::builder::{Builder, Group, negation};
 use crate::cones::{cones, is_and, is_or};
-use crate::gates::Literal;
 use crate::gathering::{gather, terms_of};
 use crate::groups::{groups_of, with_inputs};
 use crate::sourcing::{Sources, above, few, is_source, sources_of};
 use crate::tape::Tape;
+use gates::{Builder, Group, Literal, negation};
 use propnet::Net;
 use std::alloc::{AllocError, Global};
 

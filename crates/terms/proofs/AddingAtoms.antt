@@ -34,7 +34,8 @@ use Rattle.terms.specs.Arena.{Held, AreNumbered, cut}
 use Rattle.clauses.specs.Numbers.{Begins, word_at}
 use Rattle.terms.specs.Atoms.{with_number, with_numbers, AreTermsOf, AddsAtoms}
 use Rattle.clauses.specs.Marks.{AreBelow}
-use Rattle.terms.specs.Keys.{IsKey, key_at, with_key, word_of, parts_of, term_at, tree_of_key, trees}
+use Rattle.terms.specs.Keys.{IsKey, with_key, word_of, parts_of, term_at, tree_of_key, trees}
+use Rattle.keys.specs.KeyLists.{key_at}
 use Rattle.meaning.specs.Meaning.{atom1, atom2}
 use Rattle.terms.proofs.AtomLemmas.{
   front_itself,

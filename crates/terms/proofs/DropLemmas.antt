@@ -41,7 +41,8 @@ use Rattle.terms.specs.Atoms.{AreAtoms}
 use Rattle.meaning.specs.InOrder.{first_place}
 use Rattle.clauses.specs.Marks.{AreBelow}
 use Rattle.clauses.specs.Numbers.{word_at, AreDifferent}
-use Rattle.terms.specs.Keys.{key_at, word_of, parts_of, term_at, trees, IsKey, AreKeys}
+use Rattle.terms.specs.Keys.{word_of, parts_of, term_at, trees, IsKey, AreKeys}
+use Rattle.keys.specs.KeyLists.{key_at}
 use Rattle.meaning.specs.Listing.{role_list, base_list, input_list}
 use Rattle.profile.specs.Profile.{is_tree_in}
 use Rattle.meaning.specs.Play.{is_dropped}

@@ -41,7 +41,8 @@ use Rattle.std.proofs.lemmas.List.{map-append, length-map}
 use Rattle.kif.specs.Tree.{name_eq}
 use Rattle.kif.proofs.Facts.{name_eq_yes, name_eq_self}
 use Rattle.profile.specs.Safety.{is_name_in}
-use Rattle.terms.specs.Keys.{key_at, with_key}
+use Rattle.terms.specs.Keys.{with_key}
+use Rattle.keys.specs.KeyLists.{key_at}
 use Rattle.profile.proofs.Facts.{or_left, or_right}
 
 not_here : (b : Bool) (i : ℕ) (o : Option ℕ) → cond b (Some i) o ≡ None → (b ≡ false) × (o ≡ None)

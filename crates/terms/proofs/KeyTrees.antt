@@ -32,7 +32,8 @@ use Rattle.profile.specs.Clause.{tree_at}
 use Rattle.profile.specs.Safety.{is_name_in}
 use Rattle.clauses.specs.Marks.{AreBelow}
 use Rattle.clauses.specs.Numbers.{word_at, AreDifferent}
-use Rattle.terms.specs.Keys.{key_at, with_key, word_of, parts_of, term_at, tree_of_key, trees_behind, trees, IsKey, AreKeys, AreDifferentTerms}
+use Rattle.terms.specs.Keys.{with_key, word_of, parts_of, term_at, tree_of_key, trees_behind, trees, IsKey, AreKeys, AreDifferentTerms}
+use Rattle.keys.specs.KeyLists.{key_at}
 use Rattle.terms.proofs.KeyNumbers.{is_in, last_or_before, more_different, true_or_false}
 
 pub below_more : (m n : ℕ) (xs : List ℕ) → m ≤ n → AreBelow m xs → AreBelow n xs

@@ -45,7 +45,8 @@ use Rattle.meaning.specs.declared.kind.Kind.{Kind}
 use Rattle.meaning.specs.declared.kind.Kind.TheVariants.{Fixed, Now, Does, Next, Legal, Goal, Terminal, Other}
 use Rattle.clauses.specs.Marks.{AreBelow}
 use Rattle.clauses.specs.Numbers.{word_at, AreDifferent}
-use Rattle.terms.specs.Keys.{key_at, term_at, tree_of_key, trees, AreDifferentTerms, IsKey}
+use Rattle.terms.specs.Keys.{term_at, tree_of_key, trees, AreDifferentTerms, IsKey}
+use Rattle.keys.specs.KeyLists.{key_at}
 use Rattle.terms.specs.Arena.{AreNumbered}
 use Rattle.meaning.specs.Kinds.{place_in, value_of, one_number, two_numbers, kind_at, kind_of}
 use Rattle.meaning.specs.Listing.{role_list, base_list, input_list}

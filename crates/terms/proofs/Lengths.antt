@@ -41,7 +41,8 @@ use Rattle.profile.specs.Clause.{tree_at}
 use Rattle.profile.specs.Safety.{is_name_in}
 use Rattle.clauses.specs.Marks.{AreBelow}
 use Rattle.clauses.specs.Numbers.{word_at}
-use Rattle.terms.specs.Keys.{key_at, with_key, word_of, term_at, tree_of_key, trees_behind, trees, IsKey, AreKeys}
+use Rattle.terms.specs.Keys.{with_key, word_of, term_at, tree_of_key, trees_behind, trees, IsKey, AreKeys}
+use Rattle.keys.specs.KeyLists.{key_at}
 use Rattle.terms.specs.Arena.{Held, cut, sizes_of, lengths_of, with_parts, key_length, AreNumbered, IsHeld}
 use Rattle.meaning.specs.Most.{limits}
 use Rattle.terms.proofs.KeyNumbers.{not_in, last_or_before, with_known}

@@ -1,5 +1,3 @@
-mod ListLemmas
-mod ChainLemmas
 mod KeyNumbers
 mod KeyTrees
 mod Lengths

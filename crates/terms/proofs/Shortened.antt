@@ -6,7 +6,8 @@ use Rattle.kif.specs.Tree.{Tree, text}
 use Rattle.terms.specs.Arena.{Held, IsHeld, AreNumbered, cut}
 use Rattle.clauses.specs.Numbers.{Begins}
 use Rattle.terms.specs.Atoms.{AreTermsOf, HasGrown}
-use Rattle.terms.specs.Keys.{key_at, trees, IsKey}
+use Rattle.terms.specs.Keys.{trees, IsKey}
+use Rattle.keys.specs.KeyLists.{key_at}
 use Rattle.terms.proofs.AtomLemmas.{trees_front, front_itself}
 use Rattle.terms.proofs.KeyTrees.{length_trees}
 use Rattle.terms.proofs.AtPlaces.{take_length}

@@ -13,7 +13,8 @@ use Rattle.terms.specs.Arena.{AreNumbered}
 use Rattle.terms.specs.Atoms.{AreAtoms}
 use Rattle.clauses.specs.Marks.{AreBelow}
 use Rattle.clauses.specs.Numbers.{word_at, AreDifferent}
-use Rattle.terms.specs.Keys.{key_at, term_at, trees, tree_of_key, IsKey, AreKeys}
+use Rattle.terms.specs.Keys.{term_at, trees, tree_of_key, IsKey, AreKeys}
+use Rattle.keys.specs.KeyLists.{key_at}
 use Rattle.meaning.specs.Listed.{IsWellFormed}
 use Rattle.meaning.specs.Listing.{is_atom_in, with_atoms, context_atoms, fixed_listing, listing, Listing}
 use Rattle.meaning.specs.Meaning.{atom1}

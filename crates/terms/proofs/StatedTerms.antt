@@ -29,7 +29,8 @@ use Rattle.kif.specs.Tree.{Tree, Trees, trees_of, name_eq, tree_eq}
 use Rattle.kif.proofs.Facts.{name_eq_yes, name_eq_self, tree_eq_yes, tree_eq_self}
 use Rattle.profile.specs.Clause.{Atom, relation_of, is_word, tree_of, count_trees}
 use Rattle.clauses.specs.Numbers.{word_at, AreDifferent}
-use Rattle.terms.specs.Keys.{key_at, word_of, parts_of, term_at, trees, IsKey, AreKeys}
+use Rattle.terms.specs.Keys.{word_of, parts_of, term_at, trees, IsKey, AreKeys}
+use Rattle.keys.specs.KeyLists.{key_at}
 use Rattle.terms.specs.Atoms.{AreAtoms}
 use Rattle.meaning.specs.Listing.{one_term, terms_of, terms_with}
 use Rattle.meaning.specs.Listing as listing

@@ -34,7 +34,8 @@ use Rattle.terms.specs.AtomTexts.{term_text, rest_text, IsByteAt, IsPlace}
 use Rattle.rules.specs.RuleSets.{texts_of}
 use Rattle.clauses.specs.Marks.{AreBelow}
 use Rattle.clauses.specs.Numbers.{word_at}
-use Rattle.terms.specs.Keys.{IsKey, key_at, tree_of_key, trees}
+use Rattle.terms.specs.Keys.{IsKey, tree_of_key, trees}
+use Rattle.keys.specs.KeyLists.{key_at}
 use Rattle.meaning.specs.Most.{limits}
 use Rattle.terms.specs.declared.text_bytes.Place.{Place}
 use Rattle.terms.specs.declared.text_bytes.Place.TheVariants.{Byte, In}

@@ -28,7 +28,8 @@ use Rattle.terms.specs.declared.writing.Pending.{Pending}
 use Rattle.terms.specs.declared.writing.Pending.TheVariants.{Term, Closing}
 use Rattle.clauses.specs.Marks.{AreBelow}
 use Rattle.clauses.specs.Numbers.{word_at}
-use Rattle.terms.specs.Keys.{key_at, term_at, tree_of_key, trees, IsKey}
+use Rattle.terms.specs.Keys.{term_at, tree_of_key, trees, IsKey}
+use Rattle.keys.specs.KeyLists.{key_at}
 use Rattle.terms.specs.Arena.{AreNumbered}
 use Rattle.terms.specs.Writing.{pending_text, AreKnown, Writes}
 use Rattle.terms.proofs.KeyTrees.{tree_of_number, below_more}

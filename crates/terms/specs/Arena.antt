@@ -1,7 +1,8 @@
 -- Ground terms with the lengths of their texts.
 use Rattle.std.specs.Prelude.{ℕ, suc, ◌+◌, ◌<◌, ◌≤◌, ◌≡◌, min, List, [], ◌∷◌, length, map, take, slice_index}
 use Rattle.kif.specs.Tree.{Tree, text}
-use Rattle.terms.specs.Keys.{key_at, trees, AreKeys}
+use Rattle.terms.specs.Keys.{trees, AreKeys}
+use Rattle.keys.specs.KeyLists.{key_at}
 use Rattle.meaning.specs.Most.{limits}
 
 -- the lengths of the names of the symbols, and the keys

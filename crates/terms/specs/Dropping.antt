@@ -6,7 +6,8 @@ use Rattle.profile.specs.Clause.{Alternative}
 use Rattle.rules.specs.declared.rule_set.Keywords.{Keywords}
 use Rattle.meaning.specs.InOrder.{first_place}
 use Rattle.clauses.specs.Marks.{AreBelow}
-use Rattle.terms.specs.Keys.{key_at, term_at}
+use Rattle.terms.specs.Keys.{term_at}
+use Rattle.keys.specs.KeyLists.{key_at}
 use Rattle.meaning.specs.Listing.{role_list, base_list, input_list}
 
 -- m is an input of the role r, where the lists of inputs stand in the order of the roles

@@ -6,9 +6,7 @@ use Rattle.profile.specs.Clause.{tree_at}
 use Rattle.clauses.specs.Numbers.{word_at}
 use Rattle.clauses.specs.Marks.{AreBelow}
 use Rattle.profile.specs.Safety.{is_name_in}
-
-abbrev pub key_at : List (List ℕ) → ℕ → List ℕ
-key_at keys n = slice_index_or keys n []
+use Rattle.keys.specs.KeyLists.{key_at}
 
 -- the keys once one more is numbered: as they are if it is there, and else with it behind them
 abbrev pub with_key : List (List ℕ) → List ℕ → List (List ℕ)

@@ -1,6 +1,4 @@
 pub mod Keys
-pub mod KeyLists
-pub mod Chains
 pub mod Arena
 pub mod Building
 pub mod Writing

@@ -2,7 +2,7 @@
 use Rattle.std.specs.Prelude.{ℕ, Bool, List, [], ◌∷◌}
 use Rattle.std.specs.List.{list_any}
 use Rattle.kif.specs.Tree.{name_eq}
-use Rattle.terms.specs.Keys.{key_at}
+use Rattle.keys.specs.KeyLists.{key_at}
 
 -- one of the atoms has the key
 abbrev pub has_key : List (List ℕ) → List ℕ → List ℕ → Bool

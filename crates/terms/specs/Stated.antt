@@ -1,6 +1,6 @@
 -- The terms that atoms of a word state, by number.
 use Rattle.std.specs.Prelude.{ℕ, ◌==◌, cond, List, [], ◌∷◌, ◌++◌}
-use Rattle.terms.specs.Keys.{key_at}
+use Rattle.keys.specs.KeyLists.{key_at}
 
 -- the term of a key with the word and one part
 abbrev pub one_of : ℕ → List ℕ → List ℕ

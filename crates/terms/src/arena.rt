@@ -23,12 +23,13 @@ ghost use Rattle.std.specs.Prelude.{
 ghost use Rattle.kif.specs.Tree.{text};
 ghost use Rattle.rules.specs.RuleSetView.{lists_of_set};
 ghost use Rattle.clauses.specs.Marks.{AreBelow};
-ghost use Rattle.terms.specs.Keys.{key_at, term_at, trees, with_key, IsKey, parts_of, word_of};
+ghost use Rattle.terms.specs.Keys.{term_at, trees, with_key, IsKey, parts_of, word_of};
+ghost use Rattle.keys.specs.KeyLists.{key_at};
 ghost use Rattle.terms.specs.Arena.{cut, sizes_of, with_parts, key_length, AreNumbered};
 ghost use Rattle.meaning.specs.Most.{limits};
 
-use crate::chains::hash_of;
 use crate::keyed::Terms;
+use keys::hash_of;
 use rules::RuleSet;
 use std::alloc::{AllocError, Global};
 use std::marker::Model;

@@ -1,11 +1,11 @@
 // Ground terms by number: each different one has one.
 ghost use Rattle.std.specs.Prelude.{ℕ, ◌≡◌, ◌<◌, ◌≢◌, List, length, take, IfOk, OnOk, OnErr, MatchOption};
-ghost use Rattle.terms.specs.Chains.{key_hash};
+ghost use Rattle.keys.specs.Chains.{key_hash};
 ghost use Rattle.clauses.specs.Numbers.{AreDifferent};
-ghost use Rattle.terms.specs.Keys.{key_at, with_key, IsKey, AreKeys, AreDifferentTerms, trees};
+ghost use Rattle.terms.specs.Keys.{with_key, IsKey, AreKeys, AreDifferentTerms, trees};
+ghost use Rattle.keys.specs.KeyLists.{key_at};
 
-use crate::chains::{Chains, add, drop_behind, find, hash_of, make_buckets};
-use crate::key_list::KeyList;
+use keys::{Chains, KeyList, add, drop_behind, find, hash_of, make_buckets};
 use std::alloc::{AllocError, Global};
 use std::marker::Model;
 
@@ -20,7 +20,7 @@ pub struct Terms {
 
 impl Model for Terms {
     ghost use Rattle.std.specs.Prelude.{ℕ, List};
-    ghost use Rattle.terms.specs.Chains.{AreKept};
+    ghost use Rattle.keys.specs.Chains.{AreKept};
 
     ghost Value = { List (List ℕ) };
 

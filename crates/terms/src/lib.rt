@@ -5,18 +5,14 @@
 mod adding;
 mod arena;
 mod building;
-mod chains;
 mod decimals;
 mod dropping;
-mod key_list;
 mod keyed;
 mod kind_of_term;
 mod naming;
 mod starting;
 mod stating;
 mod stating_laws;
-#[cfg(test)]
-mod tests;
 mod text_bytes;
 mod writing;
 

@@ -1,7 +1,8 @@
 use Rattle.std.proofs.Common.{◌∙◌, sym, refl}
 use Rattle.propnet.specs.NetView.{gate_with}
-use Rattle.tape.proofs.Folds.{nor_literal}
-use Rattle.tape.proofs.Meaning.{meant_source, meant_all, meant_none, meant_or, terms_within, queue_within, reads_below, ok_then}
+use Rattle.gates.proofs.Facts.{nor_literal}
+use Rattle.tape.proofs.Meaning.{meant_source, meant_all, meant_none, meant_or, terms_within, queue_within, reads_below}
+use Rattle.gates.proofs.Facts.{ok_then}
 use Rattle.tape.proofs.translating.literal_for.Goals as goal
 
 pub returns-then-is_source-clause-value : goal.returns-then-is_source-clause-value

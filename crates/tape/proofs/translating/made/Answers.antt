@@ -1,7 +1,7 @@
 use Rattle.std.specs.Prelude.{All}
 use Rattle.std.proofs.Common.{◌<◌, ℕ, List, subst, refl, ap, ◌∙◌}
 use Rattle.std.specs.Global.{Vec}
-use Rattle.tape.specs.declared.builder.Group.{Group}
+use Rattle.gates.specs.declared.builder.Group.{Group}
 use Rattle.tape.proofs.Tapes.{kept_slots, tape_of}
 use Rattle.tape.proofs.translating.made.Goals as goal
 

@@ -1,5 +1,5 @@
 use Rattle.std.proofs.Common.{length, arith}
-use Rattle.tape.proofs.Passes.{order_within}
+use Rattle.gates.proofs.Facts.{order_within}
 use Rattle.tape.proofs.Tapes.{run_values}
 use Rattle.tape.proofs.tape.Tape.run.Goals as goal
 

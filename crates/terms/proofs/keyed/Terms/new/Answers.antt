@@ -1,4 +1,4 @@
-use Rattle.terms.proofs.ChainLemmas.{empty_kept}
+use Rattle.keys.proofs.Facts.{empty_kept}
 use Rattle.terms.proofs.keyed.Terms.new.Goals as goal
 
 pub invariant_of-result : goal.invariant_of-result

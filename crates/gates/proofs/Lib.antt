@@ -1,0 +1,7 @@
+mod Passes
+mod Lanes
+mod Literals
+mod Folds
+mod Terms
+mod GroupLemmas
+pub mod Facts

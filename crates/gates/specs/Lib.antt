@@ -1,0 +1,5 @@
+pub mod Values
+pub mod Props
+pub mod Building
+pub mod Terms
+pub mod Grouping

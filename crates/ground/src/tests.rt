@@ -1,2 +1,0 @@
-// Grounds of descriptions.
-mod grounds;

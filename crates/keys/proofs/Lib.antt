@@ -1,0 +1,3 @@
+mod ListLemmas
+mod ChainLemmas
+pub mod Facts

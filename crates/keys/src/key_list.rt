@@ -1,0 +1,105 @@
+// Lists of numbers, kept one behind the other.
+ghost use Rattle.std.specs.Prelude.{◌≡◌, ◌<◌, ◌≤◌, ◌++◌, ◌∷◌, [], length, take, slice_index, slice_range, OnOk, OnErr};
+ghost use Rattle.keys.specs.KeyLists.{key_at};
+
+use std::alloc::{AllocError, Global};
+use std::marker::Model;
+
+/// Lists of numbers, by number. They stand in one vector, so that none has memory of its own.
+#[derive(Drop)]
+pub struct KeyList {
+    numbers: Vec<usize>,
+    /// Where each list ends.
+    ends: Vec<usize>,
+}
+
+impl Model for KeyList {
+    ghost use Rattle.std.specs.Prelude.{ℕ, List, length};
+    ghost use Rattle.keys.specs.KeyLists.{lists_at, AreEnds};
+
+    ghost Value = { List (List ℕ) };
+
+    ghost view = { λ k. lists_at 0 k.ends.items k.numbers.items };
+
+    ghost invariant = { λ k. AreEnds 0 k.ends.items (length k.numbers.items) };
+}
+
+/// Where a list begins: at the end of the one before it.
+fn start_of(ends: &[usize], number: usize) -> usize
+    requires { number ≤ length ends.now }
+    ensures { result ≡ slice_index (0 ∷ ends.now) number }
+{
+    if number == 0 {
+        return 0;
+    }
+    ends[number - 1]
+}
+
+/// Where a list ends.
+fn end_of(ends: &[usize], number: usize) -> usize
+    requires { number < length ends.now }
+    ensures { result ≡ slice_index ends.now number }
+{
+    ends[number]
+}
+
+/// A part of numbers.
+fn part_of(numbers: &[usize], from: usize, to: usize) -> &[usize]
+    requires order { from ≤ to }
+    requires within { to ≤ length numbers.now }
+    ensures { result.now ≡ slice_range numbers.now from to }
+{
+    &numbers[from..to]
+}
+
+impl KeyList {
+    /// No lists yet.
+    pub fn new(alloc: Global) -> Self
+        ensures { result ≡ [] }
+    {
+        KeyList {
+            numbers: Vec::new(alloc),
+            ends: Vec::new(alloc),
+        }
+    }
+
+    /// How many lists there are.
+    pub fn len(&self) -> usize
+        ensures { result ≡ length self.now }
+    {
+        self.ends.len()
+    }
+
+    /// The list of a number.
+    pub fn get(&self, number: usize) -> &[usize]
+        requires { number < length self.now }
+        ensures { result.now ≡ key_at self.now number }
+    {
+        let from = start_of(&self.ends, number);
+        let to = end_of(&self.ends, number);
+        part_of(&self.numbers, from, to)
+    }
+
+    /// Adds a list. After an error the lists are those before.
+    pub fn push(&mut self, list: &[usize]) -> Result<(), AllocError>
+        ensures added { OnOk result (self.new ≡ self.old ++ list.now ∷ []) }
+        ensures failed { OnErr result (self.new ≡ self.old) }
+    {
+        self.ends.reserve(1)?;
+        self.numbers.extend_from_slice(list)?;
+        self.ends.push_reserved(self.numbers.len());
+        Ok(())
+    }
+
+    /// Keeps the first lists, so many.
+    pub fn truncate(&mut self, many: usize)
+        ensures { self.new ≡ take many self.old }
+    {
+        if many >= self.ends.len() {
+            return;
+        }
+        let to = start_of(&self.ends, many);
+        self.numbers.truncate(to);
+        self.ends.truncate(many);
+    }
+}

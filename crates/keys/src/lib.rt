@@ -1,0 +1,10 @@
+//! Lists of numbers by number, one after the other in one vector, and found again by hashes of their numbers.
+#![tactic(auto)]
+
+mod chains;
+mod hashes;
+mod key_list;
+
+pub use chains::{Chains, add, drop_behind, find, hash_of, make_buckets};
+pub use hashes::{bucket_in, mix};
+pub use key_list::KeyList;

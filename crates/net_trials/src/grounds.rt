@@ -1,0 +1,423 @@
+// What descriptions instantiate to: counts, limits, the order of instances, and kinds of atoms.
+use ground::{Ground, GroundFault, Kind, instantiate};
+use kif::read;
+use rules::RuleSet;
+use std::alloc::Global;
+use std::io::Write;
+use std::test::Fail;
+
+const MATCH: &[u8] =
+    b"(role a)(role b)(base done)(base same)(input a h)(input a t)(input b h)(input b t)
+    (<= (legal ?r ?m) (input ?r ?m) (not (true done)))(<= (next done) (does a ?m))
+    (<= (next same) (does a ?m) (does b ?m))(<= terminal (true done))(<= (goal a 100) (true same))
+    (<= (goal a 0) (not (true same)))(<= (goal b 0) (true same))(<= (goal b 100) (not (true same)))";
+
+const TTT: &[u8] = b"(role xplayer)(role oplayer)(index 1)(index 2)(index 3)
+    (<= (base (cell ?x ?y b)) (index ?x) (index ?y))(<= (base (cell ?x ?y x)) (index ?x) (index ?y))
+    (<= (base (cell ?x ?y o)) (index ?x) (index ?y))(<= (base (control ?p)) (role ?p))
+    (<= (input ?p (mark ?x ?y)) (role ?p) (index ?x) (index ?y))(<= (input ?p noop) (role ?p))
+    (init (cell 1 1 b))(init (cell 1 2 b))(init (cell 1 3 b))(init (cell 2 1 b))(init (cell 2 2 b))
+    (init (cell 2 3 b))(init (cell 3 1 b))(init (cell 3 2 b))(init (cell 3 3 b))(init (control xplayer))
+    (<= (next (cell ?x ?y x)) (does xplayer (mark ?x ?y)) (true (cell ?x ?y b)))
+    (<= (next (cell ?x ?y o)) (does oplayer (mark ?x ?y)) (true (cell ?x ?y b)))
+    (<= (next (cell ?x ?y ?w)) (true (cell ?x ?y ?w)) (distinct ?w b))
+    (<= (next (cell ?x ?y b)) (does ?w (mark ?m ?n)) (true (cell ?x ?y b))
+        (or (distinct ?x ?m) (distinct ?y ?n)))
+    (<= (next (control xplayer)) (true (control oplayer)))
+    (<= (next (control oplayer)) (true (control xplayer)))
+    (<= (row ?x ?w) (true (cell ?x 1 ?w)) (true (cell ?x 2 ?w)) (true (cell ?x 3 ?w)))
+    (<= (column ?y ?w) (true (cell 1 ?y ?w)) (true (cell 2 ?y ?w)) (true (cell 3 ?y ?w)))
+    (<= (diagonal ?w) (true (cell 1 1 ?w)) (true (cell 2 2 ?w)) (true (cell 3 3 ?w)))
+    (<= (diagonal ?w) (true (cell 1 3 ?w)) (true (cell 2 2 ?w)) (true (cell 3 1 ?w)))
+    (<= (line ?w) (row ?x ?w))(<= (line ?w) (column ?y ?w))(<= (line ?w) (diagonal ?w))
+    (<= open (true (cell ?x ?y b)))
+    (<= (legal ?w (mark ?x ?y)) (true (cell ?x ?y b)) (true (control ?w)))
+    (<= (legal xplayer noop) (true (control oplayer)))(<= (legal oplayer noop) (true (control xplayer)))
+    (<= (goal xplayer 100) (line x))(<= (goal xplayer 50) (not (line x)) (not (line o)) (not open))
+    (<= (goal xplayer 0) (line o))(<= (goal oplayer 100) (line o))
+    (<= (goal oplayer 50) (not (line x)) (not (line o)) (not open))(<= (goal oplayer 0) (line x))
+    (<= terminal (line x))(<= terminal (line o))(<= terminal (not open))";
+
+/// What a description instantiates to.
+fn ground_of(rt: &HostRuntime, text: &[u8]) -> Result<Result<Ground, GroundFault>, Fail> {
+    let items = read(rt.alloc(), text)?;
+    let rules = RuleSet::check(rt.alloc(), &items)?;
+    Ok(instantiate(rt, &rules))
+}
+
+/// The counts of a ground: its base propositions, the atoms `does`, its instances and dropped heads.
+fn counts_of(alloc: Global, ground: &Ground) -> Result<Vec<u8>, Fail> {
+    let mut text = Vec::new(alloc);
+    let base = ground.base();
+    let mut inputs = 0usize;
+    for atom in 0..ground.atoms() {
+        let number = u32::try_from(atom)?;
+        if is_input(ground.atom_kind(number)) {
+            inputs = inputs.wrapping_add(1);
+        }
+    }
+    let instances = ground.kept().len();
+    let dropped = ground.dropped();
+    write!(text, "{base} {inputs} {instances} {dropped}")?;
+    Ok(text)
+}
+
+/// Whether an atom is `does` of a role and one of its inputs.
+fn is_input(kind: Kind) -> bool {
+    match kind {
+        Kind::Does(_, _) => true,
+        _ => false,
+    }
+}
+
+/// The counts of a description, or why it is refused.
+fn told(rt: &HostRuntime, text: &[u8]) -> Result<Vec<u8>, Fail> {
+    match ground_of(rt, text)? {
+        Ok(ground) => counts_of(rt.alloc(), &ground),
+        Err(fault) => {
+            let mut text = Vec::new(rt.alloc());
+            write!(text, "{fault}")?;
+            Ok(text)
+        }
+    }
+}
+
+/// Descriptions with their base propositions, inputs, instances and dropped heads.
+const COUNTED: [(&[u8], &[u8]); 12] = [
+    (MATCH, b"2 4 21 0"),
+    (TTT, b"29 20 401 0"),
+    (
+        b"(role a)(base p)(input a go)(legal a go)(init r)(<= (next p) (not (true q)))(<= (next s) (true p))
+            (<= terminal (true p))(<= (goal a 90) (true p))",
+        b"1 1 9 2",
+    ),
+    // Equal heads of different rules are dropped once.
+    (
+        b"(role a)(base p)(init q)(<= (next q) (true p))(<= (next q) (not (true p)))",
+        b"1 0 5 2",
+    ),
+    // What is no input of a role.
+    (
+        b"(role a)(base p)(input a go)(legal a go)(legal a stay)(legal b go)",
+        b"1 1 6 2",
+    ),
+    (b"(role a)(input a go)(input b go)(legal b go)", b"0 1 4 1"),
+    // `distinct`, negated and not.
+    (
+        b"(role a)(d 1)(d 2)(d 3)(<= (p ?x ?y) (d ?x) (d ?y) (not (distinct ?x ?y)))
+            (<= (q ?x ?y) (d ?x) (d ?y) (distinct ?x ?y))",
+        b"0 0 13 0",
+    ),
+    // A fixed relation, negated.
+    (
+        b"(role a)(d 1)(d 2)(e 1)(<= (p ?x) (d ?x) (not (e ?x)))",
+        b"0 0 5 0",
+    ),
+    // A join that keeps nothing.
+    (b"(role a)(d 1)(e 2)(<= (p ?x) (d ?x) (e ?x))", b"0 0 3 0"),
+    // An instance whose negated atom is not possible.
+    (b"(role a)(<= (p a) (not (q a)) (not (true b)))", b"0 0 2 0"),
+    // As many roles as there may be.
+    (
+        b"(role r1)(role r2)(role r3)(role r4)(role r5)(role r6)(role r7)(role r8)(role r9)(role r10)(role r11)
+            (role r12)(role r13)(role r14)(role r15)(role r16)(base on)(<= (input ?r go) (role ?r))
+            (<= (legal ?r go) (role ?r))(<= (next on) (does r1 go))(<= terminal (true on))
+            (<= (goal ?r 55) (role ?r) (true on))",
+        b"1 16 67 0",
+    ),
+    // A repeated fact counts again.
+    (b"(role a)(role a)(d 1)(d 1)", b"0 0 4 0"),
+];
+
+#[test]
+fn descriptions_have_their_counts(rt: HostRuntime) -> Result<(), Fail> {
+    for (text, want) in COUNTED {
+        let got = told(&rt, text)?;
+        assert_eq!(rt; got.as_slice(), want);
+    }
+    Ok(())
+}
+
+/// Bodies of one rule or more, with their base propositions, inputs, instances and dropped heads.
+const JOINED: [(&[u8], &[u8]); 5] = [
+    // Literals that share no variable.
+    (
+        b"(role a)(d 1)(d 2)(e 1)(e 2)(e 3)(<= (p ?x ?y) (d ?x) (e ?y))",
+        b"0 0 12 0",
+    ),
+    // A variable that stands twice in a literal.
+    (
+        b"(role a)(e 1 1)(e 1 2)(e 2 2)(e (f 1) (f 1))(e (g 1) 1)(e (g 1) 2)(<= (p ?x) (e ?x ?x))
+            (<= (q ?x) (e (g ?x) ?x))",
+        b"0 0 11 0",
+    ),
+    // Constants in each place, by themselves and in a list.
+    (
+        b"(role a)(e 1 2)(e 2 1)(e 1 1)(d (f 1 2))(d (f 2 2))(d (g 1 2))(<= (p ?x) (e 1 ?x))(<= (q ?x) (e ?x 1))
+            (<= r (e 1 2))(<= s (e 2 2))(<= (t ?x) (d (f 1 ?x)))",
+        b"0 0 13 0",
+    ),
+    // Two ways along a chain of as many variables as there may be.
+    (
+        b"(role a)(e 1 2)(e 2 1)(<= (p ?v0 ?v31) (e ?v0 ?v1) (e ?v1 ?v2) (e ?v2 ?v3) (e ?v3 ?v4) (e ?v4 ?v5)
+            (e ?v5 ?v6) (e ?v6 ?v7) (e ?v7 ?v8) (e ?v8 ?v9) (e ?v9 ?v10) (e ?v10 ?v11) (e ?v11 ?v12)
+            (e ?v12 ?v13) (e ?v13 ?v14) (e ?v14 ?v15) (e ?v15 ?v16) (e ?v16 ?v17) (e ?v17 ?v18)
+            (e ?v18 ?v19) (e ?v19 ?v20) (e ?v20 ?v21) (e ?v21 ?v22) (e ?v22 ?v23) (e ?v23 ?v24)
+            (e ?v24 ?v25) (e ?v25 ?v26) (e ?v26 ?v27) (e ?v27 ?v28) (e ?v28 ?v29) (e ?v29 ?v30)
+            (e ?v30 ?v31))",
+        b"0 0 5 0",
+    ),
+    // States that change, each with each.
+    (
+        b"(role a)(base (c 1))(base (c 2))(base (c 3))(<= (next (c ?x)) (true (c ?x)) (true (c ?y)))",
+        b"3 0 13 0",
+    ),
+];
+
+#[test]
+fn bodies_are_joined(rt: HostRuntime) -> Result<(), Fail> {
+    for (text, want) in JOINED {
+        let got = told(&rt, text)?;
+        assert_eq!(rt; got.as_slice(), want);
+    }
+    Ok(())
+}
+
+/// Nine terms, four of which make a base proposition.
+const NINE: &[u8] = b"(role a)(d 0)(d 1)(d 2)(d 3)(d 4)(d 5)(d 6)(d 7)(d 8)
+    (<= (base (n ?a ?b ?c ?d)) (d ?a) (d ?b) (d ?c) (d ?d))";
+
+/// Sixteen terms, so that there are as many base propositions as there may be.
+const SIXTEEN: &[u8] = b"(role a)(d 0)(d 1)(d 2)(d 3)(d 4)(d 5)(d 6)(d 7)
+    (d 8)(d 9)(d 10)(d 11)(d 12)(d 13)(d 14)(d 15)
+    (<= (base (n ?a ?b ?c ?d)) (d ?a) (d ?b) (d ?c) (d ?d))";
+
+/// One base proposition more.
+const ONE_MORE: &[u8] = b"(role a)(d 0)(d 1)(d 2)(d 3)(d 4)(d 5)(d 6)(d 7)
+    (d 8)(d 9)(d 10)(d 11)(d 12)(d 13)(d 14)(d 15)
+    (<= (base (n ?a ?b ?c ?d)) (d ?a) (d ?b) (d ?c) (d ?d))(base last)";
+
+const SEVENTEEN: &[u8] = b"(role a)(d 0)(d 1)(d 2)(d 3)(d 4)(d 5)(d 6)(d 7)
+    (d 8)(d 9)(d 10)(d 11)(d 12)(d 13)(d 14)(d 15)(d 16)
+    (<= (base (n ?a ?b ?c ?d)) (d ?a) (d ?b) (d ?c) (d ?d))";
+
+/// Eight terms, four of which make an input.
+const BROAD: &[u8] = b"(role a)(d 0)(d 1)(d 2)(d 3)(d 4)(d 5)(d 6)(d 7)
+    (<= (input a (n ?a ?b ?c ?d)) (d ?a) (d ?b) (d ?c) (d ?d))";
+
+const BROADER: &[u8] = b"(role a)(d 0)(d 1)(d 2)(d 3)(d 4)(d 5)(d 6)(d 7)(d 8)
+    (<= (input a (n ?a ?b ?c ?d)) (d ?a) (d ?b) (d ?c) (d ?d))";
+
+const LONG: &[u8] =
+    b"(role a)(p0 a)(<= (p1 (f ?x ?x)) (p0 ?x))(<= (p2 (f ?x ?x)) (p1 ?x))(<= (p3 (f ?x ?x)) (p2 ?x))
+    (<= (p4 (f ?x ?x)) (p3 ?x))(<= (p5 (f ?x ?x)) (p4 ?x))(<= (p6 (f ?x ?x)) (p5 ?x))(<= (p7 (f ?x ?x)) (p6 ?x))
+    (<= (p8 (f ?x ?x)) (p7 ?x))(<= (p9 (f ?x ?x)) (p8 ?x))";
+
+const LONGER: &[u8] =
+    b"(role a)(p0 a)(<= (p1 (f ?x ?x)) (p0 ?x))(<= (p2 (f ?x ?x)) (p1 ?x))(<= (p3 (f ?x ?x)) (p2 ?x))
+    (<= (p4 (f ?x ?x)) (p3 ?x))(<= (p5 (f ?x ?x)) (p4 ?x))(<= (p6 (f ?x ?x)) (p5 ?x))(<= (p7 (f ?x ?x)) (p6 ?x))
+    (<= (p8 (f ?x ?x)) (p7 ?x))(<= (p9 (f ?x ?x)) (p8 ?x))(<= (p10 (f ?x ?x)) (p9 ?x))";
+
+#[test]
+fn a_limit_may_be_reached(rt: HostRuntime) -> Result<(), Fail> {
+    assert_eq!(rt; told(&rt, NINE)?.as_slice(), b"6561 0 6571 0".as_slice());
+    assert_eq!(rt; told(&rt, LONG)?.as_slice(), b"0 0 11 0".as_slice());
+    Ok(())
+}
+
+#[test]
+fn as_many_base_propositions_may_be_as_the_limit(rt: HostRuntime) -> Result<(), Fail> {
+    let wide = told(&rt, SIXTEEN)?;
+    assert_eq!(rt; wide.as_slice(), b"65536 0 65553 0".as_slice());
+    Ok(())
+}
+
+#[test]
+fn one_base_proposition_more_is_too_many(rt: HostRuntime) -> Result<(), Fail> {
+    let wider = told(&rt, ONE_MORE)?;
+    assert_eq!(rt; wider.as_slice(), b"N1 TooMany base".as_slice());
+    let widest = told(&rt, SEVENTEEN)?;
+    assert_eq!(rt; widest.as_slice(), b"N1 TooMany base".as_slice());
+    Ok(())
+}
+
+/// Eight terms, six of which make an atom.
+const MANY: &[u8] = b"(role a)(d 0)(d 1)(d 2)(d 3)(d 4)(d 5)(d 6)(d 7)
+    (<= (q ?a ?b ?c ?d ?e ?f) (d ?a) (d ?b) (d ?c) (d ?d) (d ?e) (d ?f))";
+
+#[test]
+fn more_instances_than_the_limit_are_too_many(rt: HostRuntime) -> Result<(), Fail> {
+    let many = told(&rt, MANY)?;
+    assert_eq!(rt; many.as_slice(), b"N1 TooMany instances".as_slice());
+    Ok(())
+}
+
+#[test]
+fn inputs_are_counted_in_all(rt: HostRuntime) -> Result<(), Fail> {
+    assert_eq!(rt; told(&rt, BROAD)?.as_slice(), b"0 4096 4105 0".as_slice());
+    assert_eq!(rt;
+        told(&rt, BROADER)?.as_slice(),
+        b"N1 TooMany inputs".as_slice()
+    );
+    Ok(())
+}
+
+#[test]
+fn the_limit_that_is_passed_is_named(rt: HostRuntime) -> Result<(), Fail> {
+    assert_eq!(rt;
+        told(&rt, LONGER)?.as_slice(),
+        b"N1 TooMany text".as_slice()
+    );
+    Ok(())
+}
+
+/// The places of the alternatives of the kept instances of the first description, in order: base
+/// propositions, inputs, roles, goals, legal moves, what is next, and the end.
+const PLACES: [u32; 21] = [
+    2, 3, 4, 5, 6, 7, 0, 1, 12, 13, 14, 15, 8, 8, 8, 8, 9, 9, 10, 10, 11,
+];
+
+#[test]
+fn instances_stand_in_order(rt: HostRuntime) -> Result<(), Fail> {
+    let ground = ground_of(&rt, MATCH)??;
+    assert!(rt;
+        ground
+            .kept()
+            .iter()
+            .map(|instance| instance.alternative)
+            .eq(PLACES.iter().copied())
+    );
+    Ok(())
+}
+
+/// The first alternative of each relation of the second description, the one behind its last, and how many
+/// instances it has.
+const RELATIONS: [(u32, u32, usize); 14] = [
+    (0, 2, 2),
+    (2, 5, 3),
+    (5, 9, 29),
+    (9, 11, 20),
+    (11, 21, 10),
+    (21, 28, 254),
+    (28, 29, 9),
+    (29, 30, 9),
+    (30, 32, 6),
+    (32, 35, 21),
+    (35, 36, 9),
+    (36, 39, 20),
+    (39, 45, 6),
+    (45, 48, 3),
+];
+
+#[test]
+fn each_relation_has_its_instances(rt: HostRuntime) -> Result<(), Fail> {
+    let ground = ground_of(&rt, TTT)??;
+    for (from, to, want) in RELATIONS {
+        let many = ground
+            .kept()
+            .iter()
+            .filter(|instance| from <= instance.alternative && instance.alternative < to)
+            .count();
+        assert_eq!(rt; many, want);
+    }
+    Ok(())
+}
+
+#[test]
+fn goals_have_values_without_leading_zeros(rt: HostRuntime) -> Result<(), Fail> {
+    let ground = ground_of(&rt, b"(role a)(goal a 070)(goal a 101)(goal a 70)")??;
+    let kinds = [Kind::Fixed, Kind::Other, Kind::Other, Kind::Goal(0, 70)];
+    assert_eq!(rt; ground.atoms(), 4);
+    for (atom, kind) in kinds.iter().enumerate() {
+        assert!(rt; ground.atom_kind(atom as u32) == *kind);
+    }
+    Ok(())
+}
+
+/// The atoms of the first description with their texts: those of fixed relations, what may be true and done, and the heads of the
+/// other relations.
+const ATOMS: [(u32, &[u8]); 25] = [
+    (0, b"(base done)"),
+    (1, b"(base same)"),
+    (2, b"(input a h)"),
+    (3, b"(input a t)"),
+    (4, b"(input b h)"),
+    (5, b"(input b t)"),
+    (6, b"(role a)"),
+    (7, b"(role b)"),
+    (8, b"(true done)"),
+    (9, b"(true same)"),
+    (10, b"(does a h)"),
+    (11, b"(does a t)"),
+    (12, b"(does b h)"),
+    (13, b"(does b t)"),
+    (14, b"(goal a 100)"),
+    (15, b"(goal a 0)"),
+    (16, b"(goal b 0)"),
+    (17, b"(goal b 100)"),
+    (18, b"(legal a h)"),
+    (19, b"(legal a t)"),
+    (20, b"(legal b h)"),
+    (21, b"(legal b t)"),
+    (22, b"(next done)"),
+    (23, b"(next same)"),
+    (24, b"terminal"),
+];
+
+/// Whether there is an atom of that number, and its text is this one.
+fn has_text(ground: &Ground, atom: u32, text: &[u8]) -> bool {
+    (atom as usize) < ground.atoms() && ground.atom_is(atom, text)
+}
+
+#[test]
+fn atoms_are_numbered_by_first_appearance(rt: HostRuntime) -> Result<(), Fail> {
+    let ground = ground_of(&rt, MATCH)??;
+    assert_eq!(rt; ground.atoms(), 25);
+    for (atom, text) in ATOMS {
+        assert!(rt; has_text(&ground, atom, text));
+    }
+    Ok(())
+}
+
+/// Texts that are not those of the atoms: others of the same length, a front, longer ones and none.
+const OTHERS: [(u32, &[u8]); 9] = [
+    (0, b"(base same)"),
+    (0, b"(base donf)"),
+    (0, b"[base done)"),
+    (0, b"(base done]"),
+    (0, b"(base_done)"),
+    (0, b"(base done"),
+    (0, b"(base done))"),
+    (0, b""),
+    (24, b"terminat"),
+];
+
+#[test]
+fn other_texts_are_no_atoms(rt: HostRuntime) -> Result<(), Fail> {
+    let ground = ground_of(&rt, MATCH)??;
+    for (atom, text) in OTHERS {
+        assert!(rt; !has_text(&ground, atom, text));
+    }
+    Ok(())
+}
+
+/// Terms in terms.
+const NESTED: &[u8] = b"(role a)(<= (p (f (g ?x (f ?x b)) (h c))) (role ?x))";
+
+/// Texts of its second atom, and whether they are.
+const NESTED_TEXTS: [(&[u8], bool); 5] = [
+    (b"(p (f (g a (f a b)) (h c)))", true),
+    (b"(p (f (g a (f a c)) (h c)))", false),
+    (b"(p (f (g a (f a b)) (h d)))", false),
+    (b"(p (f (g a (f a b) (h c))))", false),
+    (b"(p (f (g a (f a b)) (h c))", false),
+];
+
+#[test]
+fn terms_are_compared_in_terms(rt: HostRuntime) -> Result<(), Fail> {
+    let ground = ground_of(&rt, NESTED)??;
+    for (text, want) in NESTED_TEXTS {
+        assert_eq!(rt; has_text(&ground, 1, text), want);
+    }
+    Ok(())
+}

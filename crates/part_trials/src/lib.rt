@@ -1,0 +1,9 @@
+//! Worked cases of the parts that know no rules: histories, windows and choices, and cuts of the work.
+#![tactic(auto)]
+
+#[cfg(test)]
+mod cuts;
+#[cfg(test)]
+mod histories;
+#[cfg(test)]
+mod windows;
