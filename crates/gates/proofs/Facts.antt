@@ -2,15 +2,11 @@
 
 -- A pass over gates that come behind keeps what is there.
 pub use Rattle.gates.proofs.Passes.{order_within, pass_agree, pass_below}
-
 -- Lanes of words, and the values of given bits.
 pub use Rattle.gates.proofs.Lanes.{given_slot, is_one_min, is_one_not}
-
 -- Steps of a tape in the making, one behind the other.
 pub use Rattle.gates.proofs.Literals.{groups_before}
-
 -- Ands and ors of literals.
 pub use Rattle.gates.proofs.Folds.{and_true, nor_literal}
-
 -- Groups of given bits.
 pub use Rattle.gates.proofs.GroupLemmas.{ok_then, same_self}

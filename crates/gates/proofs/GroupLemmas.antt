@@ -1,42 +1,5 @@
 -- Bits of a group that are marked, and what their or is.
-use Rattle.std.proofs.Common.{
-  ◌≡◌,
-  ◌≢◌,
-  ℕ,
-  suc,
-  zero,
-  ◌+◌,
-  ◌-◌,
-  ◌*◌,
-  ◌<◌,
-  ◌≤◌,
-  ◌==◌,
-  Bool,
-  true,
-  false,
-  not,
-  ◌&&◌,
-  ◌||◌,
-  List,
-  [],
-  ◌∷◌,
-  ◌++◌,
-  length,
-  take,
-  drop,
-  map,
-  get_or,
-  refl,
-  sym,
-  ◌∙◌,
-  ap,
-  subst,
-  arith,
-  All,
-  inl,
-  inr,
-  ne_eqb,
-}
+use Rattle.std.proofs.Common.{◌≡◌, ◌≢◌, ℕ, suc, zero, ◌+◌, ◌-◌, ◌*◌, ◌<◌, ◌≤◌, ◌==◌, Bool, true, false, not, ◌&&◌, ◌||◌, List, [], ◌∷◌, ◌++◌, length, take, drop, map, get_or, refl, sym, ◌∙◌, ap, arith, All, inl, inr, ne_eqb}
 use Rattle.std.proofs.Math.ListN.{set}
 use Rattle.std.proofs.lemmas.Bool.{cases_eq}
 use Rattle.std.proofs.lemmas.Bool.Decides.{nat_tests}
@@ -46,10 +9,6 @@ use Rattle.gates.specs.declared.builder.Builder.{Builder}
 use Rattle.gates.specs.Building.{any_of, slots_of, value_of, IsBuilt, IsStep, IsLiteral, IsOneOf, AreOneOf, IsNegation}
 use Rattle.gates.specs.Grouping.{any_marked, are_unmarked}
 use Rattle.std.specs.Prelude.{Result, Ok, Err, IfOk}
-use Rattle.std.proofs.Common.{cond, ◌/◌, ◌%◌}
-use Rattle.std.proofs.lemmas.List.Elements.{All-nil, All-push}
-use Rattle.std.proofs.lemmas.List.Sums.{sum_by_more, sum_by_more_le}
-use Rattle.gates.specs.declared.builder.Group.{Group}
 use Rattle.gates.proofs.Passes.{pass_below}
 use Rattle.gates.proofs.Lanes.{given_slot}
 use Rattle.gates.proofs.Literals.{value_literals, step_then, groups_after, groups_before}

@@ -1,5 +1,5 @@
 -- Goals and legal moves in a state, and the heads that have no effect.
-use Rattle.std.specs.Prelude.{ℕ, Bool, false, not, ◌&&◌, ◌||◌, ◌≡◌, ◌<◌, ◌≤◌, ◌⊎◌, ◌↔◌, List, [], ◌∷◌, length, decimal, filter}
+use Rattle.std.specs.Prelude.{ℕ, Bool, false, not, ◌&&◌, ◌||◌, ◌≡◌, ◌<◌, ◌≤◌, ◌⊎◌, ◌↔◌, List, length, decimal, filter}
 use Rattle.std.specs.declared.cmp.Ordering.TheVariants.{Less}
 use Rattle.kif.specs.Tree.{Tree, name, Trees, no_trees, tree, printed_cmp}
 use Rattle.profile.specs.Words.{w_init, w_next, w_legal, w_goal}

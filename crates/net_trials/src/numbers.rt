@@ -1,6 +1,6 @@
 // Terms are numbered once each, also past many growths of their table.
-use terms::Terms;
 use std::test::Fail;
+use terms::Terms;
 
 #[test]
 fn each_term_has_one_number(rt: HostRuntime) -> Result<(), Fail> {

@@ -1,5 +1,4 @@
 //! Tapes beside the networks that they were made of.
-use tape::Tape;
 use ground::instantiate;
 use kif::read;
 use propnet::{Joint, Net, get_bit};
@@ -8,6 +7,7 @@ use smallvec::SmallVec;
 use std::alloc::{AllocError, Global};
 use std::process::Abort;
 use std::test::Fail;
+use tape::Tape;
 
 const MATCH: &[u8] =
     b"(role a)(role b)(base done)(base same)(input a h)(input a t)(input b h)(input b t)

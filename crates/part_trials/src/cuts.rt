@@ -1,7 +1,7 @@
 // Texts of cuts, and answers over the table.
-use share::{Cut, Gate, solve};
 use game::table::Table;
 use game::{AtBound, Game};
+use share::{Cut, Gate, solve};
 use std::alloc::AllocGlobal;
 use std::process::Abort;
 use std::sync::atomic::{AtomicUsize, Ordering};

@@ -1,11 +1,11 @@
 // Values, choices and replies over the table.
 ghost use Rattle.std.specs.Prelude.{◌<◌, ◌<ℤ◌, ◌≤ℤ◌, pos, negsuc};
 
-use maximin::{Room, choice, choice_by_value, first_reply, reply_by_value, value_in};
 use game::AtBound::{Goal, Zero};
 use game::table::{Chosen, Table};
 use game::watched::Watched;
 use game::{AtBound, Game, Joint};
+use maximin::{Room, choice, choice_by_value, first_reply, reply_by_value, value_in};
 use smallvec::SmallVec;
 use std::alloc::{AllocError, Global};
 use std::sync::atomic::{AtomicUsize, Ordering};

@@ -1,49 +1,8 @@
 -- The groups of the bits of roles.
-use Rattle.std.proofs.Common.{
-  ◌≡◌,
-  ◌≢◌,
-  ℕ,
-  suc,
-  zero,
-  ◌+◌,
-  ◌-◌,
-  ◌*◌,
-  ◌<◌,
-  ◌≤◌,
-  ◌==◌,
-  Bool,
-  true,
-  false,
-  not,
-  ◌&&◌,
-  ◌||◌,
-  List,
-  [],
-  ◌∷◌,
-  ◌++◌,
-  length,
-  take,
-  drop,
-  map,
-  get_or,
-  refl,
-  sym,
-  ◌∙◌,
-  ap,
-  subst,
-  arith,
-  All,
-  inl,
-  inr,
-  ne_eqb,
-}
-use Rattle.std.proofs.Math.ListN.{set}
+use Rattle.std.proofs.Common.{◌≡◌, ◌≢◌, ℕ, suc, zero, ◌+◌, ◌-◌, ◌<◌, ◌≤◌, ◌==◌, Bool, true, false, ◌&&◌, List, [], ◌∷◌, ◌++◌, length, take, get_or, refl, sym, ◌∙◌, ap, subst, arith, All, inl, inr, ne_eqb}
 use Rattle.std.proofs.lemmas.Bool.{cases_eq}
 use Rattle.std.proofs.lemmas.Bool.Decides.{nat_tests}
-use Rattle.std.proofs.lemmas.List.{take_more, drop_all}
-use Rattle.gates.specs.Values.{start, value}
-use Rattle.gates.specs.declared.builder.Builder.{Builder}
-use Rattle.gates.specs.Building.{any_of, slots_of, value_of, IsBuilt, IsStep, IsLiteral, IsOneOf, AreOneOf, IsNegation}
+use Rattle.gates.specs.Building.{IsOneOf}
 use Rattle.tape.specs.Grouping.{IsGivenInput, IsGroupOf, AreGroups}
 use Rattle.std.specs.Prelude.{nat_lt, sum, Some, slice_get}
 use Rattle.std.proofs.Common.{cond, ◌/◌, ◌%◌}

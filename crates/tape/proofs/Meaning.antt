@@ -34,7 +34,7 @@ use Rattle.std.proofs.Common.{
   length-append,
   below_more,
 }
-use Rattle.std.specs.Prelude.{◌==◌, None, ◌-◌, Result, Ok, Err, IfOk}
+use Rattle.std.specs.Prelude.{◌==◌, None, ◌-◌}
 use Rattle.std.proofs.lemmas.List.{get_or_append_left, get_or_default}
 use Rattle.std.proofs.Math.Seq.{get_or-append_seam}
 use Rattle.propnet.specs.declared.net.Net.{Net}

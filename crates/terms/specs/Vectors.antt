@@ -1,5 +1,5 @@
 -- What vectors of vectors hold.
-use Rattle.std.specs.Prelude.{ℕ, List, Vec, map}
+use Rattle.std.specs.Prelude.{List, Vec, map}
 
 -- what vectors hold
 abbrev pub items_of : {A G : Type 0} → List (Vec A G) → List (List A)

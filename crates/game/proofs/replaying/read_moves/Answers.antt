@@ -1,4 +1,4 @@
-use Rattle.std.proofs.Common.{◌≡◌, ℕ, ◌<◌, Bool, false, true, length, sym, ap, ◌∙◌, arith, rules, below_more, get_or}
+use Rattle.std.proofs.Common.{◌≡◌, ℕ, length, ap, ◌∙◌, arith, below_more}
 use Rattle.std.specs.Prelude.{is_none, unwrap_or}
 use Rattle.std.proofs.Math.ListN.{length-set}
 use Rattle.kif.specs.View.{trees_in}

@@ -1,9 +1,9 @@
-use Rattle.std.proofs.Common.{◌≡◌, ℕ, ◌<◌, ◌≤◌, List, [], length, sym, ap, ◌∙◌, arith, rules as facts, below_more, take, ◌+◌, Ok, Err}
+use Rattle.std.proofs.Common.{◌≡◌, ℕ, List, [], length, sym, ap, ◌∙◌, arith, below_more, take, Ok, Err}
 use Rattle.std.proofs.lemmas.List.{length-map}
 use Rattle.kif.specs.Tree.{Tree}
 use Rattle.kif.specs.View.{tree_of, trees_in, parts_of}
 use Rattle.game.specs.Rules.{State}
-use Rattle.game.specs.Played.{turn_faults, state_after, tree_at, named_turn, form_faults, played}
+use Rattle.game.specs.Played.{state_after, tree_at, named_turn, form_faults, played}
 use Rattle.game.proofs.FirstFaults.{tree_at_place, length-parts, no_fault, state_more, turn_refused, all_played, err_given}
 use Rattle.game.proofs.replaying.replay.Goals as goal
 

@@ -1,4 +1,4 @@
-use Rattle.std.proofs.Common.{◌≡◌, true, false, sym, subst, ap, ◌∙◌}
+use Rattle.std.proofs.Common.{subst}
 use Rattle.netgame.specs.NetLanes.{IsLast}
 use Rattle.netgame.proofs.net_lanes.net_judge.Goals as goal
 

@@ -1,4 +1,4 @@
-use Rattle.std.proofs.Common.{[], ◌∷◌, subst, sym, arith}
+use Rattle.std.proofs.Common.{subst, sym, arith}
 use Rattle.share.specs.Cuts.{IsCut}
 use Rattle.share.proofs.Levels.{few_of_two, few_of_three}
 use Rattle.share.proofs.root.answer_by.Goals as goal
