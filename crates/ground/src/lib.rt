@@ -11,6 +11,7 @@ mod fault;
 mod finishing;
 mod finishing_laws;
 mod found;
+mod given;
 mod ground;
 mod ground_laws;
 mod ground_view;
