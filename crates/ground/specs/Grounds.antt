@@ -4,26 +4,15 @@ use Rattle.kif.specs.Tree.{text}
 use Rattle.profile.specs.Clause.{Alternative}
 use Rattle.meaning.specs.declared.kind.Kind.{Kind}
 use Rattle.ground.specs.declared.ground.Instance as shown
-use Rattle.meaning.specs.Gates.{gate}
 use Rattle.meaning.specs.Kinds.{kind_of}
 use Rattle.meaning.specs.Limits.{excess_in}
 use Rattle.meaning.specs.Listed.{IsWellFormed}
-use Rattle.meaning.specs.Listing.{Instance, listing, role_list, base_list, input_list}
-use Rattle.meaning.specs.Numbers.{number_of}
+use Rattle.meaning.specs.Listing.{listing, role_list, base_list, input_list}
 use Rattle.meaning.specs.Play as play
-
--- a kept instance by the numbers of its atoms
-pub record Kept : Type 0 where
-  pub alternative : ℕ
-  pub head : ℕ
-  pub body : List (ℕ × Bool)
+pub use Rattle.listing.specs.Kept.{Kept, numbered}
 
 abbrev pub kept_of : shown.Instance → Kept
 kept_of i = record { alternative = i.alternative; head = i.head; body = i.body.items }
-
--- what the definitions make of an instance of the listing
-abbrev pub numbered : List Alternative → Instance → Kept
-numbered rules i = record { alternative = i.place; head = number_of i.head (listing rules).atoms; body = gate rules i }
 
 -- the texts, marks, kinds and instances are those of the rules
 pub record IsGroundOf (rules : List Alternative) (roles base : List (List ℕ)) (inputs : List (List (List ℕ))) (starts : List Bool) (kinds : List Kind)

@@ -6,7 +6,7 @@ ghost use Rattle.terms.specs.AtomTexts.{atom_texts, term_text, IsAtomTable};
 ghost use Rattle.ground.specs.Grounds.{text_at};
 ghost use Rattle.rules.specs.RuleSets.{texts_of};
 ghost use Rattle.meaning.specs.Most.{limits};
-ghost use Rattle.ground.specs.SetWords.{words_of};
+ghost use Rattle.listing.specs.SetWords.{words_of};
 
 use crate::tables::copy_of;
 use indexmap::IndexSet;

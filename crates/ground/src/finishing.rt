@@ -1,13 +1,13 @@
 // The instances once all atoms have numbers.
 ghost use Rattle.std.specs.Prelude.{◌≡◌, ◌<◌, ◌≤◌, ◌++◌, [], ◌∷◌, length, map, nat_eq, replicate, slice_range, slice_set, IfOk, OnOk};
 ghost use Rattle.ground.specs.Finishing.{is_read_in, readings_in, numbered_in, ArePlaces, HavePlacesBelow};
-ghost use Rattle.ground.specs.Founds.{IsFoundList, numbers_of_list};
+ghost use Rattle.listing.specs.Founds.{IsFoundList, numbers_of_list};
 ghost use Rattle.ground.specs.Grounds.{kept_of};
 ghost use Rattle.meaning.specs.InOrder.{first_place};
 
-use crate::found::FoundList;
 use crate::ground::Instance;
 use indexmap::IndexSet;
+use listing::FoundList;
 use std::alloc::{AllocError, Global};
 
 /// The same number for each of so many terms.

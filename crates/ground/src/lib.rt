@@ -2,38 +2,26 @@
 // pass.
 #![tactic(auto)]
 
-mod all_listed;
-mod alternative;
 mod atom_table;
-mod context_step;
-mod context_step_laws;
-mod fault;
 mod finishing;
 mod finishing_laws;
-mod found;
-mod given;
 mod ground;
 mod ground_laws;
 mod ground_view;
-mod heads;
-mod instances;
-mod instances_laws;
 mod instantiating;
 mod kinds_of_atoms;
-mod listed;
 mod most;
-mod numbering;
 mod parts_of_ground;
 mod tables;
 
-pub use context_step_laws::the_context_step_is_the_definition;
-pub use fault::GroundFault;
 pub use finishing::instances_of;
 pub use finishing_laws::the_last_pass_is_the_definition;
 pub use ground::{Ground, Instance};
 pub use ground_laws::a_ground_fits_together;
-pub use instances_laws::kept_instances_are_those_of_rows;
 pub use instantiating::instantiate;
+pub use listing::{
+    GroundFault, kept_instances_are_those_of_rows, the_context_step_is_the_definition,
+};
 pub use matching::{
     Buckets, Column, Join, Level, add_columns, add_placed, add_rows, buckets_of,
     columns_stand_for_a_pattern, first_tried, is_binding, is_distinct, join_of,

@@ -8,12 +8,3 @@ pub const BASE_LIMIT: usize = 65_536;
 
 /// The most inputs of all roles together.
 pub const INPUTS_LIMIT: usize = 4_096;
-
-/// The most that a description may have of each.
-#[derive(Clone, Copy, Drop)]
-pub struct Most {
-    pub instances: usize,
-    pub text: usize,
-    pub base: usize,
-    pub inputs: usize,
-}

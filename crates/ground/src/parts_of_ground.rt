@@ -1,19 +1,20 @@
 // The parts of a ground that have no texts.
 ghost use Rattle.std.specs.Prelude.{◌≡◌, map, None, IfOk};
 ghost use Rattle.rules.specs.RuleSetView.{rules_in};
-ghost use Rattle.ground.specs.AllListed.{IsAllListed, ArePartsOf};
+ghost use Rattle.listing.specs.AllListed.{IsAllListed};
+ghost use Rattle.ground.specs.Parts.{ArePartsOf};
 ghost use Rattle.terms.specs.Vectors.{items_of};
-ghost use Rattle.ground.specs.Contexts.{terms_named};
-ghost use Rattle.ground.specs.Founds.{IsFoundList, numbers_of_list};
+ghost use Rattle.listing.specs.Contexts.{terms_named};
+ghost use Rattle.listing.specs.Founds.{IsFoundList, numbers_of_list};
 ghost use Rattle.ground.specs.Grounds.{kept_of};
 ghost use Rattle.meaning.specs.Limits.{excess_in};
-ghost use Rattle.ground.specs.SetWords.{words_of};
+ghost use Rattle.listing.specs.SetWords.{words_of};
 
-use crate::all_listed::Listed;
 use crate::finishing::instances_of;
 use crate::ground::Instance;
 use crate::kinds_of_atoms::kinds_of_atoms;
 use crate::tables::Tables;
+use listing::Listed;
 use meaning::Kind;
 use rules::RuleSet;
 use std::alloc::{AllocError, Global};

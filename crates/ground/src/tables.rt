@@ -2,11 +2,11 @@
 ghost use Rattle.std.specs.Prelude.{◌≡◌, [], map, IfOk};
 ghost use Rattle.rules.specs.RuleSets.{texts_of};
 ghost use Rattle.terms.specs.Vectors.{items_of};
-ghost use Rattle.ground.specs.Contexts.{terms_named, texts_named};
+ghost use Rattle.listing.specs.Contexts.{terms_named, texts_named};
 ghost use Rattle.terms.specs.Atoms.{with_numbers};
 
-use crate::context_step::ContextTerms;
 use indexmap::IndexSet;
+use listing::ContextTerms;
 use std::alloc::{AllocError, Global};
 use terms::Named;
 

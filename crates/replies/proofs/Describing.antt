@@ -6,13 +6,13 @@ use Rattle.kif.specs.Refusal.{refusal_line}
 use Rattle.profile.specs.Clause.{Alternative}
 use Rattle.profile.specs.Items.{alternatives}
 use Rattle.profile.specs.Profile.{HasNoFault}
-use Rattle.ground.specs.declared.fault.GroundFault.{GroundFault}
-use Rattle.ground.specs.declared.fault.GroundFault.TheVariants.{TooMany, NoMemory}
+use Rattle.listing.specs.declared.fault.GroundFault.{GroundFault}
+use Rattle.listing.specs.declared.fault.GroundFault.TheVariants.{TooMany, NoMemory}
 use Rattle.ground.specs.declared.ground.Ground.{Ground}
 use Rattle.ground.specs.GroundView.{IsGround}
 use Rattle.meaning.specs.Limits.{excess_in}
-use Rattle.ground.specs.Progress.{IsFaultOf}
-use Rattle.ground.specs.Refusal.{fault_text}
+use Rattle.listing.specs.Progress.{IsFaultOf}
+use Rattle.listing.specs.Refusal.{fault_text}
 use Rattle.netgame.specs.declared.net_game.NetGame.{NetGame}
 use Rattle.rulegame.specs.declared.rule_game.RuleGame.{RuleGame}
 use Rattle.game.specs.NamedRules.{NamedRules}

@@ -5,9 +5,9 @@ use Rattle.kif.specs.Tree.{Tree}
 use Rattle.profile.specs.Items.{alternatives}
 use Rattle.profile.specs.Profile.{HasNoFault}
 use Rattle.meaning.specs.declared.excess.Excess.{Excess}
-use Rattle.ground.specs.declared.fault.GroundFault.TheVariants.{TooMany}
+use Rattle.listing.specs.declared.fault.GroundFault.TheVariants.{TooMany}
 use Rattle.meaning.specs.Limits.{excess_in}
-use Rattle.ground.specs.Refusal.{fault_text}
+use Rattle.listing.specs.Refusal.{fault_text}
 use Rattle.replies.proofs.OneCheck.{some_verdict, one_refusal, refused_or_lawful}
 use Rattle.replies.proofs.OnePlay.{one_limit}
 use Rattle.replies.specs.Answers.{Reply, answer, refusal}

@@ -6,9 +6,9 @@ use Rattle.profile.specs.Items.{alternatives}
 use Rattle.profile.specs.Profile.{HasNoFault}
 use Rattle.meaning.proofs.Facts.{accepted_well_formed}
 use Rattle.meaning.specs.declared.excess.Excess.{Excess}
-use Rattle.ground.specs.declared.fault.GroundFault.TheVariants.{TooMany}
+use Rattle.listing.specs.declared.fault.GroundFault.TheVariants.{TooMany}
 use Rattle.meaning.specs.Limits.{excess_in}
-use Rattle.ground.specs.Refusal.{fault_text}
+use Rattle.listing.specs.Refusal.{fault_text}
 use Rattle.rulegame.proofs.Facts.{has_game, one_game}
 use Rattle.game.specs.NamedRules.{NamedRules}
 use Rattle.game.specs.SamePlay.{SamePlay}

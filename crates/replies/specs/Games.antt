@@ -4,11 +4,11 @@ use Rattle.kif.specs.Tree.{Tree}
 use Rattle.profile.specs.Items.{alternatives}
 use Rattle.profile.specs.Profile.{HasNoFault}
 use Rattle.meaning.specs.declared.excess.Excess.{Excess}
-use Rattle.ground.specs.declared.fault.GroundFault.TheVariants.{TooMany}
+use Rattle.listing.specs.declared.fault.GroundFault.TheVariants.{TooMany}
 use Rattle.ground.specs.declared.ground.Ground.{Ground}
 use Rattle.ground.specs.GroundView.{IsGround}
 use Rattle.meaning.specs.Limits.{excess_in}
-use Rattle.ground.specs.Refusal.{fault_text}
+use Rattle.listing.specs.Refusal.{fault_text}
 use Rattle.game.specs.NamedRules.{NamedRules}
 use Rattle.rulegame.specs.RulesGame.{IsGameOf}
 use Rattle.rulegame.specs.RuleState.{named_rules_of}

@@ -1,4 +1,4 @@
-use Rattle.ground.proofs.FoundLists.{end_within}
+use Rattle.listing.proofs.Facts.{end_within}
 use Rattle.ground.proofs.finishing.instances_of.Goals as goal
 
 pub literals_between-literals-requires-clause-within :

@@ -1,6 +1,6 @@
 use Rattle.std.proofs.Common.{◌≡◌, ◌++◌, length, map, drop}
 use Rattle.ground.specs.Finishing.{numbered_in, HavePlacesBelow}
-use Rattle.ground.specs.Founds.{AreEnds, numbers_behind, numbers_of_list}
+use Rattle.listing.specs.Founds.{AreEnds, numbers_behind, numbers_of_list}
 use Rattle.ground.specs.Grounds.{kept_of}
 use Rattle.ground.proofs.finishing.instances_of.Given as goal
 

@@ -4,10 +4,10 @@ use Rattle.rules.specs.RuleSets.{AreKeywords}
 use Rattle.rules.specs.declared.rule_set.Keywords.{Keywords}
 use Rattle.rules.specs.RuleSetView.{rules_in, roles_in}
 use Rattle.terms.specs.Vectors.{items_of}
-use Rattle.ground.specs.Founds.{numbers_of_list}
-use Rattle.ground.specs.SetWords.{words_of}
-use Rattle.ground.proofs.AcceptedSets.{set_few}
-use Rattle.ground.proofs.ContextStepLemmas.{below_is}
+use Rattle.listing.specs.Founds.{numbers_of_list}
+use Rattle.listing.specs.SetWords.{words_of}
+use Rattle.listing.proofs.Facts.{set_few}
+use Rattle.listing.proofs.Facts.{below_is}
 use Rattle.ground.proofs.GroundParts.{numbered_here, sizes_here, atoms_here, are_tables, few_numbers, places_few, each_role, parts_are}
 use Rattle.ground.proofs.parts_of_ground.parts_of.Goals as goal
 

@@ -1,0 +1,15 @@
+-- The marks, kinds and instances of a ground.
+use Rattle.std.specs.Prelude.{ℕ, ◌≡◌, Bool, List, map}
+use Rattle.profile.specs.Clause.{Alternative}
+use Rattle.meaning.specs.declared.kind.Kind.{Kind}
+use Rattle.meaning.specs.Kinds.{kind_of}
+use Rattle.meaning.specs.Listing.{base_list, listing}
+use Rattle.meaning.specs.Play as play
+use Rattle.listing.specs.Kept.{Kept, numbered}
+
+-- the marks, kinds and instances are those of the rules, and so many heads have no effect
+pub record ArePartsOf (rules : List Alternative) (starts : List Bool) (kinds : List Kind) (kept : List Kept) (dropped : ℕ) : Type 0 where
+  pub starts_are : starts ≡ map (play.starts rules) (base_list rules)
+  pub kinds_are : kinds ≡ map (kind_of rules) (listing rules).atoms
+  pub kept_are : kept ≡ map (numbered rules) (listing rules).kept
+  pub dropped_is : dropped ≡ play.dropped rules
