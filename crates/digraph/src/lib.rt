@@ -8,8 +8,6 @@ mod graph;
 mod ranks;
 mod reaching;
 mod successors;
-#[cfg(test)]
-mod tests;
 
 pub use components::components_of;
 pub use graph::{Arrow, Graph};

@@ -1,8 +1,10 @@
-//! Worked cases of the parts that know no rules: histories, windows and choices, and cuts of the work.
+//! Worked cases of the parts that know no rules: graphs of numbers, histories, windows and choices, and cuts of the work.
 #![tactic(auto)]
 
 #[cfg(test)]
 mod cuts;
+#[cfg(test)]
+mod graphs;
 #[cfg(test)]
 mod histories;
 #[cfg(test)]

@@ -2,9 +2,7 @@
 ghost use Rattle.std.specs.Prelude.{◌≡◌, ◌<◌, IfOk};
 ghost use Rattle.digraph.specs.GraphView.{nodes_of};
 
-use crate::components::components_of;
-use crate::graph::{Arrow, Graph};
-use crate::ranks::{order_of, ranks_of};
+use digraph::{Arrow, Graph, components_of, order_of, ranks_of};
 use std::alloc::{AllocError, Global};
 use std::test::Fail;
 
