@@ -12,3 +12,11 @@ pub struct Keyed {
     pub key: Literal,
     pub rest: Term,
 }
+
+/// The terms that have a literal, each as the others of its literals.
+#[derive(Drop)]
+pub struct Shared {
+    pub key: Literal,
+    pub first: Term,
+    pub others: Vec<Term>,
+}

@@ -7,7 +7,9 @@ mod factoring;
 mod gates;
 mod grouping;
 mod keyed;
+mod tally;
 
 pub use builder::{Builder, Group, given, negation};
 pub use gates::{Gate, Literal, fill_sources, run_gates};
-pub use keyed::{Keyed, Term};
+pub use keyed::Term;
+pub use tally::Tally;

@@ -12,7 +12,7 @@ use crate::gathering::{gather, terms_of};
 use crate::groups::{groups_of, with_inputs};
 use crate::sourcing::{Sources, above, few, is_source, sources_of};
 use crate::tape::Tape;
-use gates::{Builder, Group, Literal, negation};
+use gates::{Builder, Group, Literal, Tally, negation};
 use propnet::Net;
 use std::alloc::{AllocError, Global};
 
@@ -24,16 +24,7 @@ const MOST_TAKEN: usize = 16;
 struct Work {
     alloc: Global,
     queue: Vec<Literal>,
-    /// A 0 for each literal, and so between the works on two nodes.
-    counts: Vec<u32>,
-}
-
-/// Makes room for so many counts.
-fn make_room(counts: &mut Vec<u32>, literals: usize) -> Result<(), AllocError> {
-    for _literal in counts.len()..literals {
-        counts.push(0)?;
-    }
-    Ok(())
+    tally: Tally,
 }
 
 /// The literal of a node, or that of none where the node is not marked.
@@ -62,8 +53,8 @@ fn literal_for(
     }
     if is_or(name) {
         let terms = terms_of(work.alloc, net, reads, literals)?;
-        make_room(&mut work.counts, builder.slots())?;
-        return builder.any_of_all(work.alloc, &mut work.counts, MOST_TAKEN, terms);
+        work.tally.make_room(builder.slots())?;
+        return builder.any_of_all(work.alloc, &mut work.tally, MOST_TAKEN, terms);
     }
     gather(&mut work.queue, reads, literals)?;
     if is_and(name) {
@@ -95,7 +86,7 @@ fn translate(
     let mut work = Work {
         alloc,
         queue: Vec::new(alloc),
-        counts: Vec::new(alloc),
+        tally: Tally::new(alloc),
     };
     for n in 0..net.nodes() {
         let literal = literal_for(net, n, marks, sources, builder, &literals, &mut work)?;
