@@ -74,7 +74,7 @@ told_goal on ls = greatest (map (λ (l : ℕ × ℕ). if on l.0 then l.1 else 0)
 -- there is room for 64 states and for what a tape tells of them, and both are of each of the states that there are
 pub record IsNetMany (g : Ground) (t : Telling) (m : NetMany) : Type 0 where
   pub states : length m.states.items ≡ length g.starts.items
-  pub room : length m.room.items ≡ slots_in t.tape
+  pub room : slots_in t.tape ≤ vec_capacity m.room
   pub few : m.count ≤ 64
   pub ran : 0 < m.count → HasRun t.tape m.states.items m.room.items
   pub ended : (k : ℕ) → k < m.count → (bit_at m.ended k == 1) ≡ ends (kinds_of g) (holds_lane g m.states.items k)
@@ -87,7 +87,7 @@ IsLast g None m = m.count ≡ 0
 -- there is room for the words that passes over the tape of the next state are given and write
 pub record HasTurnRoom (net : Net) (plan : LanePlan) (w : NetTurn) : Type 0 where
   pub words : length w.words.items ≡ net.base + sum net.inputs.items
-  pub next : length w.next.items ≡ slots_in plan.next
+  pub next : slots_in plan.next ≤ vec_capacity w.next
 
 -- there is also room for the states that are judged
 pub record HasWideRoom (g : Ground) (net : Net) (plan : LanePlan) (w : NetWide) : Type 0 where

@@ -56,7 +56,7 @@ pub(crate) fn tell_lanes(game: &NetGame, telling: &Telling, count: usize, out: &
     requires telling { IsTellingOf game.now.played game.now.net telling.now }
     requires few { count ≤ 64 }
     requires states { length out.old.states.items ≡ length game.now.played.starts.items }
-    requires room { length out.old.room.items ≡ slots_in telling.now.tape }
+    requires room { slots_in telling.now.tape ≤ vec_capacity out.old.room }
     ensures many { IsNetMany game.now.played telling.now out.new }
     ensures count { out.new.count ≡ count }
     ensures states { out.new.states.items ≡ out.old.states.items }
@@ -74,7 +74,7 @@ pub(crate) fn new_net_turn(game: &NetGame) -> Result<NetTurn, AllocError>
     let alloc = game.alloc;
     Ok(NetTurn {
         words: vec![in alloc; 0u64; game.net.sources()]?,
-        next: vec![in alloc; 0u64; game.lane_plan.next.words()]?,
+        next: Vec::with_capacity(alloc, game.lane_plan.next.words())?,
     })
 }
 
@@ -85,7 +85,7 @@ pub(crate) fn new_net_many(game: &NetGame, telling: &Telling) -> Result<NetMany,
     let alloc = game.alloc;
     Ok(NetMany {
         states: vec![in alloc; 0u64; game.played.base()]?,
-        room: vec![in alloc; 0u64; telling.tape.words()]?,
+        room: Vec::with_capacity(alloc, telling.tape.words())?,
         ended: 0,
         count: 0,
     })

@@ -35,14 +35,35 @@ pub(crate) fn write_sources(net: &Net, from: &[u64], joints: &[Joint], words: &m
     put_sources(net, from, joints, words);
 }
 
-/// Makes a pass.
-pub(crate) fn run(tape: &Tape, words: &[u64], room: &mut Vec<u64>)
+/// Makes so many words of a room that has place for them. A room that has not been used takes no pages of memory.
+fn fill(room: &mut Vec<u64>, words: usize)
+    requires { words ≤ vec_capacity room.old }
+    ensures size { length room.new.items ≡ words }
+    ensures capacity { vec_capacity room.new ≡ vec_capacity room.old }
+{
+    room.truncate(words);
+    while room.len() < words {
+        room.push_reserved(0);
+    }
+}
+
+/// Makes a pass over words that are there.
+fn pass(tape: &Tape, words: &[u64], room: &mut Vec<u64>)
     requires { length room.old.items ≡ slots_in tape.now }
     ensures run { HasRun tape.now words.now room.new.items }
-    ensures size { length room.new.items ≡ length room.old.items }
     ensures capacity { vec_capacity room.new ≡ vec_capacity room.old }
 {
     tape.run(words, room);
+}
+
+/// Makes a pass.
+pub(crate) fn run(tape: &Tape, words: &[u64], room: &mut Vec<u64>)
+    requires { slots_in tape.now ≤ vec_capacity room.old }
+    ensures run { HasRun tape.now words.now room.new.items }
+    ensures capacity { vec_capacity room.new ≡ vec_capacity room.old }
+{
+    fill(room, tape.words());
+    pass(tape, words, room);
 }
 
 /// Writes the words of the kept nodes, behind a pass.
@@ -59,11 +80,10 @@ fn gather(tape: &Tape, room: &[u64], out: &mut [u64])
 
 /// Makes a pass, and writes the words of the kept nodes.
 pub(crate) fn run_kept(tape: &Tape, words: &[u64], room: &mut Vec<u64>, out: &mut Vec<u64>)
-    requires room { length room.old.items ≡ slots_in tape.now }
+    requires room { slots_in tape.now ≤ vec_capacity room.old }
     requires kept { length out.old.items ≡ kept_in tape.now }
     ensures told { (net : Net) (kept : List ℕ) (k : ℕ) → IsTurnTapeOf net kept tape.now → k < length out.old.items
         → IsTurnWordOf net words.now (slice_index kept k) (slice_index out.new.items k) }
-    ensures room_size { length room.new.items ≡ length room.old.items }
     ensures room_capacity { vec_capacity room.new ≡ vec_capacity room.old }
     ensures size { length out.new.items ≡ length out.old.items }
     ensures capacity { vec_capacity out.new ≡ vec_capacity out.old }

@@ -61,24 +61,25 @@ pub(crate) fn step_net_state(game: &NetGame, p: &NetPos, joint: &Joint, q: &mut 
     take_first(game, q);
 }
 
-/// The start state.
+/// The start state. The room in which it is told is given back, so that its own is not used yet.
 pub(crate) fn start_net_state(game: &NetGame) -> Result<NetPos, AllocError>
     ensures state { IfOk result (IsNetState game.now.played game.now.net game.now.lane_plan) }
     ensures start { IfOk result (λ p. kept_state game.now.played p ≡ marked game.now.played.starts.items) }
 {
     let alloc = game.alloc;
     let asked = &game.lane_plan.asked;
-    let turn = new_net_turn(game)?;
-    let mut many = new_net_many(game, asked)?;
-    write_start(&game.played, &mut many.states);
-    tell_lanes(game, asked, 1, &mut many);
-    let mut p = NetPos {
-        lanes: vec![in alloc; 0u64; game.played.base()]?,
-        roles: new_roles(alloc, &game.played)?,
-        ended: false,
-        turn,
-        many,
-    };
-    take_first(game, &mut p);
-    Ok(p)
+    let mut first = new_net_many(game, asked)?;
+    write_start(&game.played, &mut first.states);
+    tell_lanes(game, asked, 1, &mut first);
+    let mut lanes = vec![in alloc; 0u64; game.played.base()]?;
+    let mut roles = new_roles(alloc, &game.played)?;
+    let ended = take_told(game, &first, 0, &mut lanes, &mut roles);
+    drop(first);
+    Ok(NetPos {
+        lanes,
+        roles,
+        ended,
+        turn: new_net_turn(game)?,
+        many: new_net_many(game, asked)?,
+    })
 }

@@ -1,8 +1,8 @@
-use Rattle.std.proofs.Common.{◌<◌, ℕ, Bool, List, ap, subst, sym, ◌∙◌, arith}
+use Rattle.std.proofs.Common.{◌<◌, ◌≤◌, ℕ, Bool, List, ap, subst, sym, ◌∙◌, arith}
 use Rattle.std.specs.Prelude.{All}
 use Rattle.std.specs.List.{list_any}
 use Rattle.ground.specs.GroundView.{kinds_of}
-use Rattle.tape.specs.Tapes.{kept_in, HasRun}
+use Rattle.tape.specs.Tapes.{kept_in, slots_in, HasRun}
 use Rattle.netgame.specs.LanePlans.{asked_at, places_of, ends_of}
 use Rattle.netgame.specs.NetLanes.{holds_lane}
 use Rattle.netgame.proofs.Lanes.{kept_count, tells_asked}
@@ -34,7 +34,7 @@ returns-clause-many c =
     in
     record {
       states = c.requires.states;
-      room = c.run.ensures.size ∙ c.requires.room;
+      room = subst (λ (n : ℕ). slots_in t.tape ≤ n) (sym c.run.ensures.capacity) c.requires.room;
       few = few;
       ran = λ some. ran;
       ended = λ k lt.

@@ -1,14 +1,25 @@
-use Rattle.std.proofs.Common.{sym, ◌∙◌}
+use Rattle.std.proofs.Common.{◌≡◌, length, sym, ap, ◌∙◌}
 use Rattle.rulegame.specs.GroundFacts.{fits}
+use Rattle.netgame.proofs.Lanes.{state_at}
 use Rattle.netgame.proofs.net_playing.start_net_state.Goals as goal
 
-pub take_first-requires-clause-room : goal.take_first-requires-clause-room
-take_first-requires-clause-room c =
-    let lanes = c.in_ok-vec.field-0 in
-    let fit = (fits c.args.game.now.played).starts_fit in
+pub take_told-ended-requires-clause-lanes : goal.take_told-ended-requires-clause-lanes
+take_told-ended-requires-clause-lanes c =
+    let lanes = c.in_ok-lanes.lanes in
+    sym lanes.ok.0 ∙ c.in_ok-lanes.ensures.len ∙ c.base.ensures ∙ sym (fits c.args.game.now.played).starts_fit
+
+pub returns-clause-state : goal.returns-clause-state
+returns-clause-state c =
+    let lanes = c.in_ok-lanes.lanes in
     record {
-      lanes = sym lanes.ok.0 ∙ c.in_ok-vec.ensures.len ∙ c.base.ensures ∙ sym fit;
-      roles = c.in_ok-new_roles.ensures;
-      turn = c.in_ok-turn.ensures;
-      many = c.tell_lanes.ensures.many;
+      room = record {
+        lanes = c.take_told-ended.ensures.size ∙ sym lanes.ok.0 ∙ c.in_ok-lanes.ensures.len ∙ c.base.ensures
+            ∙ sym (fits c.args.game.now.played).starts_fit;
+        roles = c.take_told-ended.ensures.room;
+        turn = c.in_ok-new_net_turn.ensures;
+        many = c.in_ok-new_net_many.ensures;
+      };
+      spread = c.take_told-ended.ensures.spread;
+      ended = c.take_told-ended.ensures.ended;
+      roles = c.take_told-ended.ensures.read;
     }

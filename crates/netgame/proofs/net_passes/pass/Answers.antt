@@ -1,7 +1,7 @@
 use Rattle.std.proofs.Common.{List, ℕ, length, ap, sym, subst, ◌∙◌}
 use Rattle.tape.specs.Tapes.{HasRun}
 use Rattle.netgame.proofs.Words.{written_over}
-use Rattle.netgame.proofs.net_passes.run.Goals as goal
+use Rattle.netgame.proofs.net_passes.pass.Goals as goal
 
 pub returns-clause-run : goal.returns-clause-run
 returns-clause-run c =
