@@ -74,12 +74,36 @@ pub(crate) fn new_net_turn(game: &NetGame) -> Result<NetTurn, AllocError>
     let alloc = game.alloc;
     Ok(NetTurn {
         words: vec![in alloc; 0u64; game.net.sources()]?,
+        next: vec![in alloc; 0u64; game.lane_plan.next.words()]?,
+    })
+}
+
+/// The same, which is not written before it is used.
+pub(crate) fn unwritten_turn(game: &NetGame) -> Result<NetTurn, AllocError>
+    ensures { IfOk result (HasTurnRoom game.now.net game.now.lane_plan) }
+{
+    let alloc = game.alloc;
+    Ok(NetTurn {
+        words: vec![in alloc; 0u64; game.net.sources()]?,
         next: Vec::with_capacity(alloc, game.lane_plan.next.words())?,
     })
 }
 
 /// Room for states, with none in it.
 pub(crate) fn new_net_many(game: &NetGame, telling: &Telling) -> Result<NetMany, AllocError>
+    ensures { IfOk result (IsNetMany game.now.played telling.now) }
+{
+    let alloc = game.alloc;
+    Ok(NetMany {
+        states: vec![in alloc; 0u64; game.played.base()]?,
+        room: vec![in alloc; 0u64; telling.tape.words()]?,
+        ended: 0,
+        count: 0,
+    })
+}
+
+/// The same, which is not written before it is used.
+pub(crate) fn unwritten_many(game: &NetGame, telling: &Telling) -> Result<NetMany, AllocError>
     ensures { IfOk result (IsNetMany game.now.played telling.now) }
 {
     let alloc = game.alloc;

@@ -7,7 +7,7 @@ ghost use Rattle.netgame.specs.NetState.{is_lane_on, lane_state, kept_state};
 ghost use Rattle.netgame.specs.NetLanes.{HasNetRoom, IsNetState, net_capacities};
 
 use crate::net_game::NetGame;
-use crate::net_lanes::{net_steps, new_net_many, new_net_turn, tell_lanes};
+use crate::net_lanes::{net_steps, new_net_many, tell_lanes, unwritten_many, unwritten_turn};
 use crate::net_pos::NetPos;
 use crate::net_taking::take_told;
 use game::Joint;
@@ -61,7 +61,7 @@ pub(crate) fn step_net_state(game: &NetGame, p: &NetPos, joint: &Joint, q: &mut 
     take_first(game, q);
 }
 
-/// The start state. The room in which it is told is given back, so that its own is not used yet.
+/// The start state. It is told in a room that is given back, so that its own is not written yet.
 pub(crate) fn start_net_state(game: &NetGame) -> Result<NetPos, AllocError>
     ensures state { IfOk result (IsNetState game.now.played game.now.net game.now.lane_plan) }
     ensures start { IfOk result (λ p. kept_state game.now.played p ≡ marked game.now.played.starts.items) }
@@ -79,7 +79,7 @@ pub(crate) fn start_net_state(game: &NetGame) -> Result<NetPos, AllocError>
         lanes,
         roles,
         ended,
-        turn: new_net_turn(game)?,
-        many: new_net_many(game, asked)?,
+        turn: unwritten_turn(game)?,
+        many: unwritten_many(game, asked)?,
     })
 }

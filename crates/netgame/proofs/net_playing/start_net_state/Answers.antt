@@ -16,8 +16,8 @@ returns-clause-state c =
         lanes = c.take_told-ended.ensures.size ∙ sym lanes.ok.0 ∙ c.in_ok-lanes.ensures.len ∙ c.base.ensures
             ∙ sym (fits c.args.game.now.played).starts_fit;
         roles = c.take_told-ended.ensures.room;
-        turn = c.in_ok-new_net_turn.ensures;
-        many = c.in_ok-new_net_many.ensures;
+        turn = c.in_ok-unwritten_turn.ensures;
+        many = c.in_ok-unwritten_many.ensures;
       };
       spread = c.take_told-ended.ensures.spread;
       ended = c.take_told-ended.ensures.ended;

@@ -1,0 +1,15 @@
+use Rattle.std.proofs.Common.{rules, sym, ◌∙◌, arith}
+use Rattle.rulegame.specs.GroundFacts.{fits}
+use Rattle.netgame.proofs.net_lanes.unwritten_many.Goals as goal
+
+pub returns : goal.returns
+returns c =
+    let made = c.in_ok-vec.field-0 in
+    let fit = (fits c.args.game.now.played).starts_fit in
+    record {
+      states = sym made.ok.0 ∙ c.in_ok-vec.ensures.len ∙ c.base.ensures ∙ sym fit;
+      room = search rules;
+      few = omega arith;
+      ran = λ none. absurd (omega arith);
+      ended = λ k none. absurd (omega arith);
+    }
