@@ -64,7 +64,7 @@ impl Tally {
     }
 
     /// Counts the literals of terms in a new round, and tells whether one is counted twice.
-    pub fn count(&mut self, terms: &[Term]) -> bool {
+    pub(crate) fn count(&mut self, terms: &[Term]) -> bool {
         self.round = self.round.wrapping_add(1);
         let mut is_shared = false;
         for term in terms {
@@ -84,7 +84,7 @@ impl Tally {
     }
 
     /// Where the literal of a term that is counted most often stands, or the first of these.
-    pub fn commonest(&self, term: &[Literal]) -> Option<usize>
+    pub(crate) fn commonest(&self, term: &[Literal]) -> Option<usize>
         ensures { IfSome result (λ i. i < length term.now) }
     {
         let mut best = None;
@@ -100,7 +100,7 @@ impl Tally {
     }
 
     /// The number that was noted for a literal when it was counted last.
-    pub fn place(&self, literal: Literal) -> usize {
+    pub(crate) fn place(&self, literal: Literal) -> usize {
         match self.seen.get(literal as usize) {
             Some(seen) => seen.place as usize,
             None => 0,
@@ -108,7 +108,7 @@ impl Tally {
     }
 
     /// Notes a number for a literal.
-    pub fn note(&mut self, literal: Literal, place: usize) {
+    pub(crate) fn note(&mut self, literal: Literal, place: usize) {
         if let Some(seen) = self.seen.get_mut(literal as usize) {
             seen.place = u32::try_from(place).unwrap_or(0);
         }
