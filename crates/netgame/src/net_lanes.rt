@@ -89,30 +89,34 @@ pub(crate) fn unwritten_turn(game: &NetGame) -> Result<NetTurn, AllocError>
     })
 }
 
-/// Room for states, with none in it.
-pub(crate) fn new_net_many(game: &NetGame, telling: &Telling) -> Result<NetMany, AllocError>
+/// Room for states, with none in it, over room for what a tape writes for them.
+fn many_over(game: &NetGame, telling: &Telling, room: Vec<u64>) -> Result<NetMany, AllocError>
+    requires { slots_in telling.now.tape ≤ vec_capacity room }
     ensures { IfOk result (IsNetMany game.now.played telling.now) }
 {
     let alloc = game.alloc;
     Ok(NetMany {
         states: vec![in alloc; 0u64; game.played.base()]?,
-        room: vec![in alloc; 0u64; telling.tape.words()]?,
+        room,
         ended: 0,
         count: 0,
     })
+}
+
+/// Room for states, with none in it.
+pub(crate) fn new_net_many(game: &NetGame, telling: &Telling) -> Result<NetMany, AllocError>
+    ensures { IfOk result (IsNetMany game.now.played telling.now) }
+{
+    let room = vec![in game.alloc; 0u64; telling.tape.words()]?;
+    many_over(game, telling, room)
 }
 
 /// The same, which is not written before it is used.
 pub(crate) fn unwritten_many(game: &NetGame, telling: &Telling) -> Result<NetMany, AllocError>
     ensures { IfOk result (IsNetMany game.now.played telling.now) }
 {
-    let alloc = game.alloc;
-    Ok(NetMany {
-        states: vec![in alloc; 0u64; game.played.base()]?,
-        room: Vec::with_capacity(alloc, telling.tape.words())?,
-        ended: 0,
-        count: 0,
-    })
+    let room = Vec::with_capacity(game.alloc, telling.tape.words())?;
+    many_over(game, telling, room)
 }
 
 /// Room for the states that are judged, where some are.

@@ -1,6 +1,6 @@
-use Rattle.std.proofs.Common.{rules, sym, ◌∙◌, arith}
+use Rattle.std.proofs.Common.{sym, ◌∙◌, arith}
 use Rattle.rulegame.specs.GroundFacts.{fits}
-use Rattle.netgame.proofs.net_lanes.unwritten_many.Goals as goal
+use Rattle.netgame.proofs.net_lanes.many_over.Goals as goal
 
 pub returns : goal.returns
 returns c =
@@ -8,7 +8,7 @@ returns c =
     let fit = (fits c.args.game.now.played).starts_fit in
     record {
       states = sym made.ok.0 ∙ c.in_ok-vec.ensures.len ∙ c.base.ensures ∙ sym fit;
-      room = search rules;
+      room = c.requires;
       few = omega arith;
       ran = λ none. absurd (omega arith);
       ended = λ k none. absurd (omega arith);
