@@ -14,3 +14,5 @@ pub use Rattle.game.proofs.PlayRange.{role_named, choice_within, line_within, re
 pub use Rattle.game.proofs.Roles.{list_any_range, list_any_range_none}
 -- Two games of the same rules have the same values, choices and lines.
 pub use Rattle.game.proofs.SamePlays.{played_alike, value_alike, choice_alike, line_alike}
+-- Turns that each begin at one of many states.
+pub use Rattle.game.proofs.TurnsTogether.{turns_after_count, turns_after_each, turns_after_more}

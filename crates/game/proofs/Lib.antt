@@ -7,4 +7,5 @@ mod PlayRange
 mod SamePlays
 mod PlainValues
 mod ManyStates
+mod TurnsTogether
 pub mod Facts

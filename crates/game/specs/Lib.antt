@@ -9,5 +9,6 @@ pub mod Table
 pub mod TableLaws
 pub mod TableMany
 pub mod Told
+pub mod TurnsAfter
 pub mod NamedRules
 pub mod SamePlay

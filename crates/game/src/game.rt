@@ -6,6 +6,7 @@ ghost use Rattle.std.specs.List.Sorted.{IsStrictlyIncreasing};
 ghost use Rattle.std.specs.declared.cmp.Ordering.TheVariants.{Less};
 ghost use Rattle.game.specs.Rules.{Rules, IsTurn};
 ghost use Rattle.game.specs.Told.{IsTold, end_worth};
+ghost use Rattle.game.specs.TurnsAfter.{turns_after};
 
 use crate::joint::Joint;
 use crate::told::Told;
@@ -17,7 +18,7 @@ pub trait Game: Sync {
     /// A state of the game, in whatever form the game keeps it.
     type Pos: Send + Sync + Drop;
 
-    /// Working room for `steps` and `judge`.
+    /// Working room for `steps`, `judge` and `judge_from`.
     type Wide: Send + Drop;
 
     /// Up to 64 states of the game.
@@ -117,7 +118,7 @@ pub trait Game: Sync {
         ensures same { state self.now q.new ≡ state self.now p.now }
         ensures capacities { capacities self.now q.new ≡ capacities self.now q.old };
 
-    /// Working room for `steps` and `judge`.
+    /// Working room for `steps`, `judge` and `judge_from`.
     fn new_wide(&self) -> Result<Self::Wide, AllocError>
         ensures { IfOk result (λ w. fits_wide self.now w) };
 
@@ -174,6 +175,27 @@ pub trait Game: Sync {
         ensures wide { fits_wide self.now w.new }
         ensures after { result ≡ true
             → judged self.now w.new ≡ map (λ j. (rules self.now).after (state self.now p.now) j.items) joints.now }
+        ensures wide_capacities { wide_capacities self.now w.new ≡ wide_capacities self.now w.old };
+
+    /// The same of 1 to 64 joint moves that each begin at one of many states. `places` names that of each.
+    fn judge_from(
+        &self,
+        many: &Self::Many,
+        places: &[usize],
+        joints: &[Joint],
+        w: &mut Self::Wide,
+    ) -> bool
+        requires many { fits_many self.now many.now }
+        requires some { 0 < length joints.now }
+        requires few { length joints.now ≤ 64 }
+        requires count { length places.now ≡ length joints.now }
+        requires places { All (λ k. k < length (states self.now many.now)) places.now }
+        requires joints { All (λ j. IsTurn (rules self.now) j.items) joints.now }
+        requires wide { fits_wide self.now w.old }
+        ensures wide { fits_wide self.now w.new }
+        ensures after { result ≡ true
+            → judged self.now w.new
+            ≡ turns_after (rules self.now) (states self.now many.now) places.now (map (λ j. j.items) joints.now) }
         ensures wide_capacities { wide_capacities self.now w.new ≡ wide_capacities self.now w.old };
 
     /// The goal value of a role in the state at a place of those that `w` can tell the end of, if the game has ended there. None where

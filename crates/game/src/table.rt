@@ -181,6 +181,18 @@ impl Game for Table {
         true
     }
 
+    /// The same as `judge`, as all joint moves begin where nothing is chosen.
+    fn judge_from(
+        &self,
+        _many: &Cells,
+        _places: &[usize],
+        joints: &[Joint],
+        w: &mut Cells,
+    ) -> bool {
+        let start = Chosen { cell: 0 };
+        self.judge(&start, joints, w)
+    }
+
     fn verdict(&self, w: &Cells, place: usize, role: usize) -> Option<u8> {
         if place >= w.count {
             return None;

@@ -135,6 +135,16 @@ impl<G: Game, W: Watch> Game for Watched<G, W> {
         false
     }
 
+    fn judge_from(
+        &self,
+        _many: &G::Many,
+        _places: &[usize],
+        _joints: &[Joint],
+        _w: &mut G::Wide,
+    ) -> bool {
+        false
+    }
+
     fn verdict(&self, w: &G::Wide, place: usize, role: usize) -> Option<u8> {
         self.inner.verdict(w, place, role)
     }

@@ -13,7 +13,7 @@ use Rattle.gates.proofs.Passes.{pass_below}
 use Rattle.gates.proofs.Lanes.{given_slot}
 use Rattle.gates.proofs.Literals.{value_literals, step_then, groups_after, groups_before}
 use Rattle.gates.proofs.Folds.{any_same, within_more}
-use Rattle.gates.proofs.Terms.{any_push}
+use Rattle.gates.proofs.Factors.{any_push}
 
 or_swap : (a b c : Bool) → ((a || b) || c) ≡ ((a || c) || b)
 or_swap true b c = refl

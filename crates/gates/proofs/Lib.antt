@@ -2,6 +2,6 @@ mod Passes
 mod Lanes
 mod Literals
 mod Folds
-mod Terms
+mod Factors
 mod GroupLemmas
 pub mod Facts

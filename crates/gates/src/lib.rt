@@ -6,10 +6,9 @@ mod builder;
 mod factoring;
 mod gates;
 mod grouping;
-mod keyed;
+mod parts;
 mod tally;
 
 pub use builder::{Builder, Group, given, negation};
 pub use gates::{Gate, Literal, fill_sources, run_gates};
-pub use keyed::Term;
-pub use tally::Tally;
+pub use parts::Terms;

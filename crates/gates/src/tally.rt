@@ -2,7 +2,6 @@
 ghost use Rattle.std.specs.Prelude.{◌<◌, length, IfSome};
 
 use crate::gates::Literal;
-use crate::keyed::Term;
 use std::alloc::{AllocError, Global};
 
 /// What is known of a literal.
@@ -12,20 +11,22 @@ struct Seen {
     round: u32,
     /// How many terms had it then.
     count: u32,
-    /// A number that was noted for it then.
-    place: u32,
+    /// How many terms had it as their key then.
+    members: u32,
+    /// Where the first of these is to stand.
+    start: u32,
 }
 
 /// Counts of literals. Each round counts anew. No contract rests on what they say.
 #[derive(Drop)]
-pub struct Tally {
+pub(crate) struct Tally {
     round: u32,
     seen: Vec<Seen>,
 }
 
 impl Tally {
     /// No literals yet.
-    pub fn new(alloc: Global) -> Self {
+    pub(crate) fn new(alloc: Global) -> Self {
         Tally {
             round: 0,
             seen: Vec::new(alloc),
@@ -33,16 +34,22 @@ impl Tally {
     }
 
     /// Makes room for so many literals.
-    pub fn make_room(&mut self, literals: usize) -> Result<(), AllocError> {
+    pub(crate) fn make_room(&mut self, literals: usize) -> Result<(), AllocError> {
         let none = Seen {
             round: 0,
             count: 0,
-            place: 0,
+            members: 0,
+            start: 0,
         };
         for _literal in self.seen.len()..literals {
             self.seen.push(none)?;
         }
         Ok(())
+    }
+
+    /// Begins a round.
+    pub(crate) fn begin(&mut self) {
+        self.round = self.round.wrapping_add(1);
     }
 
     /// Counts a literal, and tells whether it was counted before in this round.
@@ -58,19 +65,17 @@ impl Tally {
         *seen = Seen {
             round,
             count: 1,
-            place: 0,
+            members: 0,
+            start: 0,
         };
         false
     }
 
-    /// Counts the literals of terms in a new round, and tells whether one is counted twice.
-    pub(crate) fn count(&mut self, terms: &[Term]) -> bool {
-        self.round = self.round.wrapping_add(1);
+    /// Counts the literals of a term, and tells whether one was counted before in this round.
+    pub(crate) fn count(&mut self, term: &[Literal]) -> bool {
         let mut is_shared = false;
-        for term in terms {
-            for literal in term {
-                is_shared |= self.count_one(*literal);
-            }
+        for literal in term {
+            is_shared |= self.count_one(*literal);
         }
         is_shared
     }
@@ -99,18 +104,31 @@ impl Tally {
         best
     }
 
-    /// The number that was noted for a literal when it was counted last.
-    pub(crate) fn place(&self, literal: Literal) -> usize {
-        match self.seen.get(literal as usize) {
-            Some(seen) => seen.place as usize,
-            None => 0,
-        }
+    /// Counts one more term with this key, and tells how many there were.
+    pub(crate) fn join(&mut self, key: Literal) -> u32 {
+        let Some(seen) = self.seen.get_mut(key as usize) else {
+            return 0;
+        };
+        let members = seen.members;
+        seen.members = members.wrapping_add(1);
+        members
     }
 
-    /// Notes a number for a literal.
-    pub(crate) fn note(&mut self, literal: Literal, place: usize) {
-        if let Some(seen) = self.seen.get_mut(literal as usize) {
-            seen.place = u32::try_from(place).unwrap_or(0);
-        }
+    /// Lets the terms with this key stand from a place on, and tells the place behind them.
+    pub(crate) fn settle(&mut self, key: Literal, start: u32) -> u32 {
+        let Some(seen) = self.seen.get_mut(key as usize) else {
+            return start;
+        };
+        seen.start = start;
+        start.wrapping_add(seen.members)
+    }
+
+    /// Where the term with this key and this number is to stand: the first behind all others.
+    pub(crate) fn place(&self, key: Literal, turn: u32) -> usize {
+        let Some(seen) = self.seen.get(key as usize) else {
+            return 0;
+        };
+        let order = if turn == 0 { seen.members } else { turn };
+        seen.start.wrapping_add(order.wrapping_sub(1)) as usize
     }
 }

@@ -1,5 +1,5 @@
 // The bytes of the input.
-ghost use Rattle.std.specs.Prelude.{◌≡◌, ◌≢◌, ◌+◌, ◌≤◌, ◌<◌, length, take, drop, vec_len, IfOk, IfErr};
+ghost use Rattle.std.specs.Prelude.{◌≡◌, ◌≢◌, ◌+◌, ◌++◌, ◌≤◌, ◌<◌, length, take, drop, vec_len, IfOk, IfErr};
 ghost use Rattle.std.specs.Io.KnownBytes.{Consumes, IsAtEnd};
 ghost use Rattle.gdlsolve.specs.Input.{IsReadFrom};
 
@@ -10,6 +10,9 @@ use std::io::Read;
 
 /// How many bytes are read at most: one more than a text may have, so that a longer one shows.
 const READ_LIMIT: usize = TEXT_LIMIT + 1;
+
+/// How long a text is that has room at once. Most are shorter.
+const COMMON_LENGTH: usize = 65_536;
 
 /// Room for so many bytes.
 fn room_for(alloc: Global, size: usize) -> Result<Vec<u8>, AllocError>
@@ -48,16 +51,42 @@ fn fill<R: Read>(input: &mut R, room: &mut [u8]) -> Result<usize, RunFault>
     Ok(filled)
 }
 
-/// Reads the input to its end, or to the limit. `Memory` comes before the first read, and `Read` at the
-/// first read that fails.
-pub(crate) fn read_input<R: Read>(alloc: Global, input: &mut R) -> Result<Vec<u8>, RunFault>
-    ensures whole { IfOk result (λ bytes. IsReadFrom (R.remaining input.old) (R.remaining input.new) bytes.items) }
+/// Reads so many bytes, or fewer where the input ends. `Memory` comes before the first read, and `Read` at the first read that fails.
+fn read_some<R: Read>(alloc: Global, input: &mut R, most: usize) -> Result<Vec<u8>, RunFault>
+    ensures within { IfOk result (λ bytes. length bytes.items ≤ most) }
+    ensures consumed { IfOk result (λ bytes. Consumes (R.remaining input.old) (R.remaining input.new) bytes.items) }
+    ensures ended { IfOk result (λ bytes. length bytes.items < most → IsAtEnd (R.remaining input.new)) }
     ensures faults { IfErr result (λ fault. fault ≢ RunFault.Write) }
 {
-    let Ok(mut bytes) = room_for(alloc, READ_LIMIT) else {
+    let Ok(mut bytes) = room_for(alloc, most) else {
         return Err(RunFault::Memory);
     };
     let filled = fill(input, &mut bytes)?;
     bytes.truncate(filled);
     Ok(bytes)
+}
+
+/// Bytes with others behind them.
+fn joined(mut bytes: Vec<u8>, rest: &[u8]) -> Result<Vec<u8>, RunFault>
+    ensures joined { IfOk result (λ all. all.items ≡ bytes.items ++ rest.now) }
+    ensures fault { IfErr result (λ fault. fault ≡ RunFault.Memory) }
+{
+    let Ok(()) = bytes.extend_from_slice(rest) else {
+        return Err(RunFault::Memory);
+    };
+    Ok(bytes)
+}
+
+/// Reads the input to its end, or to the limit. Room for a text of the common length comes first, and room for the longest only where
+/// that is full: a page of memory that is not written costs nothing. `Read` comes at the first read that fails.
+pub(crate) fn read_input<R: Read>(alloc: Global, input: &mut R) -> Result<Vec<u8>, RunFault>
+    ensures whole { IfOk result (λ bytes. IsReadFrom (R.remaining input.old) (R.remaining input.new) bytes.items) }
+    ensures faults { IfErr result (λ fault. fault ≢ RunFault.Write) }
+{
+    let bytes = read_some(alloc, input, COMMON_LENGTH)?;
+    if bytes.len() < COMMON_LENGTH {
+        return Ok(bytes);
+    }
+    let rest = read_some(alloc, input, READ_LIMIT - COMMON_LENGTH)?;
+    joined(bytes, &rest)
 }

@@ -1,5 +1,9 @@
 // The reply to a command, with its search shared by workers.
-ghost use Rattle.std.specs.Prelude.{◌≡◌, ◌<◌, IfOk};
+ghost use Rattle.std.specs.Prelude.{◌≡◌, ◌<◌, IfOk, IfErr};
+ghost use Rattle.ground.specs.GroundView.{IsGround, HasAtoms};
+ghost use Rattle.listing.specs.Progress.{IsFaultOf};
+ghost use Rattle.meaning.specs.Limits.{excess_in};
+ghost use Rattle.rules.specs.RuleSetView.{rules_in};
 ghost use Rattle.replies.specs.Answers.{answer};
 ghost use Rattle.replies.specs.Histories.{named};
 ghost use Rattle.replies.specs.Questions.{reply_of};
@@ -7,7 +11,9 @@ ghost use Rattle.replies.specs.Replies.{IsReply};
 ghost use Rattle.replies.specs.Solving.{solve_lines};
 
 use game::Game;
-use replies::{Command, Player, Question, Reply, Search, ask};
+use ground::{FlatGround, GroundFault, instantiate_flat};
+use replies::{Command, Means, Player, Question, Reply, Search, ask};
+use rules::RuleSet;
 use share::{Gate, solve};
 use std::alloc::AllocError;
 use std::thread::Threads;
@@ -53,7 +59,16 @@ pub(crate) fn reply_by_workers<T: Threads + Sync + AllocGlobal>(
 ) -> Result<Reply, AllocError>
     ensures { IfOk result (λ reply. IsReply command.now bytes.now (reply_of reply)) }
 {
-    match ask(rt, player, command, bytes)? {
+    let instantiate_here = |rules: &RuleSet| -> Result<FlatGround, GroundFault>
+        ensures ground { IfOk result (λ g. IsGround (rules_in rules.now) g) }
+        ensures atoms { IfOk result (λ g. HasAtoms (rules_in rules.now) g) }
+        ensures fault { IfErr result (IsFaultOf (excess_in (rules_in rules.now))) }
+    { instantiate_flat(rt, rules) };
+    let means = Means {
+        alloc: rt.alloc(),
+        instantiate: &instantiate_here,
+    };
+    match ask(&means, player, command, bytes)? {
         Question::Told(reply) => Ok(reply),
         Question::Network(search) => told_by_workers(rt, search),
         Question::Rules(search) => told_by_workers(rt, search),

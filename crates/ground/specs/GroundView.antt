@@ -1,46 +1,52 @@
--- What a ground tells.
+-- What a ground tells, by its flat lists.
 use Rattle.std.specs.Prelude.{ℕ, ◌≡◌, Bool, List, map}
 use Rattle.profile.specs.Clause.{Alternative}
 use Rattle.meaning.specs.declared.kind.Kind.{Kind}
+use Rattle.ground.specs.declared.flat_ground.FlatGround.{FlatGround}
 use Rattle.ground.specs.declared.ground.Ground.{Ground}
 use Rattle.ground.specs.declared.ground.Instance.{Instance}
+use Rattle.listing.specs.Founds.{numbers_of_list}
 use Rattle.terms.specs.AtomTexts.{listed_texts}
-use Rattle.ground.specs.Grounds.{Kept, kept_of, IsGroundOf}
+use Rattle.ground.specs.Grounds.{Kept, IsGroundOf}
 use Rattle.rules.specs.RuleSets.{texts_of}
 
-abbrev pub roles_of : Ground → List (List ℕ)
+abbrev pub roles_of : FlatGround → List (List ℕ)
 roles_of g = texts_of g.roles.items
 
-abbrev pub base_of : Ground → List (List ℕ)
+abbrev pub base_of : FlatGround → List (List ℕ)
 base_of g = texts_of g.base.items
 
-abbrev pub inputs_of : Ground → List (List (List ℕ))
+abbrev pub inputs_of : FlatGround → List (List (List ℕ))
 inputs_of g = map (λ v. texts_of v.items) g.inputs.items
 
-abbrev pub kinds_of : Ground → List Kind
+abbrev pub kinds_of : FlatGround → List Kind
 kinds_of g = g.kinds.items
 
 -- for each base proposition whether it holds at the start
-abbrev pub starts_of : Ground → List Bool
+abbrev pub starts_of : FlatGround → List Bool
 starts_of g = g.starts.items
 
--- the kept instances in memory, and how many heads have no effect
-abbrev pub kept_in : Ground → List Instance
-kept_in g = g.kept.items
-
-abbrev pub dropped_of : Ground → ℕ
+-- how many heads have no effect
+abbrev pub dropped_of : FlatGround → ℕ
 dropped_of g = g.dropped
 
-abbrev pub atoms_of : Ground → List (List ℕ)
+abbrev pub atoms_of : FlatGround → List (List ℕ)
 atoms_of g = g.atom_table
 
-abbrev pub instances_of : Ground → List Kept
-instances_of g = map kept_of g.kept.items
+abbrev pub instances_of : FlatGround → List Kept
+instances_of g = numbers_of_list g.kept
 
 -- the ground is that of the rules
-abbrev pub IsGround : List Alternative → Ground → Type 0
+abbrev pub IsGround : List Alternative → FlatGround → Type 0
 IsGround rules g = IsGroundOf rules (roles_of g) (base_of g) (inputs_of g) (starts_of g) (kinds_of g) (instances_of g) (dropped_of g)
 
 -- the texts of its atoms are those of the rules
-abbrev pub HasAtoms : List Alternative → Ground → Type 0
+abbrev pub HasAtoms : List Alternative → FlatGround → Type 0
 HasAtoms rules g = atoms_of g ≡ listed_texts rules
+
+-- the flat lists of a ground, and its instances one by one
+abbrev pub flat_of : Ground → FlatGround
+flat_of g = g.flat
+
+abbrev pub kept_in : Ground → List Instance
+kept_in g = g.kept.items

@@ -3,14 +3,15 @@ use Rattle.std.specs.Prelude.{ℕ, ◌≡◌, Bool, List, [], map, slice_index_o
 use Rattle.kif.specs.Tree.{text}
 use Rattle.profile.specs.Clause.{Alternative}
 use Rattle.meaning.specs.declared.kind.Kind.{Kind}
-use Rattle.ground.specs.declared.ground.Instance as shown
 use Rattle.meaning.specs.Kinds.{kind_of}
 use Rattle.meaning.specs.Limits.{excess_in}
 use Rattle.meaning.specs.Listed.{IsWellFormed}
 use Rattle.meaning.specs.Listing.{listing, role_list, base_list, input_list}
 use Rattle.meaning.specs.Play as play
+use Rattle.ground.specs.declared.ground.Instance as shown
 pub use Rattle.listing.specs.Kept.{Kept, numbered}
 
+-- an instance in memory
 abbrev pub kept_of : shown.Instance → Kept
 kept_of i = record { alternative = i.alternative; head = i.head; body = i.body.items }
 

@@ -1,4 +1,4 @@
--- The marks, kinds and instances of a ground.
+-- The marks and kinds of a ground.
 use Rattle.std.specs.Prelude.{ℕ, ◌≡◌, Bool, List, map}
 use Rattle.profile.specs.Clause.{Alternative}
 use Rattle.meaning.specs.declared.kind.Kind.{Kind}
@@ -7,9 +7,12 @@ use Rattle.meaning.specs.Listing.{base_list, listing}
 use Rattle.meaning.specs.Play as play
 use Rattle.listing.specs.Kept.{Kept, numbered}
 
--- the marks, kinds and instances are those of the rules, and so many heads have no effect
-pub record ArePartsOf (rules : List Alternative) (starts : List Bool) (kinds : List Kind) (kept : List Kept) (dropped : ℕ) : Type 0 where
+-- the marks and kinds are those of the rules, and so many heads have no effect
+pub record ArePartsOf (rules : List Alternative) (starts : List Bool) (kinds : List Kind) (dropped : ℕ) : Type 0 where
   pub starts_are : starts ≡ map (play.starts rules) (base_list rules)
   pub kinds_are : kinds ≡ map (kind_of rules) (listing rules).atoms
-  pub kept_are : kept ≡ map (numbered rules) (listing rules).kept
   pub dropped_is : dropped ≡ play.dropped rules
+
+-- the instances are those of the rules
+abbrev pub AreKeptOf : List Alternative → List Kept → Type 0
+AreKeptOf rules kept = kept ≡ map (numbered rules) (listing rules).kept

@@ -1,13 +1,13 @@
 // The instances once all atoms have numbers.
-ghost use Rattle.std.specs.Prelude.{◌≡◌, ◌<◌, ◌≤◌, ◌++◌, [], ◌∷◌, length, map, nat_eq, replicate, slice_range, slice_set, IfOk, OnOk};
-ghost use Rattle.ground.specs.Finishing.{is_read_in, readings_in, numbered_in, ArePlaces, HavePlacesBelow};
-ghost use Rattle.listing.specs.Founds.{IsFoundList, numbers_of_list};
-ghost use Rattle.ground.specs.Grounds.{kept_of};
+ghost use Rattle.std.specs.Prelude.{◌≡◌, ◌<◌, ◌++◌, [], ◌∷◌, length, map, nat_eq, get_or, replicate, slice_set, IfOk, OnOk};
+ghost use Rattle.std.specs.List.{list_all};
+ghost use Rattle.ground.specs.Finishing.{is_read_in, reading_in, readings_in, headed_in, numbered_in, ArePlaces};
+ghost use Rattle.ground.specs.Grounds.{Kept};
+ghost use Rattle.listing.specs.Founds.{AreLaid, numbers_of_list};
 ghost use Rattle.meaning.specs.InOrder.{first_place};
 
-use crate::ground::Instance;
 use indexmap::IndexSet;
-use listing::FoundList;
+use listing::{Entry, FoundList, push_instance};
 use std::alloc::{AllocError, Global};
 
 /// The same number for each of so many terms.
@@ -66,7 +66,7 @@ fn place_of(atoms: &IndexSet<usize>, places: &[u32], term: usize) -> u32
 
 /// Whether a literal may be right in one state and wrong in another, where its atom has this place: it is positive, or its atom
 /// has a number.
-fn is_read(atoms: &IndexSet<usize>, literal: (usize, bool), place: u32) -> bool
+fn is_read(atoms: &IndexSet<usize>, literal: (u32, bool), place: u32) -> bool
     requires { place ≡ first_place (nat_eq literal.0) atoms.now.keys }
     ensures { result ≡ is_read_in atoms.now.keys literal }
 {
@@ -81,13 +81,13 @@ fn add_read(
     atoms: &IndexSet<usize>,
     places: &[u32],
     read: &mut Vec<(u32, bool)>,
-    literal: (usize, bool),
+    literal: (u32, bool),
 ) -> Result<(), AllocError>
     requires few { length atoms.now.keys < 4294967296 }
     requires places { ArePlaces atoms.now.keys places.now }
     ensures { OnOk result (read.new.items ≡ read.old.items ++ readings_in atoms.now.keys (literal ∷ [])) }
 {
-    let place = place_of(atoms, places, literal.0);
+    let place = place_of(atoms, places, literal.0 as usize);
     if !is_read(atoms, literal, place) {
         return Ok(());
     }
@@ -95,60 +95,125 @@ fn add_read(
     Ok(())
 }
 
-/// The literals that are read, in order. They are gathered in a vector that is used again.
-fn body_of(
-    alloc: Global,
+/// Adds the literals that are read, in order.
+fn add_each_read(
     atoms: &IndexSet<usize>,
     places: &[u32],
-    literals: &[(usize, bool)],
+    literals: &[(u32, bool)],
     read: &mut Vec<(u32, bool)>,
-) -> Result<Vec<(u32, bool)>, AllocError>
+) -> Result<(), AllocError>
     requires few { length atoms.now.keys < 4294967296 }
     requires places { ArePlaces atoms.now.keys places.now }
-    ensures { IfOk result (λ body. body.items ≡ readings_in atoms.now.keys literals.now) }
+    ensures { OnOk result (read.new.items ≡ read.old.items ++ readings_in atoms.now.keys literals.now) }
 {
-    read.clear();
     for literal in literals {
         add_read(atoms, places, read, *literal)?;
     }
-    Vec::from_slice(alloc, read)
+    Ok(())
 }
 
-/// The literals from one place up to another.
-fn literals_between(literals: &[(usize, bool)], start: usize, end: usize) -> &[(usize, bool)]
-    requires rises { start ≤ end }
-    requires within { end ≤ length literals.now }
-    ensures { result.now ≡ slice_range literals.now start end }
+/// Adds an instance with the numbers of its atoms in the place of those of their terms.
+fn add_renumbered(
+    atoms: &IndexSet<usize>,
+    places: &[u32],
+    found: &FoundList,
+    place: usize,
+    numbered: &mut FoundList,
+) -> Result<(), AllocError>
+    requires few { length atoms.now.keys < 4294967296 }
+    requires places { ArePlaces atoms.now.keys places.now }
+    requires found { AreLaid found.now }
+    requires place { place < length (numbers_of_list found.now) }
+    requires laid { AreLaid numbered.old }
+    ensures added { OnOk result ((d : Kept) → numbers_of_list numbered.new
+        ≡ numbers_of_list numbered.old ++ numbered_in atoms.now.keys (get_or (numbers_of_list found.now) place d) ∷ []) }
+    ensures laid { OnOk result (AreLaid numbered.new) }
 {
-    &literals[start..end]
+    let start = numbered.bodies.len();
+    add_each_read(atoms, places, found.body(place), &mut numbered.bodies)?;
+    let head = place_of(atoms, places, found.head(place) as usize);
+    let alternative = found.alternative(place);
+    push_instance(numbered, start, alternative as usize, head as usize)?;
+    Ok(())
 }
 
-/// The instances by the numbers of their atoms, where there are some number of terms. Each body has just the room that it
-/// needs.
-pub fn instances_of(
+/// Whether all literals are read.
+fn are_all_read(atoms: &IndexSet<usize>, places: &[u32], literals: &[(u32, bool)]) -> bool
+    requires few { length atoms.now.keys < 4294967296 }
+    requires places { ArePlaces atoms.now.keys places.now }
+    ensures { result ≡ list_all (is_read_in atoms.now.keys) literals.now }
+{
+    for literal in literals {
+        let place = place_of(atoms, places, literal.0 as usize);
+        if !is_read(atoms, *literal, place) {
+            return false;
+        }
+    }
+    true
+}
+
+/// Writes the numbers of atoms into literals, in the place of those of their terms.
+fn renumber_literals(atoms: &IndexSet<usize>, places: &[u32], literals: &mut Vec<(u32, bool)>)
+    requires few { length atoms.now.keys < 4294967296 }
+    requires places { ArePlaces atoms.now.keys places.now }
+    ensures { literals.new.items ≡ map (reading_in atoms.now.keys) literals.old.items }
+{
+    for i in 0..literals.len() {
+        let (term, negated) = literals[i];
+        literals[i] = (place_of(atoms, places, term as usize), negated);
+    }
+}
+
+/// Writes the numbers of atoms into heads, in the place of those of their terms.
+fn renumber_heads(atoms: &IndexSet<usize>, places: &[u32], entries: &mut Vec<Entry>)
+    requires few { length atoms.now.keys < 4294967296 }
+    requires places { ArePlaces atoms.now.keys places.now }
+    ensures { entries.new.items ≡ map (headed_in atoms.now.keys) entries.old.items }
+{
+    for i in 0..entries.len() {
+        entries[i].head = place_of(atoms, places, entries[i].head as usize);
+    }
+}
+
+/// The instances with the numbers of their atoms in the place of those of their terms, in lists of their own.
+fn renumbered_apart(
     alloc: Global,
     found: &FoundList,
     atoms: &IndexSet<usize>,
+    places: &[u32],
+) -> Result<FoundList, AllocError>
+    requires few { length atoms.now.keys < 4294967296 }
+    requires places { ArePlaces atoms.now.keys places.now }
+    requires found { AreLaid found.now }
+    ensures numbered { IfOk result (λ f. numbers_of_list f ≡ map (numbered_in atoms.now.keys) (numbers_of_list found.now)) }
+    ensures laid { IfOk result AreLaid }
+{
+    let mut numbered = FoundList::with_room(alloc, found.count(), found.bodies.len())?;
+    for place in 0..found.count() {
+        add_renumbered(atoms, places, found, place, &mut numbered)?;
+    }
+    Ok(numbered)
+}
+
+/// The instances with the numbers of their atoms in the place of those of their terms, where there are some number of terms. Where all
+/// literals are read they stay in their lists.
+pub fn renumbered(
+    alloc: Global,
+    found: FoundList,
+    atoms: &IndexSet<usize>,
     terms: usize,
-) -> Result<Vec<Instance>, AllocError>
-    requires atoms { length atoms.now.keys < 4294967296 }
-    requires places { HavePlacesBelow 4294967296 (numbers_of_list found.now) }
-    requires laid { IsFoundList found.now }
-    ensures { IfOk result (λ instances. map kept_of instances.items ≡ map (numbered_in atoms.now.keys) (numbers_of_list found.now)) }
+) -> Result<FoundList, AllocError>
+    requires few { length atoms.now.keys < 4294967296 }
+    requires found { AreLaid found }
+    ensures numbered { IfOk result (λ f. numbers_of_list f ≡ map (numbered_in atoms.now.keys) (numbers_of_list found)) }
+    ensures laid { IfOk result AreLaid }
 {
     let places = places_of(alloc, atoms.as_slice(), terms)?;
-    let mut instances = Vec::with_capacity(alloc, found.entries.len())?;
-    let mut read = Vec::new(alloc);
-    let mut start = 0;
-    for entry in &found.entries {
-        let literals = literals_between(&found.literals, start, entry.end);
-        let body = body_of(alloc, atoms, &places, literals, &mut read)?;
-        instances.push(Instance {
-            alternative: entry.alternative as u32,
-            head: place_of(atoms, &places, entry.head),
-            body,
-        })?;
-        start = entry.end;
+    if !are_all_read(atoms, &places, &found.bodies) {
+        return renumbered_apart(alloc, &found, atoms, &places);
     }
-    Ok(instances)
+    let mut found = found;
+    renumber_literals(atoms, &places, &mut found.bodies);
+    renumber_heads(atoms, &places, &mut found.entries);
+    Ok(found)
 }

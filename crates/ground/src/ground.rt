@@ -1,12 +1,11 @@
-// What an instantiation gives: the kept instances, and where their atoms stand in play.
-ghost use Rattle.std.specs.Prelude.{◌≡◌, length, map};
-ghost use Rattle.ground.specs.Grounds.{IsSomeGround, kept_of};
-ghost use Rattle.rules.specs.RuleSets.{texts_of};
+// What an instantiation gives.
+ghost use Rattle.std.specs.Prelude.{◌≡◌, map};
+ghost use Rattle.ground.specs.Grounds.{kept_of};
+ghost use Rattle.listing.specs.Founds.{numbers_of_list};
 
-use crate::atom_table::AtomTable;
-use meaning::Kind;
+use crate::flat_ground::FlatGround;
 
-/// A kept instance, by the numbers of its atoms.
+/// A kept instance.
 #[derive(Drop)]
 pub struct Instance {
     /// The place of its alternative, from 0.
@@ -18,19 +17,10 @@ pub struct Instance {
     pub body: Vec<(u32, bool)>,
 }
 
-/// The kept instances of a description, in order. Base propositions, and the inputs of each role, are numbered from 0 in
-/// printed order, roles from 0 in the order in which the items state them, and atoms from 0 by first appearance.
+/// The kept instances of a description, each by itself, with all that its flat lists tell.
 #[derive(Drop)]
 pub struct Ground {
-    pub(crate) roles: Vec<Vec<u8>>,
-    pub(crate) base: Vec<Vec<u8>>,
-    pub(crate) inputs: Vec<Vec<Vec<u8>>>,
-    pub(crate) starts: Vec<bool>,
-    pub(crate) kinds: Vec<Kind>,
+    pub(crate) flat: FlatGround,
     pub(crate) kept: Vec<Instance>,
-    pub(crate) dropped: usize,
-    pub(crate) atom_table: AtomTable,
-    pub ghost sound: { ∥ IsSomeGround (texts_of roles.items) (texts_of base.items) (map (λ v. texts_of v.items) inputs.items) starts.items kinds.items
-        (map kept_of kept.items) dropped ∥₁ },
-    pub ghost beside: { length kinds.items ≡ length atom_table },
+    pub ghost same: { map kept_of kept.items ≡ numbers_of_list flat.kept },
 }

@@ -5,6 +5,8 @@
 mod atom_table;
 mod finishing;
 mod finishing_laws;
+mod flat_ground;
+mod flat_view;
 mod ground;
 mod ground_laws;
 mod ground_view;
@@ -14,11 +16,12 @@ mod most;
 mod parts_of_ground;
 mod tables;
 
-pub use finishing::instances_of;
+pub use finishing::renumbered;
 pub use finishing_laws::the_last_pass_is_the_definition;
+pub use flat_ground::FlatGround;
 pub use ground::{Ground, Instance};
 pub use ground_laws::a_ground_fits_together;
-pub use instantiating::instantiate;
+pub use instantiating::{instantiate, instantiate_alone, instantiate_flat, instantiate_flat_alone};
 pub use listing::{
     GroundFault, kept_instances_are_those_of_rows, the_context_step_is_the_definition,
 };

@@ -5,13 +5,10 @@ ghost use Rattle.listing.specs.AllListed.{IsAllListed};
 ghost use Rattle.ground.specs.Parts.{ArePartsOf};
 ghost use Rattle.terms.specs.Vectors.{items_of};
 ghost use Rattle.listing.specs.Contexts.{terms_named};
-ghost use Rattle.listing.specs.Founds.{IsFoundList, numbers_of_list};
-ghost use Rattle.ground.specs.Grounds.{kept_of};
+ghost use Rattle.listing.specs.Founds.{numbers_of_list};
 ghost use Rattle.meaning.specs.Limits.{excess_in};
 ghost use Rattle.listing.specs.SetWords.{words_of};
 
-use crate::finishing::instances_of;
-use crate::ground::Instance;
 use crate::kinds_of_atoms::kinds_of_atoms;
 use crate::tables::Tables;
 use listing::Listed;
@@ -20,13 +17,11 @@ use rules::RuleSet;
 use std::alloc::{AllocError, Global};
 use terms::{count_dropped, starts_of};
 
-/// Which base propositions hold at the start, where the atoms stand in play, the kept instances, and how many
-/// atoms have no effect on play.
+/// Which base propositions hold at the start, where the atoms stand in play, and how many atoms have no effect on play.
 #[derive(Drop)]
 pub struct Parts {
     pub starts: Vec<bool>,
     pub kinds: Vec<Kind>,
-    pub kept: Vec<Instance>,
     pub dropped: usize,
 }
 
@@ -40,12 +35,11 @@ pub fn parts_of(
     requires listed { IsAllListed (rules_in rules.now) (words_of rules.now) listed.now.arena listed.now.atoms.keys
         (numbers_of_list listed.now.found) listed.now.fixed_atoms
         listed.now.context.roles.items listed.now.context.base.items (items_of listed.now.context.inputs.items) }
-    requires laid { IsFoundList listed.now.found }
     requires within { excess_in (rules_in rules.now) ≡ None }
     requires roles { tables.now.roles.keys ≡ terms_named listed.now.context.roles.items }
     requires base { tables.now.base.keys ≡ terms_named listed.now.context.base.items }
     requires inputs { map (λ s. s.keys) tables.now.inputs.items ≡ map terms_named (items_of listed.now.context.inputs.items) }
-    ensures { IfOk result (λ p. ArePartsOf (rules_in rules.now) p.starts.items p.kinds.items (map kept_of p.kept.items) p.dropped) }
+    ensures { IfOk result (λ p. ArePartsOf (rules_in rules.now) p.starts.items p.kinds.items p.dropped) }
 {
     let words = rules.keywords();
     let bases = tables.base.as_slice();
@@ -59,7 +53,6 @@ pub fn parts_of(
         listed.fixed_atoms,
         tables,
     )?;
-    let kept = instances_of(alloc, &listed.found, &listed.atoms, listed.arena.len())?;
     let dropped = count_dropped(
         &listed.arena,
         words,
@@ -71,7 +64,6 @@ pub fn parts_of(
     Ok(Parts {
         starts,
         kinds,
-        kept,
         dropped,
     })
 }

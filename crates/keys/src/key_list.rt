@@ -1,5 +1,5 @@
 // Lists of numbers, kept one behind the other.
-ghost use Rattle.std.specs.Prelude.{◌≡◌, ◌<◌, ◌≤◌, ◌++◌, ◌∷◌, [], length, take, slice_index, slice_range, OnOk, OnErr};
+ghost use Rattle.std.specs.Prelude.{◌≡◌, ◌<◌, ◌≤◌, ◌++◌, ◌∷◌, [], length, take, slice_index, slice_range, IfOk, OnOk, OnErr};
 ghost use Rattle.keys.specs.KeyLists.{key_at};
 
 use std::alloc::{AllocError, Global};
@@ -61,6 +61,16 @@ impl KeyList {
             numbers: Vec::new(alloc),
             ends: Vec::new(alloc),
         }
+    }
+
+    /// No lists yet, with room for so many, and for so many numbers in all. Room takes no pages of memory before it is used.
+    pub fn with_room(alloc: Global, lists: usize, numbers: usize) -> Result<Self, AllocError>
+        ensures { IfOk result (λ k. k ≡ []) }
+    {
+        Ok(KeyList {
+            numbers: Vec::with_capacity(alloc, numbers)?,
+            ends: Vec::with_capacity(alloc, lists)?,
+        })
     }
 
     /// How many lists there are.

@@ -12,4 +12,6 @@ mod Stays
 mod OwnTurns
 mod Runs
 mod Ends
+mod Orders
+mod Packs
 pub mod Facts

@@ -73,7 +73,7 @@ picks_single (xs ∷ rest) (x ∷ j) size each =
     let below : picks rest ≡ j ∷ [] = picks_single rest j (omega arith) (λ q lt. each (suc q) (omega arith)) in
     rw (here, below) refl
 
-one_element : (xs : List ℕ) (k : ℕ) → k < length xs → length xs ≤ 1 → xs ≡ get_or xs k 0 ∷ []
+pub one_element : (xs : List ℕ) (k : ℕ) → k < length xs → length xs ≤ 1 → xs ≡ get_or xs k 0 ∷ []
 one_element [] k inside few = absurd (omega arith)
 one_element (x ∷ []) zero inside few = refl
 one_element (x ∷ []) (suc k) inside few = absurd (omega arith)

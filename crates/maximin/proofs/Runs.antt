@@ -82,7 +82,7 @@ least_worth_reached worth states some =
     let inside : top.0 < length states = omega (arith, top.1) in
     (top.0, inside, rw (get_or-map worth states top.0 [] 0 inside) at top.2)
 
-least_joined : (xs ys : List ℕ) → 0 < length xs → 0 < length ys → least (xs ++ ys) ≡ min (least xs) (least ys)
+pub least_joined : (xs ys : List ℕ) → 0 < length xs → 0 < length ys → least (xs ++ ys) ≡ min (least xs) (least ys)
 least_joined [] ys some more = absurd (omega arith)
 least_joined (x ∷ []) [] some more = absurd (omega arith)
 least_joined (x ∷ []) (y ∷ ys) some more = refl

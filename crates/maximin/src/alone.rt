@@ -36,7 +36,7 @@ fn write_own(from: &Joint, role: usize, own: u32, to: &mut Joint)
 }
 
 /// Writes a joint move, with this move in the place of a role, behind those of the run.
-fn add_own(joint: &Joint, role: usize, own: u32, run: &mut Run)
+pub fn add_own(joint: &Joint, role: usize, own: u32, run: &mut Run)
     requires room { run.old.count < 64 }
     requires role { role < small_vec_len joint.now }
     requires run { IsRunOf (small_vec_len joint.now) run.old }

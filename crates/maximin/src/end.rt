@@ -1,5 +1,5 @@
 // The last turn, where all that counts is whether the game ends in it.
-ghost use Rattle.std.specs.Prelude.{◌≡◌, ◌<◌, ◌≤◌, pos, true, [], All, length, map, get_or};
+ghost use Rattle.std.specs.Prelude.{◌≡◌, ◌+◌, ◌<◌, ◌≤◌, pos, true, [], All, length, map, max, min, take, drop, get_or};
 ghost use Rattle.game.specs.declared.at_bound.AtBound.TheVariants.{Zero};
 ghost use Rattle.game.specs.Rules.{IsTurn};
 ghost use Rattle.game.specs.Value.{Answers, greatest, least, value};
@@ -34,6 +34,18 @@ pub fn judge_last<G: Game>(
     }
 }
 
+/// The goal value in one of the judged states, or 0 where the game has not ended there: what the state is worth.
+fn judged_goal<G: Game>(game: &G, wide: &G::Wide, place: usize, asked: Asked) -> u8
+    requires wide { G.fits_wide game.now wide.now }
+    requires place { place < length (G.judged game.now wide.now) }
+    requires role { asked.role < (G.rules game.now).roles }
+    requires depth { asked.depth ≡ 0 }
+    requires bound { asked.at ≡ Zero }
+    ensures { result ≡ value (G.rules game.now) asked.role asked.depth asked.at (get_or (G.judged game.now wide.now) place []) }
+{
+    game.verdict(wide, place, asked.role).unwrap_or(0)
+}
+
 /// What one of the judged states is worth.
 fn judged_worth<G: Game>(game: &G, wide: &G::Wide, place: usize, asked: Asked) -> i16
     requires wide { G.fits_wide game.now wide.now }
@@ -44,7 +56,7 @@ fn judged_worth<G: Game>(game: &G, wide: &G::Wide, place: usize, asked: Asked) -
     ensures { result ≡ pos
         (value (G.rules game.now) asked.role asked.depth asked.at (get_or (G.judged game.now wide.now) place [])) }
 {
-    i16::from(game.verdict(wide, place, asked.role).unwrap_or(0))
+    i16::from(judged_goal(game, wide, place, asked))
 }
 
 /// The least value of the judged states, within a window.
@@ -99,4 +111,61 @@ pub fn greatest_judged<G: Game>(
         }
     }
     lower
+}
+
+/// The lesser of two goal values.
+fn lesser(goal: u8, other: u8) -> u8
+    ensures { result ≡ min goal other }
+{
+    goal.min(other)
+}
+
+/// The greater of two goal values.
+fn greater(goal: u8, other: u8) -> u8
+    ensures { result ≡ max goal other }
+{
+    goal.max(other)
+}
+
+/// The least value of some of the judged states, which stand one behind the other.
+pub fn least_of<G: Game>(game: &G, wide: &G::Wide, first: usize, count: usize, asked: Asked) -> u8
+    requires wide { G.fits_wide game.now wide.now }
+    requires some { 0 < count }
+    requires few { length (G.judged game.now wide.now) ≤ 64 }
+    requires within { first + count ≤ length (G.judged game.now wide.now) }
+    requires role { asked.role < (G.rules game.now).roles }
+    requires depth { asked.depth ≡ 0 }
+    requires bound { asked.at ≡ Zero }
+    ensures { result ≡ least (map (value (G.rules game.now) asked.role asked.depth asked.at)
+        (take count (drop first (G.judged game.now wide.now)))) }
+{
+    let mut lowest = judged_goal(game, wide, first, asked);
+    for place in 1..count {
+        lowest = lesser(lowest, judged_goal(game, wide, first + place, asked));
+    }
+    lowest
+}
+
+/// The greatest value of some of the judged states, which stand one behind the other.
+pub fn greatest_of<G: Game>(
+    game: &G,
+    wide: &G::Wide,
+    first: usize,
+    count: usize,
+    asked: Asked,
+) -> u8
+    requires wide { G.fits_wide game.now wide.now }
+    requires few { length (G.judged game.now wide.now) ≤ 64 }
+    requires within { first + count ≤ length (G.judged game.now wide.now) }
+    requires role { asked.role < (G.rules game.now).roles }
+    requires depth { asked.depth ≡ 0 }
+    requires bound { asked.at ≡ Zero }
+    ensures { result ≡ greatest (map (value (G.rules game.now) asked.role asked.depth asked.at)
+        (take count (drop first (G.judged game.now wide.now)))) }
+{
+    let mut highest = 0;
+    for place in 0..count {
+        highest = greater(highest, judged_goal(game, wide, first + place, asked));
+    }
+    highest
 }

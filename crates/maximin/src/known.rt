@@ -3,10 +3,12 @@ ghost use Rattle.std.specs.Prelude.{◌≡◌, ◌<◌, ◌≤◌, pos, false, S
 ghost use Rattle.game.specs.Rules.{is_stuck as stuck};
 ghost use Rattle.game.specs.Value.{choice_of, reply_of, value, worst};
 ghost use Rattle.maximin.specs.Level.{IsLevelOf, all_capacities};
+ghost use Rattle.maximin.specs.Tools.{tools_capacities};
 
 use crate::cursor::{next_turn, start_turns, write_joint};
 use crate::level::Level;
 use crate::search::{Asked, value_within, worst_at};
+use crate::tools::Tools;
 use game::{Game, Joint, is_stuck};
 
 /// The first move of the role that attains the value of the state, which is `worth`. A move that has no other behind it attains it
@@ -16,18 +18,18 @@ pub fn choice_worth<G: Game>(
     from: &G::Pos,
     asked: Asked,
     worth: i16,
-    wide: &mut G::Wide,
+    tools: &mut Tools<G::Wide>,
     levels: &mut [Level<G::Pos, G::Many>],
 ) -> Option<u32>
     requires fits { G.fits game.now from.now }
     requires role { asked.role < (G.rules game.now).roles }
     requires deep { asked.depth ≤ length levels.old }
     requires worth { worth ≡ pos (value (G.rules game.now) asked.role asked.depth asked.at (G.state game.now from.now)) }
-    requires wide { G.fits_wide game.now wide.old }
+    requires wide { G.fits_wide game.now tools.old.wide }
     requires levels { All (IsLevelOf (G.fits game.now) (G.fits_many game.now) (G.rules game.now).roles) levels.old }
     ensures choice { result ≡ choice_of (G.rules game.now) asked.role asked.depth asked.at (G.state game.now from.now) }
-    ensures wide { G.fits_wide game.now wide.new }
-    ensures wide_capacities { G.wide_capacities game.now wide.new ≡ G.wide_capacities game.now wide.old }
+    ensures wide { G.fits_wide game.now tools.new.wide }
+    ensures tools_capacities { tools_capacities (G.wide_capacities game.now) tools.new ≡ tools_capacities (G.wide_capacities game.now) tools.old }
     ensures levels { All (IsLevelOf (G.fits game.now) (G.fits_many game.now) (G.rules game.now).roles) levels.new }
     ensures capacities { all_capacities (G.capacities game.now) (G.many_capacities game.now) levels.new
         ≡ all_capacities (G.capacities game.now) (G.many_capacities game.now) levels.old }
@@ -46,7 +48,7 @@ pub fn choice_worth<G: Game>(
     let mut own = first?;
     let mut place = 0;
     while let Some(further) = game.legal(from, asked.role, place + 1) {
-        if worst_at(game, from, next, own, worth - 1, worth, wide, levels) >= worth {
+        if worst_at(game, from, next, own, worth - 1, worth, tools, levels) >= worth {
             return Some(own);
         }
         own = further;
@@ -63,7 +65,7 @@ pub fn reply_worth<G: Game>(
     asked: Asked,
     own: u32,
     worth: i16,
-    wide: &mut G::Wide,
+    tools: &mut Tools<G::Wide>,
     levels: &mut [Level<G::Pos, G::Many>],
     out: &mut Joint,
 )
@@ -73,13 +75,13 @@ pub fn reply_worth<G: Game>(
     requires open { stuck (G.rules game.now) (G.state game.now from.now) ≡ false }
     requires deep { asked.depth < length levels.old }
     requires worth { worth ≡ pos (worst (G.rules game.now) asked.role asked.depth asked.at (G.state game.now from.now) own) }
-    requires wide { G.fits_wide game.now wide.old }
+    requires wide { G.fits_wide game.now tools.old.wide }
     requires levels { All (IsLevelOf (G.fits game.now) (G.fits_many game.now) (G.rules game.now).roles) levels.old }
     requires out { (G.rules game.now).roles ≤ out.old.capacity }
     ensures reply { reply_of (G.rules game.now) asked.role asked.depth asked.at (G.state game.now from.now) own ≡ Some out.new.items }
     ensures out { out.new.capacity ≡ out.old.capacity }
-    ensures wide { G.fits_wide game.now wide.new }
-    ensures wide_capacities { G.wide_capacities game.now wide.new ≡ G.wide_capacities game.now wide.old }
+    ensures wide { G.fits_wide game.now tools.new.wide }
+    ensures tools_capacities { tools_capacities (G.wide_capacities game.now) tools.new ≡ tools_capacities (G.wide_capacities game.now) tools.old }
     ensures levels { All (IsLevelOf (G.fits game.now) (G.fits_many game.now) (G.rules game.now).roles) levels.new }
     ensures capacities { all_capacities (G.capacities game.now) (G.many_capacities game.now) levels.new
         ≡ all_capacities (G.capacities game.now) (G.many_capacities game.now) levels.old }
@@ -93,7 +95,7 @@ pub fn reply_worth<G: Game>(
             return;
         }
         game.step(from, out, &mut level.position);
-        if value_within(game, &level.position, asked, worth, worth + 1, wide, rest) <= worth {
+        if value_within(game, &level.position, asked, worth, worth + 1, tools, rest) <= worth {
             return;
         }
     }

@@ -7,14 +7,15 @@ ghost use Rattle.maximin.specs.Room.{IsRoomOf, room_depth, room_capacities};
 use crate::known::{choice_worth, reply_worth};
 use crate::level::{Level, new_level};
 use crate::search::{Asked, choice_at, reply_at, value_within};
+use crate::tools::{Tools, new_tools};
 use game::{AtBound, Game, Joint};
 use std::alloc::{AllocError, Global};
 
-/// All the memory of a search: room to step many joint moves at once, and for each turn that it looks ahead a run of joint moves, the
-/// states after them, and one state.
+/// All the memory of a search: room to step many joint moves at once, what is remembered of moves, and for each turn that it looks
+/// ahead a run of joint moves, the states after them, and one state.
 #[derive(Drop)]
 pub struct Room<G: Game> {
-    wide: G::Wide,
+    tools: Tools<G::Wide>,
     levels: Vec<Level<G::Pos, G::Many>>,
 }
 
@@ -28,8 +29,8 @@ impl<G: Game> Room<G> {
         for _ in 0..depth {
             levels.push(new_level(alloc, g)?)?;
         }
-        let wide = g.new_wide()?;
-        Ok(Room { wide, levels })
+        let tools = new_tools(alloc, g)?;
+        Ok(Room { tools, levels })
     }
 }
 
@@ -66,7 +67,7 @@ pub fn value_in<G: Game>(
         at,
     };
     let levels = room.levels.as_mut_slice();
-    value_within(g, p, asked, a, b, &mut room.wide, levels)
+    value_within(g, p, asked, a, b, &mut room.tools, levels)
 }
 
 /// The first legal move of the role, in printed order, that attains the value of the state. There is none where the game has ended,
@@ -95,7 +96,7 @@ pub fn choice<G: Game>(
         at,
     };
     let levels = room.levels.as_mut_slice();
-    choice_at(g, p, asked, &mut room.wide, levels)
+    choice_at(g, p, asked, &mut room.tools, levels)
 }
 
 /// The same as `choice`, where it is known that the value of the state is `worth`: each move is searched for whether it attains that,
@@ -126,7 +127,7 @@ pub fn choice_by_value<G: Game>(
         at,
     };
     let levels = room.levels.as_mut_slice();
-    choice_worth(g, p, asked, worth, &mut room.wide, levels)
+    choice_worth(g, p, asked, worth, &mut room.tools, levels)
 }
 
 /// Writes the first joint legal move that leaves the least value where the role plays `own`, which stands in its place. Joint moves are
@@ -163,7 +164,7 @@ pub fn first_reply<G: Game>(
         at,
     };
     let levels = room.levels.as_mut_slice();
-    reply_at(g, p, asked, own, &mut room.wide, levels, out)
+    reply_at(g, p, asked, own, &mut room.tools, levels, out)
 }
 
 /// The same as `first_reply`, where it is known that the least value that `own` leaves is `worth`: each joint move is searched for
@@ -202,5 +203,5 @@ pub fn reply_by_value<G: Game>(
         at,
     };
     let levels = room.levels.as_mut_slice();
-    reply_worth(g, p, asked, own, worth, &mut room.wide, levels, out)
+    reply_worth(g, p, asked, own, worth, &mut room.tools, levels, out)
 }

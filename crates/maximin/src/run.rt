@@ -35,7 +35,7 @@ pub fn new_run(alloc: Global, roles: usize) -> Result<Run, AllocError>
 }
 
 /// Writes a joint move behind those of the run.
-fn add_turn(joint: &Joint, run: &mut Run)
+pub fn add_turn(joint: &Joint, run: &mut Run)
     requires room { run.old.count < 64 }
     requires run { IsRunOf (small_vec_len joint.now) run.old }
     ensures run { IsRunOf (small_vec_len joint.now) run.new }

@@ -3,16 +3,22 @@ ghost use Rattle.std.specs.Prelude.{◌≡◌, ◌<◌, ◌≤◌, ◌<ℤ◌, �
 ghost use Rattle.game.specs.AtBound.{bound_worth};
 ghost use Rattle.game.specs.Rules.{is_stuck as stuck, IsTurn};
 ghost use Rattle.game.specs.Value.{Answers, choice_of, greatest, least, reply_of, value, worst};
+ghost use Rattle.maximin.specs.Ahead.{IsAheadOf};
 ghost use Rattle.maximin.specs.Alone.{IsAlone};
 ghost use Rattle.maximin.specs.Level.{IsLevelOf, level_capacities, all_capacities};
 ghost use Rattle.maximin.specs.Run.{turns_in};
+ghost use Rattle.maximin.specs.Tools.{tools_capacities};
 
+use crate::ahead::{Ahead, look_ahead, new_ahead};
 use crate::alone::{gather_own, is_alone};
 use crate::cursor::{next_turn, start_turns, write_joint};
 use crate::end::{greatest_judged, judge_last, least_judged};
+use crate::history::Movers;
 use crate::level::Level;
+use crate::order::order_of;
 use crate::run::{LONGEST_RUN, gather};
 use crate::told::{greatest_told, least_told, told_worth};
+use crate::tools::Tools;
 use game::{AtBound, Game, Joint, is_stuck};
 
 /// What is asked of a state: what a role can be sure of within some turns.
@@ -44,20 +50,20 @@ fn value_at<G: Game>(
     asked: Asked,
     a: i16,
     b: i16,
-    wide: &mut G::Wide,
+    tools: &mut Tools<G::Wide>,
     levels: &mut [Level<G::Pos, G::Many>],
 ) -> i16
     requires fits { G.fits game.now from.now }
     requires role { asked.role < (G.rules game.now).roles }
     requires deep { asked.depth ≤ length levels.old }
-    requires wide { G.fits_wide game.now wide.old }
+    requires wide { G.fits_wide game.now tools.old.wide }
     requires levels { All (IsLevelOf (G.fits game.now) (G.fits_many game.now) (G.rules game.now).roles) levels.old }
     requires low { negsuc 1 ≤ℤ a }
     requires order { a <ℤ b }
     requires high { b ≤ℤ pos 101 }
     ensures answers { Answers (value (G.rules game.now) asked.role asked.depth asked.at (G.state game.now from.now)) a b result }
-    ensures wide { G.fits_wide game.now wide.new }
-    ensures wide_capacities { G.wide_capacities game.now wide.new ≡ G.wide_capacities game.now wide.old }
+    ensures wide { G.fits_wide game.now tools.new.wide }
+    ensures tools_capacities { tools_capacities (G.wide_capacities game.now) tools.new ≡ tools_capacities (G.wide_capacities game.now) tools.old }
     ensures levels { All (IsLevelOf (G.fits game.now) (G.fits_many game.now) (G.rules game.now).roles) levels.new }
     ensures capacities { all_capacities (G.capacities game.now) (G.many_capacities game.now) levels.new
         ≡ all_capacities (G.capacities game.now) (G.many_capacities game.now) levels.old }
@@ -76,12 +82,12 @@ fn value_at<G: Game>(
         ..asked
     };
     if is_alone(game, from, asked.role) {
-        return best_at(game, from, next, a, b, wide, levels);
+        return best_at(game, from, next, a, b, tools, levels);
     }
     let mut best = a;
     let mut place = 0;
     while let Some(own) = game.legal(from, asked.role, place) {
-        best = best.max(worst_at(game, from, next, own, best, b, wide, levels));
+        best = best.max(worst_at(game, from, next, own, best, b, tools, levels));
         if best >= b {
             return best;
         }
@@ -99,7 +105,7 @@ pub fn worst_at<G: Game>(
     own: u32,
     a: i16,
     b: i16,
-    wide: &mut G::Wide,
+    tools: &mut Tools<G::Wide>,
     levels: &mut [Level<G::Pos, G::Many>],
 ) -> i16
     requires fits { G.fits game.now from.now }
@@ -107,14 +113,14 @@ pub fn worst_at<G: Game>(
     requires own { own < (G.rules game.now).moves asked.role }
     requires open { stuck (G.rules game.now) (G.state game.now from.now) ≡ false }
     requires deep { asked.depth < length levels.old }
-    requires wide { G.fits_wide game.now wide.old }
+    requires wide { G.fits_wide game.now tools.old.wide }
     requires levels { All (IsLevelOf (G.fits game.now) (G.fits_many game.now) (G.rules game.now).roles) levels.old }
     requires low { negsuc 1 ≤ℤ a }
     requires order { a <ℤ b }
     requires high { b ≤ℤ pos 101 }
     ensures answers { Answers (worst (G.rules game.now) asked.role asked.depth asked.at (G.state game.now from.now) own) a b result }
-    ensures wide { G.fits_wide game.now wide.new }
-    ensures wide_capacities { G.wide_capacities game.now wide.new ≡ G.wide_capacities game.now wide.old }
+    ensures wide { G.fits_wide game.now tools.new.wide }
+    ensures tools_capacities { tools_capacities (G.wide_capacities game.now) tools.new ≡ tools_capacities (G.wide_capacities game.now) tools.old }
     ensures levels { All (IsLevelOf (G.fits game.now) (G.fits_many game.now) (G.rules game.now).roles) levels.new }
     ensures capacities { all_capacities (G.capacities game.now) (G.many_capacities game.now) levels.new
         ≡ all_capacities (G.capacities game.now) (G.many_capacities game.now) levels.old }
@@ -134,7 +140,7 @@ pub fn worst_at<G: Game>(
             most,
             &mut level.run,
         );
-        let least = least_after(game, from, asked, a, upper, wide, level, rest);
+        let least = least_after(game, from, asked, a, upper, tools, level, rest);
         upper = upper.min(least);
         if upper <= a || !more {
             return upper;
@@ -151,14 +157,14 @@ fn least_after<G: Game>(
     asked: Asked,
     a: i16,
     b: i16,
-    wide: &mut G::Wide,
+    tools: &mut Tools<G::Wide>,
     level: &mut Level<G::Pos, G::Many>,
     levels: &mut [Level<G::Pos, G::Many>],
 ) -> i16
     requires fits { G.fits game.now from.now }
     requires role { asked.role < (G.rules game.now).roles }
     requires deep { asked.depth ≤ length levels.old }
-    requires wide { G.fits_wide game.now wide.old }
+    requires wide { G.fits_wide game.now tools.old.wide }
     requires some { 0 < level.old.run.count }
     requires known { All (IsTurn (G.rules game.now)) (turns_in level.old.run) }
     requires level { IsLevelOf (G.fits game.now) (G.fits_many game.now) (G.rules game.now).roles level.old }
@@ -168,8 +174,8 @@ fn least_after<G: Game>(
     requires high { b ≤ℤ pos 101 }
     ensures answers { Answers (least (map (λ j. value (G.rules game.now) asked.role asked.depth asked.at
         ((G.rules game.now).after (G.state game.now from.now) j)) (turns_in level.old.run))) a b result }
-    ensures wide { G.fits_wide game.now wide.new }
-    ensures wide_capacities { G.wide_capacities game.now wide.new ≡ G.wide_capacities game.now wide.old }
+    ensures wide { G.fits_wide game.now tools.new.wide }
+    ensures tools_capacities { tools_capacities (G.wide_capacities game.now) tools.new ≡ tools_capacities (G.wide_capacities game.now) tools.old }
     ensures cursor { level.new.cursor ≡ level.old.cursor }
     ensures level { IsLevelOf (G.fits game.now) (G.fits_many game.now) (G.rules game.now).roles level.new }
     ensures level_capacities { level_capacities (G.capacities game.now) (G.many_capacities game.now) level.new
@@ -180,18 +186,18 @@ fn least_after<G: Game>(
 {
     let count = level.run.count;
     let joints = &level.run.joints[..count];
-    if judge_last(game, from, joints, asked, wide) {
-        return least_judged(game, wide, count, asked, a, b);
+    if judge_last(game, from, joints, asked, &mut tools.wide) {
+        return least_judged(game, &tools.wide, count, asked, a, b);
     }
-    game.steps(from, joints, wide, &mut level.many);
+    game.steps(from, joints, &mut tools.wide, &mut level.many);
     least_at(
         game,
+        joints,
         &level.many,
-        count,
         asked,
         a,
         b,
-        wide,
+        tools,
         &mut level.position,
         levels,
     )
@@ -206,77 +212,94 @@ fn child_at<G: Game>(
     asked: Asked,
     a: i16,
     b: i16,
-    wide: &mut G::Wide,
+    tools: &mut Tools<G::Wide>,
     position: &mut G::Pos,
     levels: &mut [Level<G::Pos, G::Many>],
+    ahead: &mut Ahead,
 ) -> i16
     requires many { G.fits_many game.now many.now }
     requires place { place < length (G.states game.now many.now) }
     requires role { asked.role < (G.rules game.now).roles }
     requires deep { asked.depth ≤ length levels.old }
-    requires wide { G.fits_wide game.now wide.old }
+    requires wide { G.fits_wide game.now tools.old.wide }
     requires position { G.fits game.now position.old }
     requires levels { All (IsLevelOf (G.fits game.now) (G.fits_many game.now) (G.rules game.now).roles) levels.old }
+    requires ahead { IsAheadOf (G.states game.now many.now) (value (G.rules game.now) asked.role asked.depth asked.at) ahead.old }
     requires low { negsuc 1 ≤ℤ a }
     requires order { a <ℤ b }
     requires high { b ≤ℤ pos 101 }
     ensures answers { Answers (value (G.rules game.now) asked.role asked.depth asked.at (get_or (G.states game.now many.now) place [])) a b result }
-    ensures wide { G.fits_wide game.now wide.new }
-    ensures wide_capacities { G.wide_capacities game.now wide.new ≡ G.wide_capacities game.now wide.old }
+    ensures wide { G.fits_wide game.now tools.new.wide }
+    ensures tools_capacities { tools_capacities (G.wide_capacities game.now) tools.new ≡ tools_capacities (G.wide_capacities game.now) tools.old }
     ensures position { G.fits game.now position.new }
     ensures position_capacities { G.capacities game.now position.new ≡ G.capacities game.now position.old }
     ensures levels { All (IsLevelOf (G.fits game.now) (G.fits_many game.now) (G.rules game.now).roles) levels.new }
     ensures capacities { all_capacities (G.capacities game.now) (G.many_capacities game.now) levels.new
         ≡ all_capacities (G.capacities game.now) (G.many_capacities game.now) levels.old }
+    ensures ahead { IsAheadOf (G.states game.now many.now) (value (G.rules game.now) asked.role asked.depth asked.at) ahead.new }
 {
     if let Some(worth) = told_worth(game, many, place, asked) {
         return worth;
     }
+    look_ahead(game, many, place, asked, tools, levels, ahead);
+    if let Some(worth) = ahead.worths[place] {
+        return i16::from(worth);
+    }
     game.take(many, place, position);
-    value_at(game, position, asked, a, b, wide, levels)
+    value_at(game, position, asked, a, b, tools, levels)
 }
 
 /// The least value of some states, within a window.
 #[cycle(search)]
 fn least_at<G: Game>(
     game: &G,
+    joints: &[Joint],
     many: &G::Many,
-    count: usize,
     asked: Asked,
     a: i16,
     b: i16,
-    wide: &mut G::Wide,
+    tools: &mut Tools<G::Wide>,
     position: &mut G::Pos,
     levels: &mut [Level<G::Pos, G::Many>],
 ) -> i16
     requires many { G.fits_many game.now many.now }
-    requires count { count ≡ length (G.states game.now many.now) }
-    requires some { 0 < count }
+    requires count { length joints.now ≡ length (G.states game.now many.now) }
+    requires some { 0 < length joints.now }
+    requires few { length joints.now ≤ 64 }
     requires role { asked.role < (G.rules game.now).roles }
     requires deep { asked.depth ≤ length levels.old }
-    requires wide { G.fits_wide game.now wide.old }
+    requires wide { G.fits_wide game.now tools.old.wide }
     requires position { G.fits game.now position.old }
     requires levels { All (IsLevelOf (G.fits game.now) (G.fits_many game.now) (G.rules game.now).roles) levels.old }
     requires low { negsuc 1 ≤ℤ a }
     requires order { a <ℤ b }
     requires high { b ≤ℤ pos 101 }
     ensures answers { Answers (least (map (value (G.rules game.now) asked.role asked.depth asked.at) (G.states game.now many.now))) a b result }
-    ensures wide { G.fits_wide game.now wide.new }
-    ensures wide_capacities { G.wide_capacities game.now wide.new ≡ G.wide_capacities game.now wide.old }
+    ensures wide { G.fits_wide game.now tools.new.wide }
+    ensures tools_capacities { tools_capacities (G.wide_capacities game.now) tools.new ≡ tools_capacities (G.wide_capacities game.now) tools.old }
     ensures position { G.fits game.now position.new }
     ensures position_capacities { G.capacities game.now position.new ≡ G.capacities game.now position.old }
     ensures levels { All (IsLevelOf (G.fits game.now) (G.fits_many game.now) (G.rules game.now).roles) levels.new }
     ensures capacities { all_capacities (G.capacities game.now) (G.many_capacities game.now) levels.new
         ≡ all_capacities (G.capacities game.now) (G.many_capacities game.now) levels.old }
 {
+    let count = joints.len();
     let mut upper = least_told(game, many, count, asked, b);
     if upper <= a {
         return upper;
     }
+    let mut ahead = new_ahead(count);
+    let order = order_of(&tools.history, joints, asked.depth);
     for place in 0..count {
-        let worth = child_at(game, many, place, asked, a, upper, wide, position, levels);
+        let child = order[place];
+        let worth = child_at(
+            game, many, child, asked, a, upper, tools, position, levels, &mut ahead,
+        );
         upper = upper.min(worth);
         if upper <= a {
+            tools
+                .history
+                .note_cut(&joints[child], Movers::Others(asked.role), asked.depth);
             return upper;
         }
     }
@@ -291,7 +314,7 @@ fn best_at<G: Game>(
     asked: Asked,
     a: i16,
     b: i16,
-    wide: &mut G::Wide,
+    tools: &mut Tools<G::Wide>,
     levels: &mut [Level<G::Pos, G::Many>],
 ) -> i16
     requires fits { G.fits game.now from.now }
@@ -299,15 +322,15 @@ fn best_at<G: Game>(
     requires open { stuck (G.rules game.now) (G.state game.now from.now) ≡ false }
     requires alone { IsAlone (G.rules game.now) (G.state game.now from.now) asked.role }
     requires deep { asked.depth < length levels.old }
-    requires wide { G.fits_wide game.now wide.old }
+    requires wide { G.fits_wide game.now tools.old.wide }
     requires levels { All (IsLevelOf (G.fits game.now) (G.fits_many game.now) (G.rules game.now).roles) levels.old }
     requires low { negsuc 1 ≤ℤ a }
     requires order { a <ℤ b }
     requires high { b ≤ℤ pos 101 }
     ensures answers { Answers (greatest (map (worst (G.rules game.now) asked.role asked.depth asked.at (G.state game.now from.now))
         ((G.rules game.now).legal (G.state game.now from.now) asked.role))) a b result }
-    ensures wide { G.fits_wide game.now wide.new }
-    ensures wide_capacities { G.wide_capacities game.now wide.new ≡ G.wide_capacities game.now wide.old }
+    ensures wide { G.fits_wide game.now tools.new.wide }
+    ensures tools_capacities { tools_capacities (G.wide_capacities game.now) tools.new ≡ tools_capacities (G.wide_capacities game.now) tools.old }
     ensures levels { All (IsLevelOf (G.fits game.now) (G.fits_many game.now) (G.rules game.now).roles) levels.new }
     ensures capacities { all_capacities (G.capacities game.now) (G.many_capacities game.now) levels.new
         ≡ all_capacities (G.capacities game.now) (G.many_capacities game.now) levels.old }
@@ -332,7 +355,7 @@ fn best_at<G: Game>(
         if count == 0 {
             return best;
         }
-        let greatest = greatest_after(game, from, asked, best, b, wide, level, rest);
+        let greatest = greatest_after(game, from, asked, best, b, tools, level, rest);
         best = best.max(greatest);
         if best >= b {
             return best;
@@ -350,14 +373,14 @@ fn greatest_after<G: Game>(
     asked: Asked,
     a: i16,
     b: i16,
-    wide: &mut G::Wide,
+    tools: &mut Tools<G::Wide>,
     level: &mut Level<G::Pos, G::Many>,
     levels: &mut [Level<G::Pos, G::Many>],
 ) -> i16
     requires fits { G.fits game.now from.now }
     requires role { asked.role < (G.rules game.now).roles }
     requires deep { asked.depth ≤ length levels.old }
-    requires wide { G.fits_wide game.now wide.old }
+    requires wide { G.fits_wide game.now tools.old.wide }
     requires some { 0 < level.old.run.count }
     requires known { All (IsTurn (G.rules game.now)) (turns_in level.old.run) }
     requires level { IsLevelOf (G.fits game.now) (G.fits_many game.now) (G.rules game.now).roles level.old }
@@ -367,8 +390,8 @@ fn greatest_after<G: Game>(
     requires high { b ≤ℤ pos 101 }
     ensures answers { Answers (greatest (map (λ j. value (G.rules game.now) asked.role asked.depth asked.at
         ((G.rules game.now).after (G.state game.now from.now) j)) (turns_in level.old.run))) a b result }
-    ensures wide { G.fits_wide game.now wide.new }
-    ensures wide_capacities { G.wide_capacities game.now wide.new ≡ G.wide_capacities game.now wide.old }
+    ensures wide { G.fits_wide game.now tools.new.wide }
+    ensures tools_capacities { tools_capacities (G.wide_capacities game.now) tools.new ≡ tools_capacities (G.wide_capacities game.now) tools.old }
     ensures cursor { level.new.cursor ≡ level.old.cursor }
     ensures level { IsLevelOf (G.fits game.now) (G.fits_many game.now) (G.rules game.now).roles level.new }
     ensures level_capacities { level_capacities (G.capacities game.now) (G.many_capacities game.now) level.new
@@ -379,18 +402,18 @@ fn greatest_after<G: Game>(
 {
     let count = level.run.count;
     let joints = &level.run.joints[..count];
-    if judge_last(game, from, joints, asked, wide) {
-        return greatest_judged(game, wide, count, asked, a, b);
+    if judge_last(game, from, joints, asked, &mut tools.wide) {
+        return greatest_judged(game, &tools.wide, count, asked, a, b);
     }
-    game.steps(from, joints, wide, &mut level.many);
+    game.steps(from, joints, &mut tools.wide, &mut level.many);
     greatest_at(
         game,
+        joints,
         &level.many,
-        count,
         asked,
         a,
         b,
-        wide,
+        tools,
         &mut level.position,
         levels,
     )
@@ -400,43 +423,53 @@ fn greatest_after<G: Game>(
 #[cycle(search)]
 fn greatest_at<G: Game>(
     game: &G,
+    joints: &[Joint],
     many: &G::Many,
-    count: usize,
     asked: Asked,
     a: i16,
     b: i16,
-    wide: &mut G::Wide,
+    tools: &mut Tools<G::Wide>,
     position: &mut G::Pos,
     levels: &mut [Level<G::Pos, G::Many>],
 ) -> i16
     requires many { G.fits_many game.now many.now }
-    requires count { count ≡ length (G.states game.now many.now) }
-    requires some { 0 < count }
+    requires count { length joints.now ≡ length (G.states game.now many.now) }
+    requires some { 0 < length joints.now }
+    requires few { length joints.now ≤ 64 }
     requires role { asked.role < (G.rules game.now).roles }
     requires deep { asked.depth ≤ length levels.old }
     requires position { G.fits game.now position.old }
-    requires wide { G.fits_wide game.now wide.old }
+    requires wide { G.fits_wide game.now tools.old.wide }
     requires levels { All (IsLevelOf (G.fits game.now) (G.fits_many game.now) (G.rules game.now).roles) levels.old }
     requires low { negsuc 1 ≤ℤ a }
     requires order { a <ℤ b }
     requires high { b ≤ℤ pos 101 }
     ensures answers { Answers (greatest (map (value (G.rules game.now) asked.role asked.depth asked.at) (G.states game.now many.now))) a b result }
-    ensures wide { G.fits_wide game.now wide.new }
-    ensures wide_capacities { G.wide_capacities game.now wide.new ≡ G.wide_capacities game.now wide.old }
+    ensures wide { G.fits_wide game.now tools.new.wide }
+    ensures tools_capacities { tools_capacities (G.wide_capacities game.now) tools.new ≡ tools_capacities (G.wide_capacities game.now) tools.old }
     ensures position { G.fits game.now position.new }
     ensures position_capacities { G.capacities game.now position.new ≡ G.capacities game.now position.old }
     ensures levels { All (IsLevelOf (G.fits game.now) (G.fits_many game.now) (G.rules game.now).roles) levels.new }
     ensures capacities { all_capacities (G.capacities game.now) (G.many_capacities game.now) levels.new
         ≡ all_capacities (G.capacities game.now) (G.many_capacities game.now) levels.old }
 {
+    let count = joints.len();
     let mut lower = greatest_told(game, many, count, asked, a);
     if lower >= b {
         return lower;
     }
-    for child in 0..count {
-        let worth = child_at(game, many, child, asked, lower, b, wide, position, levels);
+    let mut ahead = new_ahead(count);
+    let order = order_of(&tools.history, joints, asked.depth);
+    for place in 0..count {
+        let child = order[place];
+        let worth = child_at(
+            game, many, child, asked, lower, b, tools, position, levels, &mut ahead,
+        );
         lower = lower.max(worth);
         if lower >= b {
+            tools
+                .history
+                .note_cut(&joints[child], Movers::Role(asked.role), asked.depth);
             return lower;
         }
     }
@@ -455,18 +488,18 @@ pub fn value_within<G: Game>(
     asked: Asked,
     a: i16,
     b: i16,
-    wide: &mut G::Wide,
+    tools: &mut Tools<G::Wide>,
     levels: &mut [Level<G::Pos, G::Many>],
 ) -> i16
     requires fits { G.fits game.now from.now }
     requires role { asked.role < (G.rules game.now).roles }
     requires deep { asked.depth ≤ length levels.old }
-    requires wide { G.fits_wide game.now wide.old }
+    requires wide { G.fits_wide game.now tools.old.wide }
     requires levels { All (IsLevelOf (G.fits game.now) (G.fits_many game.now) (G.rules game.now).roles) levels.old }
     requires order { a <ℤ b }
     ensures answers { Answers (value (G.rules game.now) asked.role asked.depth asked.at (G.state game.now from.now)) a b result }
-    ensures wide { G.fits_wide game.now wide.new }
-    ensures wide_capacities { G.wide_capacities game.now wide.new ≡ G.wide_capacities game.now wide.old }
+    ensures wide { G.fits_wide game.now tools.new.wide }
+    ensures tools_capacities { tools_capacities (G.wide_capacities game.now) tools.new ≡ tools_capacities (G.wide_capacities game.now) tools.old }
     ensures levels { All (IsLevelOf (G.fits game.now) (G.fits_many game.now) (G.rules game.now).roles) levels.new }
     ensures capacities { all_capacities (G.capacities game.now) (G.many_capacities game.now) levels.new
         ≡ all_capacities (G.capacities game.now) (G.many_capacities game.now) levels.old }
@@ -476,7 +509,7 @@ pub fn value_within<G: Game>(
     if low >= high {
         return high;
     }
-    value_at(game, from, asked, low, high, wide, levels)
+    value_at(game, from, asked, low, high, tools, levels)
 }
 
 /// The first move of the role that attains the value of the state.
@@ -484,17 +517,17 @@ pub fn choice_at<G: Game>(
     game: &G,
     from: &G::Pos,
     asked: Asked,
-    wide: &mut G::Wide,
+    tools: &mut Tools<G::Wide>,
     levels: &mut [Level<G::Pos, G::Many>],
 ) -> Option<u32>
     requires fits { G.fits game.now from.now }
     requires role { asked.role < (G.rules game.now).roles }
     requires deep { asked.depth ≤ length levels.old }
-    requires wide { G.fits_wide game.now wide.old }
+    requires wide { G.fits_wide game.now tools.old.wide }
     requires levels { All (IsLevelOf (G.fits game.now) (G.fits_many game.now) (G.rules game.now).roles) levels.old }
     ensures choice { result ≡ choice_of (G.rules game.now) asked.role asked.depth asked.at (G.state game.now from.now) }
-    ensures wide { G.fits_wide game.now wide.new }
-    ensures wide_capacities { G.wide_capacities game.now wide.new ≡ G.wide_capacities game.now wide.old }
+    ensures wide { G.fits_wide game.now tools.new.wide }
+    ensures tools_capacities { tools_capacities (G.wide_capacities game.now) tools.new ≡ tools_capacities (G.wide_capacities game.now) tools.old }
     ensures levels { All (IsLevelOf (G.fits game.now) (G.fits_many game.now) (G.rules game.now).roles) levels.new }
     ensures capacities { all_capacities (G.capacities game.now) (G.many_capacities game.now) levels.new
         ≡ all_capacities (G.capacities game.now) (G.many_capacities game.now) levels.old }
@@ -510,7 +543,7 @@ pub fn choice_at<G: Game>(
     let mut chosen = 0;
     let mut place = 0;
     while let Some(own) = game.legal(from, asked.role, place) {
-        let worst = worst_at(game, from, next, own, best, 101, wide, levels);
+        let worst = worst_at(game, from, next, own, best, 101, tools, levels);
         if worst > best {
             best = worst;
             chosen = place;
@@ -526,7 +559,7 @@ pub fn reply_at<G: Game>(
     from: &G::Pos,
     asked: Asked,
     own: u32,
-    wide: &mut G::Wide,
+    tools: &mut Tools<G::Wide>,
     levels: &mut [Level<G::Pos, G::Many>],
     out: &mut Joint,
 )
@@ -535,13 +568,13 @@ pub fn reply_at<G: Game>(
     requires own { own < (G.rules game.now).moves asked.role }
     requires open { stuck (G.rules game.now) (G.state game.now from.now) ≡ false }
     requires deep { asked.depth < length levels.old }
-    requires wide { G.fits_wide game.now wide.old }
+    requires wide { G.fits_wide game.now tools.old.wide }
     requires levels { All (IsLevelOf (G.fits game.now) (G.fits_many game.now) (G.rules game.now).roles) levels.old }
     requires out { (G.rules game.now).roles ≤ out.old.capacity }
     ensures reply { reply_of (G.rules game.now) asked.role asked.depth asked.at (G.state game.now from.now) own ≡ Some out.new.items }
     ensures out { out.new.capacity ≡ out.old.capacity }
-    ensures wide { G.fits_wide game.now wide.new }
-    ensures wide_capacities { G.wide_capacities game.now wide.new ≡ G.wide_capacities game.now wide.old }
+    ensures wide { G.fits_wide game.now tools.new.wide }
+    ensures tools_capacities { tools_capacities (G.wide_capacities game.now) tools.new ≡ tools_capacities (G.wide_capacities game.now) tools.old }
     ensures levels { All (IsLevelOf (G.fits game.now) (G.fits_many game.now) (G.rules game.now).roles) levels.new }
     ensures capacities { all_capacities (G.capacities game.now) (G.many_capacities game.now) levels.new
         ≡ all_capacities (G.capacities game.now) (G.many_capacities game.now) levels.old }
@@ -552,7 +585,7 @@ pub fn reply_at<G: Game>(
     let mut upper = 101;
     loop {
         game.step(from, &level.cursor.joint, &mut level.position);
-        let worth = value_at(game, &level.position, asked, -1, upper, wide, rest);
+        let worth = value_at(game, &level.position, asked, -1, upper, tools, rest);
         if worth < upper {
             upper = worth;
             write_joint(&level.cursor.joint, out);

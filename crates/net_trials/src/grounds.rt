@@ -1,5 +1,5 @@
 // What descriptions instantiate to: counts, limits, the order of instances, and kinds of atoms.
-use ground::{Ground, GroundFault, Kind, instantiate};
+use ground::{Ground, GroundFault, Kind, instantiate_alone};
 use kif::read;
 use rules::RuleSet;
 use std::alloc::Global;
@@ -42,7 +42,7 @@ const TTT: &[u8] = b"(role xplayer)(role oplayer)(index 1)(index 2)(index 3)
 fn ground_of(rt: &HostRuntime, text: &[u8]) -> Result<Result<Ground, GroundFault>, Fail> {
     let items = read(rt.alloc(), text)?;
     let rules = RuleSet::check(rt.alloc(), &items)?;
-    Ok(instantiate(rt, &rules))
+    Ok(instantiate_alone(rt, &rules))
 }
 
 /// The counts of a ground: its base propositions, the atoms `does`, its instances and dropped heads.
@@ -139,7 +139,7 @@ fn descriptions_have_their_counts(rt: HostRuntime) -> Result<(), Fail> {
 }
 
 /// Bodies of one rule or more, with their base propositions, inputs, instances and dropped heads.
-const JOINED: [(&[u8], &[u8]); 5] = [
+const JOINED: [(&[u8], &[u8]); 8] = [
     // Literals that share no variable.
     (
         b"(role a)(d 1)(d 2)(e 1)(e 2)(e 3)(<= (p ?x ?y) (d ?x) (e ?y))",
@@ -171,6 +171,23 @@ const JOINED: [(&[u8], &[u8]); 5] = [
     (
         b"(role a)(base (c 1))(base (c 2))(base (c 3))(<= (next (c ?x)) (true (c ?x)) (true (c ?y)))",
         b"3 0 13 0",
+    ),
+    // The ways to put four things in a row: a row that fails rules out others.
+    (
+        b"(role a)(d 1)(d 2)(d 3)(d 4)(<= (p ?a ?b ?c ?e) (d ?a) (d ?b) (d ?c) (d ?e) (distinct ?a ?b) (distinct ?a ?c)
+            (distinct ?b ?c) (distinct ?a ?e) (distinct ?b ?e) (distinct ?c ?e))",
+        b"0 0 29 0",
+    ),
+    // Six pairs that no negated atom of a fixed relation rules out, each with two further terms.
+    (
+        b"(role a)(d 1)(d 2)(d 3)(e 2 1)(e 3 3)(<= (p ?a ?b ?c) (d ?a) (d ?b) (not (e ?a ?b)) (d ?c) (not (e ?c ?c))
+            (not (e ?b ?a)))",
+        b"0 0 18 0",
+    ),
+    // Literals without a variable that pass in no row.
+    (
+        b"(role a)(d 1)(d 2)on(<= (p ?a) (d ?a) (distinct 1 1))(<= (q ?a ?b) (d ?a) (d ?b) (not on))",
+        b"0 0 4 0",
     ),
 ];
 

@@ -11,3 +11,5 @@ mod numbers;
 mod plays;
 #[cfg(test)]
 mod tapes;
+#[cfg(test)]
+mod threads;

@@ -3,7 +3,7 @@ ghost use Rattle.std.specs.Prelude.{◌<◌};
 
 use game::watched::{Watch, Watched};
 use game::{AtBound, Game, Joint};
-use ground::instantiate;
+use ground::instantiate_alone;
 use kif::read;
 use position::RuleGame;
 use rules::RuleSet;
@@ -75,7 +75,7 @@ const WIDER: &[u8] = b"(role r1) (role r2) (role r3) (role r4) (role r5)
 pub(crate) fn game_of<R: Abort + AllocGlobal>(rt: &R, text: &[u8]) -> Result<RuleGame, Fail> {
     let items = read(rt.alloc(), text)?;
     let rules = RuleSet::check(rt.alloc(), items.as_slice())?;
-    let ground = instantiate(rt, &rules)?;
+    let ground = instantiate_alone(rt, &rules)?;
     Ok(RuleGame::new(rt.alloc(), ground)?)
 }
 

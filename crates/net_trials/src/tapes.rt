@@ -1,5 +1,5 @@
 //! Tapes beside the networks that they were made of.
-use ground::instantiate;
+use ground::instantiate_alone;
 use kif::read;
 use propnet::{Joint, Net, get_bit};
 use rules::RuleSet;
@@ -19,7 +19,7 @@ const MATCH: &[u8] =
 fn net_of(rt: &HostRuntime, text: &[u8]) -> Result<Net, Fail> {
     let items = read(rt.alloc(), text)?;
     let rules = RuleSet::check(rt.alloc(), &items)?;
-    let ground = instantiate(rt, &rules)?;
+    let ground = instantiate_alone(rt, &rules)?;
     Ok(Net::compile(rt.alloc(), &ground)?)
 }
 

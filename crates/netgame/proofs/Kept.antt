@@ -3,7 +3,7 @@ use Rattle.std.proofs.Common.{◌≡◌, ℕ, ◌+◌, ◌<◌, ◌≤◌, lengt
 use Rattle.std.specs.Prelude.{All}
 use Rattle.std.proofs.lemmas.List.Elements.{All-map}
 use Rattle.std.proofs.lemmas.List.FromFn.{length-map-range_with_len, get_or-map-range_with_len}
-use Rattle.ground.specs.declared.ground.Ground.{Ground}
+use Rattle.ground.specs.declared.flat_ground.FlatGround.{FlatGround}
 use Rattle.ground.specs.GroundView.{kinds_of}
 use Rattle.propnet.specs.declared.net.Net.{Net}
 use Rattle.propnet.specs.Builders.{IsNetOf}
@@ -15,7 +15,7 @@ use Rattle.netgame.specs.LanePlans.{shown_below, asked_nodes, next_below}
 use Rattle.netgame.proofs.NetFacts.{transition_below, views_below}
 use Rattle.netgame.proofs.Shown.{filter_all}
 
-module _ (g : Ground) (net : Net) (made : ∥ IsNetOf g net ∥₁) where
+module _ (g : FlatGround) (net : Net) (made : ∥ IsNetOf g net ∥₁) where
   pub next_within : All (λ (n : ℕ). n < length (gates_of net)) (next_below net (length g.starts.items))
   next_within k d lt =
       let n = length g.starts.items in

@@ -42,7 +42,7 @@ use Rattle.std.proofs.lemmas.List.{length-map, get_or-map, get_or_past}
 use Rattle.std.proofs.lemmas.List.FromFn.{length-range_with_len, get_or-range_with_len, get_or-map-range_with_len}
 use Rattle.smallvec.specs.SmallVec.{SmallVec}
 use Rattle.meaning.specs.declared.kind.Kind.{Kind}
-use Rattle.ground.specs.declared.ground.Ground.{Ground}
+use Rattle.ground.specs.declared.flat_ground.FlatGround.{FlatGround}
 use Rattle.ground.specs.GroundView.{inputs_of, kinds_of, instances_of}
 use Rattle.ground.specs.Grounds.{texts_at}
 use Rattle.propnet.specs.declared.net.Net.{Net}
@@ -53,6 +53,7 @@ use Rattle.propnet.specs.Nets.{gates_of}
 use Rattle.propnet.specs.Placing.{input_number}
 use Rattle.propnet.specs.Values.{lane}
 use Rattle.tape.specs.Tapes.{kept_in, HasRun, IsLane, IsJointOf, IsTurnTapeOf, IsTurnWordOf}
+use Rattle.game.proofs.Facts.{turns_after_each}
 use Rattle.game.specs.Joints.{moves_of, joint_at}
 use Rattle.game.specs.Rules.{State, IsTurn}
 use Rattle.rulegame.specs.declared.naming.Naming.TheVariants.{ByNext}
@@ -64,6 +65,7 @@ use Rattle.rulegame.specs.RuleState.{rules_of}
 use Rattle.netgame.specs.NetState.{is_asked, is_lane_on, told_state, lane_state, view_of, AreSpread}
 use Rattle.netgame.specs.LanePlans.{shown_below, asked_at, asked_nodes, next_below, IsTellingOf, IsLanePlanOf}
 use Rattle.netgame.specs.NetLanes.{holds_lane, Tells, AreAfter}
+use Rattle.netgame.specs.NetSources.{AreFrom}
 use Rattle.rulegame.proofs.Facts.{filters_agree}
 use Rattle.netgame.proofs.NetFacts.{base_count, inputs_count}
 use Rattle.netgame.proofs.NetReads.{view_told, transition_told}
@@ -98,12 +100,12 @@ asked_shown asking kinds p lt =
     (λ k from to e. (omega arith, e)) p 0 lt
 
 -- the tape of what is asked keeps a node for each atom that is asked
-pub kept_count : (g : Ground) (net : Net) (t : Telling) → IsTellingOf g net t
+pub kept_count : (g : FlatGround) (net : Net) (t : Telling) → IsTellingOf g net t
     → kept_in t.tape ≡ length (shown_below t.asking (kinds_of g) (length (kinds_of g)))
 kept_count g net t told = ∥∥₁_elim told.tape (Prim.hlevel props) (λ of. of.size ∙ asked_count t.asking net.views.items (kinds_of g))
 
 -- what a pass over the tape of what is asked tells
-pub tells_asked : (g : Ground) (net : Net) → ∥ IsNetOf g net ∥₁ → (t : Telling) → IsTellingOf g net t → (states room : List ℕ) (k : ℕ)
+pub tells_asked : (g : FlatGround) (net : Net) → ∥ IsNetOf g net ∥₁ → (t : Telling) → IsTellingOf g net t → (states room : List ℕ) (k : ℕ)
     → length states ≡ length g.starts.items
     → HasRun t.tape states room → k < 64 → Tells t.tape room k (λ p. holds_lane g states k (asked_at t.asking (kinds_of g) p))
 tells_asked g net made t told states room k size ran lk p w below h =
@@ -150,7 +152,7 @@ range_map {A} {B} f h (x ∷ xs) a (suc n) e same =
     ap (λ (y : B). y ∷ map f (range_with_len (a + 1) n)) here ∙ ap (λ (ys : List B). h x ∷ ys) rest
 
 -- a joint move of the game has an input of each role
-turn_joint : (g : Ground) (net : Net) → ∥ IsNetOf g net ∥₁ → (joint : List ℕ) → IsTurn (rules_of g) joint → IsJointOf net joint
+turn_joint : (g : FlatGround) (net : Net) → ∥ IsNetOf g net ∥₁ → (joint : List ℕ) → IsTurn (rules_of g) joint → IsJointOf net joint
 turn_joint g net made joint turn r lt =
     let counts = inputs_count g net made in
     let size : length net.inputs.items ≡ length (inputs_of g) = ap length counts ∙ length-map (inputs_of g) (λ (ts : List (List ℕ)). length ts) in
@@ -161,8 +163,28 @@ turn_joint g net made joint turn r lt =
     let each = turn.of_each_role in
     (omega arith, omega arith)
 
--- what a pass over the tape of the next state writes
-pub tells_next_states : (g : Ground) (net : Net) → ∥ IsNetOf g net ∥₁ → (plan : LanePlan) → IsLanePlanOf g net plan
+-- what a pass over the tape of the next state writes for one lane, which is given a state and a joint move
+tells_next_lane : (g : FlatGround) (net : Net) → ∥ IsNetOf g net ∥₁ → (plan : LanePlan) → IsLanePlanOf g net plan
+    → (state : ℕ → ℕ) → ((p : ℕ) → state p < 2) → (words states joint : List ℕ) (k : ℕ) → k < 64 → IsTurn (rules_of g) joint
+    → length states ≡ length g.starts.items → IsLane net words k state joint
+    → ((made_of : Net) (kept : List ℕ) (i : ℕ) → IsTurnTapeOf made_of kept plan.next → i < length states
+    → IsTurnWordOf made_of words (get_or kept i 0) (get_or states i 0))
+    → lane_state states (length g.starts.items) k ≡ (rules_of g).after (told_state state (length g.starts.items)) joint
+tells_next_lane g net made plan laned state small words states joint k lk turn size told h =
+    let n = length g.starts.items in
+    filters_agree (is_lane_on states k) (is_named (kinds_of g) (holds (kinds_of g) (instances_of g) (told_state state n) joint) ByNext) 0 n
+    (λ p low high.
+    let lp : p < n = omega arith in
+    let inside : p < length states = omega arith in
+    let node = get_or net.transitions.items p 0 in
+    let kept : get_or (next_below net n) p 0 ≡ node = get_or-map-range_with_len (λ q. get_or net.transitions.items q 0) 0 n p p 0 lp (omega arith) in
+    let bit : lane states k p ≡ value (gates_of net) state joint node =
+    ∥∥₁_elim laned.next (Prim.hlevel props) (λ of. h net (next_below net n) p of inside k state joint lk (turn_joint g net made joint turn) told
+    ∙ ap (value (gates_of net) state joint) kept) in
+    ap (λ (v : ℕ). v == 1) bit ∙ (transition_told g net made state small joint turn p lp).told)
+
+-- what it writes for joint moves of one state, whose words have one bit in all lanes
+pub tells_next_states : (g : FlatGround) (net : Net) → ∥ IsNetOf g net ∥₁ → (plan : LanePlan) → IsLanePlanOf g net plan
     → (from words states : List ℕ) (joints : List (SmallVec ℕ)) → length joints ≤ 64
     → All (λ (j : SmallVec ℕ). IsTurn (rules_of g) j.items) joints → AreSpread from → length states ≡ length g.starts.items
     → ((p : ℕ) → p < net.base → get_or words p 0 ≡ get_or from p 0) → AreGiven net.base net.inputs.items joints words
@@ -179,19 +201,9 @@ tells_next_states g net made plan laned from words states joints few turns sprea
     record { bits = λ p. bit_at-lt _ _; bases = λ p lp. ap (λ (w : ℕ). bit_at w k) (base p lp); moves = λ r m lm. given_words r m k lm lk } in
     let turn : IsTurn (rules_of g) (joint_at joints k) = turn_at (λ j. IsTurn (rules_of g) j) joints turns k lk in
     ap (lane_state states n) z
-    ∙ filters_agree (is_lane_on states k) (is_named (kinds_of g) (holds (kinds_of g) (instances_of g) s x.items) ByNext) 0 n
-    (λ p low high.
-    let lp : p < n = omega arith in
-    let inside : p < length states = omega arith in
-    let node = get_or net.transitions.items p 0 in
-    let kept : get_or (next_below net n) p 0 ≡ node = get_or-map-range_with_len (λ q. get_or net.transitions.items q 0) 0 n p p 0 lp (omega arith) in
-    let bit : lane states k p ≡ value (gates_of net) (lane from k) (joint_at joints k) node =
-    ∥∥₁_elim laned.next (Prim.hlevel props) (λ of. h net (next_below net n) p of inside k (lane from k) (joint_at joints k) (omega arith)
-    (turn_joint g net made (joint_at joints k) turn) told ∙ ap (value (gates_of net) (lane from k) (joint_at joints k)) kept) in
-    ap (λ (v : ℕ). v == 1) bit
-    ∙ (transition_told g net made (lane from k) (λ q. bit_at-lt _ _) (joint_at joints k) turn p lp).told
-    ∙ ap (λ (t : State). is_named (kinds_of g) (holds (kinds_of g) (instances_of g) t (joint_at joints k)) ByNext p) same
-    ∙ ap (λ (o : Option (SmallVec ℕ)). is_named (kinds_of g) (holds (kinds_of g) (instances_of g) s (moves_of o)) ByNext p) e))
+    ∙ tells_next_lane g net made plan laned (lane from k) (λ p. bit_at-lt _ _) words states (joint_at joints k) k (omega arith) turn size told h
+    ∙ ap (λ (t : State). (rules_of g).after t (joint_at joints k)) same
+    ∙ ap (λ (o : Option (SmallVec ℕ)). (rules_of g).after s (moves_of o)) e)
 
 pub states_count : (f : ℕ → State) (n : ℕ) → length (map f (range_with_len 0 n)) ≡ n
 states_count f n = length-map (range_with_len 0 n) f ∙ length-range_with_len 0 n
@@ -201,3 +213,30 @@ state_at f n k lt =
     let size : length (range_with_len 0 n) ≡ n = length-range_with_len 0 n in
     let z : get_or (range_with_len 0 n) k 0 ≡ k = get_or-range_with_len 0 n k 0 lt ∙ (let e : 0 + k ≡ k = omega arith in e) in
     get_or-map f (range_with_len 0 n) k 0 [] (omega arith) ∙ ap f z
+
+-- what it writes for joint moves that each begin at one of many states
+pub tells_next_from : (g : FlatGround) (net : Net) → ∥ IsNetOf g net ∥₁ → (plan : LanePlan) → IsLanePlanOf g net plan
+    → (from words states : List ℕ) (count : ℕ) (places : List ℕ) (joints : List (SmallVec ℕ)) → length joints ≤ 64 → length places ≡ length joints
+    → All (λ (k : ℕ). k < count) places
+    → All (λ (j : SmallVec ℕ). IsTurn (rules_of g) j.items) joints → length states ≡ length g.starts.items
+    → ((l p : ℕ) → l < length places → p < net.base → lane words l p ≡ lane from (get_or places l 0) p)
+    → AreGiven net.base net.inputs.items joints words
+    → ((made_of : Net) (kept : List ℕ) (i : ℕ) → IsTurnTapeOf made_of kept plan.next → i < length states
+    → IsTurnWordOf made_of words (get_or kept i 0) (get_or states i 0))
+    → AreFrom g (map (lane_state from (length g.starts.items)) (range_with_len 0 count)) places joints states
+tells_next_from g net made plan laned from words states count places joints few same_size within turns size base given_words h =
+    let n = length g.starts.items in
+    let all = map (lane_state from n) (range_with_len 0 count) in
+    turns_after_each (rules_of g) all (lane_state states n) places joints 0 (length joints) same_size refl
+    (λ k lk.
+    let z : 0 + k ≡ k = omega arith in
+    let place = get_or places k 0 in
+    let joint = joint_at joints k in
+    let lp : k < length places = omega arith in
+    let below : place < count = within k 0 lp in
+    let told : IsLane net words k (lane from place) joint =
+    record { bits = λ p. bit_at-lt _ _; bases = λ p inside. base k p lp inside; moves = λ r m lm. given_words r m k lm lk } in
+    let turn : IsTurn (rules_of g) joint = turn_at (λ j. IsTurn (rules_of g) j) joints turns k lk in
+    ap (lane_state states n) z
+    ∙ tells_next_lane g net made plan laned (lane from place) (λ p. bit_at-lt _ _) words states joint k (omega arith) turn size told h
+    ∙ ap (λ (t : State). (rules_of g).after t joint) (sym (state_at (lane_state from n) count place below)))

@@ -7,3 +7,4 @@ mod Places
 mod Lanes
 mod LaneLemmas
 mod TellingLemmas
+mod SourceLemmas

@@ -3,7 +3,7 @@ use Rattle.std.proofs.Common.{◌≡◌, ℕ, ◌<◌, ◌≤◌, length, get_or
 use Rattle.std.proofs.Math.Logic.{∥∥₁_elim}
 use Rattle.std.proofs.Props.{props}
 use Rattle.std.proofs.lemmas.Nat.Bits.{bit_at-lt}
-use Rattle.ground.specs.declared.ground.Ground.{Ground}
+use Rattle.ground.specs.declared.flat_ground.FlatGround.{FlatGround}
 use Rattle.ground.specs.GroundView.{kinds_of}
 use Rattle.propnet.specs.declared.net.Net.{Net}
 use Rattle.propnet.specs.Builders.{IsNetOf, input_counts}
@@ -15,7 +15,7 @@ use Rattle.netgame.specs.NetState.{AreViewsBelow}
 use Rattle.rulegame.specs.GroundFacts.{fits}
 use Rattle.netgame.proofs.NetReads.{view_told}
 
-module _ (g : Ground) (net : Net) (made : ∥ IsNetOf g net ∥₁) where
+module _ (g : FlatGround) (net : Net) (made : ∥ IsNetOf g net ∥₁) where
   pub base_count : net.base ≡ length g.starts.items
   base_count = ∥∥₁_elim made (Prim.hlevel props) (λ of. of.base ∙ sym (fits g).starts_fit)
 

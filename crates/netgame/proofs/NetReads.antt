@@ -37,7 +37,7 @@ use Rattle.profile.specs.Clause.{Atom, Alternative, relation_of}
 use Rattle.profile.specs.Dependence.{IsAmong, is_fixed}
 use Rattle.meaning.specs.declared.kind.Kind.{Kind}
 use Rattle.meaning.specs.declared.kind.Kind.TheVariants.{Fixed, Now, Does, Next, Legal, Goal, Terminal, Other}
-use Rattle.ground.specs.declared.ground.Ground.{Ground}
+use Rattle.ground.specs.declared.flat_ground.FlatGround.{FlatGround}
 use Rattle.meaning.specs.Gates.{atom_at}
 use Rattle.ground.specs.Grounds.{Kept, numbered}
 use Rattle.ground.specs.GroundView.{base_of, kinds_of, instances_of, IsGround}
@@ -197,16 +197,16 @@ module _ (rules : List Alternative) (w : IsWellFormed rules) where
 
 -- What the views of a state and the transitions of a turn tell, in the words of the ground alone.
 
-pub record IsViewTold (g : Ground) (net : Net) (state : ℕ → ℕ) (a : ℕ) : Type 0 where
+pub record IsViewTold (g : FlatGround) (net : Net) (state : ℕ → ℕ) (a : ℕ) : Type 0 where
   pub below : view_of net.views.items a < length (gates_of net)
   pub told : (value (gates_of net) state no_turn (view_of net.views.items a) == 1) ≡ holds_in g (told_state state (length g.starts.items)) a
 
-pub record IsTransitionTold (g : Ground) (net : Net) (state : ℕ → ℕ) (j : Turn) (p : ℕ) : Type 0 where
+pub record IsTransitionTold (g : FlatGround) (net : Net) (state : ℕ → ℕ) (j : Turn) (p : ℕ) : Type 0 where
   pub below : get_or net.transitions.items p 0 < length (gates_of net)
   pub told : (value (gates_of net) state j (get_or net.transitions.items p 0) == 1)
       ≡ is_named (kinds_of g) (holds (kinds_of g) (instances_of g) (told_state state (length g.starts.items)) j) ByNext p
 
-module _ (rules : List Alternative) (g : Ground) (is : IsGround rules g) (net : Net) (of : IsNetOf g net) (state : ℕ → ℕ)
+module _ (rules : List Alternative) (g : FlatGround) (is : IsGround rules g) (net : Net) (of : IsNetOf g net) (state : ℕ → ℕ)
     (is_bit : (n : ℕ) → state n < 2) where
   abbrev kinds : List Kind
   kinds = map (kind_of rules) (listing rules).atoms
@@ -308,7 +308,7 @@ module _ (rules : List Alternative) (g : Ground) (is : IsGround rules g) (net : 
         }
 
 -- the same of each ground with a network of it
-pub view_told : (g : Ground) (net : Net) → ∥ IsNetOf g net ∥₁ → (state : ℕ → ℕ) → ((n : ℕ) → state n < 2) → (asking : Asking) (a : ℕ)
+pub view_told : (g : FlatGround) (net : Net) → ∥ IsNetOf g net ∥₁ → (state : ℕ → ℕ) → ((n : ℕ) → state n < 2) → (asking : Asking) (a : ℕ)
     → a < length (kinds_of g)
     → is_asked asking (kind_at (kinds_of g) a) ≡ true → IsViewTold g net state a
 view_told g net made state is_bit asking a lt shown = record {
@@ -318,7 +318,7 @@ view_told g net made state is_bit asking a lt shown = record {
       (λ of. ∥∥₁_elim g.sound (Prim.hlevel props) (λ s. (view_told_by s.0 g s.1 net of state is_bit asking a lt shown).told));
 }
 
-pub transition_told : (g : Ground) (net : Net) → ∥ IsNetOf g net ∥₁ → (state : ℕ → ℕ) → ((n : ℕ) → state n < 2) → (j : Turn) → IsTurn (rules_of g) j
+pub transition_told : (g : FlatGround) (net : Net) → ∥ IsNetOf g net ∥₁ → (state : ℕ → ℕ) → ((n : ℕ) → state n < 2) → (j : Turn) → IsTurn (rules_of g) j
     → (p : ℕ) → p < length g.starts.items → IsTransitionTold g net state j p
 transition_told g net made state is_bit j turn p lt = record {
   below = ∥∥₁_elim made (Prim.hlevel props)
@@ -329,7 +329,7 @@ transition_told g net made state is_bit j turn p lt = record {
 
 -- An atom alone makes a move legal.
 
-module _ (rules : List Alternative) (g : Ground) (is : IsGround rules g) (r m : ℕ) where
+module _ (rules : List Alternative) (g : FlatGround) (is : IsGround rules g) (r m : ℕ) where
   abbrev move_atom : Atom
   move_atom = let role = tree_at (role_list rules) r in atom2 w_legal role (tree_at (input_list rules role) m)
 
@@ -347,7 +347,7 @@ module _ (rules : List Alternative) (g : Ground) (is : IsGround rules g) (r m : 
       ∙ ap (λ (q : Tree). atom2 w_legal q (tree_at (input_list rules q) m)) (sym (placed k.0 (role_list rules) r k.3)) in
       ap (λ (y : Atom). number_of y (listing rules).atoms) (sym same) ∙ number_at (listing rules).atoms (one_number rules) a within
 
-pub one_legal : (g : Ground) (r m a b : ℕ) → a < length (kinds_of g) → b < length (kinds_of g) → kind_at (kinds_of g) a ≡ Legal r m
+pub one_legal : (g : FlatGround) (r m a b : ℕ) → a < length (kinds_of g) → b < length (kinds_of g) → kind_at (kinds_of g) a ≡ Legal r m
     → kind_at (kinds_of g) b ≡ Legal r m → a ≡ b
 one_legal g r m a b la lb ea eb = ∥∥₁_elim g.sound (Prim.hlevel props) (λ s. sym (legal_atom s.0 g s.1 r m a la ea)
     ∙ legal_atom s.0 g s.1 r m b lb eb)

@@ -38,7 +38,7 @@ use Rattle.std.proofs.lemmas.List.{map-append, take_more}
 use Rattle.std.proofs.lemmas.List.Elements.{All-append, All-map, filter-append}
 use Rattle.std.proofs.lemmas.List.Folds.{list_any-append}
 use Rattle.meaning.specs.declared.kind.Kind.{Kind}
-use Rattle.ground.specs.declared.ground.Ground.{Ground}
+use Rattle.ground.specs.declared.flat_ground.FlatGround.{FlatGround}
 use Rattle.ground.specs.GroundView.{kinds_of}
 use Rattle.rulegame.specs.declared.naming.Naming.TheVariants.{ByLegal}
 use Rattle.rulegame.specs.declared.plan.Sought.TheVariants.{Goals, Ends}
@@ -199,7 +199,7 @@ module _ (asking : Asking) (kinds : List Kind) (f : ℕ → Bool) where
       → told_moves on (legals_below (places_of asking kinds) kinds r n) ≡ named_below kinds f (ByLegal r) n
   told_legals_once moves r n once = seen_moves r n once ∙ legals_alike asking moves kinds seen f r n seen_alike
 
-pub told_legals : (asking : Asking) → asks_moves asking ≡ true → (g : Ground) (f : ℕ → Bool) (r n : ℕ)
+pub told_legals : (asking : Asking) → asks_moves asking ≡ true → (g : FlatGround) (f : ℕ → Bool) (r n : ℕ)
     → told_moves (λ p. f (asked_at asking (kinds_of g) p)) (legals_below (places_of asking (kinds_of g)) (kinds_of g) r n)
     ≡ named_below (kinds_of g) f (ByLegal r) n
 told_legals asking moves g f r n =

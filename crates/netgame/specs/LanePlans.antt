@@ -22,7 +22,7 @@ use Rattle.std.specs.Prelude.{
 }
 use Rattle.std.specs.List.{range_with_len}
 use Rattle.meaning.specs.declared.kind.Kind.{Kind}
-use Rattle.ground.specs.declared.ground.Ground.{Ground}
+use Rattle.ground.specs.declared.flat_ground.FlatGround.{FlatGround}
 use Rattle.ground.specs.Grounds.{texts_at}
 use Rattle.ground.specs.GroundView.{inputs_of, kinds_of}
 use Rattle.propnet.specs.declared.net.Net.{Net}
@@ -92,7 +92,7 @@ abbrev pub next_below : Net → ℕ → List ℕ
 next_below net n = map (λ p. get_or net.transitions.items p 0) (range_with_len 0 n)
 
 -- a tape for what is asked of a state, with the places of what ends the game and of the goals
-pub record IsTellingOf (g : Ground) (net : Net) (t : Telling) : Type 0 where
+pub record IsTellingOf (g : FlatGround) (net : Net) (t : Telling) : Type 0 where
   pub tape : ∥ IsTapeOf net (asked_nodes t.asking net.views.items (kinds_of g)) t.tape ∥₁
   pub ends : t.ends.items ≡ ends_of (places_of t.asking (kinds_of g)) (kinds_of g)
   pub size : length t.goals.items ≡ length (inputs_of g)
@@ -101,7 +101,7 @@ pub record IsTellingOf (g : Ground) (net : Net) (t : Telling) : Type 0 where
 
 -- One tape for the state after a turn, and one for what is asked of a state, with the places of the legal moves. One that only tells of
 -- the end may be there too.
-pub record IsLanePlanOf (g : Ground) (net : Net) (plan : LanePlan) : Type 0 where
+pub record IsLanePlanOf (g : FlatGround) (net : Net) (plan : LanePlan) : Type 0 where
   pub next : ∥ IsTurnTapeOf net (next_below net (length g.starts.items)) plan.next ∥₁
   pub asked : IsTellingOf g net plan.asked
   pub moves : asks_moves plan.asked.asking ≡ true

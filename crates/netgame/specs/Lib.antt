@@ -1,3 +1,4 @@
 pub mod NetState
 pub mod LanePlans
 pub mod NetLanes
+pub mod NetSources

@@ -25,7 +25,7 @@ use Rattle.std.specs.Prelude.{
 use Rattle.std.specs.Int.{bit_at}
 use Rattle.std.specs.List.{range_with_len}
 use Rattle.smallvec.specs.SmallVec.{SmallVec}
-use Rattle.ground.specs.declared.ground.Ground.{Ground}
+use Rattle.ground.specs.declared.flat_ground.FlatGround.{FlatGround}
 use Rattle.ground.specs.GroundView.{inputs_of, kinds_of}
 use Rattle.propnet.specs.declared.net.Net.{Net}
 use Rattle.tape.specs.declared.tape.Tape.{Tape}
@@ -43,15 +43,15 @@ use Rattle.rulegame.specs.RuleState.{holds_in, rules_of, HaveRoom, AreRead, all_
 use Rattle.netgame.specs.NetState.{lane_state, kept_state, AreSpread}
 
 -- the states that the words keep
-abbrev pub lane_states : Ground → NetMany → List State
+abbrev pub lane_states : FlatGround → NetMany → List State
 lane_states g m = map (lane_state m.states.items (length g.starts.items)) (range_with_len 0 m.count)
 
 -- what holds in the state that the words keep in lane k
-abbrev pub holds_lane : Ground → List ℕ → ℕ → ℕ → Bool
+abbrev pub holds_lane : FlatGround → List ℕ → ℕ → ℕ → Bool
 holds_lane g states k = holds_in g (lane_state states (length g.starts.items) k)
 
 -- the words keep the states after the one of the first lane and each joint move
-abbrev pub AreAfter : Ground → List ℕ → List (SmallVec ℕ) → List ℕ → Type 0
+abbrev pub AreAfter : FlatGround → List ℕ → List (SmallVec ℕ) → List ℕ → Type 0
 AreAfter g from joints states =
     map (lane_state states (length g.starts.items)) (range_with_len 0 (length joints)) ≡ map
     (λ (j : SmallVec ℕ). (rules_of g).after (lane_state from (length g.starts.items) 0) j.items) joints
@@ -72,7 +72,7 @@ abbrev pub told_goal : (ℕ → Bool) → List (ℕ × ℕ) → ℕ
 told_goal on ls = greatest (map (λ (l : ℕ × ℕ). if on l.0 then l.1 else 0) ls)
 
 -- there is room for 64 states and for what a tape tells of them, and both are of each of the states that there are
-pub record IsNetMany (g : Ground) (t : Telling) (m : NetMany) : Type 0 where
+pub record IsNetMany (g : FlatGround) (t : Telling) (m : NetMany) : Type 0 where
   pub states : length m.states.items ≡ length g.starts.items
   pub room : slots_in t.tape ≤ vec_capacity m.room
   pub few : m.count ≤ 64
@@ -80,7 +80,7 @@ pub record IsNetMany (g : Ground) (t : Telling) (m : NetMany) : Type 0 where
   pub ended : (k : ℕ) → k < m.count → (bit_at m.ended k == 1) ≡ ends (kinds_of g) (holds_lane g m.states.items k)
 
 -- the same of a tape that may be there; where it is not, there are no states
-abbrev pub IsLast : Ground → Option Telling → NetMany → Type 0
+abbrev pub IsLast : FlatGround → Option Telling → NetMany → Type 0
 IsLast g (Some t) m = IsNetMany g t m
 IsLast g None m = m.count ≡ 0
 
@@ -90,7 +90,7 @@ pub record HasTurnRoom (net : Net) (plan : LanePlan) (w : NetTurn) : Type 0 wher
   pub next : slots_in plan.next ≤ vec_capacity w.next
 
 -- there is also room for the states that are judged
-pub record HasWideRoom (g : Ground) (net : Net) (plan : LanePlan) (w : NetWide) : Type 0 where
+pub record HasWideRoom (g : FlatGround) (net : Net) (plan : LanePlan) (w : NetWide) : Type 0 where
   pub turn : HasTurnRoom net plan w.turn
   pub last : IsLast g plan.last w.last
 
@@ -104,14 +104,14 @@ abbrev pub wide_capacities : NetWide → List ℕ
 wide_capacities w = turn_capacities w.turn ++ many_capacities w.last
 
 -- there is room for a state of the game, and for the passes that lead to it
-pub record HasNetRoom (g : Ground) (net : Net) (plan : LanePlan) (p : NetPos) : Type 0 where
+pub record HasNetRoom (g : FlatGround) (net : Net) (plan : LanePlan) (p : NetPos) : Type 0 where
   pub lanes : length p.lanes.items ≡ length g.starts.items
   pub roles : HaveRoom (inputs_of g) p.roles.items
   pub turn : HasTurnRoom net plan p.turn
   pub many : IsNetMany g plan.asked p.many
 
 -- what is told of the state is so
-pub record IsNetState (g : Ground) (net : Net) (plan : LanePlan) (p : NetPos) : Type 0 where
+pub record IsNetState (g : FlatGround) (net : Net) (plan : LanePlan) (p : NetPos) : Type 0 where
   pub room : HasNetRoom g net plan p
   pub spread : AreSpread p.lanes.items
   pub ended : p.ended ≡ ends (kinds_of g) (holds_in g (kept_state g p))

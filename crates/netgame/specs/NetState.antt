@@ -3,7 +3,7 @@ use Rattle.std.specs.Prelude.{ℕ, ◌≡◌, ◌<◌, ◌==◌, Bool, true, fal
 use Rattle.std.specs.List.{range_with_len}
 use Rattle.meaning.specs.declared.kind.Kind.{Kind}
 use Rattle.meaning.specs.declared.kind.Kind.TheVariants.{Fixed, Now, Does, Next, Legal, Goal, Terminal, Other}
-use Rattle.ground.specs.declared.ground.Ground.{Ground}
+use Rattle.ground.specs.declared.flat_ground.FlatGround.{FlatGround}
 use Rattle.propnet.specs.Values.{lane}
 use Rattle.netgame.specs.declared.lane_plan.Asking.{Asking}
 use Rattle.netgame.specs.declared.lane_plan.Asking.TheVariants.{EndAlone, WithMoves}
@@ -56,5 +56,5 @@ abbrev pub AreViewsBelow : Asking → List Kind → List (Option ℕ) → ℕ �
 AreViewsBelow asking kinds views n = (a : ℕ) → a < length kinds → is_asked asking (kind_at kinds a) ≡ true → view_of views a < n
 
 -- the state that is kept
-abbrev pub kept_state : Ground → NetPos → State
+abbrev pub kept_state : FlatGround → NetPos → State
 kept_state g p = lane_state p.lanes.items (length g.starts.items) 0

@@ -9,7 +9,7 @@ ghost use Rattle.netgame.specs.LanePlans.{places_of, asked_nodes, next_below, Is
 
 use crate::lane_plan::{Asking, LanePlan, Telling};
 use crate::net_planning::{list_ends, plan_goals, plan_legals};
-use ground::{Ground, Kind};
+use ground::{FlatGround, Kind};
 use propnet::Net;
 use rulegame::kind_of;
 use std::alloc::{AllocError, Global};
@@ -58,7 +58,7 @@ fn add_asked(net: &Net, asks: bool, atom: u32, nodes: &mut Vec<u32>) -> Result<(
 /// The atoms that are asked of a state.
 fn list_asked(
     alloc: Global,
-    ground: &Ground,
+    ground: &FlatGround,
     net: &Net,
     asking: Asking,
 ) -> Result<Asked, AllocError>
@@ -76,7 +76,7 @@ fn list_asked(
 }
 
 /// The transitions of the base propositions.
-fn list_next(alloc: Global, ground: &Ground, net: &Net) -> Result<Vec<u32>, AllocError>
+fn list_next(alloc: Global, ground: &FlatGround, net: &Net) -> Result<Vec<u32>, AllocError>
     requires { ∥ IsNetOf ground.now net.now ∥₁ }
     ensures { IfOk result (λ nodes. nodes.items ≡ next_below net.now (length ground.now.starts.items)) }
 {
@@ -88,7 +88,7 @@ fn list_next(alloc: Global, ground: &Ground, net: &Net) -> Result<Vec<u32>, Allo
 }
 
 /// The tape of the transitions.
-fn make_next(alloc: Global, ground: &Ground, net: &Net) -> Result<Tape, AllocError>
+fn make_next(alloc: Global, ground: &FlatGround, net: &Net) -> Result<Tape, AllocError>
     requires { ∥ IsNetOf ground.now net.now ∥₁ }
     ensures { IfOk result (λ tape. IsTurnTapeOf net.now (next_below net.now (length ground.now.starts.items)) tape) }
 {
@@ -99,7 +99,7 @@ fn make_next(alloc: Global, ground: &Ground, net: &Net) -> Result<Tape, AllocErr
 /// The tape that tells what is asked of a state.
 fn make_telling(
     alloc: Global,
-    ground: &Ground,
+    ground: &FlatGround,
     net: &Net,
     asking: Asking,
     asked: &Asked,
@@ -121,7 +121,7 @@ fn make_telling(
 /// The tape of the end alone, where it pays beside one that takes so many words.
 fn make_last(
     alloc: Global,
-    ground: &Ground,
+    ground: &FlatGround,
     net: &Net,
     words: usize,
 ) -> Result<Option<Telling>, AllocError>
@@ -139,7 +139,7 @@ fn make_last(
 /// The tapes of a network.
 pub(crate) fn make_lane_plan(
     alloc: Global,
-    ground: &Ground,
+    ground: &FlatGround,
     net: &Net,
 ) -> Result<LanePlan, AllocError>
     requires { ∥ IsNetOf ground.now net.now ∥₁ }

@@ -3,6 +3,7 @@
 
 mod lane_plan;
 mod lane_planning;
+mod net_from_many;
 mod net_game;
 mod net_lanes;
 mod net_many;
@@ -10,6 +11,7 @@ mod net_passes;
 mod net_planning;
 mod net_playing;
 mod net_pos;
+mod net_sources;
 mod net_taking;
 mod net_telling;
 mod net_words;

@@ -1,17 +1,19 @@
 // The game of a network.
 ghost use Rattle.std.specs.Prelude.{◌≡◌, IfOk};
+ghost use Rattle.ground.specs.GroundView.{flat_of};
 ghost use Rattle.propnet.specs.Builders.{IsNetOf};
 ghost use Rattle.netgame.specs.LanePlans.{IsLanePlanOf};
 
 use crate::lane_plan::LanePlan;
 use crate::lane_planning::make_lane_plan;
+use crate::net_from_many::net_judge_from;
 use crate::net_lanes::{net_judge, net_steps, new_net_many, new_net_wide};
 use crate::net_many::{NetMany, NetWide};
 use crate::net_playing::{start_net_state, step_net_state};
 use crate::net_pos::NetPos;
 use crate::net_taking::{net_take, net_told, net_verdict};
 use game::{Game, Joint, Told};
-use ground::Ground;
+use ground::{FlatGround, Ground};
 use propnet::Net;
 use rulegame::{copy_roles, legal_at};
 use std::alloc::{AllocError, Global};
@@ -20,7 +22,7 @@ use std::alloc::{AllocError, Global};
 #[derive(Drop)]
 pub struct NetGame {
     pub(crate) alloc: Global,
-    pub(crate) played: Ground,
+    pub(crate) played: FlatGround,
     pub(crate) net: Net,
     pub(crate) lane_plan: LanePlan,
     pub ghost compiled: { ∥ IsNetOf played net ∥₁ },
@@ -30,6 +32,14 @@ pub struct NetGame {
 impl NetGame {
     /// The game of an instantiation and of the network that was compiled from it.
     pub fn new(alloc: Global, g: Ground, n: Net) -> Result<NetGame, AllocError>
+        requires { IsNetOf (flat_of g) n }
+        ensures { IfOk result (λ game. game.played ≡ flat_of g) }
+    {
+        NetGame::of_flat(alloc, g.into_flat(), n)
+    }
+
+    /// The same of an instantiation in flat lists.
+    pub fn of_flat(alloc: Global, g: FlatGround, n: Net) -> Result<NetGame, AllocError>
         requires { IsNetOf g n }
         ensures { IfOk result (λ game. game.played ≡ g) }
     {
@@ -158,6 +168,16 @@ impl Game for NetGame {
 
     fn judge(&self, p: &NetPos, joints: &[Joint], w: &mut NetWide) -> bool {
         net_judge(self, p, joints, w)
+    }
+
+    fn judge_from(
+        &self,
+        many: &NetMany,
+        places: &[usize],
+        joints: &[Joint],
+        w: &mut NetWide,
+    ) -> bool {
+        net_judge_from(self, many, places, joints, w)
     }
 
     fn verdict(&self, w: &NetWide, place: usize, role: usize) -> Option<u8> {

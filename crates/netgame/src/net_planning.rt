@@ -9,7 +9,7 @@ ghost use Rattle.netgame.specs.declared.lane_plan.RoleLegals.{RoleLegals};
 ghost use Rattle.netgame.specs.LanePlans.{legal_named, legal_pair, legals_below, goal_pair, goals_of, ends_of};
 
 use crate::lane_plan::{RoleGoals, RoleLegals};
-use ground::{Ground, Kind};
+use ground::{FlatGround, Kind};
 use rulegame::{Naming, Sought, Standing, kind_of, list_standing, number_of, value_of};
 use std::alloc::{AllocError, Global};
 
@@ -26,7 +26,7 @@ fn place_of(places: &[u32], atom: u32) -> u32
 /// The places of the atoms that end the game.
 pub(crate) fn list_ends(
     alloc: Global,
-    ground: &Ground,
+    ground: &FlatGround,
     places: &[u32],
 ) -> Result<Vec<u32>, AllocError>
     ensures { IfOk result (λ list. list.items ≡ ends_of places.now (kinds_of ground.now)) }
@@ -49,7 +49,7 @@ fn goal_at(places: &[u32], here: Standing, role: usize) -> (u32, u8)
 /// The places of the goals of a role, with their values.
 fn list_goals(
     alloc: Global,
-    ground: &Ground,
+    ground: &FlatGround,
     places: &[u32],
     role: usize,
 ) -> Result<Vec<(u32, u8)>, AllocError>
@@ -92,7 +92,7 @@ fn new_found(alloc: Global, moves: usize) -> Result<Vec<Option<u32>>, AllocError
 /// By move the atom that makes it legal.
 fn find_legals(
     alloc: Global,
-    ground: &Ground,
+    ground: &FlatGround,
     role: usize,
     moves: usize,
 ) -> Result<Vec<Option<u32>>, AllocError>
@@ -125,7 +125,7 @@ fn add_legal(
 /// The places of the legal atoms of a role, with their moves, ascending by move.
 fn list_legals(
     alloc: Global,
-    ground: &Ground,
+    ground: &FlatGround,
     places: &[u32],
     role: usize,
 ) -> Result<Vec<(u32, u32)>, AllocError>
@@ -143,7 +143,7 @@ fn list_legals(
 /// The places of the goals of each role.
 pub(crate) fn plan_goals(
     alloc: Global,
-    ground: &Ground,
+    ground: &FlatGround,
     places: &[u32],
 ) -> Result<Vec<RoleGoals>, AllocError>
     ensures size { IfOk result (λ plans. length plans.items ≡ length (inputs_of ground.now)) }
@@ -161,7 +161,7 @@ pub(crate) fn plan_goals(
 /// The places of the legal atoms of each role.
 pub(crate) fn plan_legals(
     alloc: Global,
-    ground: &Ground,
+    ground: &FlatGround,
     places: &[u32],
 ) -> Result<Vec<RoleLegals>, AllocError>
     ensures size { IfOk result (λ plans. length plans.items ≡ length (inputs_of ground.now)) }

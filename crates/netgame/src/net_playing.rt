@@ -11,13 +11,13 @@ use crate::net_lanes::{net_steps, new_net_many, tell_lanes, unwritten_many, unwr
 use crate::net_pos::NetPos;
 use crate::net_taking::take_told;
 use game::Joint;
-use ground::Ground;
+use ground::FlatGround;
 use rulegame::new_roles;
 use std::alloc::AllocError;
 use std::slice::from_ref;
 
 /// Writes the base propositions that hold at the start into the first lane.
-fn put_start(ground: &Ground, states: &mut [u64])
+fn put_start(ground: &FlatGround, states: &mut [u64])
     requires { length states.old ≡ length ground.now.starts.items }
     ensures { (p : ℕ) → p < length ground.now.starts.items → is_lane_on states.new 0 p ≡ slice_index_or ground.now.starts.items p false }
 {
@@ -27,7 +27,7 @@ fn put_start(ground: &Ground, states: &mut [u64])
 }
 
 /// Writes the start state into the first lane.
-fn write_start(ground: &Ground, states: &mut Vec<u64>)
+fn write_start(ground: &FlatGround, states: &mut Vec<u64>)
     requires { length states.old.items ≡ length ground.now.starts.items }
     ensures start { lane_state states.new.items (length ground.now.starts.items) 0 ≡ marked ground.now.starts.items }
     ensures size { length states.new.items ≡ length states.old.items }

@@ -1,4 +1,4 @@
-//! Worked cases of the parts that know no rules: graphs of numbers, histories, windows and choices, and cuts of the work.
+//! Worked cases of the parts that know no rules: graphs of numbers, histories, windows and choices, joins in another order, and cuts of the work.
 #![tactic(auto)]
 
 #[cfg(test)]
@@ -7,5 +7,7 @@ mod cuts;
 mod graphs;
 #[cfg(test)]
 mod histories;
+#[cfg(test)]
+mod orders;
 #[cfg(test)]
 mod windows;

@@ -7,7 +7,7 @@ mod refused;
 
 use crate::{NetGame, RuleGame};
 use game::{Game, Joint, is_stuck, new_joint, put_move};
-use ground::{Ground, instantiate};
+use ground::{Ground, instantiate_alone};
 use kif::read;
 use propnet::Net;
 use rules::RuleSet;
@@ -71,7 +71,7 @@ fn rules_of(alloc: Global, text: &[u8]) -> Result<RuleSet, Fail> {
 /// The kept instances of a description.
 fn ground_of<R: AllocGlobal>(rt: &R, text: &[u8]) -> Result<Ground, Fail> {
     let rules = rules_of(rt.alloc(), text)?;
-    Ok(instantiate(rt, &rules)?)
+    Ok(instantiate_alone(rt, &rules)?)
 }
 
 /// The game of a description, over its kept instances.

@@ -38,7 +38,7 @@ use Rattle.std.proofs.lemmas.List.{length-map}
 use Rattle.std.proofs.lemmas.List.Sums.{sum_by-cons}
 use Rattle.std.proofs.lemmas.List.FromFn.{length-range_with_len}
 use Rattle.meaning.specs.declared.kind.Kind.{Kind}
-use Rattle.ground.specs.declared.ground.Ground.{Ground}
+use Rattle.ground.specs.declared.flat_ground.FlatGround.{FlatGround}
 use Rattle.ground.specs.Grounds.{Kept}
 use Rattle.ground.specs.Fits.{count_all}
 use Rattle.meaning.specs.Most.{limits}
@@ -165,7 +165,7 @@ count_is : (inputs : List (List (List ℕ))) → sum (map (λ (ts : List (List �
 count_is [] = refl
 count_is (ts ∷ rest) = sum_by-cons (λ x. x) (length ts) (map (λ (us : List (List ℕ)). length us) rest) ∙ ap (λ n. length ts + n) (count_is rest)
 
-pub few_inputs : (g : Ground) → sum (input_counts g) ≤ limits.inputs
+pub few_inputs : (g : FlatGround) → sum (input_counts g) ≤ limits.inputs
 few_inputs g = let same = count_is (inputs_of g) in let few = (fits g).few_inputs in omega arith
 
 pub sources_size : (base : ℕ) (ns : List ℕ) → length (base_names base ++ input_names 0 ns) ≡ base + sum ns
@@ -177,7 +177,7 @@ sources_size base ns =
 
 -- All of them.
 
-pub below_size : (g : Ground) (a : ℕ) → length (names_below g a) ≤ (length (base_of g) + sum (input_counts g)) + (2 * length (instances_of g) + a)
+pub below_size : (g : FlatGround) (a : ℕ) → length (names_below g a) ≤ (length (base_of g) + sum (input_counts g)) + (2 * length (instances_of g) + a)
 below_size g a =
     let sources = sources_size (length (base_of g)) (input_counts g) in
     let atoms = atoms_size (kinds_of g) (instances_of g) 0 a in
@@ -187,7 +187,7 @@ below_size g a =
     omega arith
 
 -- no more than the limits allow: three for each base proposition and each instance, and two for each input
-pub few_nodes : (g : Ground) → length (node_names (length (base_of g)) (input_counts g) (kinds_of g) (instances_of g)) ≤ 3 * limits.base +
+pub few_nodes : (g : FlatGround) → length (node_names (length (base_of g)) (input_counts g) (kinds_of g) (instances_of g)) ≤ 3 * limits.base +
     (2 * limits.inputs + 3 * limits.instances)
 few_nodes g =
     let below = below_size g (length (kinds_of g)) in
@@ -200,7 +200,7 @@ few_nodes g =
     omega arith
 
 -- room for the nodes of an atom, and for the transitions
-pub room_for_atom : (g : Ground) (a : ℕ) → a < length (kinds_of g)
+pub room_for_atom : (g : FlatGround) (a : ℕ) → a < length (kinds_of g)
     → length (names_below g a) + (length (gates_of (kinds_of g) (instances_of g) a) + 2) < 2 ^ 32
 room_for_atom g a lt =
     let below = below_size g a in
@@ -211,7 +211,7 @@ room_for_atom g a lt =
     let m = (fits g).few_atoms in
     omega arith
 
-pub room_for_transitions : (g : Ground) → length (names_below g (length (kinds_of g))) + length (base_of g) < 2 ^ 32
+pub room_for_transitions : (g : FlatGround) → length (names_below g (length (kinds_of g))) + length (base_of g) < 2 ^ 32
 room_for_transitions g =
     let below = below_size g (length (kinds_of g)) in
     let b = (fits g).few_base in
@@ -220,7 +220,7 @@ room_for_transitions g =
     let m = (fits g).few_atoms in
     omega arith
 
-pub room_for_sources : (g : Ground) → length (base_of g) + sum (input_counts g) < 2 ^ 32
+pub room_for_sources : (g : FlatGround) → length (base_of g) + sum (input_counts g) < 2 ^ 32
 room_for_sources g =
     let b = (fits g).few_base in
     let i = few_inputs g in

@@ -8,7 +8,7 @@ use Rattle.profile.specs.Items.{alternatives}
 use Rattle.profile.specs.Profile.{HasNoFault}
 use Rattle.listing.specs.declared.fault.GroundFault.{GroundFault}
 use Rattle.listing.specs.declared.fault.GroundFault.TheVariants.{TooMany, NoMemory}
-use Rattle.ground.specs.declared.ground.Ground.{Ground}
+use Rattle.ground.specs.declared.flat_ground.FlatGround.{FlatGround}
 use Rattle.ground.specs.GroundView.{IsGround}
 use Rattle.meaning.specs.Limits.{excess_in}
 use Rattle.listing.specs.Progress.{IsFaultOf}
@@ -29,24 +29,24 @@ use Rattle.replies.specs.Answers.{Reply, refusal}
 use Rattle.replies.specs.Games.{HasNoGame, IsItsGame, IsItsGround, IsInstantiated, Plays, IsDescribed, IsPlayReply}
 
 -- the ground that was made is that of the items
-pub its_ground : (items : List Tree) (rules : List Alternative) (g : Ground) → HasNoFault items → rules ≡ alternatives items
+pub its_ground : (items : List Tree) (rules : List Alternative) (g : FlatGround) → HasNoFault items → rules ≡ alternatives items
     → IsGround rules g → IsItsGround items g
 its_ground items rules g lawful are ground =
     record { lawful = lawful; ground = subst (λ (rs : List Alternative). IsGround rs g) are ground }
 
 -- the game of the ground of the items is the game of the items
-its_game : (items : List Tree) (g h : Ground) → IsItsGround items g → h ≡ g → IsItsGame items (named_rules_of h)
+its_game : (items : List Tree) (g h : FlatGround) → IsItsGround items g → h ≡ g → IsItsGame items (named_rules_of h)
 its_game items g h its same =
-    let grounded : IsGround (alternatives items) h = subst (λ (k : Ground). IsGround (alternatives items) k) (sym same) its.ground in
+    let grounded : IsGround (alternatives items) h = subst (λ (k : FlatGround). IsGround (alternatives items) k) (sym same) its.ground in
     record { lawful = its.lawful; within = grounded.within; same = game_of_ground (alternatives items) h grounded }
 
 -- what plays the ground of the items is their game
-described : (items : List Tree) (g : Ground) (d : Described) → IsItsGround items g → Plays g d → IsDescribed items d
+described : (items : List Tree) (g : FlatGround) (d : Described) → IsItsGround items g → Plays g d → IsDescribed items d
 described items g (Network game) its same = its_game items g game.played its same
 described items g (Rules game) its same = its_game items g game.played its same
 described items g (Refusal reply) its same = absurd same
 
-pub plays_its_game : {E : Type 0} (items : List Tree) (g : Ground) (i : Instantiated) (r : Result Described E)
+pub plays_its_game : {E : Type 0} (items : List Tree) (g : FlatGround) (i : Instantiated) (r : Result Described E)
     → IsInstantiated items i → i ≡ Fits g → IfOk r (Plays g) → IfOk r (IsDescribed items)
 plays_its_game items g i (Ok d) is same h = described items g d (subst (λ (j : Instantiated). IsInstantiated items j) same is) h
 plays_its_game items g i (Err e) is same h = tt
@@ -79,5 +79,5 @@ pub over_rules : (items : List Tree) (d : Described) (game : RuleGame) → IsDes
     → IsItsGame items (named_rules_of game.played)
 over_rules items d game is same = subst (λ (e : Described). IsDescribed items e) same is
 
-pub over_ground : (items : List Tree) (i : Instantiated) (g : Ground) → IsInstantiated items i → i ≡ Fits g → IsItsGround items g
+pub over_ground : (items : List Tree) (i : Instantiated) (g : FlatGround) → IsInstantiated items i → i ≡ Fits g → IsItsGround items g
 over_ground items i g is same = subst (λ (j : Instantiated). IsInstantiated items j) same is

@@ -4,7 +4,7 @@ use Rattle.std.proofs.lemmas.List.{length-map, take_all}
 use Rattle.kif.specs.Tree.{Tree, text}
 use Rattle.profile.specs.Clause.{Alternative}
 use Rattle.profile.specs.Items.{alternatives}
-use Rattle.ground.specs.declared.ground.Ground.{Ground}
+use Rattle.ground.specs.declared.flat_ground.FlatGround.{FlatGround}
 use Rattle.meaning.specs.declared.kind.Kind.{Kind}
 use Rattle.ground.specs.Fits.{count_all}
 use Rattle.ground.specs.Grounds.{Kept, texts_at, numbered}
@@ -44,11 +44,11 @@ at_most n m h few = omega arith
 most_inputs : limits.inputs ≤ 2 ^ 32
 most_inputs = omega arith
 
-pub few_inputs : (g : Ground) → count_all (inputs_of g) ≤ 2 ^ 32
+pub few_inputs : (g : FlatGround) → count_all (inputs_of g) ≤ 2 ^ 32
 few_inputs g = at_most _ _ (fits g).few_inputs most_inputs
 
 -- the sum of the inputs of the roles so far, with those of one more role
-pub sum_fits : (g : Ground) (r n x : ℕ) → r < length (roles_of g) → n ≡ count_all (take r (inputs_of g)) → x ≡ length (texts_at (inputs_of g) r)
+pub sum_fits : (g : FlatGround) (r n x : ℕ) → r < length (roles_of g) → n ≡ count_all (take r (inputs_of g)) → x ≡ length (texts_at (inputs_of g) r)
     → n + x ≤ 2 ^ 32
 sum_fits g r n x lt sum is =
     let same : length (inputs_of g) ≡ length (roles_of g) = (fits g).inputs_fit in
@@ -56,7 +56,7 @@ sum_fits g r n x lt sum is =
     let few = few_inputs g in
     omega arith
 
-pub sum_more : (g : Ground) (r n x m : ℕ) → r < length (roles_of g) → n ≡ count_all (take r (inputs_of g)) → x ≡ length (texts_at (inputs_of g) r)
+pub sum_more : (g : FlatGround) (r n x m : ℕ) → r < length (roles_of g) → n ≡ count_all (take r (inputs_of g)) → x ≡ length (texts_at (inputs_of g) r)
     → m ≡ r + 1 → n + x ≡ count_all (take m (inputs_of g))
 sum_more g r n x m lt sum is next =
     let same : length (inputs_of g) ≡ length (roles_of g) = (fits g).inputs_fit in
@@ -65,7 +65,7 @@ sum_more g r n x m lt sum is next =
     let all : n + x ≡ count_all (take (suc r) (inputs_of g)) = omega arith in
     all ∙ ap (λ (k : ℕ). count_all (take k (inputs_of g))) (sym here)
 
-pub sum_all : (g : Ground) (r n : ℕ) → r ≡ length (roles_of g) → n ≡ count_all (take r (inputs_of g)) → n ≡ count_all (inputs_of g)
+pub sum_all : (g : FlatGround) (r n : ℕ) → r ≡ length (roles_of g) → n ≡ count_all (take r (inputs_of g)) → n ≡ count_all (inputs_of g)
 sum_all g r n all sum =
     let same : length (inputs_of g) ≡ length (roles_of g) = (fits g).inputs_fit in
     sum ∙ ap count_all (take_all r (inputs_of g) (omega arith))
@@ -85,7 +85,7 @@ counts_each rules (r ∷ rs) =
     let rest = counts_each rules rs in
     cc
 
-nodes_are : (rules : List Alternative) (g : Ground) (net : Net) → IsGround rules g → IsNetOf g net → length (gates_of net) ≡ length (nodes_of rules)
+nodes_are : (rules : List Alternative) (g : FlatGround) (net : Net) → IsGround rules g → IsNetOf g net → length (gates_of net) ≡ length (nodes_of rules)
 nodes_are rules g net are of =
     sym (length-map (gates_of net) (λ (gate : Gate). gate.name))
     ∙ ap (λ (xs : List Name). length xs) of.names
@@ -98,7 +98,7 @@ nodes_are rules g net are of =
     ∙ ap (λ (kept : List Kept). length (node_names (length (base_list rules)) (map (λ r. length (input_list rules r)) (role_list rules))
     (map (kind_of rules) (listing rules).atoms) kept)) are.kept_are
 
-measures_are : (rules : List Alternative) (g : Ground) (net : Net) → IsGround rules g → IsNetOf g net
+measures_are : (rules : List Alternative) (g : FlatGround) (net : Net) → IsGround rules g → IsNetOf g net
     → net_lines (length (base_of g)) (count_all (inputs_of g)) (length (instances_of g)) g.dropped (length (gates_of net)) ≡ measures rules
 measures_are rules g net are of =
     let base : length (base_of g) ≡ length (base_list rules) =
@@ -117,7 +117,7 @@ measures_are rules g net are of =
     nodes
 
 -- the numbers that were written are those of the items
-pub items_measured : (items : List Tree) (g : Ground) (net : Net) (made output : List ℕ) (status : Status) → IsItsGround items g → IsNetOf g net
+pub items_measured : (items : List Tree) (g : FlatGround) (net : Net) (made output : List ℕ) (status : Status) → IsItsGround items g → IsNetOf g net
     → made ≡ net_lines (length (base_of g)) (count_all (inputs_of g)) (length (instances_of g)) g.dropped (length (gates_of net))
     → output ≡ made → status ≡ Answer → IsNetReply items (record { output = output; status = status })
 items_measured items g net made output status its of lines is_output is_status =

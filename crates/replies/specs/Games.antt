@@ -5,7 +5,7 @@ use Rattle.profile.specs.Items.{alternatives}
 use Rattle.profile.specs.Profile.{HasNoFault}
 use Rattle.meaning.specs.declared.excess.Excess.{Excess}
 use Rattle.listing.specs.declared.fault.GroundFault.TheVariants.{TooMany}
-use Rattle.ground.specs.declared.ground.Ground.{Ground}
+use Rattle.ground.specs.declared.flat_ground.FlatGround.{FlatGround}
 use Rattle.ground.specs.GroundView.{IsGround}
 use Rattle.meaning.specs.Limits.{excess_in}
 use Rattle.listing.specs.Refusal.{fault_text}
@@ -42,7 +42,7 @@ abbrev pub IsPlayReply : List Tree → (NamedRules → Reply → Type 0) → Rep
 IsPlayReply items told reply = HasNoGame items reply ⊎ TellsGame items told reply
 
 -- the ground is the instantiation of the items, which are a description within all limits
-pub record IsItsGround (items : List Tree) (g : Ground) : Type 0 where
+pub record IsItsGround (items : List Tree) (g : FlatGround) : Type 0 where
   pub lawful : HasNoFault items
   pub ground : IsGround (alternatives items) g
 
@@ -52,7 +52,7 @@ IsInstantiated items (Fits g) = IsItsGround items g
 IsInstantiated items (Fails reply) = HasNoGame items (record { output = reply.output.items; status = reply.status })
 
 -- what plays, plays this instantiation
-abbrev pub Plays : Ground → Described → Type 0
+abbrev pub Plays : FlatGround → Described → Type 0
 Plays g (Network game) = game.played ≡ g
 Plays g (Rules game) = game.played ≡ g
 Plays g (Refusal reply) = ⊥

@@ -8,3 +8,4 @@ pub mod Play
 pub mod Games
 pub mod Networks
 pub mod Questions
+pub mod Instantiators

@@ -1,5 +1,9 @@
 // The reply to a command, with its search done by the calling thread.
-ghost use Rattle.std.specs.Prelude.{◌≡◌, ◌<◌, pos, IfOk};
+ghost use Rattle.std.specs.Prelude.{◌≡◌, ◌<◌, pos, IfOk, IfErr};
+ghost use Rattle.ground.specs.GroundView.{IsGround, HasAtoms};
+ghost use Rattle.listing.specs.Progress.{IsFaultOf};
+ghost use Rattle.meaning.specs.Limits.{excess_in};
+ghost use Rattle.rules.specs.RuleSetView.{rules_in};
 ghost use Rattle.game.specs.Value.{value, choice_of};
 ghost use Rattle.replies.specs.Answers.{answer};
 ghost use Rattle.replies.specs.Histories.{named};
@@ -9,11 +13,14 @@ ghost use Rattle.replies.specs.Solving.{solve_lines};
 
 use crate::answering::ask;
 use crate::games::Player;
+use crate::means::Means;
 use crate::question::Question;
 use crate::reply::Reply;
 use crate::search::Search;
 use game::Game;
+use ground::{FlatGround, GroundFault, instantiate_flat_alone};
 use maximin::{Room, choice, value_in};
+use rules::RuleSet;
 use share::Answer;
 use std::alloc::{AllocError, Global};
 use words::Command;
@@ -69,7 +76,16 @@ pub fn reply_alone<T: AllocGlobal>(
 ) -> Result<Reply, AllocError>
     ensures { IfOk result (λ reply. IsReply command.now bytes.now (reply_of reply)) }
 {
-    match ask(rt, player, command, bytes)? {
+    let instantiate = |rules: &RuleSet| -> Result<FlatGround, GroundFault>
+        ensures ground { IfOk result (λ g. IsGround (rules_in rules.now) g) }
+        ensures atoms { IfOk result (λ g. HasAtoms (rules_in rules.now) g) }
+        ensures fault { IfErr result (IsFaultOf (excess_in (rules_in rules.now))) }
+    { instantiate_flat_alone(rt, rules) };
+    let means = Means {
+        alloc: rt.alloc(),
+        instantiate: &instantiate,
+    };
+    match ask(&means, player, command, bytes)? {
         Question::Told(reply) => Ok(reply),
         Question::Network(search) => told_alone(rt.alloc(), search),
         Question::Rules(search) => told_alone(rt.alloc(), search),

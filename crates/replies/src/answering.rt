@@ -5,14 +5,17 @@ ghost use Rattle.kif.specs.View.{trees_in};
 ghost use Rattle.profile.specs.Order.{relations_in_order};
 ghost use Rattle.rules.specs.RuleSetView.{rules_in, roles_in};
 ghost use Rattle.replies.specs.Checking.{spaced, check_lines, IsCheckReply};
+ghost use Rattle.replies.specs.Instantiators.{MayInstantiate, GivesGround};
 ghost use Rattle.replies.specs.Questions.{IsQuestionOf, told_question};
 ghost use Rattle.replies.specs.Replies.{IsReply, IsReplyTo, lines_of};
 
 use crate::games::{Player, ask_solve, reply_to_moves};
 use crate::grounding::reply_to_net;
+use crate::means::Means;
 use crate::question::Question;
 use crate::reply::{Reply, add_count, answered, refused};
 use bumpalo::Bump;
+use ground::{FlatGround, GroundFault};
 use kif::{Expr, KifFault, read, write};
 use rules::{RuleFault, RuleSet};
 use std::alloc::{AllocError, Allocator, Global};
@@ -80,44 +83,48 @@ fn told(reply: Result<Reply, AllocError>) -> Result<Question, AllocError>
 }
 
 /// What a command over trees that were read comes to.
-fn ask_trees<T: AllocGlobal, A: Allocator>(
-    rt: &T,
+fn ask_trees<I: Fn(&RuleSet) -> Result<FlatGround, GroundFault>, A: Allocator>(
+    means: &Means<'_, I>,
     player: Player,
     command: &Command,
     trees: &[Expr<A>],
 ) -> Result<Question, AllocError>
+    requires may { MayInstantiate (I.pre means.now.instantiate.now) }
+    requires gives { GivesGround (I.post means.now.instantiate.now) }
     ensures { IfOk result (IsQuestionOf (IsReplyTo command.now (trees_of (trees_in trees.now)))) }
 {
     match command {
-        Command::Show => told(Ok(answered(shown(rt.alloc(), trees)?))),
-        Command::Check => told(checked(rt.alloc(), trees)),
-        Command::Net => told(reply_to_net(rt, trees)),
-        Command::Moves { after } => told(reply_to_moves(rt, player, trees, after)),
+        Command::Show => told(Ok(answered(shown(means.alloc, trees)?))),
+        Command::Check => told(checked(means.alloc, trees)),
+        Command::Net => told(reply_to_net(means, trees)),
+        Command::Moves { after } => told(reply_to_moves(means, player, trees, after)),
         Command::Solve {
             role,
             depth,
             at_bound,
             cut,
             after,
-        } => ask_solve(rt, player, trees, role, *depth, *at_bound, *cut, after),
+        } => ask_solve(means, player, trees, role, *depth, *at_bound, *cut, after),
     }
 }
 
 /// What a command over the bytes of the input comes to: its reply, or for `solve` over rules, a role and a history without a fault the
 /// search after which there is one. The trees of the bytes stand in an arena that is dropped with this call. It fails only for want of
 /// memory.
-pub fn ask<T: AllocGlobal>(
-    rt: &T,
+pub fn ask<I: Fn(&RuleSet) -> Result<FlatGround, GroundFault>>(
+    means: &Means<'_, I>,
     player: Player,
     command: &Command,
     bytes: &[u8],
 ) -> Result<Question, AllocError>
+    requires may { MayInstantiate (I.pre means.now.instantiate.now) }
+    requires gives { GivesGround (I.post means.now.instantiate.now) }
     ensures { IfOk result (IsQuestionOf (IsReply command.now bytes.now)) }
 {
-    let arena = Bump::new(rt.alloc());
+    let arena = Bump::new(means.alloc);
     match read(&arena, bytes) {
-        Ok(trees) => ask_trees(rt, player, command, &trees),
+        Ok(trees) => ask_trees(means, player, command, &trees),
         Err(KifFault::NoMemory) => Err(AllocError),
-        Err(fault) => told(refused(rt.alloc(), &fault)),
+        Err(fault) => told(refused(means.alloc, &fault)),
     }
 }

@@ -3,19 +3,22 @@ ghost use Rattle.std.specs.Prelude.{◌≡◌, IfOk};
 ghost use Rattle.kif.specs.View.{trees_in};
 ghost use Rattle.replies.specs.Moving.{IsMovesReply};
 ghost use Rattle.replies.specs.Games.{IsDescribed, IsPlayReply, Plays};
+ghost use Rattle.replies.specs.Instantiators.{MayInstantiate, GivesGround};
 ghost use Rattle.replies.specs.Questions.{IsQuestionOf, network_question, rules_question};
 ghost use Rattle.replies.specs.Solving.{IsSolveReply};
 
 use crate::asking::{Asked, ask_best};
 use crate::grounding::{Instantiated, ground_of};
+use crate::means::Means;
 use crate::moving::moves_reply;
 use crate::question::Question;
 use crate::reply::Reply;
 use game::AtBound;
-use ground::Ground;
+use ground::{FlatGround, GroundFault};
 use kif::Expr;
 use position::{NetGame, RuleGame};
 use propnet::Net;
+use rules::RuleSet;
 use share::Cut;
 use std::alloc::{AllocError, Allocator, Global};
 
@@ -40,47 +43,51 @@ pub(crate) enum Described {
 }
 
 /// The game of an instantiation.
-fn game_over(alloc: Global, player: Player, ground: Ground) -> Result<Described, AllocError>
+fn game_over(alloc: Global, player: Player, ground: FlatGround) -> Result<Described, AllocError>
     ensures { IfOk result (Plays ground) }
 {
     match player {
         Player::Network => {
-            let Ok(net) = Net::compile(alloc, &ground) else {
+            let Ok(net) = Net::of_flat(alloc, &ground) else {
                 return Err(AllocError);
             };
-            Ok(Described::Network(NetGame::new(alloc, ground, net)?))
+            Ok(Described::Network(NetGame::of_flat(alloc, ground, net)?))
         }
-        Player::Rules => Ok(Described::Rules(RuleGame::new(alloc, ground)?)),
+        Player::Rules => Ok(Described::Rules(RuleGame::of_flat(alloc, ground)?)),
     }
 }
 
 /// The game of the items as a description, or the line that names their fault, or the limit that they pass.
-fn game_of<T: AllocGlobal, A: Allocator>(
-    rt: &T,
+fn game_of<I: Fn(&RuleSet) -> Result<FlatGround, GroundFault>, A: Allocator>(
+    means: &Means<'_, I>,
     player: Player,
     items: &[Expr<A>],
 ) -> Result<Described, AllocError>
+    requires may { MayInstantiate (I.pre means.now.instantiate.now) }
+    requires gives { GivesGround (I.post means.now.instantiate.now) }
     ensures { IfOk result (IsDescribed (trees_in items.now)) }
 {
-    match ground_of(rt, items)? {
-        Instantiated::Fits(ground) => game_over(rt.alloc(), player, ground),
+    match ground_of(means, items)? {
+        Instantiated::Fits(ground) => game_over(means.alloc, player, ground),
         Instantiated::Fails(reply) => Ok(Described::Refusal(reply)),
     }
 }
 
 /// The reply to `moves` over items, after the history of a text.
-pub(crate) fn reply_to_moves<T: AllocGlobal, A: Allocator>(
-    rt: &T,
+pub(crate) fn reply_to_moves<I: Fn(&RuleSet) -> Result<FlatGround, GroundFault>, A: Allocator>(
+    means: &Means<'_, I>,
     player: Player,
     items: &[Expr<A>],
     after: &str,
 ) -> Result<Reply, AllocError>
+    requires may { MayInstantiate (I.pre means.now.instantiate.now) }
+    requires gives { GivesGround (I.post means.now.instantiate.now) }
     ensures { IfOk result (λ reply. IsPlayReply (trees_in items.now) (λ g. IsMovesReply g after.now)
         (record { output = reply.output.items; status = reply.status })) }
 {
-    match game_of(rt, player, items)? {
-        Described::Network(game) => moves_reply(rt.alloc(), &game, after),
-        Described::Rules(game) => moves_reply(rt.alloc(), &game, after),
+    match game_of(means, player, items)? {
+        Described::Network(game) => moves_reply(means.alloc, &game, after),
+        Described::Rules(game) => moves_reply(means.alloc, &game, after),
         Described::Refusal(reply) => Ok(reply),
     }
 }
@@ -107,8 +114,8 @@ fn over_rules(asked: Asked<RuleGame>) -> Question
 
 /// What `solve` over items comes to, for the role of a text, within so many turns and with what a state is worth behind them, after the
 /// history of a text.
-pub(crate) fn ask_solve<T: AllocGlobal, A: Allocator>(
-    rt: &T,
+pub(crate) fn ask_solve<I: Fn(&RuleSet) -> Result<FlatGround, GroundFault>, A: Allocator>(
+    means: &Means<'_, I>,
     player: Player,
     items: &[Expr<A>],
     role: &str,
@@ -117,11 +124,13 @@ pub(crate) fn ask_solve<T: AllocGlobal, A: Allocator>(
     cut: Cut,
     after: &str,
 ) -> Result<Question, AllocError>
+    requires may { MayInstantiate (I.pre means.now.instantiate.now) }
+    requires gives { GivesGround (I.post means.now.instantiate.now) }
     ensures { IfOk result (IsQuestionOf (IsPlayReply (trees_in items.now) (λ g. IsSolveReply g role.now depth at after.now))) }
 {
-    match game_of(rt, player, items)? {
+    match game_of(means, player, items)? {
         Described::Network(game) => Ok(over_network(ask_best(
-            rt.alloc(),
+            means.alloc,
             game,
             role,
             depth,
@@ -130,7 +139,7 @@ pub(crate) fn ask_solve<T: AllocGlobal, A: Allocator>(
             after,
         )?)),
         Described::Rules(game) => Ok(over_rules(ask_best(
-            rt.alloc(),
+            means.alloc,
             game,
             role,
             depth,

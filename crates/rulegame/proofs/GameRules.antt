@@ -7,7 +7,7 @@ use Rattle.std.proofs.lemmas.List.Elements.{All-filter}
 use Rattle.kif.specs.Tree.{Tree, text}
 use Rattle.profile.specs.Clause.{Alternative}
 use Rattle.meaning.specs.declared.kind.Kind.{Kind}
-use Rattle.ground.specs.declared.ground.Ground.{Ground}
+use Rattle.ground.specs.declared.flat_ground.FlatGround.{FlatGround}
 use Rattle.meaning.specs.Meaning.{IsInAfter, IsLegal, IsEnded}
 use Rattle.meaning.specs.Listing.{listing, role_list, base_list, input_list}
 use Rattle.meaning.specs.Listed.{IsWellFormed}
@@ -146,33 +146,33 @@ game_by_rules rules roles base inputs starts kinds kept dropped is =
     (map (kind_of rules) (listing rules).atoms) xs)) (sym is.kept_are)
     (game_are rules is.well_formed)))))
 
-pub game_of_ground : (rules : List Alternative) (g : Ground) → IsGround rules g → IsGameOf rules (named_rules_of g)
+pub game_of_ground : (rules : List Alternative) (g : FlatGround) → IsGround rules g → IsGameOf rules (named_rules_of g)
 game_of_ground rules g is = game_by_rules rules (roles_of g) (base_of g) (inputs_of g) g.starts.items (kinds_of g) (instances_of g) g.dropped is
 
 -- the state has ended where the rules say so
-pub ended_by_rules : (rules : List Alternative) (g : Ground) → IsGround rules g → (s : List ℕ)
+pub ended_by_rules : (rules : List Alternative) (g : FlatGround) → IsGround rules g → (s : List ℕ)
     → ((rules_of g).ended s ≡ true) ↔ IsEnded rules (state_of rules s)
 ended_by_rules rules g is = (game_of_ground rules g is).ends
 
 -- the start state is that of the rules
-pub start_by_rules : (rules : List Alternative) (g : Ground) → IsGround rules g → AreStart rules (trees_at (base_list rules) (rules_of g).start)
+pub start_by_rules : (rules : List Alternative) (g : FlatGround) → IsGround rules g → AreStart rules (trees_at (base_list rules) (rules_of g).start)
 start_by_rules rules g is = (game_of_ground rules g is).starts.are
 
-within_roles : (rules : List Alternative) (g : Ground) → IsGround rules g → (r : ℕ) → r < length (role_list rules) → r < (rules_of g).roles
+within_roles : (rules : List Alternative) (g : FlatGround) → IsGround rules g → (r : ℕ) → r < length (role_list rules) → r < (rules_of g).roles
 within_roles rules g is r lt = subst (λ (n : ℕ). r < n) (sym (game_of_ground rules g is).roles_are) lt
 
 -- the legal moves are those of the rules
-pub legal_by_rules : (rules : List Alternative) (g : Ground) → IsGround rules g → (s : List ℕ) (r : ℕ) → r < length (role_list rules)
+pub legal_by_rules : (rules : List Alternative) (g : FlatGround) → IsGround rules g → (s : List ℕ) (r : ℕ) → r < length (role_list rules)
     → AreLegal rules (state_of rules s) (tree_at (role_list rules) r)
     (trees_at (input_list rules (tree_at (role_list rules) r)) ((rules_of g).legal s r))
 legal_by_rules rules g is s r lt = ((game_of_ground rules g is).legals s r (within_roles rules g is r lt)).are
 
 -- the state after a turn is that of the rules
-pub after_by_rules : (rules : List Alternative) (g : Ground) → IsGround rules g → (s : List ℕ) (j : Turn) → IsTurn (rules_of g) j
+pub after_by_rules : (rules : List Alternative) (g : FlatGround) → IsGround rules g → (s : List ℕ) (j : Turn) → IsTurn (rules_of g) j
     → AreAfter rules (state_of rules s) (joint_of rules j) (trees_at (base_list rules) ((rules_of g).after s j))
 after_by_rules rules g is s j turn = ((game_of_ground rules g is).follows s j turn).are
 
 -- the goals are those of the rules
-pub goals_by_rules : (rules : List Alternative) (g : Ground) → IsGround rules g → (s : List ℕ) (r : ℕ) → r < length (role_list rules)
+pub goals_by_rules : (rules : List Alternative) (g : FlatGround) → IsGround rules g → (s : List ℕ) (r : ℕ) → r < length (role_list rules)
     → IsGoal rules (state_of rules s) (tree_at (role_list rules) r) ((rules_of g).goal s r)
 goals_by_rules rules g is s r lt = (game_of_ground rules g is).goals s r (within_roles rules g is r lt)

@@ -46,8 +46,7 @@ use Rattle.std.proofs.lemmas.Bool.{cases_eq, cases_lt}
 use Rattle.std.proofs.lemmas.List.{get_or_past, get_or-map, length-map}
 use Rattle.meaning.specs.declared.kind.Kind.{Kind}
 use Rattle.std.proofs.Math.Bool.{or-false}
-use Rattle.ground.specs.declared.ground.Instance as shown
-use Rattle.ground.specs.Grounds.{Kept, kept_of}
+use Rattle.ground.specs.Grounds.{Kept}
 use Rattle.ground.specs.Fits.{IsKeptWithin}
 use Rattle.game.specs.Rules.{State, Turn}
 use Rattle.rulegame.specs.RulePlay.{
@@ -224,12 +223,6 @@ pub heads_at : (start marks new : List Bool) (ks : List Kept) (p : ℕ) (k : Kep
 heads_at start marks new ks p k below same written left =
     left ∙ ap (with_heads marks) (drop_at ks p k below same)
     ∙ ap (λ (ms : List Bool). with_heads ms (drop (p + 1) ks)) (sym written)
-
-pub kept_here : (is : List shown.Instance) (n p : ℕ) (i : shown.Instance) → p < length is → i ≡ get_or is p i → All (IsKeptWithin n) (map kept_of is)
-    → IsKeptWithin n (kept_of i)
-kept_here is n p i below same within =
-    let many = length-map is kept_of in
-    subst (λ (k : Kept). IsKeptWithin n k) (get_or-map kept_of is p i (kept_of i) below ∙ ap kept_of (sym same)) (within p (kept_of i) (omega arith))
 
 pub right_at_first : (kinds : List Kind) (s : State) (j : Turn) (marks : List Bool) (n : ℕ) → AreMarks marks n (λ k. is_given s j (kind_at kinds k))
     → AreMarks marks n (is_right kinds s j [])

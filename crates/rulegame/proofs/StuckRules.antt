@@ -33,7 +33,7 @@ use Rattle.kif.specs.Tree.{Tree, text}
 use Rattle.profile.specs.Clause.{Alternative}
 use Rattle.profile.specs.Dependence.{IsAmong}
 use Rattle.profile.proofs.Facts.{or_cases}
-use Rattle.ground.specs.declared.ground.Ground.{Ground}
+use Rattle.ground.specs.declared.flat_ground.FlatGround.{FlatGround}
 use Rattle.meaning.specs.Meaning.{IsLegal, IsEnded, IsStuck}
 use Rattle.meaning.specs.Listing.{role_list, input_list}
 use Rattle.ground.specs.GroundView.{inputs_of, IsGround}
@@ -72,7 +72,7 @@ place_of_tree t (u ∷ us) a = go a (place_of_tree t us)
     go (inl e) more = (zero, omega arith, sym e)
     go (inr h) more = let r = more h in let lt = r.1 in (suc r.0, omega arith, r.2)
 
-module _ (rules : List Alternative) (g : Ground) (is : IsGround rules g) (s : List ℕ) where
+module _ (rules : List Alternative) (g : FlatGround) (is : IsGround rules g) (s : List ℕ) where
   many : length (inputs_of g) ≡ length (role_list rules)
   many = ap length is.inputs_are ∙ length-map (role_list rules) (λ (q : Tree). map text (input_list rules q))
 

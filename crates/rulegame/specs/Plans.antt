@@ -3,7 +3,7 @@ use Rattle.std.specs.Prelude.{ℕ, ◌≡◌, ◌<◌, Bool, true, false, ◌==�
 use Rattle.std.specs.List.{list_any, range_with_len}
 use Rattle.meaning.specs.declared.kind.Kind.{Kind}
 use Rattle.meaning.specs.declared.kind.Kind.TheVariants.{Fixed, Now, Does, Next, Legal, Goal, Terminal, Other}
-use Rattle.ground.specs.declared.ground.Ground.{Ground}
+use Rattle.ground.specs.declared.flat_ground.FlatGround.{FlatGround}
 use Rattle.ground.specs.GroundView.{inputs_of, instances_of, kinds_of}
 use Rattle.rulegame.specs.declared.naming.Naming.{Naming}
 use Rattle.rulegame.specs.declared.naming.Naming.TheVariants.{ByNext, ByLegal}
@@ -74,7 +74,7 @@ pub record IsRolePlanOf (kinds : List Kind) (r : ℕ) (plan : RolePlan) : Type 0
   pub goals : plan.goals.items ≡ all_standing (Goals r) kinds
 
 -- the lists and the flat instances are those of the instantiation
-pub record IsPlanOf (g : Ground) (plan : Plan) : Type 0 where
+pub record IsPlanOf (g : FlatGround) (plan : Plan) : Type 0 where
   pub flat : IsFlatOf (length (kinds_of g)) (instances_of g) plan.flat.first.items plan.flat.heads.items plan.flat.ends.items plan.flat.literals.items
   pub given : plan.given.items ≡ all_standing Given (kinds_of g)
   pub nexts : plan.nexts.items ≡ all_standing (Named ByNext) (kinds_of g)

@@ -11,7 +11,7 @@ use Rattle.std.proofs.lemmas.List.Kept.{IsStrictlyIncreasing-filter}
 use Rattle.std.proofs.lemmas.List.Elements.{All-filter}
 use Rattle.meaning.specs.declared.kind.Kind.{Kind}
 use Rattle.meaning.specs.declared.kind.Kind.TheVariants.{Fixed, Now, Does, Next, Legal, Goal, Terminal, Other}
-use Rattle.ground.specs.declared.ground.Ground.{Ground}
+use Rattle.ground.specs.declared.flat_ground.FlatGround.{FlatGround}
 use Rattle.ground.specs.Fits.{IsKindWithin}
 use Rattle.ground.specs.Grounds.{text_at, texts_at}
 use Rattle.ground.specs.GroundView.{roles_of, base_of, inputs_of, kinds_of}
@@ -41,13 +41,13 @@ value_within base inputs r (Goal q v) h = value_if (q == r) v h.1
 value_within base inputs r Terminal h = omega arith
 value_within base inputs r Other h = omega arith
 
-pub goal_at_most : (g : Ground) (s : List ℕ) (r : ℕ) → (rules_of g).goal s r ≤ 100
+pub goal_at_most : (g : FlatGround) (s : List ℕ) (r : ℕ) → (rules_of g).goal s r ≤ 100
 goal_at_most g s r =
     greatest_within (λ a. cond (holds_in g s a) (goal_value r (kind_at (kinds_of g) a)) 0) (length (kinds_of g)) 100
     (λ k lt. value_if (holds_in g s k) _ (value_within (length (base_of g)) (inputs_of g) r (kind_at (kinds_of g) k)
     ((fits g).kinds_within k Other lt)))
 
-pub few_moves_of : (g : Ground) (r : ℕ) → (rules_of g).moves r ≤ 2 ^ 32
+pub few_moves_of : (g : FlatGround) (r : ℕ) → (rules_of g).moves r ≤ 2 ^ 32
 few_moves_of g r = let few = few_moves g r in omega arith
 
 pub below_range : (n : ℕ) → All (λ m. m < n) (range_with_len 0 n)
@@ -63,16 +63,16 @@ range_rises n k lt =
     let next = get_or-range_with_len 0 n (k + 1) 0 (omega arith) in
     omega arith
 
-pub legal_below : (g : Ground) (s : List ℕ) (r : ℕ) → All (λ m. m < (rules_of g).moves r) ((rules_of g).legal s r)
+pub legal_below : (g : FlatGround) (s : List ℕ) (r : ℕ) → All (λ m. m < (rules_of g).moves r) ((rules_of g).legal s r)
 legal_below g s r = All-filter (is_named (kinds_of g) (holds_in g s) (ByLegal r)) (λ m. m < (rules_of g).moves r) _
     (below_range ((rules_of g).moves r))
 
-pub legal_in_order : (g : Ground) (s : List ℕ) (r : ℕ) → IsStrictlyIncreasing ((rules_of g).legal s r)
+pub legal_in_order : (g : FlatGround) (s : List ℕ) (r : ℕ) → IsStrictlyIncreasing ((rules_of g).legal s r)
 legal_in_order g s r = IsStrictlyIncreasing-filter (is_named (kinds_of g) (holds_in g s) (ByLegal r)) _ (range_rises ((rules_of g).moves r))
 
-pub moves_in_order : (g : Ground) (r m n : ℕ) → r < (rules_of g).roles → m < n → n < (rules_of g).moves r
+pub moves_in_order : (g : FlatGround) (r m n : ℕ) → r < (rules_of g).roles → m < n → n < (rules_of g).moves r
     → slice_cmp nat_cmp (text_at (texts_at (inputs_of g) r) m) (text_at (texts_at (inputs_of g) r) n) ≡ Less
 moves_in_order g r m n inside less below = (fits g).inputs_rise r [] inside m n [] less below
 
-pub roles_once : (g : Ground) (q r : ℕ) → q < r → r < (rules_of g).roles → text_at (roles_of g) q ≢ text_at (roles_of g) r
+pub roles_once : (g : FlatGround) (q r : ℕ) → q < r → r < (rules_of g).roles → text_at (roles_of g) q ≢ text_at (roles_of g) r
 roles_once g q r less below = let fit = (fits g).inputs_fit in (fits g).roles_differ q r [] less (omega arith)

@@ -1,6 +1,6 @@
 -- Up to 64 states of a game of rules.
 use Rattle.std.specs.Prelude.{ℕ, ◌≡◌, ◌<◌, ◌≤◌, List, [], ◌∷◌, length, map, take, get_or, flat_map, vec_capacity}
-use Rattle.ground.specs.declared.ground.Ground.{Ground}
+use Rattle.ground.specs.declared.flat_ground.FlatGround.{FlatGround}
 use Rattle.ground.specs.GroundView.{kinds_of}
 use Rattle.rulegame.specs.declared.rule_many.RuleBase.{RuleBase}
 use Rattle.rulegame.specs.declared.rule_many.RuleMany.{RuleMany}
@@ -8,7 +8,7 @@ use Rattle.rulegame.specs.declared.rule_many.RuleWide.{RuleWide}
 use Rattle.rulegame.specs.RulePlay.{marked}
 
 -- there is room for 64 states of the game
-pub record HaveBaseRoom (g : Ground) (states : List RuleBase) : Type 0 where
+pub record HaveBaseRoom (g : FlatGround) (states : List RuleBase) : Type 0 where
   pub size : length states ≡ 64
   pub each : (k : ℕ) (d : RuleBase) → k < 64 → length (get_or states k d).marks.items ≡ length g.starts.items
 
@@ -18,12 +18,12 @@ base_capacities p = vec_capacity p.marks ∷ []
 abbrev pub all_base_capacities : List RuleBase → List ℕ
 all_base_capacities ps = flat_map base_capacities ps
 
-pub record IsManyOf (g : Ground) (m : RuleMany) : Type 0 where
+pub record IsManyOf (g : FlatGround) (m : RuleMany) : Type 0 where
   pub room : HaveBaseRoom g m.states.items
   pub few : m.count ≤ 64
 
 -- there is a mark for each atom
-abbrev pub IsWideOf : Ground → RuleWide → Type 0
+abbrev pub IsWideOf : FlatGround → RuleWide → Type 0
 IsWideOf g w = length w.right.items ≡ length (kinds_of g)
 
 -- the states that are told of

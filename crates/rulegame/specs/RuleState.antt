@@ -1,7 +1,7 @@
 -- What a state of a game of rules keeps.
 use Rattle.std.specs.Prelude.{ℕ, ◌≡◌, ◌<◌, ◌≤◌, Bool, List, [], ◌∷◌, length, take, get_or, flat_map, vec_capacity}
 use Rattle.meaning.specs.declared.kind.Kind.{Kind}
-use Rattle.ground.specs.declared.ground.Ground.{Ground}
+use Rattle.ground.specs.declared.flat_ground.FlatGround.{FlatGround}
 use Rattle.ground.specs.Grounds.{text_at, texts_at}
 use Rattle.ground.specs.GroundView.{roles_of, inputs_of, kinds_of, instances_of}
 use Rattle.rulegame.specs.declared.naming.Naming.TheVariants.{ByLegal}
@@ -12,11 +12,11 @@ use Rattle.game.specs.Rules.{Rules, State}
 use Rattle.rulegame.specs.RulePlay.{no_turn, marked, holds, ends, best_goal, named_below, rules_by}
 
 -- the rules of a game, by its instantiation
-abbrev pub rules_of : Ground → Rules
+abbrev pub rules_of : FlatGround → Rules
 rules_of g = rules_by (inputs_of g) g.starts.items (kinds_of g) (instances_of g)
 
 -- the same, with the texts of its roles and moves
-abbrev pub named_rules_of : Ground → NamedRules
+abbrev pub named_rules_of : FlatGround → NamedRules
 named_rules_of g = record {
   rules = rules_of g;
   role_name = λ r. text_at (roles_of g) r;
@@ -24,7 +24,7 @@ named_rules_of g = record {
 }
 
 -- what holds in a state
-abbrev pub holds_in : Ground → State → ℕ → Bool
+abbrev pub holds_in : FlatGround → State → ℕ → Bool
 holds_in g s = holds (kinds_of g) (instances_of g) s no_turn
 
 -- there is room for n moves
@@ -47,13 +47,13 @@ AreRead kinds right inputs fs =
     (r : ℕ) (d : RoleState) → r < length inputs → IsRoleRead kinds right r (length (texts_at inputs r)) (get_or fs r d)
 
 -- there is room for a state of the game
-pub record HasRoom (g : Ground) (p : RulePos) : Type 0 where
+pub record HasRoom (g : FlatGround) (p : RulePos) : Type 0 where
   pub base : length p.base.items ≡ length g.starts.items
   pub right : length p.right.items ≡ length (kinds_of g)
   pub roles : HaveRoom (inputs_of g) p.roles.items
 
 -- what is told of the state is so
-pub record IsStateOf (g : Ground) (p : RulePos) : Type 0 where
+pub record IsStateOf (g : FlatGround) (p : RulePos) : Type 0 where
   pub room : HasRoom g p
   pub ended : p.ended ≡ ends (kinds_of g) (holds_in g (marked p.base.items))
   pub roles : AreRead (kinds_of g) (holds_in g (marked p.base.items)) (inputs_of g) p.roles.items

@@ -10,7 +10,7 @@ use crate::flattening::flatten;
 use crate::naming::Naming;
 use crate::plan::{Plan, RolePlan, Sought, Standing};
 use crate::reading::number_of;
-use ground::{Ground, Kind};
+use ground::{FlatGround, Kind};
 use std::alloc::{AllocError, Global};
 
 /// Whether atoms of this kind are listed.
@@ -28,7 +28,7 @@ fn is_sought(sought: Sought, kind: Kind) -> bool
 
 /// Lists an atom, if atoms of its kind are listed.
 fn add_standing(
-    ground: &Ground,
+    ground: &FlatGround,
     sought: Sought,
     atom: usize,
     list: &mut Vec<Standing>,
@@ -51,7 +51,7 @@ fn add_standing(
 /// The atoms that are sought, in order.
 pub fn list_standing(
     alloc: Global,
-    ground: &Ground,
+    ground: &FlatGround,
     sought: Sought,
 ) -> Result<Vec<Standing>, AllocError>
     ensures { IfOk result (λ list. list.items ≡ all_standing sought (kinds_of ground.now)) }
@@ -64,7 +64,7 @@ pub fn list_standing(
 }
 
 /// The atoms that tell of a role.
-fn plan_role(alloc: Global, ground: &Ground, role: usize) -> Result<RolePlan, AllocError>
+fn plan_role(alloc: Global, ground: &FlatGround, role: usize) -> Result<RolePlan, AllocError>
     ensures { IfOk result (λ plan. IsRolePlanOf (kinds_of ground.now) role plan) }
 {
     Ok(RolePlan {
@@ -74,7 +74,7 @@ fn plan_role(alloc: Global, ground: &Ground, role: usize) -> Result<RolePlan, Al
 }
 
 /// The atoms that tell of each role.
-fn plan_roles(alloc: Global, ground: &Ground) -> Result<Vec<RolePlan>, AllocError>
+fn plan_roles(alloc: Global, ground: &FlatGround) -> Result<Vec<RolePlan>, AllocError>
     ensures size { IfOk result (λ plans. length plans.items ≡ length (inputs_of ground.now)) }
     ensures each { IfOk result (λ plans. (r : ℕ) (d : RolePlan) → r < length (inputs_of ground.now)
         → IsRolePlanOf (kinds_of ground.now) r (get_or plans.items r d)) }
@@ -87,7 +87,7 @@ fn plan_roles(alloc: Global, ground: &Ground) -> Result<Vec<RolePlan>, AllocErro
 }
 
 /// The plan of an instantiation.
-pub(crate) fn make_plan(alloc: Global, ground: &Ground) -> Result<Plan, AllocError>
+pub(crate) fn make_plan(alloc: Global, ground: &FlatGround) -> Result<Plan, AllocError>
     ensures { IfOk result (λ plan. IsPlanOf ground.now plan) }
 {
     Ok(Plan {

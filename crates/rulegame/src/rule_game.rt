@@ -1,5 +1,6 @@
 // The game of an instantiation.
 ghost use Rattle.std.specs.Prelude.{◌≡◌, IfOk, []};
+ghost use Rattle.ground.specs.GroundView.{flat_of};
 ghost use Rattle.rulegame.specs.Plans.{IsPlanOf};
 
 use crate::plan::Plan;
@@ -7,14 +8,14 @@ use crate::planning::make_plan;
 use crate::rule_many::{RuleMany, RuleWide, new_bases, step_each};
 use crate::rule_pos::{RulePos, copy_roles, legal_at, read_state, start_state, step_state};
 use game::{Game, Joint, Told};
-use ground::Ground;
+use ground::{FlatGround, Ground};
 use std::alloc::{AllocError, Global};
 
 /// The game that an instantiation describes, played over its kept instances.
 #[derive(Drop)]
 pub struct RuleGame {
     pub(crate) alloc: Global,
-    pub(crate) played: Ground,
+    pub(crate) played: FlatGround,
     pub(crate) plan: Plan,
     pub ghost planned: { IsPlanOf played plan },
 }
@@ -22,6 +23,13 @@ pub struct RuleGame {
 impl RuleGame {
     /// The game of the instantiation.
     pub fn new(alloc: Global, g: Ground) -> Result<RuleGame, AllocError>
+        ensures { IfOk result (λ game. game.played ≡ flat_of g) }
+    {
+        RuleGame::of_flat(alloc, g.into_flat())
+    }
+
+    /// The same of an instantiation in flat lists.
+    pub fn of_flat(alloc: Global, g: FlatGround) -> Result<RuleGame, AllocError>
         ensures { IfOk result (λ game. game.played ≡ g) }
     {
         let plan = make_plan(alloc, &g)?;
@@ -148,6 +156,16 @@ impl Game for RuleGame {
 
     /// Nothing is judged: what holds in a state is found when it is stepped to.
     fn judge(&self, _p: &RulePos, _joints: &[Joint], _w: &mut RuleWide) -> bool {
+        false
+    }
+
+    fn judge_from(
+        &self,
+        _many: &RuleMany,
+        _places: &[usize],
+        _joints: &[Joint],
+        _w: &mut RuleWide,
+    ) -> bool {
         false
     }
 

@@ -11,7 +11,7 @@ ghost use Rattle.ground.specs.Grounds.{numbered};
 ghost use Rattle.game.specs.Rules.{Turn, IsTurn, is_stuck};
 ghost use Rattle.game.specs.Played.{tree_at};
 ghost use Rattle.rulegame.specs.RulePlay.{holds};
-ghost use Rattle.ground.specs.declared.ground.Ground.{Ground};
+ghost use Rattle.ground.specs.declared.flat_ground.FlatGround.{FlatGround};
 ghost use Rattle.ground.specs.GroundView.{IsGround};
 ghost use Rattle.rulegame.specs.RuleState.{rules_of, named_rules_of};
 ghost use Rattle.game.specs.NamedRules.{NamedRules};
@@ -34,44 +34,44 @@ pub fn numbers_find_what_holds()
 
 /// A state of the game of an instantiation has ended exactly where the rules say so.
 pub fn the_rules_end_the_game()
-    ensures { (rules : List Alternative) (g : Ground) → IsGround rules g → (s : List ℕ)
+    ensures { (rules : List Alternative) (g : FlatGround) → IsGround rules g → (s : List ℕ)
         → ((rules_of g).ended s ≡ true) ↔ IsEnded rules (state_of rules s) }
 {}
 
 /// The start state of the game of an instantiation is that of the rules.
 pub fn the_rules_start_the_game()
-    ensures { (rules : List Alternative) (g : Ground) → IsGround rules g → AreStart rules (trees_at (base_list rules) (rules_of g).start) }
+    ensures { (rules : List Alternative) (g : FlatGround) → IsGround rules g → AreStart rules (trees_at (base_list rules) (rules_of g).start) }
 {}
 
 /// The legal moves that the game of an instantiation lists for a role are those of the rules.
 pub fn the_rules_give_the_moves()
-    ensures { (rules : List Alternative) (g : Ground) → IsGround rules g → (s : List ℕ) (r : ℕ) → r < length (role_list rules)
+    ensures { (rules : List Alternative) (g : FlatGround) → IsGround rules g → (s : List ℕ) (r : ℕ) → r < length (role_list rules)
         → AreLegal rules (state_of rules s) (tree_at (role_list rules) r)
         (trees_at (input_list rules (tree_at (role_list rules) r)) ((rules_of g).legal s r)) }
 {}
 
 /// A state of the game of an instantiation that has not ended has a role with no legal move exactly where it is stuck by the rules.
 pub fn the_rules_leave_the_game_stuck()
-    ensures { (rules : List Alternative) (g : Ground) → IsGround rules g → (s : List ℕ)
+    ensures { (rules : List Alternative) (g : FlatGround) → IsGround rules g → (s : List ℕ)
         → (((rules_of g).ended s ≡ false) × (is_stuck (rules_of g) s ≡ true)) ↔ IsStuck rules (state_of rules s) }
 {}
 
 /// The state after a turn of the game of an instantiation is that of the rules, where each role has its input of the number
 /// that it moves.
 pub fn the_rules_give_the_next_state()
-    ensures { (rules : List Alternative) (g : Ground) → IsGround rules g → (s : List ℕ) (j : Turn) → IsTurn (rules_of g) j
+    ensures { (rules : List Alternative) (g : FlatGround) → IsGround rules g → (s : List ℕ) (j : Turn) → IsTurn (rules_of g) j
         → AreAfter rules (state_of rules s) (joint_of rules j) (trees_at (base_list rules) ((rules_of g).after s j)) }
 {}
 
 /// The goal that the game of an instantiation gives a role in a state is that of the rules.
 pub fn the_rules_give_the_goals()
-    ensures { (rules : List Alternative) (g : Ground) → IsGround rules g → (s : List ℕ) (r : ℕ) → r < length (role_list rules)
+    ensures { (rules : List Alternative) (g : FlatGround) → IsGround rules g → (s : List ℕ) (r : ℕ) → r < length (role_list rules)
         → IsGoal rules (state_of rules s) (tree_at (role_list rules) r) ((rules_of g).goal s r) }
 {}
 
 /// The game of an instantiation is that of the rules.
 pub fn the_game_plays_by_the_rules()
-    ensures { (rules : List Alternative) (g : Ground) → IsGround rules g → IsGameOf rules (named_rules_of g) }
+    ensures { (rules : List Alternative) (g : FlatGround) → IsGround rules g → IsGameOf rules (named_rules_of g) }
 {}
 
 /// Well formed rules have a game.

@@ -22,7 +22,7 @@ use crate::evaluation::{evaluate, put_mark};
 use crate::naming::Naming;
 use crate::reading::{best_goal, has_ended, list_marked, mark_named};
 use crate::rule_game::RuleGame;
-use ground::Ground;
+use ground::FlatGround;
 use std::alloc::{AllocError, Global};
 
 /// What is told of a role in a state.
@@ -161,7 +161,7 @@ fn new_role(alloc: Global, moves: usize) -> Result<RoleState, AllocError>
 }
 
 /// Room for what is told of each role.
-pub fn new_roles(alloc: Global, ground: &Ground) -> Result<Vec<RoleState>, AllocError>
+pub fn new_roles(alloc: Global, ground: &FlatGround) -> Result<Vec<RoleState>, AllocError>
     ensures { IfOk result (λ roles. HaveRoom (inputs_of ground.now) roles.items) }
 {
     let mut roles = Vec::new(alloc);
@@ -172,7 +172,7 @@ pub fn new_roles(alloc: Global, ground: &Ground) -> Result<Vec<RoleState>, Alloc
 }
 
 /// Marks the base propositions that hold at the start.
-fn mark_start(ground: &Ground, base: &mut Vec<bool>)
+fn mark_start(ground: &FlatGround, base: &mut Vec<bool>)
     requires { length base.old.items ≡ length ground.now.starts.items }
     ensures marks { AreMarks base.new.items (length ground.now.starts.items) (λ p. slice_index_or ground.now.starts.items p false) }
 {

@@ -34,7 +34,7 @@ use Rattle.std.proofs.Common.{
   length-append,
   below_more,
 }
-use Rattle.std.specs.Prelude.{◌==◌, None, ◌-◌}
+use Rattle.std.specs.Prelude.{◌==◌, None, ◌-◌, Result, Ok, Err, OnOk}
 use Rattle.std.proofs.lemmas.List.{get_or_append_left, get_or_default}
 use Rattle.std.proofs.Math.Seq.{get_or-append_seam}
 use Rattle.propnet.specs.declared.net.Net.{Net}
@@ -52,8 +52,7 @@ use Rattle.gates.specs.Building.{IsBuilt, IsStep, IsLiteral, slots_of, value_of,
 use Rattle.tape.specs.Marks.{is_and_gate, is_or_gate, is_marked, term_nodes, AllMarked, TermsMarked, IsCovered, IsClosedFrom}
 use Rattle.tape.specs.Tapes.{AreSources}
 use Rattle.tape.specs.Sources.{is_source, source_word, IsGivenAt, AreSourcesOf}
-use Rattle.tape.specs.Translating.{AreKept, AreTermsOf, IsTermOf, IsMeant, IsTranslated}
-use Rattle.smallvec.specs.SmallVec.{SmallVec}
+use Rattle.tape.specs.Translating.{AreKept, AreTermsOf, IsTermAdded, IsTermOf, IsMeant, IsTranslated}
 use Rattle.gates.specs.Terms.{some_of, AreBelow}
 use Rattle.gates.proofs.Facts.{and_true}
 use Rattle.gates.proofs.Facts.{groups_before}
@@ -189,14 +188,14 @@ term_on v state joint u literals bits (And i) r reads e h = all_on v u literals 
 term_on v state joint u literals bits (View a) r reads e h = and_true (u (get_or literals r 0)) ∙ h 0 (omega arith)
 term_on v state joint u literals bits (Transition p) r reads e h = and_true (u (get_or literals r 0)) ∙ h 0 (omega arith)
 
-terms_on : (v : ℕ → ℕ) (u : ℕ → Bool) → ((n : ℕ) → v n < 2) → (reads : List ℕ) (terms : List (SmallVec ℕ)) → length terms ≡ length reads
-    → ((k : ℕ) (d : SmallVec ℕ) → k < length reads → all_of u (get_or terms k d).items ≡ (v (get_or reads k 0) == 1))
+terms_on : (v : ℕ → ℕ) (u : ℕ → Bool) → ((n : ℕ) → v n < 2) → (reads : List ℕ) (terms : List (List ℕ)) → length terms ≡ length reads
+    → ((k : ℕ) (d : List ℕ) → k < length reads → all_of u (get_or terms k d) ≡ (v (get_or reads k 0) == 1))
     → some_of u terms ≡ (net.any_of v reads == 1)
 terms_on v u bits [] [] s h = refl
 terms_on v u bits [] (t ∷ ts) s h = absurd (omega arith)
 terms_on v u bits (x ∷ xs) [] s h = absurd (omega arith)
 terms_on v u bits (x ∷ xs) (t ∷ ts) s h =
-    let e : all_of u t.items ≡ (v x == 1) = h 0 t (omega arith) in
+    let e : all_of u t ≡ (v x == 1) = h 0 t (omega arith) in
     let f : some_of u ts ≡ (net.any_of v xs == 1) = terms_on v u bits xs ts (omega arith) (λ k d l. h (suc k) d (omega arith)) in
     rw (e, f) (sym (is_one_max (v x) (net.any_of v xs) (bits x) (any_of_lt v xs bits)))
 
@@ -217,7 +216,7 @@ nodes_below false r m reads h a = only r m h
     only r m h (suc k) d l = absurd (omega arith)
 
 -- all that is known of what an or reads
-module _ (n : Net) (marks : List Bool) (words : List ℕ) (m : ℕ) (gate : Gate) (b : Builder) (literals : List ℕ) (terms : List (SmallVec ℕ))
+module _ (n : Net) (marks : List Bool) (words : List ℕ) (m : ℕ) (gate : Gate) (b : Builder) (literals : List ℕ) (terms : List (List ℕ))
     (e : slice_get (gates_of n) m ≡ Some gate) (inside : m < length (gates_of n))
     (is : is_or_gate gate.name ≡ true) (closed : IsClosedFrom (gates_of n) 0 marks) (on : is_marked marks m ≡ true)
     (t : IsTranslated n marks words m b literals)
@@ -243,7 +242,7 @@ module _ (n : Net) (marks : List Bool) (words : List ℕ) (m : ℕ) (gate : Gate
       l)
       (all k 0 h g.0 g.1 i 0 l)
 
-  term_is : (k : ℕ) (d : SmallVec ℕ) (h : k < length gate.reads) → (get_or terms k d).items ≡ map (λ i. get_or literals i 0) (nodes k h)
+  term_is : (k : ℕ) (d : List ℕ) (h : k < length gate.reads) → get_or terms k d ≡ map (λ i. get_or literals i 0) (nodes k h)
   unfolding nodes there
   term_is k d h = are.each k d h (there k h).0 (there k h).1
 
@@ -431,14 +430,23 @@ term_found gates literals n name reads term b e f t = λ gate g.
     subst (λ (x : Gate). term ≡ map (λ m. get_or literals m 0) (term_nodes (is_and_gate x.name) n x.reads)) same
     (subst (λ (x : Bool). term ≡ map (λ m. get_or literals m 0) (term_nodes x n reads)) (sym f) t)
 
-pub terms_more : (gates : List Gate) (literals numbers : List ℕ) (old new : List (SmallVec ℕ)) (i x : ℕ) (term : SmallVec ℕ) → length old ≡ i
-    → x ≡ get_or numbers i 0 → IsTermOf gates literals x term.items
-    → new ≡ old ++ (term ∷ []) → ((k : ℕ) → k < i → (d : SmallVec ℕ) → IsTermOf gates literals (get_or numbers k 0) (get_or old k d).items)
-    → (k : ℕ) → k < i + 1 → (d : SmallVec ℕ) → IsTermOf gates literals (get_or numbers k 0) (get_or new k d).items
+pub terms_more : (gates : List Gate) (literals numbers : List ℕ) (old new : List (List ℕ)) (i x : ℕ) (term : List ℕ) → length old ≡ i
+    → x ≡ get_or numbers i 0 → IsTermOf gates literals x term
+    → new ≡ old ++ (term ∷ []) → ((k : ℕ) → k < i → (d : List ℕ) → IsTermOf gates literals (get_or numbers k 0) (get_or old k d))
+    → (k : ℕ) → k < i + 1 → (d : List ℕ) → IsTermOf gates literals (get_or numbers k 0) (get_or new k d)
 terms_more gates literals numbers old new i x term size read here e before = rw e (below_more _ _ first last)
   where
-    first : (k : ℕ) → k < i → (d : SmallVec ℕ) → IsTermOf gates literals (get_or numbers k 0) (get_or (old ++ (term ∷ [])) k d).items
+    first : (k : ℕ) → k < i → (d : List ℕ) → IsTermOf gates literals (get_or numbers k 0) (get_or (old ++ (term ∷ [])) k d)
     first k h d = let l : k < length old = omega arith in rw (get_or_append_left old (term ∷ []) d k l) (before k h d)
 
-    last : (d : SmallVec ℕ) → IsTermOf gates literals (get_or numbers i 0) (get_or (old ++ (term ∷ [])) i d).items
+    last : (d : List ℕ) → IsTermOf gates literals (get_or numbers i 0) (get_or (old ++ (term ∷ [])) i d)
     last d = let at : get_or (old ++ (term ∷ [])) i d ≡ term = rw (← size) (get_or-append_seam old term [] d) in rw (at, ← read) here
+
+pub added_size : (old new : List (List ℕ)) (term : List ℕ) (i : ℕ) → length old ≡ i → new ≡ old ++ term ∷ [] → length new ≡ i + 1
+added_size old new term i size e = ap (λ (ts : List (List ℕ)). length ts) e ∙ (length-append old (term ∷ []) ∙ ap (λ (n : ℕ). n + 1) size)
+
+-- a term was added, where that succeeded
+pub term_added : {E : Type 0} → (r : Result (Unit {0}) E) (gates : List Gate) (literals : List ℕ) (n : ℕ) (old new : List (List ℕ)) (term : List ℕ)
+    → IsTermOf gates literals n term → OnOk r (new ≡ old ++ term ∷ []) → OnOk r (IsTermAdded gates literals n old new)
+term_added (Ok u) gates literals n old new term is h = record { term = term; is = is; added = h }
+term_added (Err e) gates literals n old new term is h = h

@@ -1,6 +1,5 @@
 -- From the nodes of a network to literals.
-use Rattle.smallvec.specs.SmallVec.{SmallVec}
-use Rattle.std.specs.Prelude.{ℕ, Bool, true, List, map, length, Some, slice_get, slice_index_or, ◌≡◌, ◌+◌, ◌*◌, ◌<◌, ◌==◌, slice_index, All}
+use Rattle.std.specs.Prelude.{ℕ, Bool, true, List, [], ◌∷◌, ◌++◌, map, length, Some, slice_get, slice_index_or, ◌≡◌, ◌+◌, ◌*◌, ◌<◌, ◌==◌, slice_index, All}
 use Rattle.propnet.specs.declared.net.Net.{Net}
 use Rattle.propnet.specs.Network.{Gate, value as node_value}
 use Rattle.propnet.specs.Nets.{gates_of}
@@ -16,10 +15,16 @@ abbrev pub IsTermOf : List Gate → List ℕ → ℕ → List ℕ → Type 0
 IsTermOf gates literals n term = (gate : Gate) → slice_get gates n ≡ Some gate
     → term ≡ map (λ m. slice_index literals m) (term_nodes (is_and_gate gate.name) n gate.reads)
 
+-- there is one more term, which is that of node n
+pub record IsTermAdded (gates : List Gate) (literals : List ℕ) (n : ℕ) (old new : List (List ℕ)) : Type 0 where
+  pub term : List ℕ
+  pub is : IsTermOf gates literals n term
+  pub added : new ≡ old ++ term ∷ []
+
 -- a term for each of some nodes
-pub record AreTermsOf (gates : List Gate) (literals numbers : List ℕ) (terms : List (SmallVec ℕ)) : Type 0 where
+pub record AreTermsOf (gates : List Gate) (literals numbers : List ℕ) (terms : List (List ℕ)) : Type 0 where
   pub size : length terms ≡ length numbers
-  pub each : (k : ℕ) (d : SmallVec ℕ) → k < length numbers → IsTermOf gates literals (slice_index numbers k) (slice_index_or terms k d).items
+  pub each : (k : ℕ) (d : List ℕ) → k < length numbers → IsTermOf gates literals (slice_index numbers k) (slice_index_or terms k d)
 
 -- the literal has the value of node n, where the words that stand in front of the gates are those of a state and a joint move, and
 -- one of each group is 1

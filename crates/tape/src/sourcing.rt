@@ -100,7 +100,7 @@ pub(crate) fn sources_of(alloc: Global, net: &Net, marks: &[bool]) -> Result<Sou
 {
     let mut sources = Sources {
         words: Vec::new(alloc),
-        literals: Vec::new(alloc),
+        literals: Vec::with_capacity(alloc, net.nodes())?,
     };
     for n in 0..net.nodes() {
         sources.add(net, n, marks)?;

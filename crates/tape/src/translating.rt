@@ -8,11 +8,11 @@ ghost use Rattle.tape.specs.Tapes.{IsTapeOf, IsTurnTapeOf};
 ghost use Rattle.tape.specs.Translating.{AreKept, IsGroupTapeOf, IsMeant, IsTranslated};
 
 use crate::cones::{cones, is_and, is_or};
-use crate::gathering::{gather, terms_of};
+use crate::gathering::{add_terms, gather};
 use crate::groups::{groups_of, with_inputs};
 use crate::sourcing::{Sources, above, few, is_source, sources_of};
 use crate::tape::Tape;
-use gates::{Builder, Group, Literal, Tally, negation};
+use gates::{Builder, Group, Literal, Terms, negation};
 use propnet::Net;
 use std::alloc::{AllocError, Global};
 
@@ -24,7 +24,7 @@ const MOST_TAKEN: usize = 16;
 struct Work {
     alloc: Global,
     queue: Vec<Literal>,
-    tally: Tally,
+    terms: Terms,
 }
 
 /// The literal of a node, or that of none where the node is not marked.
@@ -52,9 +52,9 @@ fn literal_for(
         return Ok(sources.literals[n]);
     }
     if is_or(name) {
-        let terms = terms_of(work.alloc, net, reads, literals)?;
-        work.tally.make_room(builder.slots())?;
-        return builder.any_of_all(work.alloc, &mut work.tally, MOST_TAKEN, terms);
+        work.terms.begin(builder.slots())?;
+        add_terms(net, reads, literals, &mut work.terms)?;
+        return builder.any_of_all(work.alloc, MOST_TAKEN, &mut work.terms);
     }
     gather(&mut work.queue, reads, literals)?;
     if is_and(name) {
@@ -82,11 +82,11 @@ fn translate(
     ensures kept { IfOk result (λ literals. AreKept net.now sources.now.words.items kept.now builder.new literals.items) }
     ensures groups { OnOk result (builder.new.groups.items ≡ builder.old.groups.items) }
 {
-    let mut literals = Vec::new(alloc);
+    let mut literals = Vec::with_capacity(alloc, net.nodes())?;
     let mut work = Work {
         alloc,
         queue: Vec::new(alloc),
-        tally: Tally::new(alloc),
+        terms: Terms::new(alloc),
     };
     for n in 0..net.nodes() {
         let literal = literal_for(net, n, marks, sources, builder, &literals, &mut work)?;
@@ -113,7 +113,7 @@ fn made(
 {
     let mut builder = Builder::new(alloc, few(sources.words.len())?, groups)?;
     let literals = translate(alloc, net, kept, marks, &sources, &mut builder)?;
-    let mut slots = Vec::new(alloc);
+    let mut slots = Vec::with_capacity(alloc, kept.len())?;
     gather(&mut slots, kept, &literals)?;
     let most = above(&sources.words);
     Ok(Tape {

@@ -40,6 +40,9 @@ pub const TEXT_LIMIT: usize = 4_096;
 /// Lengths are told apart up to this one, which is more than a text may have.
 const CUT: usize = TEXT_LIMIT + 1;
 
+/// For how many terms there is room from the beginning, with four numbers in each key. Where there are more, the lists grow.
+const ROOM: usize = 1 << 18;
+
 /// Ground terms and atoms, each with a number and the length of its text. The first of them are the
 /// names of the symbols, so a constant has the number of its symbol.
 #[derive(Drop)]
@@ -67,8 +70,8 @@ impl Arena {
         ensures many { IfOk result (λ a. length a.keys ≡ length (lists_of_set rules.now).words) }
         ensures numbered { IfOk result (λ a. AreNumbered (length (lists_of_set rules.now).words) a.keys) }
     {
-        let mut terms = Terms::new(alloc);
-        let mut lengths = Vec::new(alloc);
+        let mut terms = Terms::with_room(alloc, ROOM, 4 * ROOM)?;
+        let mut lengths = Vec::with_capacity(alloc, ROOM)?;
         for symbol in 0..rules.count_symbols() {
             lengths.push(cut(rules.symbol(symbol).len()))?;
             terms.intern(&[symbol])?;

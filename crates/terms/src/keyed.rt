@@ -44,6 +44,20 @@ impl Terms {
         }
     }
 
+    /// No terms yet, with room for so many, and for so many numbers in their keys.
+    pub fn with_room(alloc: Global, terms: usize, numbers: usize) -> Result<Self, AllocError>
+        ensures { IfOk result (λ t. length t ≡ 0) }
+    {
+        Ok(Terms {
+            alloc,
+            keys: KeyList::with_room(alloc, terms, numbers)?,
+            chains: Chains {
+                last: Vec::new(alloc),
+                before: Vec::new(alloc),
+            },
+        })
+    }
+
     /// How many terms there are.
     pub fn len(&self) -> usize
         ensures { result ≡ length self.now }

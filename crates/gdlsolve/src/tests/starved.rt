@@ -9,8 +9,8 @@ use std::thread::Threads;
 /// How many bytes are left beside the blocks that take all the rest.
 const ROOM: usize = 1 << 22;
 
-/// Less than this is not enough for any text, since room for the longest is taken first.
-const LEAST: usize = 1 << 20;
+/// Less than this is not enough for any text, since room for one of the common length is taken first.
+const LEAST: usize = 1 << 15;
 
 /// How many bytes are set aside for what is written, and to spare.
 const SPARE: usize = 1 << 14;

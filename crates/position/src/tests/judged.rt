@@ -1,5 +1,5 @@
 // The end of the game in states that are judged, beside that in states that are taken.
-ghost use Rattle.std.specs.Prelude.{◌≡◌, ◌<◌, ◌≤◌, All, length};
+ghost use Rattle.std.specs.Prelude.{◌≡◌, ◌<◌, ◌≤◌, All, length, IfOk};
 ghost use Rattle.game.specs.Rules.{IsTurn};
 
 use super::{MATCH, PICK, TIMELESS, TTT, net_game, rule_game, turn_at, turns_of};
@@ -130,6 +130,96 @@ fn networks_judge_known_states(rt: HostRuntime) -> Result<(), Fail> {
     for (text, count, want) in JUDGED {
         let got = net_worths(&rt, text, count)?;
         assert!(rt; got.starts_with(want));
+    }
+    Ok(())
+}
+
+/// The places of some states, the last first.
+fn places_of(alloc: Global, count: usize) -> Result<Vec<usize>, Fail>
+    ensures size { IfOk result (λ places. length places.items ≡ count) }
+    ensures below { IfOk result (λ places. All (λ k. k < count) places.items) }
+{
+    let mut places = Vec::new(alloc);
+    for place in 0..count {
+        places.push(count - 1 - place)?;
+    }
+    Ok(places)
+}
+
+/// Adds the goals in the states after joint moves that each begin at one of many states, if the game has ended there.
+fn add_stepped<G: Game>(
+    g: &G,
+    states: &G::Many,
+    places: &[usize],
+    turns: &[Joint],
+    text: &mut Vec<u8>,
+) -> Result<(), Fail>
+    requires states { G.fits_many g.now states.now }
+    requires count { length places.now ≡ length turns.now }
+    requires places { All (λ k. k < length (G.states g.now states.now)) places.now }
+    requires turns { All (λ j. IsTurn (G.rules g.now) j.items) turns.now }
+{
+    let mut child = g.fresh()?;
+    let mut next = g.fresh()?;
+    for turn in 0..turns.len() {
+        g.take(states, places[turn], &mut child);
+        g.step(&child, &turns[turn], &mut next);
+        for role in 0..g.roles() {
+            add_worth(worth_of(g, &next, role), text)?;
+        }
+    }
+    Ok(())
+}
+
+/// The goals two turns after the start: by each of the first joint moves and then one of them again, the last state first.
+fn second_worths<G: Game>(
+    alloc: Global,
+    g: &G,
+    count: usize,
+    judged: bool,
+) -> Result<Vec<u8>, Fail> {
+    if count == 0 || count > 64 {
+        return Err(Fail::new("not so many"));
+    }
+    let start = g.fresh()?;
+    let mut wide = g.new_wide()?;
+    let mut states = g.new_many()?;
+    let turns = turns_of(alloc, g, &start, count)?;
+    let places = places_of(alloc, count)?;
+    let mut text = Vec::new(alloc);
+    g.steps(&start, &turns, &mut wide, &mut states);
+    if !judged {
+        add_stepped(g, &states, &places, &turns, &mut text)?;
+        return Ok(text);
+    }
+    if !g.judge_from(&states, &places, &turns, &mut wide) {
+        return Err(Fail::new("not judged"));
+    }
+    for place in 0..count {
+        for role in 0..g.roles() {
+            add_worth(g.verdict(&wide, place, role), &mut text)?;
+        }
+    }
+    Ok(text)
+}
+
+/// The goals after two turns over the kept instances of a description.
+fn second_rule_worths(rt: &HostRuntime, text: &[u8], count: usize) -> Result<Vec<u8>, Fail> {
+    let game = rule_game(rt, text)?;
+    second_worths(rt.alloc(), &game, count, false)
+}
+
+/// The goals after two turns over the network of a description, judged.
+fn second_net_worths(rt: &HostRuntime, text: &[u8], count: usize) -> Result<Vec<u8>, Fail> {
+    let game = net_game(rt, text)?;
+    second_worths(rt.alloc(), &game, count, true)
+}
+
+#[test]
+fn networks_judge_from_many_as_rules_tell(rt: HostRuntime) -> Result<(), Fail> {
+    for (text, count) in [(MATCH, 3), (PICK, 64)] {
+        let want = second_rule_worths(&rt, text, count)?;
+        assert_eq!(rt; second_net_worths(&rt, text, count)?, want);
     }
     Ok(())
 }

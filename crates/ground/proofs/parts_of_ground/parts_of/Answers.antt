@@ -1,14 +1,13 @@
-use Rattle.std.proofs.Common.{◌∙◌, map, ap, length, refl, subst, sym}
+use Rattle.std.proofs.Common.{◌∙◌, map, ap, length, subst, sym}
 use Rattle.std.proofs.lemmas.List.{length-map}
 use Rattle.rules.specs.RuleSets.{AreKeywords}
 use Rattle.rules.specs.declared.rule_set.Keywords.{Keywords}
-use Rattle.rules.specs.RuleSetView.{rules_in, roles_in}
+use Rattle.rules.specs.RuleSetView.{rules_in}
 use Rattle.terms.specs.Vectors.{items_of}
 use Rattle.listing.specs.Founds.{numbers_of_list}
 use Rattle.listing.specs.SetWords.{words_of}
-use Rattle.listing.proofs.Facts.{set_few}
 use Rattle.listing.proofs.Facts.{below_is}
-use Rattle.ground.proofs.GroundParts.{numbered_here, sizes_here, atoms_here, are_tables, few_numbers, places_few, each_role, parts_are}
+use Rattle.ground.proofs.GroundParts.{numbered_here, sizes_here, atoms_here, are_tables, each_role, parts_are}
 use Rattle.ground.proofs.parts_of_ground.parts_of.Goals as goal
 
 pub starts_of-requires-clause-numbered : goal.starts_of-requires-clause-numbered
@@ -43,20 +42,6 @@ kinds_of_atoms-requires-clause-tables c =
     c.args.listed.now.context.roles.items c.args.listed.now.context.base.items (items_of c.args.listed.now.context.inputs.items) c.requires.listed
     c.requires.within _ _ _ c.requires.roles c.requires.base c.requires.inputs
 
-pub instances_of-requires-clause-atoms : goal.instances_of-requires-clause-atoms
-instances_of-requires-clause-atoms c =
-    few_numbers (rules_in c.args.rules.now) (words_of c.args.rules.now) c.args.listed.now.arena c.args.listed.now.atoms.keys
-    (numbers_of_list c.args.listed.now.found) c.args.listed.now.fixed_atoms
-    c.args.listed.now.context.roles.items c.args.listed.now.context.base.items (items_of c.args.listed.now.context.inputs.items) c.requires.listed
-    c.requires.within
-
-pub instances_of-requires-clause-places : goal.instances_of-requires-clause-places
-instances_of-requires-clause-places c =
-    places_few (rules_in c.args.rules.now) (words_of c.args.rules.now) c.args.listed.now.arena c.args.listed.now.atoms.keys
-    (numbers_of_list c.args.listed.now.found) c.args.listed.now.fixed_atoms
-    c.args.listed.now.context.roles.items c.args.listed.now.context.base.items (items_of c.args.listed.now.context.inputs.items) c.requires.listed
-    (set_few (rules_in c.args.rules.now) (roles_in c.args.rules.now) c.args.rules.now.accepted)
-
 pub count_dropped-dropped-requires-clause-atoms : goal.count_dropped-dropped-requires-clause-atoms
 count_dropped-dropped-requires-clause-atoms c =
     below_is _ _ _ c.as_slice-atoms.ensures.keys
@@ -81,6 +66,6 @@ returns c =
     c.args.rules.now.sound.words c.keywords-words.result
     (subst (λ (k : Keywords). AreKeywords (words_of c.args.rules.now) k) (sym c.keywords-words.ensures) c.args.rules.now.sound.keywords) _ _ _
     c.requires.base c.requires.roles c.requires.inputs
-    _ c.as_slice-bases.ensures.keys _ c.as_slice-atoms.ensures.keys _ refl _
+    _ c.as_slice-bases.ensures.keys _ c.as_slice-atoms.ensures.keys _
     (ap (map (λ s. s.keys)) c.deref.ensures.value)
-    _ c.in_ok-starts.ensures _ c.in_ok-kinds.ensures _ c.in_ok-kept.ensures _ c.count_dropped-dropped.ensures
+    _ c.in_ok-starts.ensures _ c.in_ok-kinds.ensures _ c.count_dropped-dropped.ensures

@@ -116,7 +116,7 @@ turns-preserved g c =
           c.next_turn.ensures.capacities refl c.step.ensures.capacities refl
           ∙ c.turns.invariant.capacities;
       rest_capacities = c.value_within.ensures.capacities ∙ c.turns.invariant.rest_capacities;
-      wide_capacities = c.value_within.ensures.wide_capacities ∙ c.turns.invariant.wide_capacities;
+      tools_capacities = c.value_within.ensures.tools_capacities ∙ c.turns.invariant.tools_capacities;
       deep = omega arith;
       capacity = c.write_joint.ensures.capacity ∙ c.turns.invariant.capacity;
       stands = c.if-not-next_turn.ensures.stands;

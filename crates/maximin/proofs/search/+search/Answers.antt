@@ -56,6 +56,7 @@ use Rattle.maximin.proofs.Windows.{
   le_z_true,
   le_z_false,
 }
+use Rattle.maximin.proofs.Orders.{place_within, all_places}
 use Rattle.maximin.proofs.Choices.{legal_some}
 use Rattle.maximin.proofs.OwnTurns.{alone_worst, own_worths, run_seen, run_most, run_end, greatest_worth_above, greatest_worth_reached, map_part}
 use Rattle.maximin.proofs.Values.{turn_known, value_open, IsOpen, worst_le_value, value_reached, value_ended, value_stuck}
@@ -161,7 +162,7 @@ value_at-loop-own-preserved g t c =
       levels = c.worst_at.ensures.levels;
       wide = c.worst_at.ensures.wide;
       capacities = c.worst_at.ensures.capacities ∙ c.loop-own.invariant.capacities;
-      wide_capacities = c.worst_at.ensures.wide_capacities ∙ c.loop-own.invariant.wide_capacities;
+      tools_capacities = c.worst_at.ensures.tools_capacities ∙ c.loop-own.invariant.tools_capacities;
       deep = omega arith;
       in_list = omega (arith, here.0);
       above = rw raised (raised_above a best r c.loop-own.invariant.above);
@@ -219,7 +220,11 @@ least_at-loop-place-preserved g t c =
     let states = g.G.Game.states c.args.game.now c.args.many.now in
     let worth : List ℕ → ℕ = λ s. value rules c.args.asked.role c.args.asked.depth c.args.asked.at s in
     let all = least (map worth states) in
-    let here = worth (get_or states c.loop-place.place []) in
+    let count = length c.args.joints.now in
+    let order = c.order_of-order.result in
+    let child = get_or order c.loop-place.place 0 in
+    let inside : child < count = place_within count order c.loop-place.place 0 c.order_of-order.ensures (omega (arith, c.loop-place-test.true)) in
+    let here = worth (get_or states child []) in
     let a = to_z w16 (of_z w16 c.args.a) in
     let b = to_z w16 (of_z w16 c.args.b) in
     let r = c.child_at-worth.result in
@@ -229,20 +234,21 @@ least_at-loop-place-preserved g t c =
     let lowered : to_z w16 (of_z w16 c.min-upper.result) ≡ int_min upper r =
     to_z-of_z w16 c.min-upper.result fits_m ∙ c.min-upper.ensures.value ∙ ap (λ z. int_min upper z) (to_z-of_z w16 r fits_r) in
     let answers : Answers here a upper r = c.child_at-worth.ensures.answers in
-    let part : all ≤ here = least_worth_below worth states c.loop-place.place (omega (arith, c.requires.count, c.loop-place-test.true)) in
+    let part : all ≤ here = least_worth_below worth states child (omega (arith, c.requires.count)) in
     record {
       position = c.child_at-worth.ensures.position;
       levels = c.child_at-worth.ensures.levels;
       wide = c.child_at-worth.ensures.wide;
       position_capacities = c.child_at-worth.ensures.position_capacities ∙ c.loop-place.invariant.position_capacities;
       capacities = c.child_at-worth.ensures.capacities ∙ c.loop-place.invariant.capacities;
-      wide_capacities = c.child_at-worth.ensures.wide_capacities ∙ c.loop-place.invariant.wide_capacities;
+      tools_capacities = c.child_at-worth.ensures.tools_capacities ∙ c.loop-place.invariant.tools_capacities;
       deep = omega arith;
+      ahead = c.child_at-worth.ensures.ahead;
       above = le_z_false _ a c.if-upper-a-2.false;
       below = rw lowered (lowered_below b upper r c.loop-place.invariant.below);
       at_least = rw lowered (lowered_least all here a b upper r part c.loop-place.invariant.at_least c.loop-place.invariant.below answers);
       seen = below_more _ _
-          (λ k lt. rw lowered (lowered_seen (worth (get_or states k [])) a upper r (c.loop-place.invariant.seen k lt)))
+          (λ k lt. rw lowered (lowered_seen (worth (get_or states (get_or order k 0) [])) a upper r (c.loop-place.invariant.seen k lt)))
           (rw lowered (lowered_now here a upper r answers));
     }
 
@@ -267,7 +273,11 @@ least_at-returns-then-upper-a-2-clause-answers g t c =
     let states = g.G.Game.states c.args.game.now c.args.many.now in
     let worth : List ℕ → ℕ = λ s. value rules c.args.asked.role c.args.asked.depth c.args.asked.at s in
     let all = least (map worth states) in
-    let here = worth (get_or states c.loop-place.place []) in
+    let count = length c.args.joints.now in
+    let order = c.order_of-order.result in
+    let child = get_or order c.loop-place.place 0 in
+    let inside : child < count = place_within count order c.loop-place.place 0 c.order_of-order.ensures (omega (arith, c.loop-place-test.true)) in
+    let here = worth (get_or states child []) in
     let a = to_z w16 (of_z w16 c.args.a) in
     let b = to_z w16 (of_z w16 c.args.b) in
     let r = c.child_at-worth.result in
@@ -277,7 +287,7 @@ least_at-returns-then-upper-a-2-clause-answers g t c =
     let lowered : to_z w16 (of_z w16 c.min-upper.result) ≡ int_min upper r =
     to_z-of_z w16 c.min-upper.result fits_m ∙ c.min-upper.ensures.value ∙ ap (λ z. int_min upper z) (to_z-of_z w16 r fits_r) in
     let answers : Answers here a upper r = c.child_at-worth.ensures.answers in
-    let part : all ≤ here = least_worth_below worth states c.loop-place.place (omega (arith, c.requires.count, c.loop-place-test.true)) in
+    let part : all ≤ here = least_worth_below worth states child (omega (arith, c.requires.count)) in
     let low : int_min (pos all) b ≤ℤ int_min upper r = lowered_least all here a b upper r part c.loop-place.invariant.at_least
     c.loop-place.invariant.below answers in
     let ea : a ≡ c.args.a = to_z-of_z w16 c.args.a c.ranges.a in
@@ -294,9 +304,12 @@ least_at-returns-clause-answers g t c =
     let ea : a ≡ c.args.a = to_z-of_z w16 c.args.a c.ranges.a in
     let eb : b ≡ c.args.b = to_z-of_z w16 c.args.b c.ranges.b in
     let bottom = least_worth_reached worth states (omega (arith, c.requires.count, c.requires.some)) in
+    let upper = to_z w16 c.loop-place.upper-bits in
+    let each = all_places (λ k. upper ≤ℤ int_max (pos (worth (get_or states k []))) a) (length c.args.joints.now) c.order_of-order.result
+    c.order_of-order.ensures (λ k lt. c.loop-place.invariant.seen k (omega (arith, c.loop-place-test.false))) in
     rw (← ea, ← eb) record {
       at_least = c.loop-place.invariant.at_least;
-      at_most = rw bottom.2 at (c.loop-place.invariant.seen bottom.0 (omega (arith, bottom.1, c.requires.count, c.loop-place-test.false)));
+      at_most = rw bottom.2 at (each bottom.0 (omega (arith, bottom.1, c.requires.count)));
     }
 
 pub worst_at-runs-init : goal.worst_at-runs-init
@@ -323,7 +336,7 @@ worst_at-runs-init g t c =
       wide = c.requires.wide;
       capacities = refl;
       rest_capacities = refl;
-      wide_capacities = refl;
+      tools_capacities = refl;
       deep = omega arith;
       some = omega arith;
       few = omega arith;
@@ -479,7 +492,7 @@ worst_at-runs-preserved g t c =
           c.gather-more.ensures.cursor_capacities c.gather-more.ensures.run_capacities refl refl
           ∙ c.runs.invariant.capacities;
       rest_capacities = c.least_after-least.ensures.capacities ∙ c.runs.invariant.rest_capacities;
-      wide_capacities = c.least_after-least.ensures.wide_capacities ∙ c.runs.invariant.wide_capacities;
+      tools_capacities = c.least_after-least.ensures.tools_capacities ∙ c.runs.invariant.tools_capacities;
       deep = omega arith;
       some = omega (arith, c.min-most.ensures, c.runs.invariant.some);
       few = omega (arith, c.min-most.ensures);
@@ -491,36 +504,41 @@ worst_at-runs-preserved g t c =
       at_most = rw (lowered, c.least_after-least.ensures.cursor) (lowered_most all here left a upper r (rw next at c.runs.invariant.at_most) answers);
     }
 
-pub greatest_at-loop-child-preserved : goal.greatest_at-loop-child-preserved
-greatest_at-loop-child-preserved g t c =
+pub greatest_at-loop-place-preserved : goal.greatest_at-loop-place-preserved
+greatest_at-loop-place-preserved g t c =
     let rules = g.G.Game.rules c.args.game.now in
     let states = g.G.Game.states c.args.game.now c.args.many.now in
     let worth : List ℕ → ℕ = λ s. value rules c.args.asked.role c.args.asked.depth c.args.asked.at s in
     let all = greatest (map worth states) in
-    let here = worth (get_or states c.loop-child.child []) in
+    let count = length c.args.joints.now in
+    let order = c.order_of-order.result in
+    let child = get_or order c.loop-place.place 0 in
+    let inside : child < count = place_within count order c.loop-place.place 0 c.order_of-order.ensures (omega (arith, c.loop-place-test.true)) in
+    let here = worth (get_or states child []) in
     let a = to_z w16 (of_z w16 c.args.a) in
     let b = to_z w16 (of_z w16 c.args.b) in
     let r = c.child_at-worth.result in
-    let lower = to_z w16 c.loop-child.lower-bits in
+    let lower = to_z w16 c.loop-place.lower-bits in
     let fits_r : SFits w16 r = search facts in
     let fits_m : SFits w16 c.max-lower.result = search facts in
     let raised : to_z w16 (of_z w16 c.max-lower.result) ≡ int_max lower r =
     to_z-of_z w16 c.max-lower.result fits_m ∙ c.max-lower.ensures.value ∙ ap (λ z. int_max lower z) (to_z-of_z w16 r fits_r) in
     let answers : Answers here lower b r = c.child_at-worth.ensures.answers in
-    let part : here ≤ all = greatest_worth_above worth states c.loop-child.child (omega (arith, c.requires.count, c.loop-child-test.true)) in
+    let part : here ≤ all = greatest_worth_above worth states child (omega (arith, c.requires.count)) in
     record {
       position = c.child_at-worth.ensures.position;
       levels = c.child_at-worth.ensures.levels;
       wide = c.child_at-worth.ensures.wide;
-      position_capacities = c.child_at-worth.ensures.position_capacities ∙ c.loop-child.invariant.position_capacities;
-      capacities = c.child_at-worth.ensures.capacities ∙ c.loop-child.invariant.capacities;
-      wide_capacities = c.child_at-worth.ensures.wide_capacities ∙ c.loop-child.invariant.wide_capacities;
+      position_capacities = c.child_at-worth.ensures.position_capacities ∙ c.loop-place.invariant.position_capacities;
+      capacities = c.child_at-worth.ensures.capacities ∙ c.loop-place.invariant.capacities;
+      tools_capacities = c.child_at-worth.ensures.tools_capacities ∙ c.loop-place.invariant.tools_capacities;
       deep = omega arith;
-      above = rw raised (raised_above a lower r c.loop-child.invariant.above);
+      ahead = c.child_at-worth.ensures.ahead;
+      above = rw raised (raised_above a lower r c.loop-place.invariant.above);
       below = le_z_false b _ c.if-lower-b-2.false;
-      at_most = rw raised (raised_most all here a b lower r part c.loop-child.invariant.at_most answers);
+      at_most = rw raised (raised_most all here a b lower r part c.loop-place.invariant.at_most answers);
       seen = below_more _ _
-          (λ k lt. rw raised (raised_seen (worth (get_or states k [])) b lower r (c.loop-child.invariant.seen k lt)))
+          (λ k lt. rw raised (raised_seen (worth (get_or states (get_or order k 0) [])) b lower r (c.loop-place.invariant.seen k lt)))
           (rw raised (raised_now here b lower r answers));
     }
 
@@ -545,18 +563,22 @@ greatest_at-returns-then-lower-b-2-clause-answers g t c =
     let states = g.G.Game.states c.args.game.now c.args.many.now in
     let worth : List ℕ → ℕ = λ s. value rules c.args.asked.role c.args.asked.depth c.args.asked.at s in
     let all = greatest (map worth states) in
-    let here = worth (get_or states c.loop-child.child []) in
+    let count = length c.args.joints.now in
+    let order = c.order_of-order.result in
+    let child = get_or order c.loop-place.place 0 in
+    let inside : child < count = place_within count order c.loop-place.place 0 c.order_of-order.ensures (omega (arith, c.loop-place-test.true)) in
+    let here = worth (get_or states child []) in
     let a = to_z w16 (of_z w16 c.args.a) in
     let b = to_z w16 (of_z w16 c.args.b) in
     let r = c.child_at-worth.result in
-    let lower = to_z w16 c.loop-child.lower-bits in
+    let lower = to_z w16 c.loop-place.lower-bits in
     let fits_r : SFits w16 r = search facts in
     let fits_m : SFits w16 c.max-lower.result = search facts in
     let raised : to_z w16 (of_z w16 c.max-lower.result) ≡ int_max lower r =
     to_z-of_z w16 c.max-lower.result fits_m ∙ c.max-lower.ensures.value ∙ ap (λ z. int_max lower z) (to_z-of_z w16 r fits_r) in
     let answers : Answers here lower b r = c.child_at-worth.ensures.answers in
-    let part : here ≤ all = greatest_worth_above worth states c.loop-child.child (omega (arith, c.requires.count, c.loop-child-test.true)) in
-    let most : int_max lower r ≤ℤ int_max (pos all) a = raised_most all here a b lower r part c.loop-child.invariant.at_most answers in
+    let part : here ≤ all = greatest_worth_above worth states child (omega (arith, c.requires.count)) in
+    let most : int_max lower r ≤ℤ int_max (pos all) a = raised_most all here a b lower r part c.loop-place.invariant.at_most answers in
     let ea : a ≡ c.args.a = to_z-of_z w16 c.args.a c.ranges.a in
     let eb : b ≡ c.args.b = to_z-of_z w16 c.args.b c.ranges.b in
     rw (← ea, ← eb, raised) (cut_above all a b (int_max lower r) (rw raised at (le_z_true b _ c.if-lower-b-2.true)) most)
@@ -571,9 +593,12 @@ greatest_at-returns-clause-answers g t c =
     let ea : a ≡ c.args.a = to_z-of_z w16 c.args.a c.ranges.a in
     let eb : b ≡ c.args.b = to_z-of_z w16 c.args.b c.ranges.b in
     let top = greatest_worth_reached worth states (omega (arith, c.requires.count, c.requires.some)) in
+    let lower = to_z w16 c.loop-place.lower-bits in
+    let each = all_places (λ k. int_min (pos (worth (get_or states k []))) b ≤ℤ lower) (length c.args.joints.now) c.order_of-order.result
+    c.order_of-order.ensures (λ k lt. c.loop-place.invariant.seen k (omega (arith, c.loop-place-test.false))) in
     rw (← ea, ← eb) record {
-      at_least = rw top.2 at (c.loop-child.invariant.seen top.0 (omega (arith, top.1, c.requires.count, c.loop-child-test.false)));
-      at_most = c.loop-child.invariant.at_most;
+      at_least = rw top.2 at (each top.0 (omega (arith, top.1, c.requires.count)));
+      at_most = c.loop-place.invariant.at_most;
     }
 
 pub value_at-returns-then-is_alone-clause-answers : goal.value_at-returns-then-is_alone-clause-answers
@@ -608,7 +633,7 @@ best_at-runs-init g t c =
       wide = c.requires.wide;
       capacities = refl;
       rest_capacities = refl;
-      wide_capacities = refl;
+      tools_capacities = refl;
       deep = omega arith;
       some = omega arith;
       few = omega arith;
@@ -795,7 +820,7 @@ best_at-runs-preserved g t c =
           refl c.gather_own.ensures.capacities refl refl
           ∙ c.runs.invariant.capacities;
       rest_capacities = c.greatest_after-greatest.ensures.capacities ∙ c.runs.invariant.rest_capacities;
-      wide_capacities = c.greatest_after-greatest.ensures.wide_capacities ∙ c.runs.invariant.wide_capacities;
+      tools_capacities = c.greatest_after-greatest.ensures.tools_capacities ∙ c.runs.invariant.tools_capacities;
       deep = omega arith;
       some = omega (arith, c.min-most.ensures, c.runs.invariant.some);
       few = omega (arith, c.min-most.ensures);
@@ -916,3 +941,91 @@ greatest_after-returns-clause-answers g t c =
     ∙ worths_after value_of (rules.after state) (take run.count run.joints.items) in
     rw (to_z-of_z w16 r fits_r)
     (subst (λ (ws : List ℕ). Answers (greatest ws) c.args.a c.args.b r) worths (rw (ea, eb) at c.greatest_at.ensures.answers))
+
+pub least_at-child_at-worth-requires-clause-place : goal.least_at-child_at-worth-requires-clause-place
+least_at-child_at-worth-requires-clause-place g t c κs within =
+    let inside = place_within (length c.args.joints.now) c.order_of-order.result c.loop-place.place 0 c.order_of-order.ensures
+    (omega (arith, c.loop-place-test.true)) in
+    omega (arith, c.requires.count)
+
+pub least_at-bounds-joints-child : goal.least_at-bounds-joints-child
+least_at-bounds-joints-child g t c =
+    place_within (length c.args.joints.now) c.order_of-order.result c.loop-place.place 0 c.order_of-order.ensures
+    (omega (arith, c.loop-place-test.true))
+
+pub least_at-offset_bounds-joints-child : goal.least_at-offset_bounds-joints-child
+least_at-offset_bounds-joints-child g t c =
+    let inside = place_within (length c.args.joints.now) c.order_of-order.result c.loop-place.place 0 c.order_of-order.ensures
+    (omega (arith, c.loop-place-test.true)) in
+    omega (arith, c.requires.few)
+
+pub greatest_at-child_at-worth-requires-clause-place : goal.greatest_at-child_at-worth-requires-clause-place
+greatest_at-child_at-worth-requires-clause-place g t c κs within =
+    let inside = place_within (length c.args.joints.now) c.order_of-order.result c.loop-place.place 0 c.order_of-order.ensures
+    (omega (arith, c.loop-place-test.true)) in
+    omega (arith, c.requires.count)
+
+pub greatest_at-bounds-joints-child : goal.greatest_at-bounds-joints-child
+greatest_at-bounds-joints-child g t c =
+    place_within (length c.args.joints.now) c.order_of-order.result c.loop-place.place 0 c.order_of-order.ensures
+    (omega (arith, c.loop-place-test.true))
+
+pub greatest_at-offset_bounds-joints-child : goal.greatest_at-offset_bounds-joints-child
+greatest_at-offset_bounds-joints-child g t c =
+    let inside = place_within (length c.args.joints.now) c.order_of-order.result c.loop-place.place 0 c.order_of-order.ensures
+    (omega (arith, c.loop-place-test.true)) in
+    omega (arith, c.requires.few)
+
+pub least_at-loop-place-init : goal.least_at-loop-place-init
+least_at-loop-place-init g t c =
+    let rules = g.G.Game.rules c.args.game.now in
+    let states = g.G.Game.states c.args.game.now c.args.many.now in
+    let worth : List ℕ → ℕ = λ s. value rules c.args.asked.role c.args.asked.depth c.args.asked.at s in
+    let a = to_z w16 (of_z w16 c.args.a) in
+    let b = to_z w16 (of_z w16 c.args.b) in
+    let upper = c.least_told-upper.result in
+    let fits : SFits w16 upper = search facts in
+    let eu : to_z w16 (of_z w16 upper) ≡ upper = to_z-of_z w16 upper fits in
+    let ea : a ≡ c.args.a = to_z-of_z w16 c.args.a c.ranges.a in
+    let eb : b ≡ c.args.b = to_z-of_z w16 c.args.b c.ranges.b in
+    record {
+      position = c.requires.position;
+      levels = c.requires.levels;
+      wide = c.requires.wide;
+      position_capacities = refl;
+      capacities = refl;
+      tools_capacities = refl;
+      deep = refl;
+      ahead = c.new_ahead-ahead.ensures states worth (sym c.requires.count);
+      above = le_z_false _ a c.if-upper-a.false;
+      below = rw eu c.least_told-upper.ensures.at_most;
+      at_least = rw eu c.least_told-upper.ensures.at_least;
+      seen = λ k lt. absurd (omega arith);
+    }
+
+pub greatest_at-loop-place-init : goal.greatest_at-loop-place-init
+greatest_at-loop-place-init g t c =
+    let rules = g.G.Game.rules c.args.game.now in
+    let states = g.G.Game.states c.args.game.now c.args.many.now in
+    let worth : List ℕ → ℕ = λ s. value rules c.args.asked.role c.args.asked.depth c.args.asked.at s in
+    let a = to_z w16 (of_z w16 c.args.a) in
+    let b = to_z w16 (of_z w16 c.args.b) in
+    let lower = c.greatest_told-lower.result in
+    let fits : SFits w16 lower = search facts in
+    let el : to_z w16 (of_z w16 lower) ≡ lower = to_z-of_z w16 lower fits in
+    let ea : a ≡ c.args.a = to_z-of_z w16 c.args.a c.ranges.a in
+    let eb : b ≡ c.args.b = to_z-of_z w16 c.args.b c.ranges.b in
+    record {
+      position = c.requires.position;
+      levels = c.requires.levels;
+      wide = c.requires.wide;
+      position_capacities = refl;
+      capacities = refl;
+      tools_capacities = refl;
+      deep = refl;
+      ahead = c.new_ahead-ahead.ensures states worth (sym c.requires.count);
+      above = rw el c.greatest_told-lower.ensures.at_least;
+      below = le_z_false b _ c.if-lower-b.false;
+      at_most = rw el c.greatest_told-lower.ensures.at_most;
+      seen = λ k lt. absurd (omega arith);
+    }

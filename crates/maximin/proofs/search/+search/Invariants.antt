@@ -4,6 +4,8 @@ use Rattle.std.specs.Int.{int_min, int_max}
 use Rattle.game.specs.Rules.{choices}
 use Rattle.game.specs.Value.{value, worst, least, greatest}
 use Rattle.maximin.specs.Turns.{StandsAt, later}
+use Rattle.maximin.specs.Ahead.{IsAheadOf}
+use Rattle.maximin.specs.Tools.{tools_capacities}
 use Rattle.maximin.specs.Level.{IsLevelOf, level_capacities, all_capacities}
 use Rattle.maximin.proofs.search.+search.Given as goal
 
@@ -29,10 +31,10 @@ invariant-value_at-loop-own g l =
     let state = g.G.Game.state l.game l.from in
     record {
       levels : All (IsLevelOf (g.G.Game.fits l.game) (g.G.Game.fits_many l.game) rules.roles) l.levels;
-      wide : g.G.Game.fits_wide l.game l.wide;
+      wide : g.G.Game.fits_wide l.game l.tools.wide;
       capacities : all_capacities (g.G.Game.capacities l.game) (g.G.Game.many_capacities l.game) l.levels
           ≡ all_capacities (g.G.Game.capacities l.game) (g.G.Game.many_capacities l.game) l.initial.levels;
-      wide_capacities : g.G.Game.wide_capacities l.game l.wide ≡ g.G.Game.wide_capacities l.game l.fn.wide;
+      tools_capacities : tools_capacities (g.G.Game.wide_capacities l.game) l.tools ≡ tools_capacities (g.G.Game.wide_capacities l.game) l.fn.tools;
       deep : length l.levels ≡ length l.initial.levels;
       in_list : l.place ≤ length (rules.legal state l.asked.role);
       above : l.a ≤ℤ l.best;
@@ -61,10 +63,10 @@ invariant-worst_at-runs g l =
     record {
       level : IsLevelOf (g.G.Game.fits l.game) (g.G.Game.fits_many l.game) rules.roles l.level;
       rest : All (IsLevelOf (g.G.Game.fits l.game) (g.G.Game.fits_many l.game) rules.roles) l.rest;
-      wide : g.G.Game.fits_wide l.game l.wide;
+      wide : g.G.Game.fits_wide l.game l.tools.wide;
       capacities : level_capacities of_position of_many l.level ≡ level_capacities of_position of_many l.initial.level;
       rest_capacities : all_capacities of_position of_many l.rest ≡ all_capacities of_position of_many l.initial.rest;
-      wide_capacities : g.G.Game.wide_capacities l.game l.wide ≡ g.G.Game.wide_capacities l.game l.fn.wide;
+      tools_capacities : tools_capacities (g.G.Game.wide_capacities l.game) l.tools ≡ tools_capacities (g.G.Game.wide_capacities l.game) l.fn.tools;
       deep : l.asked.depth ≤ length l.rest;
       some : 0 < l.most;
       few : l.most ≤ 64;
@@ -93,15 +95,17 @@ invariant-least_at-loop-place g l =
     record {
       position : g.G.Game.fits l.game l.position;
       levels : All (IsLevelOf (g.G.Game.fits l.game) (g.G.Game.fits_many l.game) rules.roles) l.levels;
-      wide : g.G.Game.fits_wide l.game l.wide;
+      wide : g.G.Game.fits_wide l.game l.tools.wide;
       position_capacities : g.G.Game.capacities l.game l.position ≡ g.G.Game.capacities l.game l.fn.position;
       capacities : all_capacities of_position of_many l.levels ≡ all_capacities of_position of_many l.initial.levels;
-      wide_capacities : g.G.Game.wide_capacities l.game l.wide ≡ g.G.Game.wide_capacities l.game l.fn.wide;
+      tools_capacities : tools_capacities (g.G.Game.wide_capacities l.game) l.tools ≡ tools_capacities (g.G.Game.wide_capacities l.game) l.fn.tools;
       deep : length l.levels ≡ length l.initial.levels;
+      ahead : IsAheadOf states (value rules l.asked.role l.asked.depth l.asked.at) l.ahead;
       above : l.a <ℤ l.upper;
       below : l.upper ≤ℤ l.b;
       at_least : int_min (pos all) l.b ≤ℤ l.upper;
-      seen : (k : ℕ) → k < l.place → l.upper ≤ℤ int_max (pos (value rules l.asked.role l.asked.depth l.asked.at (get_or states k []))) l.a;
+      seen : (k : ℕ) → k < l.place
+          → l.upper ≤ℤ int_max (pos (value rules l.asked.role l.asked.depth l.asked.at (get_or states (get_or l.order k 0) []))) l.a;
     }
 
 abbrev pub decreases-best_at : goal.decreases-best_at
@@ -124,10 +128,10 @@ invariant-best_at-runs g l =
     record {
       level : IsLevelOf (g.G.Game.fits l.game) (g.G.Game.fits_many l.game) rules.roles l.level;
       rest : All (IsLevelOf (g.G.Game.fits l.game) (g.G.Game.fits_many l.game) rules.roles) l.rest;
-      wide : g.G.Game.fits_wide l.game l.wide;
+      wide : g.G.Game.fits_wide l.game l.tools.wide;
       capacities : level_capacities of_position of_many l.level ≡ level_capacities of_position of_many l.initial.level;
       rest_capacities : all_capacities of_position of_many l.rest ≡ all_capacities of_position of_many l.initial.rest;
-      wide_capacities : g.G.Game.wide_capacities l.game l.wide ≡ g.G.Game.wide_capacities l.game l.fn.wide;
+      tools_capacities : tools_capacities (g.G.Game.wide_capacities l.game) l.tools ≡ tools_capacities (g.G.Game.wide_capacities l.game) l.fn.tools;
       deep : l.asked.depth ≤ length l.rest;
       some : 0 < l.most;
       few : l.most ≤ 64;
@@ -143,8 +147,8 @@ abbrev pub decreases-best_at-runs : goal.decreases-best_at-runs
 decreases-best_at-runs g l = length ((g.G.Game.rules l.game).legal (g.G.Game.state l.game l.from) l.asked.role) - l.place
 
 -- lower is a lower bound of the answer that every state so far keeps to, and it is no more than the greatest value or a
-abbrev pub invariant-greatest_at-loop-child : goal.invariant-greatest_at-loop-child
-invariant-greatest_at-loop-child g l =
+abbrev pub invariant-greatest_at-loop-place : goal.invariant-greatest_at-loop-place
+invariant-greatest_at-loop-place g l =
     let rules = g.G.Game.rules l.game in
     let states = g.G.Game.states l.game l.many in
     let all = greatest (map (value rules l.asked.role l.asked.depth l.asked.at) states) in
@@ -153,13 +157,15 @@ invariant-greatest_at-loop-child g l =
     record {
       position : g.G.Game.fits l.game l.position;
       levels : All (IsLevelOf (g.G.Game.fits l.game) (g.G.Game.fits_many l.game) rules.roles) l.levels;
-      wide : g.G.Game.fits_wide l.game l.wide;
+      wide : g.G.Game.fits_wide l.game l.tools.wide;
       position_capacities : g.G.Game.capacities l.game l.position ≡ g.G.Game.capacities l.game l.fn.position;
       capacities : all_capacities of_position of_many l.levels ≡ all_capacities of_position of_many l.initial.levels;
-      wide_capacities : g.G.Game.wide_capacities l.game l.wide ≡ g.G.Game.wide_capacities l.game l.fn.wide;
+      tools_capacities : tools_capacities (g.G.Game.wide_capacities l.game) l.tools ≡ tools_capacities (g.G.Game.wide_capacities l.game) l.fn.tools;
       deep : length l.levels ≡ length l.initial.levels;
+      ahead : IsAheadOf states (value rules l.asked.role l.asked.depth l.asked.at) l.ahead;
       above : l.a ≤ℤ l.lower;
       below : l.lower <ℤ l.b;
       at_most : l.lower ≤ℤ int_max (pos all) l.a;
-      seen : (k : ℕ) → k < l.child → int_min (pos (value rules l.asked.role l.asked.depth l.asked.at (get_or states k []))) l.b ≤ℤ l.lower;
+      seen : (k : ℕ) → k < l.place
+          → int_min (pos (value rules l.asked.role l.asked.depth l.asked.at (get_or states (get_or l.order k 0) []))) l.b ≤ℤ l.lower;
     }

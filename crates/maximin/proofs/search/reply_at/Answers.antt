@@ -39,7 +39,7 @@ loop-upper-init g c =
       wide = c.requires.wide;
       capacities = refl;
       rest_capacities = refl;
-      wide_capacities = refl;
+      tools_capacities = refl;
       deep = omega arith;
       capacity = refl;
       stands = c.start_turns.ensures.stands;
@@ -137,7 +137,7 @@ loop-upper-preserved g c =
           c.next_turn.ensures.capacities refl c.step.ensures.capacities refl
           ∙ c.loop-upper.invariant.capacities;
       rest_capacities = c.value_at-worth.ensures.capacities ∙ c.loop-upper.invariant.rest_capacities;
-      wide_capacities = c.value_at-worth.ensures.wide_capacities ∙ c.loop-upper.invariant.wide_capacities;
+      tools_capacities = c.value_at-worth.ensures.tools_capacities ∙ c.loop-upper.invariant.tools_capacities;
       deep = omega arith;
       capacity = elim c.if-worth-upper.branch [
         | then-worth-upper w ↦ rw w.out-is (w.write_joint.ensures.capacity ∙ c.loop-upper.invariant.capacity)

@@ -3,6 +3,7 @@ use Rattle.std.specs.Prelude.{All}
 use Rattle.game.specs.Rules.{choices, turns_with, Turn}
 use Rattle.game.specs.Value.{value, worst}
 use Rattle.maximin.specs.Turns.{StandsAt, later}
+use Rattle.maximin.specs.Tools.{tools_capacities}
 use Rattle.maximin.specs.Level.{IsLevelOf, level_capacities, all_capacities}
 use Rattle.maximin.proofs.Reply.{IsFirst}
 use Rattle.maximin.proofs.search.reply_at.Given as goal
@@ -16,12 +17,12 @@ invariant-loop-upper g l =
     record {
       level : IsLevelOf (g.G.Game.fits l.game) (g.G.Game.fits_many l.game) rules.roles l.level;
       rest : All (IsLevelOf (g.G.Game.fits l.game) (g.G.Game.fits_many l.game) rules.roles) l.rest;
-      wide : g.G.Game.fits_wide l.game l.wide;
+      wide : g.G.Game.fits_wide l.game l.tools.wide;
       capacities : level_capacities (g.G.Game.capacities l.game) (g.G.Game.many_capacities l.game) l.level
           ≡ level_capacities (g.G.Game.capacities l.game) (g.G.Game.many_capacities l.game) l.initial.level;
       rest_capacities : all_capacities (g.G.Game.capacities l.game) (g.G.Game.many_capacities l.game) l.rest
           ≡ all_capacities (g.G.Game.capacities l.game) (g.G.Game.many_capacities l.game) l.initial.rest;
-      wide_capacities : g.G.Game.wide_capacities l.game l.wide ≡ g.G.Game.wide_capacities l.game l.fn.wide;
+      tools_capacities : tools_capacities (g.G.Game.wide_capacities l.game) l.tools ≡ tools_capacities (g.G.Game.wide_capacities l.game) l.fn.tools;
       deep : l.asked.depth ≤ length l.rest;
       capacity : l.out.capacity ≡ l.fn.out.capacity;
       stands : StandsAt lists l.level.cursor.places.items l.level.cursor.joint.items;

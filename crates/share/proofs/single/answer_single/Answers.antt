@@ -1,12 +1,29 @@
 use Rattle.std.proofs.Common.{◌-◌, ◌≤◌, arith, get_or, w16, rules as facts}
 use Rattle.std.proofs.lemmas.Int.{to_z-of_z}
 use mir.Val.{SFits, to_z}
-use Rattle.std.specs.Prelude.{pos}
+use Rattle.std.specs.Prelude.{pos, Some}
+use Rattle.std.proofs.lemmas.List.Elements.{All-pop}
 use Rattle.game.specs.Value.{Answers}
-use Rattle.maximin.proofs.Facts.{lt_z_true, lt_z_false, worst_at_most, worst_at_place, best_raised, best_kept}
+use Rattle.maximin.proofs.Facts.{lt_z_true, lt_z_false, worst_at_most, worst_at_place, best_none, best_raised, best_kept}
+use Rattle.share.specs.Step.{IsStepOf}
 use Rattle.share.proofs.SoFar.{best_value, best_choice}
 use Rattle.share.proofs.single.answer_single.Goals as goal
 use Rattle.share.proofs.single.answer_single.Goals.{then-worst-best, else-worst-best}
+
+pub loop-own-init : goal.loop-own-init
+loop-own-init g c =
+    let node = c.args.node.now in
+    let rules = g.G.Game.rules node.game.now in
+    let state = g.G.Game.state node.game.now node.from.now in
+    let desk = c.args.desk in
+    let rest = c.open-step.result.1 in
+    record {
+      is_best = best_none (worst_at_place rules node.role node.depth node.at state);
+      step = (All-pop (IsStepOf (g.G.Game.fits node.game.now) rules.roles) desk.steps.items rest.steps.items (Some c.open-step.result.0)
+          c.open-step.ensures.steps c.requires.steps).1;
+      room = rw c.open-step.ensures.room c.requires.room.room;
+      deep = rw c.open-step.ensures.room c.requires.room.deep;
+    }
 
 pub loop-own-preserved : goal.loop-own-preserved
 loop-own-preserved g c =

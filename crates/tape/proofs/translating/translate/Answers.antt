@@ -4,8 +4,8 @@ use Rattle.tape.proofs.translating.translate.Goals as goal
 
 pub loop-n-init : goal.loop-n-init
 loop-n-init c = record {
-  translated = translated_first c.args.net.now c.args.marks.now c.args.sources.now.words.items c.args.builder.now c.new-literals.result.items
-      c.requires.built c.requires.first c.new-literals.ensures.items;
+  translated = translated_first c.args.net.now c.args.marks.now c.args.sources.now.words.items c.args.builder.now c.in_ok-literals.literals.items
+      c.requires.built c.requires.first c.in_ok-literals.ensures.items;
   groups = refl;
 }
 

@@ -1,50 +1,43 @@
-use Rattle.std.proofs.Common.{◌<◌, arith}
+use Rattle.std.proofs.Common.{◌≡◌, ◌-◌, length, arith, rules}
 use Rattle.gates.specs.Building.{slots_of}
-use Rattle.gates.proofs.Terms.{shared_gathered, popped_shared_below, more_below, all_below_more, group_more, true_literal}
+use Rattle.gates.specs.Terms.{IsFrame}
+use Rattle.gates.proofs.Factors.{true_literal, working_keyed, group_frame, key_slot, group_more}
 use Rattle.gates.proofs.builder.Builder.+factoring.Goals as goal
 
-pub any_of_all-returns-then-has_empty-clause-value : goal.any_of_all-returns-then-has_empty-clause-value
-any_of_all-returns-then-has_empty-clause-value t c = true_literal c.args.self.now c.args.terms.items c.deref.result.now c.requires.built
-    c.deref.ensures.value (c.has_empty.ensures c.if-has_empty.true)
+pub any_of_terms-returns-then-has_empty-clause-value : goal.any_of_terms-returns-then-has_empty-clause-value
+any_of_terms-returns-then-has_empty-clause-value t c = true_literal c.args.self.now c.args.base c.args.terms.now c.parts_from.result.now
+    c.requires.built (search rules) (c.has_empty.ensures c.if-has_empty.true)
 
-pub any_of_all-loop-group-init : goal.any_of_all-loop-group-init
-any_of_all-loop-group-init t c = record {
-  below = c.in_ok-groups.ensures.below (slots_of c.args.self.now) (omega (arith, c.requires.built.tape.some)) c.requires.terms;
-  gathered = shared_gathered c.args.self.now c.new-ors.result.items c.in_ok-groups.groups.items c.args.terms.items c.requires.built
-      c.new-ors.ensures.items c.in_ok-groups.ensures;
-}
+pub any_of_terms-groups-init : goal.any_of_terms-groups-init
+any_of_terms-groups-init t c = working_keyed c.args.self.now c.args.terms.now c.group.new.self c.args.base c.len-mark.result c.requires.built
+    c.requires.frame (search rules) c.in_ok-group.ensures.keyed c.in_ok-group.ensures.ors
 
-pub any_of_all-any_in_group-requires : goal.any_of_all-any_in_group-requires
-any_of_all-any_in_group-requires t c =
-    let popped = popped_shared_below (slots_of c.args.self.now) c.loop-group.groups.items c.pop.new.self.items c.in-Some.group
-    c.loop-group.invariant.below c.in-Some.ensures.items in
-    let more = c.loop-group.invariant.gathered.step.more in (
+pub any_of_terms-any_in_group-requires : goal.any_of_terms-any_in_group-requires
+any_of_terms-any_in_group-requires t c =
+    let count : c.len-last.result ≡ length c.groups.terms.parts.items = search rules in
+    let all : c.len-in-groups.result ≡ length c.groups.terms.parts.items = search rules in
+    let frame : IsFrame (slots_of c.groups.self) c.start_of-start.result c.groups.terms =
+    group_frame c.args.base c.len-mark.result c.start_of-start.result c.args.self.now c.groups.self c.args.terms.now c.groups.terms c.groups.invariant
+    c.start_of-start.ensures.base (omega (arith, count, all, c.groups-test.true, c.start_of-start.ensures.last)) in (
       omega (arith, c.decreases, c.if-depth-eq0.false),
       (
-        c.loop-group.invariant.gathered.step.built,
+        c.groups.invariant.gathered.step.built,
         (
-          all_below_more (slots_of c.args.self.now) (slots_of c.loop-group.self) c.in-Some.group.first.items more popped.1.1.0,
-          more_below (slots_of c.args.self.now) (slots_of c.loop-group.self) c.in-Some.group.others.items more popped.1.1.1,
+          key_slot c.args.base c.len-mark.result (c.len-last.result - 1) c.args.self.now c.groups.self c.args.terms.now c.groups.terms
+              c.index.result.now c.groups.invariant (omega (arith, count, all, c.groups-test.true)) (omega (arith, count, all, c.groups-test.true))
+              c.index.ensures,
+          record { place = frame.place; within = frame.within; below = frame.below },
         ),
       ),
     )
 
-pub any_of_all-and-requires-clause-a : goal.any_of_all-and-requires-clause-a
-any_of_all-and-requires-clause-a t c =
-    let popped = popped_shared_below (slots_of c.args.self.now) c.loop-group.groups.items c.pop.new.self.items c.in-Some.group
-    c.loop-group.invariant.below c.in-Some.ensures.items in
-    let key : c.in-Some.group.key < slots_of c.args.self.now = popped.1.0 in
-    omega (arith, key, c.loop-group.invariant.gathered.step.more, c.any_in_group.ensures.step.more)
-
-pub any_of_all-loop-group-preserved : goal.any_of_all-loop-group-preserved
-any_of_all-loop-group-preserved t c =
-    let popped = popped_shared_below (slots_of c.args.self.now) c.loop-group.groups.items c.pop.new.self.items c.in-Some.group
-    c.loop-group.invariant.below c.in-Some.ensures.items in
-    record {
-      below = popped.0;
-      gathered = group_more c.args.self.now c.loop-group.self c.any_in_group.new.self c.and.new.self c.loop-group.ors.items c.push.new.self.items
-          c.in_ok-any.any c.in_ok-literal.literal
-          c.loop-group.groups.items c.pop.new.self.items c.in-Some.group c.args.terms.items
-          c.loop-group.invariant.below c.loop-group.invariant.gathered c.in-Some.ensures.items
-          c.any_in_group.ensures.step c.in_ok-any.ensures.value c.and.ensures.step c.in_ok-literal.ensures.value c.in_ok-push.ensures.items;
-    }
+pub any_of_terms-groups-preserved : goal.any_of_terms-groups-preserved
+any_of_terms-groups-preserved t c =
+    let count : c.len-last.result ≡ length c.groups.terms.parts.items = search rules in
+    let all : c.len-in-groups.result ≡ length c.groups.terms.parts.items = search rules in
+    group_more c.args.base c.len-mark.result (c.len-last.result - 1) c.start_of-start.result c.in_ok-literal.literal c.args.self.now c.groups.self
+    c.any_in_group.new.self c.args.terms.now c.groups.terms _ c.index.result.now c.groups.invariant
+    c.start_of-start.ensures.base c.start_of-start.ensures.last (omega (arith, count, all, c.groups-test.true)) c.index.ensures
+    (rw c.deref-in-groups.ensures.value at c.start_of-start.ensures.key)
+    c.any_in_group.ensures.step c.in_ok-literal.ensures.value
+    c.in_ok-literal.ensures.taken.literals c.in_ok-literal.ensures.taken.parts (search rules)

@@ -1,0 +1,28 @@
+// The kept instances of a description in flat lists, and where their atoms stand in play.
+ghost use Rattle.std.specs.Prelude.{◌≡◌, length, map};
+ghost use Rattle.ground.specs.Grounds.{IsSomeGround};
+ghost use Rattle.listing.specs.Founds.{AreLaid, numbers_of_list};
+ghost use Rattle.rules.specs.RuleSets.{texts_of};
+
+use crate::atom_table::AtomTable;
+use listing::FoundList;
+use meaning::Kind;
+
+/// The kept instances of a description, in order, with the literals of all of them in one list. Base propositions, and the inputs of
+/// each role, are numbered from 0 in printed order, roles from 0 in the order in which the items state them, and atoms from 0 by first
+/// appearance.
+#[derive(Drop)]
+pub struct FlatGround {
+    pub(crate) roles: Vec<Vec<u8>>,
+    pub(crate) base: Vec<Vec<u8>>,
+    pub(crate) inputs: Vec<Vec<Vec<u8>>>,
+    pub(crate) starts: Vec<bool>,
+    pub(crate) kinds: Vec<Kind>,
+    pub(crate) kept: FoundList,
+    pub(crate) dropped: usize,
+    pub(crate) atom_table: AtomTable,
+    pub ghost sound: { ∥ IsSomeGround (texts_of roles.items) (texts_of base.items) (map (λ v. texts_of v.items) inputs.items) starts.items kinds.items
+        (numbers_of_list kept) dropped ∥₁ },
+    pub ghost laid: { AreLaid kept },
+    pub ghost beside: { length kinds.items ≡ length atom_table },
+}

@@ -1,0 +1,9 @@
+use Rattle.std.proofs.Common.{◌≡◌, take, drop, map}
+use Rattle.game.specs.Value.{value, greatest}
+use Rattle.maximin.proofs.end.greatest_of.Given as goal
+
+-- the greatest value of the states so far
+abbrev pub invariant-loop-place : goal.invariant-loop-place
+invariant-loop-place g l =
+    let worth = value (g.G.Game.rules l.game) l.asked.role l.asked.depth l.asked.at in
+    l.highest ≡ greatest (map worth (take l.place (drop l.first (g.G.Game.judged l.game l.wide))))

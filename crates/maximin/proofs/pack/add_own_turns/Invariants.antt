@@ -1,0 +1,23 @@
+use Rattle.std.proofs.Common.{◌≡◌, ◌-◌, ◌≤◌, ◌++◌, length, take, map}
+use Rattle.std.proofs.Math.ListN.{set}
+use Rattle.std.specs.Prelude.{All}
+use Rattle.game.specs.Rules.{IsTurn}
+use Rattle.maximin.specs.Run.{IsRunOf, turns_in, run_capacities}
+use Rattle.maximin.proofs.pack.add_own_turns.Given as goal
+
+-- the joint moves of the moves so far stand behind those that were there
+abbrev pub invariant-moves : goal.invariant-moves
+invariant-moves g l =
+    let rules = g.G.Game.rules l.game in
+    let legal = rules.legal (g.G.Game.state l.game l.from) l.role in
+    record {
+      run : IsRunOf rules.roles l.run;
+      capacities : run_capacities l.run ≡ run_capacities l.initial.run;
+      known : All (IsTurn rules) (turns_in l.run);
+      in_list : l.place ≤ length legal;
+      count : l.initial.run.count ≤ l.run.count;
+      turns : turns_in l.run ≡ turns_in l.initial.run ++ map (λ m. set l.joint.items l.role m) (take l.place legal);
+    }
+
+abbrev pub decreases-moves : goal.decreases-moves
+decreases-moves g l = length ((g.G.Game.rules l.game).legal (g.G.Game.state l.game l.from) l.role) - l.place

@@ -1,0 +1,10 @@
+-- What is known of the states of a run before they are searched.
+use Rattle.std.specs.Prelude.{◌≡◌, ℕ, ◌<◌, ◌≤◌, List, [], length, slice_index_or, None, IfSome}
+use Rattle.game.specs.Rules.{State}
+use Rattle.maximin.specs.declared.ahead.Ahead.{Ahead}
+
+-- each worth that is known is that of its state
+pub record IsAheadOf (states : List State) (worth : State → ℕ) (ahead : Ahead) : Type 0 where
+  pub count : ahead.count ≡ length states
+  pub few : length states ≤ 64
+  pub worths : (k : ℕ) → k < length states → IfSome (slice_index_or ahead.worths k None) (λ found. found ≡ worth (slice_index_or states k []))

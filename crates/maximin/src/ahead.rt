@@ -1,0 +1,259 @@
+// What is known of the states of a run before they are searched.
+ghost use Rattle.std.specs.Prelude.{◌≡◌, ◌≢◌, ◌+◌, ◌-◌, ◌<◌, ◌≤◌, ℕ, List, true, All, length, map, take, drop, slice_index_or, None, IfSome};
+ghost use Rattle.game.specs.Rules.{State, IsTurn};
+ghost use Rattle.game.specs.Value.{value};
+ghost use Rattle.game.specs.declared.at_bound.AtBound.TheVariants.{Zero};
+ghost use Rattle.maximin.specs.Ahead.{IsAheadOf};
+ghost use Rattle.maximin.specs.Level.{IsLevelOf, level_capacities, all_capacities};
+ghost use Rattle.maximin.specs.Pack.{picked, packed_after, IsPartOf, IsPackOf};
+ghost use Rattle.maximin.specs.Run.{IsRunOf, turns_in, run_capacities};
+ghost use Rattle.maximin.specs.Tools.{tools_capacities};
+
+use crate::end::{greatest_of, least_of};
+use crate::level::Level;
+use crate::pack::{Pack, Part, Pick, pack_on};
+use crate::run::{LONGEST_RUN, Run};
+use crate::search::Asked;
+use crate::tools::Tools;
+use game::{AtBound, Game};
+
+/// What is known of the states of a run before they are searched.
+#[derive(Drop)]
+pub struct Ahead {
+    /// How many states there are.
+    pub count: usize,
+    /// The place from which on none was looked at.
+    pub next: usize,
+    /// By state what it is worth, where that is known.
+    pub worths: [Option<u8>; LONGEST_RUN],
+}
+
+/// Nothing is known of so many states.
+pub fn new_ahead(count: usize) -> Ahead
+    requires { count ≤ 64 }
+    ensures { (states : List State) (worth : State → ℕ) → length states ≡ count → IsAheadOf states worth result }
+{
+    Ahead {
+        count,
+        next: 0,
+        worths: [None; LONGEST_RUN],
+    }
+}
+
+/// A pack of no joint moves.
+fn new_pack() -> Pack
+    ensures { (k : ℕ) → slice_index_or result.parts k None ≡ None }
+{
+    Pack {
+        places: [0; LONGEST_RUN],
+        parts: [None; LONGEST_RUN],
+    }
+}
+
+/// Packs the states from a place on, up to one that is to be searched. The answer is its place.
+fn pack_states<G: Game>(
+    game: &G,
+    many: &G::Many,
+    first: usize,
+    count: usize,
+    asked: Asked,
+    level: &mut Level<G::Pos, G::Many>,
+    pack: &mut Pack,
+) -> usize
+    requires many { G.fits_many game.now many.now }
+    requires count { count ≡ length (G.states game.now many.now) }
+    requires few { count ≤ 64 }
+    requires first { first < count }
+    requires role { asked.role < (G.rules game.now).roles }
+    requires turn { asked.depth ≢ 0 }
+    requires level { IsLevelOf (G.fits game.now) (G.fits_many game.now) (G.rules game.now).roles level.old }
+    requires pack { IsPackOf (G.rules game.now) (G.states game.now many.now) (value (G.rules game.now) asked.role asked.depth asked.at)
+        (value (G.rules game.now) asked.role (asked.depth - 1) asked.at) pack.old level.old.run }
+    ensures place { result ≤ count }
+    ensures level { IsLevelOf (G.fits game.now) (G.fits_many game.now) (G.rules game.now).roles level.new }
+    ensures capacities { level_capacities (G.capacities game.now) (G.many_capacities game.now) level.new
+        ≡ level_capacities (G.capacities game.now) (G.many_capacities game.now) level.old }
+    ensures pack { IsPackOf (G.rules game.now) (G.states game.now many.now) (value (G.rules game.now) asked.role asked.depth asked.at)
+        (value (G.rules game.now) asked.role (asked.depth - 1) asked.at) pack.new level.new.run }
+{
+    let mut place = first;
+    'states: while place < count {
+        if !pack_on(game, many, place, asked, level, pack) {
+            return place;
+        }
+        place += 1;
+    }
+    place
+}
+
+/// Plays the joint moves of a pack for the end of the game alone. The answer is false where they are to be stepped.
+fn judge_pack<G: Game>(game: &G, many: &G::Many, pack: &Pack, run: &Run, wide: &mut G::Wide) -> bool
+    requires many { G.fits_many game.now many.now }
+    requires some { 0 < run.now.count }
+    requires run { IsRunOf (G.rules game.now).roles run.now }
+    requires known { All (IsTurn (G.rules game.now)) (turns_in run.now) }
+    requires places { All (λ k. k < length (G.states game.now many.now)) (take run.now.count pack.now.places) }
+    requires wide { G.fits_wide game.now wide.old }
+    ensures wide { G.fits_wide game.now wide.new }
+    ensures wide_capacities { G.wide_capacities game.now wide.new ≡ G.wide_capacities game.now wide.old }
+    ensures after { result ≡ true
+        → G.judged game.now wide.new ≡ packed_after (G.rules game.now) (G.states game.now many.now) pack.now.places run.now }
+{
+    let count = run.count;
+    game.judge_from(many, &pack.places[..count], &run.joints[..count], wide)
+}
+
+/// What the states of a part of those that were judged tell of the state that they come from.
+fn part_worth<G: Game>(game: &G, wide: &G::Wide, part: Part, asked: Asked) -> u8
+    requires wide { G.fits_wide game.now wide.now }
+    requires few { length (G.judged game.now wide.now) ≤ 64 }
+    requires some { 0 < part.count }
+    requires within { part.first + part.count ≤ length (G.judged game.now wide.now) }
+    requires role { asked.role < (G.rules game.now).roles }
+    requires depth { asked.depth ≡ 0 }
+    requires bound { asked.at ≡ Zero }
+    ensures { result ≡ picked part.pick (map (value (G.rules game.now) asked.role asked.depth asked.at)
+        (take part.count (drop part.first (G.judged game.now wide.now)))) }
+{
+    match part.pick {
+        Pick::Greatest => greatest_of(game, wide, part.first, part.count, asked),
+        Pick::Least => least_of(game, wide, part.first, part.count, asked),
+    }
+}
+
+/// What is known of a state by its part of those that were judged, if it has one, and else what was known before.
+fn noted<G: Game>(
+    game: &G,
+    wide: &G::Wide,
+    part: Option<Part>,
+    known: Option<u8>,
+    asked: Asked,
+) -> Option<u8>
+    requires wide { G.fits_wide game.now wide.now }
+    requires few { length (G.judged game.now wide.now) ≤ 64 }
+    requires some { IfSome part (λ p. 0 < p.count) }
+    requires within { IfSome part (λ p. p.first + p.count ≤ length (G.judged game.now wide.now)) }
+    requires role { asked.role < (G.rules game.now).roles }
+    requires depth { asked.depth ≡ 0 }
+    requires bound { asked.at ≡ Zero }
+    ensures { (worth : ℕ) → IfSome part (IsPartOf (value (G.rules game.now) asked.role asked.depth asked.at) (G.judged game.now wide.now) worth)
+        → IfSome known (λ found. found ≡ worth) → IfSome result (λ found. found ≡ worth) }
+{
+    match part {
+        Some(part) => Some(part_worth(game, wide, part, asked)),
+        None => known,
+    }
+}
+
+/// Judges the states after the joint moves of a pack, and notes what those are worth that they come from, which stand from one place to
+/// another.
+fn note_worths<G: Game>(
+    game: &G,
+    many: &G::Many,
+    first: usize,
+    end: usize,
+    asked: Asked,
+    pack: &Pack,
+    run: &Run,
+    tools: &mut Tools<G::Wide>,
+    ahead: &mut Ahead,
+)
+    requires many { G.fits_many game.now many.now }
+    requires end { end ≤ length (G.states game.now many.now) }
+    requires role { asked.role < (G.rules game.now).roles }
+    requires depth { asked.depth ≡ 1 }
+    requires bound { asked.at ≡ Zero }
+    requires some { 0 < run.now.count }
+    requires run { IsRunOf (G.rules game.now).roles run.now }
+    requires pack { IsPackOf (G.rules game.now) (G.states game.now many.now) (value (G.rules game.now) asked.role asked.depth asked.at)
+        (value (G.rules game.now) asked.role (asked.depth - 1) asked.at) pack.now run.now }
+    requires wide { G.fits_wide game.now tools.old.wide }
+    requires ahead { IsAheadOf (G.states game.now many.now) (value (G.rules game.now) asked.role asked.depth asked.at) ahead.old }
+    ensures wide { G.fits_wide game.now tools.new.wide }
+    ensures tools_capacities { tools_capacities (G.wide_capacities game.now) tools.new ≡ tools_capacities (G.wide_capacities game.now) tools.old }
+    ensures ahead { IsAheadOf (G.states game.now many.now) (value (G.rules game.now) asked.role asked.depth asked.at) ahead.new }
+{
+    tools.judges = judge_pack(game, many, pack, run, &mut tools.wide);
+    if !tools.judges {
+        return;
+    }
+    let last = Asked {
+        depth: asked.depth - 1,
+        ..asked
+    };
+    for place in first..end {
+        let known = ahead.worths[place];
+        ahead.worths[place] = noted(game, &tools.wide, pack.parts[place], known, last);
+    }
+}
+
+/// Packs the joint moves of the states from a place on, as long as they have room, and notes what these states are worth.
+fn look_on<G: Game>(
+    game: &G,
+    many: &G::Many,
+    place: usize,
+    asked: Asked,
+    tools: &mut Tools<G::Wide>,
+    level: &mut Level<G::Pos, G::Many>,
+    ahead: &mut Ahead,
+)
+    requires many { G.fits_many game.now many.now }
+    requires place { place < length (G.states game.now many.now) }
+    requires role { asked.role < (G.rules game.now).roles }
+    requires depth { asked.depth ≡ 1 }
+    requires bound { asked.at ≡ Zero }
+    requires wide { G.fits_wide game.now tools.old.wide }
+    requires level { IsLevelOf (G.fits game.now) (G.fits_many game.now) (G.rules game.now).roles level.old }
+    requires ahead { IsAheadOf (G.states game.now many.now) (value (G.rules game.now) asked.role asked.depth asked.at) ahead.old }
+    ensures wide { G.fits_wide game.now tools.new.wide }
+    ensures tools_capacities { tools_capacities (G.wide_capacities game.now) tools.new ≡ tools_capacities (G.wide_capacities game.now) tools.old }
+    ensures level { IsLevelOf (G.fits game.now) (G.fits_many game.now) (G.rules game.now).roles level.new }
+    ensures capacities { level_capacities (G.capacities game.now) (G.many_capacities game.now) level.new
+        ≡ level_capacities (G.capacities game.now) (G.many_capacities game.now) level.old }
+    ensures ahead { IsAheadOf (G.states game.now many.now) (value (G.rules game.now) asked.role asked.depth asked.at) ahead.new }
+{
+    let mut pack = new_pack();
+    level.run.count = 0;
+    let end = pack_states(game, many, place, ahead.count, asked, level, &mut pack);
+    ahead.next = end.max(place + 1);
+    if level.run.count > 0 {
+        note_worths(
+            game, many, place, end, asked, &pack, &level.run, tools, ahead,
+        );
+    }
+}
+
+/// Finds what a state with one turn left is worth, and as many of those behind it as can be judged in one pass, where nothing is worth
+/// more than 0 but an end.
+pub fn look_ahead<G: Game>(
+    game: &G,
+    many: &G::Many,
+    place: usize,
+    asked: Asked,
+    tools: &mut Tools<G::Wide>,
+    levels: &mut [Level<G::Pos, G::Many>],
+    ahead: &mut Ahead,
+)
+    requires many { G.fits_many game.now many.now }
+    requires place { place < length (G.states game.now many.now) }
+    requires role { asked.role < (G.rules game.now).roles }
+    requires deep { asked.depth ≤ length levels.old }
+    requires wide { G.fits_wide game.now tools.old.wide }
+    requires levels { All (IsLevelOf (G.fits game.now) (G.fits_many game.now) (G.rules game.now).roles) levels.old }
+    requires ahead { IsAheadOf (G.states game.now many.now) (value (G.rules game.now) asked.role asked.depth asked.at) ahead.old }
+    ensures wide { G.fits_wide game.now tools.new.wide }
+    ensures tools_capacities { tools_capacities (G.wide_capacities game.now) tools.new ≡ tools_capacities (G.wide_capacities game.now) tools.old }
+    ensures levels { All (IsLevelOf (G.fits game.now) (G.fits_many game.now) (G.rules game.now).roles) levels.new }
+    ensures size { length levels.new ≡ length levels.old }
+    ensures capacities { all_capacities (G.capacities game.now) (G.many_capacities game.now) levels.new
+        ≡ all_capacities (G.capacities game.now) (G.many_capacities game.now) levels.old }
+    ensures ahead { IsAheadOf (G.states game.now many.now) (value (G.rules game.now) asked.role asked.depth asked.at) ahead.new }
+{
+    if place < ahead.next || !tools.judges {
+        return;
+    }
+    match (asked.depth, asked.at) {
+        (1, AtBound::Zero) => look_on(game, many, place, asked, tools, &mut levels[0], ahead),
+        _ => (),
+    }
+}

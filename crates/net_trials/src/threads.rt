@@ -1,0 +1,74 @@
+// Kept instances by several threads and by one.
+use ground::{Excess, Ground, GroundFault, Instance, instantiate, instantiate_alone};
+use kif::read;
+use rules::RuleSet;
+use std::alloc::Global;
+use std::test::Fail;
+use std::thread::Threads;
+
+/// A body that tries some eleven million rows, of which three match: 3,375 rows of the first literal, in fourteen pieces.
+const DEAR: &[u8] =
+    b"(role a)(d 0)(d 1)(d 2)(d 3)(d 4)(d 5)(d 6)(d 7)(d 8)(d 9)(d 10)(d 11)(d 12)(d 13)(d 14)
+    (<= (n ?a ?b ?c) (d ?a) (d ?b) (d ?c))(e 0 0 0 12 12 12)(e 12 0 5 3 3 3)(e 7 7 7 0 1 2)(e 15 0 0 0 0 0)
+    (<= (p ?z ?y ?x ?a) (n ?a ?b ?c) (n ?x ?y ?z) (e ?a ?b ?c ?x ?y ?z))";
+
+/// Two literals without a shared variable, with more rows than there may be instances.
+const PRODUCT: &[u8] =
+    b"(role a)(d 0)(d 1)(d 2)(d 3)(d 4)(d 5)(d 6)(d 7)(d 8)(d 9)(d 10)(d 11)(d 12)(d 13)(d 14)
+    (<= (n ?a ?b ?c) (d ?a) (d ?b) (d ?c))(<= (p ?a ?z) (n ?a ?b ?c) (n ?x ?y ?z))";
+
+/// The rules of a description.
+fn rules_of(alloc: Global, text: &[u8]) -> Result<RuleSet, Fail> {
+    let items = read(alloc, text)?;
+    Ok(RuleSet::check(alloc, &items)?)
+}
+
+/// Whether two instances have the same place and head.
+fn are_alike(left: &Instance, right: &Instance) -> bool {
+    left.alternative == right.alternative && left.head == right.head
+}
+
+/// Whether two grounds have the same instances, and as many atoms.
+fn have_same(left: &Ground, right: &Ground) -> bool {
+    let (ours, theirs) = (left.kept(), right.kept());
+    if ours.len() != theirs.len() || left.atoms() != right.atoms() {
+        return false;
+    }
+    ours.iter()
+        .zip(theirs)
+        .all(|(ours, theirs)| are_alike(ours, theirs))
+}
+
+/// Whether several threads and one find the same instances.
+fn agree<R: Threads + Sync + AllocGlobal>(rt: &R, text: &[u8]) -> Result<bool, Fail> {
+    let rules = rules_of(rt.alloc(), text)?;
+    let ours = instantiate(rt, &rules)?;
+    let theirs = instantiate_alone(rt, &rules)?;
+    Ok(ours.kept().len() == 3398 && have_same(&ours, &theirs))
+}
+
+/// Whether a fault names the limit of instances.
+fn is_over(ground: Result<Ground, GroundFault>) -> bool {
+    match ground {
+        Err(GroundFault::TooMany(Excess::Instances)) => true,
+        _ => false,
+    }
+}
+
+/// Whether several threads and one name the limit of instances.
+fn refuse<R: Threads + Sync + AllocGlobal>(rt: &R, text: &[u8]) -> Result<bool, Fail> {
+    let rules = rules_of(rt.alloc(), text)?;
+    Ok(is_over(instantiate(rt, &rules)) && is_over(instantiate_alone(rt, &rules)))
+}
+
+#[test]
+fn several_threads_find_what_one_finds(rt: HostRuntime) -> Result<(), Fail> {
+    assert!(rt; agree(&rt, DEAR)?);
+    Ok(())
+}
+
+#[test]
+fn several_threads_name_the_limit_that_one_names(rt: HostRuntime) -> Result<(), Fail> {
+    assert!(rt; refuse(&rt, PRODUCT)?);
+    Ok(())
+}

@@ -1,0 +1,68 @@
+// A join of which a level shares no value with those before it.
+use join::{Column, Level};
+use reorder::{are_levels, reordered_rows};
+use std::alloc::{AllocError, Global};
+use std::test::Fail;
+
+/// The cells of three levels, (x), (y z) and (z x), each row behind its number. Each x stands with two z, the greater first.
+fn cells(alloc: Global) -> Result<Vec<usize>, AllocError> {
+    let mut cells = Vec::new(alloc);
+    for row in 0..70usize {
+        cells.push(row)?;
+        cells.push(1_000 + row)?;
+    }
+    for row in 0..70usize {
+        cells.push(100 + row)?;
+        cells.push(2_000 + row)?;
+        cells.push(3_000 + row)?;
+    }
+    for row in 0..70usize {
+        cells.push(200 + row)?;
+        cells.push(3_069 - row)?;
+        cells.push(1_000 + row / 2)?;
+    }
+    Ok(cells)
+}
+
+/// A level of 70 rows.
+fn level(columns_from: usize, columns_to: usize, cells_from: usize, bound: usize) -> Level {
+    Level {
+        columns_from,
+        columns_to,
+        cells_from,
+        rows: 70,
+        bound,
+    }
+}
+
+/// The rows of the join of the three levels, if they are found in another order.
+fn rows(alloc: Global, most: usize) -> Result<Option<Vec<usize>>, AllocError> {
+    let columns = [
+        Column::First,
+        Column::First,
+        Column::First,
+        Column::First,
+        Column::First,
+        Column::First,
+        Column::Same(4),
+        Column::Same(1),
+    ];
+    let levels = [level(0, 2, 0, 0), level(2, 5, 140, 2), level(5, 8, 350, 5)];
+    let cells = cells(alloc)?;
+    if !are_levels(&columns, &cells, &levels, 6) {
+        return Ok(None);
+    }
+    reordered_rows(alloc, &columns, &cells, &levels, 6, most)
+}
+
+#[test]
+fn puts_rows_of_another_order_back(rt: HostRuntime) -> Result<(), Fail> {
+    let values = rows(rt.alloc(), 70)?.ok_or("not found")?;
+    assert_eq!(rt; values.len(), 420);
+    let first = [0, 1_000, 168, 2_068, 3_068, 201];
+    let second = [0, 1_000, 169, 2_069, 3_069, 200];
+    assert_eq!(rt; values.get(..6), Some(first.as_slice()));
+    assert_eq!(rt; values.get(6..12), Some(second.as_slice()));
+    assert!(rt; rows(rt.alloc(), 69)?.is_none());
+    Ok(())
+}

@@ -1,0 +1,3 @@
+mod Counting
+mod Pieces
+pub mod Facts
