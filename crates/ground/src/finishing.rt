@@ -188,7 +188,7 @@ fn renumbered_apart(
     ensures numbered { IfOk result (λ f. numbers_of_list f ≡ map (numbered_in atoms.now.keys) (numbers_of_list found.now)) }
     ensures laid { IfOk result AreLaid }
 {
-    let mut numbered = FoundList::with_room(alloc, found.count(), found.bodies.len())?;
+    let mut numbered = FoundList::with_room(alloc, found.count(), found.bodies.len());
     for place in 0..found.count() {
         add_renumbered(atoms, places, found, place, &mut numbered)?;
     }

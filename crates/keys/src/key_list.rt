@@ -1,7 +1,8 @@
 // Lists of numbers, kept one behind the other.
-ghost use Rattle.std.specs.Prelude.{◌≡◌, ◌<◌, ◌≤◌, ◌++◌, ◌∷◌, [], length, take, slice_index, slice_range, IfOk, OnOk, OnErr};
+ghost use Rattle.std.specs.Prelude.{◌≡◌, ◌<◌, ◌≤◌, ◌++◌, ◌∷◌, [], length, take, slice_index, slice_range, OnOk, OnErr};
 ghost use Rattle.keys.specs.KeyLists.{key_at};
 
+use crate::room::with_room;
 use std::alloc::{AllocError, Global};
 use std::marker::Model;
 
@@ -63,14 +64,14 @@ impl KeyList {
         }
     }
 
-    /// No lists yet, with room for so many, and for so many numbers in all. Room takes no pages of memory before it is used.
-    pub fn with_room(alloc: Global, lists: usize, numbers: usize) -> Result<Self, AllocError>
-        ensures { IfOk result (λ k. k ≡ []) }
+    /// No lists yet, with room for so many, and for so many numbers in all, where it can be had.
+    pub fn with_room(alloc: Global, lists: usize, numbers: usize) -> Self
+        ensures { result ≡ [] }
     {
-        Ok(KeyList {
-            numbers: Vec::with_capacity(alloc, numbers)?,
-            ends: Vec::with_capacity(alloc, lists)?,
-        })
+        KeyList {
+            numbers: with_room(alloc, numbers),
+            ends: with_room(alloc, lists),
+        }
     }
 
     /// How many lists there are.

@@ -4,7 +4,9 @@
 mod chains;
 mod hashes;
 mod key_list;
+mod room;
 
 pub use chains::{Chains, add, drop_behind, find, hash_of, make_buckets};
 pub use hashes::{bucket_in, mix};
 pub use key_list::KeyList;
+pub use room::with_room;

@@ -29,7 +29,7 @@ ghost use Rattle.terms.specs.Arena.{cut, sizes_of, with_parts, key_length, AreNu
 ghost use Rattle.meaning.specs.Most.{limits};
 
 use crate::keyed::Terms;
-use keys::hash_of;
+use keys::{hash_of, with_room};
 use rules::RuleSet;
 use std::alloc::{AllocError, Global};
 use std::marker::Model;
@@ -40,7 +40,8 @@ pub const TEXT_LIMIT: usize = 4_096;
 /// Lengths are told apart up to this one, which is more than a text may have.
 const CUT: usize = TEXT_LIMIT + 1;
 
-/// For how many terms there is room from the beginning, with four numbers in each key. Where there are more, the lists grow.
+/// For how many terms there is room from the beginning, with four numbers in each key, where so much memory can be had at once. The
+/// lists grow where there are more.
 const ROOM: usize = 1 << 18;
 
 /// Ground terms and atoms, each with a number and the length of its text. The first of them are the
@@ -70,8 +71,8 @@ impl Arena {
         ensures many { IfOk result (λ a. length a.keys ≡ length (lists_of_set rules.now).words) }
         ensures numbered { IfOk result (λ a. AreNumbered (length (lists_of_set rules.now).words) a.keys) }
     {
-        let mut terms = Terms::with_room(alloc, ROOM, 4 * ROOM)?;
-        let mut lengths = Vec::with_capacity(alloc, ROOM)?;
+        let mut terms = Terms::with_room(alloc, ROOM, 4 * ROOM);
+        let mut lengths = with_room(alloc, ROOM);
         for symbol in 0..rules.count_symbols() {
             lengths.push(cut(rules.symbol(symbol).len()))?;
             terms.intern(&[symbol])?;

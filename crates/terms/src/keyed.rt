@@ -44,18 +44,18 @@ impl Terms {
         }
     }
 
-    /// No terms yet, with room for so many, and for so many numbers in their keys.
-    pub fn with_room(alloc: Global, terms: usize, numbers: usize) -> Result<Self, AllocError>
-        ensures { IfOk result (λ t. length t ≡ 0) }
+    /// No terms yet, with room for so many, and for so many numbers in their keys, where it can be had.
+    pub fn with_room(alloc: Global, terms: usize, numbers: usize) -> Self
+        ensures { length result ≡ 0 }
     {
-        Ok(Terms {
+        Terms {
             alloc,
-            keys: KeyList::with_room(alloc, terms, numbers)?,
+            keys: KeyList::with_room(alloc, terms, numbers),
             chains: Chains {
                 last: Vec::new(alloc),
                 before: Vec::new(alloc),
             },
-        })
+        }
     }
 
     /// How many terms there are.

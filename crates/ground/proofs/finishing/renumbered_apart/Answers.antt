@@ -5,7 +5,7 @@ use Rattle.ground.proofs.FinishLemmas.{blank, made_more, made_all}
 use Rattle.ground.proofs.finishing.renumbered_apart.Goals as goal
 
 pub loop-place-init : goal.loop-place-init
-loop-place-init c = (c.in_ok-numbered.ensures.none, c.in_ok-numbered.ensures.laid)
+loop-place-init c = (c.with_room-numbered.ensures.none, c.with_room-numbered.ensures.laid)
 
 pub loop-place-preserved : goal.loop-place-preserved
 loop-place-preserved c =
