@@ -1,4 +1,4 @@
-use Rattle.std.proofs.Common.{true, false, ◌≡◌, ℕ, ◌+◌, ◌-◌, ◌<◌, ◌≤◌, Bool, List, [], ◌∷◌, length, zero, suc, refl, ◌∙◌, arith, get_or, inl, inr}
+use Rattle.std.proofs.Common.{true, false, ◌≡◌, ℕ, ◌+◌, ◌-◌, ◌<◌, ◌≤◌, Bool, List, [], ◌∷◌, length, zero, suc, refl, sym, ap, ◌∙◌, arith, get_or, inl, inr}
 use Rattle.std.proofs.lemmas.Int.{ints, clamps}
 use Rattle.std.proofs.lemmas.Bool.{cases_lt}
 use Rattle.std.proofs.lemmas.Bool.Decides.{nat_tests}
@@ -7,16 +7,7 @@ use Rattle.game.specs.Rules.{Rules, State, is_stuck}
 use Rattle.game.specs.declared.at_bound.AtBound.{AtBound}
 use Rattle.game.specs.Value.{Answers, value, worst, choice_of}
 use Rattle.maximin.proofs.Values.{IsOpen, value_reached, worst_le_value}
-
--- the best of the moves before `place` stands at `chosen`, and is better than each move before it
-pub record IsBest (worth : ℕ → ℕ) (place : ℕ) (best : ℤ) (chosen : ℕ) : Type 0 where
-  pub seen : (k : ℕ) → k < place → pos (worth k) ≤ℤ best
-  pub reached : 0 < place → pos (worth chosen) ≡ best
-  pub before : 0 < place → chosen < place
-  pub first : (k : ℕ) → k < chosen → pos (worth k) <ℤ best
-  pub none : place ≡ 0 → best ≡ negsuc 0
-  pub low : negsuc 0 ≤ℤ best
-  pub high : best <ℤ pos 101
+use Rattle.maximin.specs.Best.{IsBest, own_worth}
 
 pub best_none : (worth : ℕ → ℕ) → IsBest worth 0 (negsuc 0) 0
 best_none worth = record {
@@ -80,8 +71,9 @@ find_first p (x ∷ xs) (suc i) inside here before =
     let not_first : p x ≡ false = before 0 (omega arith) in
     rw not_first (find_first p xs i (omega arith) here (λ k lt. before (suc k) (omega arith)))
 
+-- the same where the turn of the move is counted
 abbrev pub worst_at_place : Rules → ℕ → ℕ → AtBound → State → ℕ → ℕ
-worst_at_place g role depth at s k = worst g role (depth - 1) at s (get_or (g.legal s role) k 0)
+worst_at_place g role depth at s k = own_worth g role (depth - 1) at s k
 
 best_is_value : (g : Rules) (role depth : ℕ) (at : AtBound) (s : State) (place : ℕ) (best : ℤ) (chosen : ℕ) → IsOpen g depth s → role < g.roles
     → place ≡ length (g.legal s role)
@@ -130,6 +122,15 @@ choice_here g role (suc depth) at s chosen h inside here before =
     either_false (g.ended s) (is_stuck g s) None _ h.going h.free
     ∙ (find_first (λ m. worst g role depth at s m == value g role (suc depth) at s) (g.legal s role) chosen inside
     (test_true _ _ attained) (λ k lt. test_false _ _ (missed k lt)))
+
+-- what is best of all moves is worth the value
+pub best_found : (g : Rules) (role depth : ℕ) (at : AtBound) (s : State) (best : ℤ) (chosen : ℕ) → IsOpen g depth s → role < g.roles
+    → IsBest (worst_at_place g role depth at s) (length (g.legal s role)) best chosen
+    → (chosen < length (g.legal s role)) × (best ≡ pos (value g role depth at s))
+best_found g role depth at s best chosen h known is =
+    let best_one = best_is_value g role depth at s (length (g.legal s role)) best chosen h known refl is in
+    let reached = is.reached (omega (arith, best_one.0)) in
+    (best_one.0, sym reached ∙ ap (λ (v : ℕ). pos v) best_one.1)
 
 pub choice_found : (g : Rules) (role depth : ℕ) (at : AtBound) (s : State) (place : ℕ) (best : ℤ) (chosen : ℕ) → IsOpen g depth s → role < g.roles
     → place ≡ length (g.legal s role)

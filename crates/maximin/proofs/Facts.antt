@@ -1,7 +1,8 @@
 -- The facts of this crate that proofs of the crates above may rest on. All other modules of proofs are its own.
 
 -- The best worth so far, and where it stands.
-pub use Rattle.maximin.proofs.Best.{IsBest, worst_at_place, choice_found, best_none, best_raised, best_kept}
+pub use Rattle.maximin.specs.Best.{IsBest}
+pub use Rattle.maximin.proofs.Best.{worst_at_place, choice_found, best_none, best_raised, best_kept}
 -- No worth is above the greatest goal.
 pub use Rattle.maximin.proofs.Bounds.{value_at_most, worst_at_most}
 -- The choices of a turn by number.

@@ -43,6 +43,12 @@ some_taken xs zero some there = absurd (omega arith)
 some_taken [] (suc n) some there = absurd (omega arith)
 some_taken (x ∷ xs) (suc n) some there = omega arith
 
+-- the states after some joint moves
+pub states_after : (after : Turn → List ℕ) (xs : List (SmallVec ℕ))
+    → map (λ (j : SmallVec ℕ). after j.items) xs ≡ map after (map (λ (j : SmallVec ℕ). j.items) xs)
+states_after after [] = refl
+states_after after (x ∷ xs) = ap (λ (ss : List (List ℕ)). after x.items ∷ ss) (states_after after xs)
+
 -- what the states after some joint moves are worth
 pub worths_after : (worth : List ℕ → ℕ) (after : Turn → List ℕ) (xs : List (SmallVec ℕ))
     → map worth (map (λ (j : SmallVec ℕ). after j.items) xs) ≡ map (λ t. worth (after t)) (map (λ (j : SmallVec ℕ). j.items) xs)

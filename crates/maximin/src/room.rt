@@ -1,12 +1,13 @@
 // The memory of a search, and the calls that use it.
-ghost use Rattle.std.specs.Prelude.{◌≡◌, ◌-◌, ◌<◌, ◌≤◌, ◌<ℤ◌, ◌≤ℤ◌, pos, negsuc, false, IfOk, Some, Contains};
+ghost use Rattle.std.specs.Prelude.{◌≡◌, ◌-◌, ◌<◌, ◌≤◌, ◌<ℤ◌, ◌≤ℤ◌, pos, negsuc, false, length, slice_get, IfOk, Some, Contains};
 ghost use Rattle.game.specs.Rules.{is_stuck as stuck};
 ghost use Rattle.game.specs.Value.{Answers, value, worst, choice_of, reply_of};
 ghost use Rattle.maximin.specs.Room.{IsRoomOf, room_depth, room_capacities};
 
+use crate::choosing::{best_move, choice_at};
 use crate::known::{choice_worth, reply_worth};
 use crate::level::{Level, new_level};
-use crate::search::{Asked, choice_at, reply_at, value_within};
+use crate::search::{Asked, reply_at, value_within};
 use crate::tools::{Tools, new_tools};
 use game::{AtBound, Game, Joint};
 use std::alloc::{AllocError, Global};
@@ -68,6 +69,42 @@ pub fn value_in<G: Game>(
     };
     let levels = room.levels.as_mut_slice();
     value_within(g, p, asked, a, b, &mut room.tools, levels)
+}
+
+/// The value of a state for a role, where there is a turn to come, and the place of the first legal move of the role, in printed
+/// order, that attains it. One search tells both.
+pub fn value_and_choice<G: Game>(
+    g: &G,
+    p: &G::Pos,
+    role: usize,
+    depth: u32,
+    at: AtBound,
+    room: &mut Room<G>,
+) -> (i16, usize)
+    requires fits { G.fits g.now p.now }
+    requires role { role < (G.rules g.now).roles }
+    requires going { (G.rules g.now).ended (G.state g.now p.now) ≡ false }
+    requires free { stuck (G.rules g.now) (G.state g.now p.now) ≡ false }
+    requires turn { 0 < depth }
+    requires room { IsRoomOf (G.fits g.now) (G.fits_wide g.now) (G.fits_many g.now) (G.rules g.now).roles room.old }
+    requires deep { depth ≤ room_depth room.old }
+    ensures value { result.0 ≡ pos (value (G.rules g.now) role depth at (G.state g.now p.now)) }
+    ensures choice { choice_of (G.rules g.now) role depth at (G.state g.now p.now)
+        ≡ slice_get ((G.rules g.now).legal (G.state g.now p.now) role) result.1 }
+    ensures within { result.1 < length ((G.rules g.now).legal (G.state g.now p.now) role) }
+    ensures room { IsRoomOf (G.fits g.now) (G.fits_wide g.now) (G.fits_many g.now) (G.rules g.now).roles room.new }
+    ensures deep { room_depth room.new ≡ room_depth room.old }
+    ensures capacities { room_capacities (G.capacities g.now) (G.wide_capacities g.now) (G.many_capacities g.now) room.new
+        ≡ room_capacities (G.capacities g.now) (G.wide_capacities g.now) (G.many_capacities g.now) room.old }
+{
+    let asked = Asked {
+        role,
+        depth: depth as usize,
+        at,
+    };
+    let levels = room.levels.as_mut_slice();
+    let best = best_move(g, p, asked, &mut room.tools, levels);
+    (best.worth, best.place)
 }
 
 /// The first legal move of the role, in printed order, that attains the value of the state. There is none where the game has ended,

@@ -2,7 +2,7 @@
 ghost use Rattle.std.specs.Prelude.{◌≡◌, ◌<◌, ◌≤◌, ◌<ℤ◌, ◌≤ℤ◌, pos, negsuc, false, Some, [], All, length, map, get_or, if◌then◌else◌};
 ghost use Rattle.game.specs.AtBound.{bound_worth};
 ghost use Rattle.game.specs.Rules.{is_stuck as stuck, IsTurn};
-ghost use Rattle.game.specs.Value.{Answers, choice_of, greatest, least, reply_of, value, worst};
+ghost use Rattle.game.specs.Value.{Answers, greatest, least, reply_of, value, worst};
 ghost use Rattle.maximin.specs.Ahead.{IsAheadOf};
 ghost use Rattle.maximin.specs.Alone.{IsAlone};
 ghost use Rattle.maximin.specs.Level.{IsLevelOf, level_capacities, all_capacities};
@@ -205,7 +205,7 @@ fn least_after<G: Game>(
 
 /// The value of one of many states, within a window.
 #[cycle(search)]
-fn child_at<G: Game>(
+pub fn child_at<G: Game>(
     game: &G,
     many: &G::Many,
     place: usize,
@@ -477,9 +477,9 @@ fn greatest_at<G: Game>(
 }
 
 /// The least and the greatest value of a state, as goal values are.
-const LEAST: i16 = 0;
+pub const LEAST: i16 = 0;
 
-const GREATEST: i16 = 100;
+pub const GREATEST: i16 = 100;
 
 /// The value of a state within a window, searched for within the part of the window where values can be.
 pub fn value_within<G: Game>(
@@ -510,47 +510,6 @@ pub fn value_within<G: Game>(
         return high;
     }
     value_at(game, from, asked, low, high, tools, levels)
-}
-
-/// The first move of the role that attains the value of the state.
-pub fn choice_at<G: Game>(
-    game: &G,
-    from: &G::Pos,
-    asked: Asked,
-    tools: &mut Tools<G::Wide>,
-    levels: &mut [Level<G::Pos, G::Many>],
-) -> Option<u32>
-    requires fits { G.fits game.now from.now }
-    requires role { asked.role < (G.rules game.now).roles }
-    requires deep { asked.depth ≤ length levels.old }
-    requires wide { G.fits_wide game.now tools.old.wide }
-    requires levels { All (IsLevelOf (G.fits game.now) (G.fits_many game.now) (G.rules game.now).roles) levels.old }
-    ensures choice { result ≡ choice_of (G.rules game.now) asked.role asked.depth asked.at (G.state game.now from.now) }
-    ensures wide { G.fits_wide game.now tools.new.wide }
-    ensures tools_capacities { tools_capacities (G.wide_capacities game.now) tools.new ≡ tools_capacities (G.wide_capacities game.now) tools.old }
-    ensures levels { All (IsLevelOf (G.fits game.now) (G.fits_many game.now) (G.rules game.now).roles) levels.new }
-    ensures capacities { all_capacities (G.capacities game.now) (G.many_capacities game.now) levels.new
-        ≡ all_capacities (G.capacities game.now) (G.many_capacities game.now) levels.old }
-{
-    if asked.depth == 0 || game.ended(from) || is_stuck(game, from) {
-        return None;
-    }
-    let next = Asked {
-        depth: asked.depth - 1,
-        ..asked
-    };
-    let mut best = -1;
-    let mut chosen = 0;
-    let mut place = 0;
-    while let Some(own) = game.legal(from, asked.role, place) {
-        let worst = worst_at(game, from, next, own, best, 101, tools, levels);
-        if worst > best {
-            best = worst;
-            chosen = place;
-        }
-        place += 1;
-    }
-    game.legal(from, asked.role, chosen)
 }
 
 /// Writes the first joint move that leaves the least value where the role plays `own`.

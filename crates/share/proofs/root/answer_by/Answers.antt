@@ -1,10 +1,7 @@
-use Rattle.std.proofs.Common.{subst, sym, arith}
+use Rattle.std.proofs.Common.{subst, sym}
 use Rattle.share.specs.Cuts.{IsCut}
 use Rattle.share.proofs.Levels.{few_of_two, few_of_three}
 use Rattle.share.proofs.root.answer_by.Goals as goal
-
-pub answer_single-requires-clause-some : goal.answer_single-requires-clause-some
-answer_single-requires-clause-some g c = let some = c.levels-levels.ensures.lawful.some in omega (arith, some, c.requires.desk.count)
 
 pub answer_middle-requires-clause-few : goal.answer_middle-requires-clause-few
 answer_middle-requires-clause-few g c κs within = few_of_two c.in-Two.first c.in-Two.second

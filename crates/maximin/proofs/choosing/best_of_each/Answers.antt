@@ -1,23 +1,40 @@
-use Rattle.std.proofs.Common.{◌-◌, ◌<◌, ◌≤◌, length, get_or, arith, sym, ◌∙◌, w16, rules as facts}
+use Rattle.std.proofs.Common.{◌≡◌, ◌<◌, ◌≤◌, length, get_or, refl, arith, ◌∙◌, w16, rules as facts}
 use Rattle.std.proofs.lemmas.Int.{to_z-of_z}
-use mir.Val.{SFits, to_z}
+use mir.Val.{SFits}
 use Rattle.std.specs.Prelude.{pos}
 use Rattle.game.specs.Value.{Answers}
-use Rattle.maximin.proofs.Windows.{lt_z_true, lt_z_false}
+use Rattle.maximin.specs.Best.{own_worth}
 use Rattle.maximin.proofs.Bounds.{worst_at_most}
-use Rattle.maximin.proofs.Best.{worst_at_place, best_raised, best_kept, choice_found}
-use Rattle.maximin.proofs.Values.{IsOpen}
+use Rattle.maximin.proofs.Best.{best_none}
 use Rattle.game.proofs.Facts.{legal_known, legal_place, legal_count, none_past}
-use Rattle.maximin.proofs.search.choice_at.Goals as goal
-use Rattle.maximin.proofs.search.choice_at.Goals.{then-worst-best, else-worst-best}
+use Rattle.maximin.proofs.choosing.best_of_each.Goals as goal
 
-pub worst_at-worst-requires-clause-own : goal.worst_at-worst-requires-clause-own
-worst_at-worst-requires-clause-own g c κs within =
+pub loop-own-init : goal.loop-own-init
+loop-own-init g c =
+    let rules = g.G.Game.rules c.args.game.now in
+    let state = g.G.Game.state c.args.game.now c.args.from.now in
+    record {
+      levels = c.requires.levels;
+      wide = c.requires.wide;
+      capacities = refl;
+      tools_capacities = refl;
+      deep = refl;
+      in_list = omega arith;
+      is_best = best_none (own_worth rules c.args.asked.role c.args.asked.depth c.args.asked.at state);
+    }
+
+pub worst_above-worth-requires-clause-own : goal.worst_above-worth-requires-clause-own
+worst_above-worth-requires-clause-own g c κs within =
     let rules = g.G.Game.rules c.args.game.now in
     let state = g.G.Game.state c.args.game.now c.args.from.now in
     let law = g.met.G.Game g.world.𝓛 g.world.𝓜 g.world.𝓡 ((λ _ x. x), (λ x. x), (λ x. x), λ x. x) in
     legal_known rules state c.args.asked.role c.loop-own.place c.in-Some.own c.legal.result
     (law.legal_within c.args.game.now state c.args.asked.role c.requires.role) c.legal.ensures c.in-Some.is
+
+pub worst_above-worth-requires-clause-best : goal.worst_above-worth-requires-clause-best
+worst_above-worth-requires-clause-best g c κs within =
+    let fits : SFits w16 c.loop-own.best.worth = search facts in
+    rw (to_z-of_z w16 c.loop-own.best.worth fits) (c.loop-own.invariant.is_best.low, c.loop-own.invariant.is_best.high)
 
 pub overflow_add-place : goal.overflow_add-place
 overflow_add-place g c =
@@ -44,41 +61,32 @@ loop-own-preserved g c =
     let state = g.G.Game.state c.args.game.now c.args.from.now in
     let here = legal_place rules state c.args.asked.role c.loop-own.place c.in-Some.own c.legal.result c.legal.ensures c.in-Some.is in
     let law = g.met.G.Game g.world.𝓛 g.world.𝓜 g.world.𝓡 ((λ _ x. x), (λ x. x), (λ x. x), λ x. x) in
-    let worth = worst_at_place rules c.args.asked.role c.args.asked.depth c.args.asked.at state in
-    let best = to_z w16 c.loop-own.best-bits in
+    let worth = own_worth rules c.args.asked.role c.args.asked.depth c.args.asked.at state in
+    let old = c.loop-own.best in
+    let r = c.worst_above-worth.result in
     let few : worth c.loop-own.place ≤ 100 =
-    worst_at_most rules c.args.asked.role (λ s r. law.goal_within c.args.game.now s r) (c.args.asked.depth - 1) c.args.asked.at state
+    worst_at_most rules c.args.asked.role (λ s r. law.goal_within c.args.game.now s r) c.args.asked.depth c.args.asked.at state
     (get_or (rules.legal state c.args.asked.role) c.loop-own.place 0) in
-    let answers : Answers (worth c.loop-own.place) best (pos 101) c.worst_at-worst.result = rw here.1 c.worst_at-worst.ensures.answers in
-    let fits : SFits w16 c.worst_at-worst.result = search facts in
-    let same = to_z-of_z w16 c.worst_at-worst.result fits in
+    let fits : SFits w16 old.worth = search facts in
+    let fits_r : SFits w16 r = search facts in
+    let same = to_z-of_z w16 r fits_r in
+    let answers : Answers (worth c.loop-own.place) old.worth (pos 101) r = rw (← here.1, to_z-of_z w16 old.worth fits) at
+    c.worst_above-worth.ensures.answers in
     record {
-      levels = c.worst_at-worst.ensures.levels;
-      wide = c.worst_at-worst.ensures.wide;
-      capacities = c.worst_at-worst.ensures.capacities ∙ c.loop-own.invariant.capacities;
-      tools_capacities = c.worst_at-worst.ensures.tools_capacities ∙ c.loop-own.invariant.tools_capacities;
+      levels = c.worst_above-worth.ensures.levels;
+      wide = c.worst_above-worth.ensures.wide;
+      capacities = c.worst_above-worth.ensures.capacities ∙ c.loop-own.invariant.capacities;
+      tools_capacities = c.worst_above-worth.ensures.tools_capacities ∙ c.loop-own.invariant.tools_capacities;
       deep = omega arith;
       in_list = omega (arith, here.0);
-      is_best = elim c.if-worst-best.branch [
-        | then-worst-best w ↦
-            rw (w.chosen-is, w.best-is, same) (best_raised worth c.loop-own.place best c.worst_at-worst.result c.loop-own.chosen few answers
-            (rw same at (lt_z_true best _ w.if-worst-best.true)) c.loop-own.invariant.is_best)
-        | else-worst-best w ↦
-            rw (w.chosen-is, w.best-is) (best_kept worth c.loop-own.place best c.worst_at-worst.result c.loop-own.chosen few answers
-            (rw same at (lt_z_false best _ w.if-worst-best.false)) c.loop-own.invariant.is_best)
-      ];
+      is_best = c.better_of-best.ensures.best worth few (rw same answers) c.loop-own.invariant.is_best;
     }
 
-pub returns-clause-choice : goal.returns-clause-choice
-returns-clause-choice g c =
+pub returns-clause-best : goal.returns-clause-best
+returns-clause-best g c =
     let rules = g.G.Game.rules c.args.game.now in
     let state = g.G.Game.state c.args.game.now c.args.from.now in
-    let free : IsOpen rules c.args.asked.depth state = record {
-      turn = c.if-asked-eq0.false;
-      going = sym c.ended.ensures ∙ c.if-ended.false;
-      free = sym c.is_stuck.ensures ∙ c.if-is_stuck.false;
-    } in
     let past : length (rules.legal state c.args.asked.role) ≤ c.loop-own.place = none_past (rules.legal state c.args.asked.role) c.loop-own.place
     c.legal.result c.legal.ensures c.in_default.is in
-    c.legal-2.ensures ∙ sym (choice_found rules c.args.asked.role c.args.asked.depth c.args.asked.at state c.loop-own.place _ c.loop-own.chosen free
-    c.requires.role (omega arith) c.loop-own.invariant.is_best)
+    let all : c.loop-own.place ≡ length (rules.legal state c.args.asked.role) = omega arith in
+    rw all at c.loop-own.invariant.is_best

@@ -1,0 +1,28 @@
+use Rattle.std.proofs.Common.{◌≡◌, ◌+◌, ◌<◌, ◌<ℤ◌, ◌≤ℤ◌, ℕ, pos, negsuc, [], All, length, get_or}
+use Rattle.game.specs.Value.{value}
+use Rattle.maximin.specs.Ahead.{IsAheadOf}
+use Rattle.maximin.specs.Best.{IsBest}
+use Rattle.maximin.specs.Level.{IsLevelOf, all_capacities}
+use Rattle.maximin.specs.Tools.{tools_capacities}
+use Rattle.maximin.proofs.choosing.best_among.Given as goal
+
+abbrev pub invariant-loop-child : goal.invariant-loop-child
+invariant-loop-child g l =
+    let rules = g.G.Game.rules l.game in
+    let states = g.G.Game.states l.game l.many in
+    let worth = value rules l.asked.role l.asked.depth l.asked.at in
+    let of_position = g.G.Game.capacities l.game in
+    let of_many = g.G.Game.many_capacities l.game in
+    record {
+      position : g.G.Game.fits l.game l.position;
+      levels : All (IsLevelOf (g.G.Game.fits l.game) (g.G.Game.fits_many l.game) rules.roles) l.levels;
+      wide : g.G.Game.fits_wide l.game l.tools.wide;
+      position_capacities : g.G.Game.capacities l.game l.position ≡ g.G.Game.capacities l.game l.fn.position;
+      capacities : all_capacities of_position of_many l.levels ≡ all_capacities of_position of_many l.initial.levels;
+      tools_capacities : tools_capacities (g.G.Game.wide_capacities l.game) l.tools ≡ tools_capacities (g.G.Game.wide_capacities l.game) l.fn.tools;
+      deep : length l.levels ≡ length l.initial.levels;
+      ahead : IsAheadOf states worth l.ahead;
+      range : (negsuc 0 ≤ℤ l.best.worth) × (l.best.worth <ℤ pos 101);
+      best : (own : ℕ → ℕ) → ((k : ℕ) → k < l.count → worth (get_or states k []) ≡ own (l.place + k))
+          → IsBest own l.place l.fn.best.worth l.fn.best.place → IsBest own (l.place + l.child) l.best.worth l.best.place;
+    }

@@ -1,0 +1,19 @@
+-- The first best of the moves of a role.
+use Rattle.std.specs.Prelude.{ℕ, ℤ, pos, negsuc, ◌≡◌, ◌<◌, ◌<ℤ◌, ◌≤ℤ◌, get_or}
+use Rattle.game.specs.Rules.{Rules, State}
+use Rattle.game.specs.declared.at_bound.AtBound.{AtBound}
+use Rattle.game.specs.Value.{worst}
+
+-- the best of the moves before `place` stands at `chosen`, and is better than each move before it
+pub record IsBest (worth : ℕ → ℕ) (place : ℕ) (best : ℤ) (chosen : ℕ) : Type 0 where
+  pub seen : (k : ℕ) → k < place → pos (worth k) ≤ℤ best
+  pub reached : 0 < place → pos (worth chosen) ≡ best
+  pub before : 0 < place → chosen < place
+  pub first : (k : ℕ) → k < chosen → pos (worth k) <ℤ best
+  pub none : place ≡ 0 → best ≡ negsuc 0
+  pub low : negsuc 0 ≤ℤ best
+  pub high : best <ℤ pos 101
+
+-- what the move of `role` at a place of its list is worth, where so many turns are to come behind it
+abbrev pub own_worth : Rules → ℕ → ℕ → AtBound → State → ℕ → ℕ
+own_worth g role depth at s k = worst g role depth at s (get_or (g.legal s role) k 0)
