@@ -11,7 +11,7 @@ use std::marker::Model;
 pub struct KeyList {
     numbers: Vec<usize>,
     /// Where each list ends.
-    ends: Vec<usize>,
+    ends: Vec<u32>,
 }
 
 impl Model for KeyList {
@@ -26,22 +26,22 @@ impl Model for KeyList {
 }
 
 /// Where a list begins: at the end of the one before it.
-fn start_of(ends: &[usize], number: usize) -> usize
+fn start_of(ends: &[u32], number: usize) -> usize
     requires { number ≤ length ends.now }
     ensures { result ≡ slice_index (0 ∷ ends.now) number }
 {
     if number == 0 {
         return 0;
     }
-    ends[number - 1]
+    ends[number - 1] as usize
 }
 
 /// Where a list ends.
-fn end_of(ends: &[usize], number: usize) -> usize
+fn end_of(ends: &[u32], number: usize) -> usize
     requires { number < length ends.now }
     ensures { result ≡ slice_index ends.now number }
 {
-    ends[number]
+    ends[number] as usize
 }
 
 /// A part of numbers.
@@ -91,14 +91,17 @@ impl KeyList {
         part_of(&self.numbers, from, to)
     }
 
-    /// Adds a list. After an error the lists are those before.
+    /// Adds a list. More numbers in all than 32 bits count are refused as want of memory is. After an error the lists are those before.
     pub fn push(&mut self, list: &[usize]) -> Result<(), AllocError>
         ensures added { OnOk result (self.new ≡ self.old ++ list.now ∷ []) }
         ensures failed { OnErr result (self.new ≡ self.old) }
     {
+        let Ok(end) = u32::try_from(self.numbers.len().saturating_add(list.len())) else {
+            return Err(AllocError);
+        };
         self.ends.reserve(1)?;
         self.numbers.extend_from_slice(list)?;
-        self.ends.push_reserved(self.numbers.len());
+        self.ends.push_reserved(end);
         Ok(())
     }
 

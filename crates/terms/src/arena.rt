@@ -49,7 +49,7 @@ const ROOM: usize = 1 << 18;
 #[derive(Drop)]
 pub struct Arena {
     terms: Terms,
-    lengths: Vec<usize>,
+    lengths: Vec<u16>,
     count_symbols: usize,
 }
 
@@ -133,7 +133,7 @@ impl Arena {
         ensures { (words : List (List ℕ)) → sizes_of words ≡ self.now.sizes
             → result ≡ cut (length (text (term_at (trees words self.now.keys) number))) }
     {
-        self.lengths[number]
+        usize::from(self.lengths[number])
     }
 
     /// A number near a key, if it has the key.
@@ -219,14 +219,14 @@ impl Arena {
 }
 
 /// A length, cut where lengths are told apart no more.
-fn cut(length: usize) -> usize
+fn cut(length: usize) -> u16
     ensures { result ≡ cut length }
 {
-    length.min(CUT)
+    length.min(CUT) as u16
 }
 
 /// The length of the text of a key whose parts have these lengths.
-fn key_length(lengths: &[usize], key: &[usize]) -> usize
+fn key_length(lengths: &[u16], key: &[usize]) -> u16
     requires short { (i : ℕ) → slice_index lengths.now i ≤ limits.text + 1 }
     requires some { 0 < length key.now }
     requires within { AreBelow (length lengths.now) key.now }
@@ -237,11 +237,11 @@ fn key_length(lengths: &[usize], key: &[usize]) -> usize
     if key.len() == 1 {
         return word;
     }
-    with_parts(lengths, cut(word + 2), &key[1..])
+    with_parts(lengths, cut(usize::from(word) + 2), &key[1..])
 }
 
 /// The length of a text of so many bytes once parts stand behind it.
-fn with_parts(lengths: &[usize], before: usize, parts: &[usize]) -> usize
+fn with_parts(lengths: &[u16], before: u16, parts: &[usize]) -> u16
     requires short { (i : ℕ) → slice_index lengths.now i ≤ limits.text + 1 }
     requires before { before ≤ limits.text + 1 }
     requires within { AreBelow (length lengths.now) parts.now }
@@ -250,7 +250,7 @@ fn with_parts(lengths: &[usize], before: usize, parts: &[usize]) -> usize
 {
     let mut total = before;
     for part in parts {
-        total = cut(total + 1 + lengths[*part]);
+        total = cut(usize::from(total) + 1 + usize::from(lengths[*part]));
     }
     total
 }
