@@ -9,7 +9,7 @@ use std::marker::Model;
 /// Lists of numbers, by number. They stand in one vector, so that none has memory of its own.
 #[derive(Drop)]
 pub struct KeyList {
-    numbers: Vec<usize>,
+    numbers: Vec<u32>,
     /// Where each list ends.
     ends: Vec<u32>,
 }
@@ -45,7 +45,7 @@ fn end_of(ends: &[u32], number: usize) -> usize
 }
 
 /// A part of numbers.
-fn part_of(numbers: &[usize], from: usize, to: usize) -> &[usize]
+fn part_of(numbers: &[u32], from: usize, to: usize) -> &[u32]
     requires order { from ≤ to }
     requires within { to ≤ length numbers.now }
     ensures { result.now ≡ slice_range numbers.now from to }
@@ -82,7 +82,7 @@ impl KeyList {
     }
 
     /// The list of a number.
-    pub fn get(&self, number: usize) -> &[usize]
+    pub fn get(&self, number: usize) -> &[u32]
         requires { number < length self.now }
         ensures { result.now ≡ key_at self.now number }
     {
@@ -92,7 +92,7 @@ impl KeyList {
     }
 
     /// Adds a list. More numbers in all than 32 bits count are refused as want of memory is. After an error the lists are those before.
-    pub fn push(&mut self, list: &[usize]) -> Result<(), AllocError>
+    pub fn push(&mut self, list: &[u32]) -> Result<(), AllocError>
         ensures added { OnOk result (self.new ≡ self.old ++ list.now ∷ []) }
         ensures failed { OnErr result (self.new ≡ self.old) }
     {
