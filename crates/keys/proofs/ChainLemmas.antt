@@ -31,7 +31,7 @@ use Rattle.std.proofs.lemmas.List.{get_or-set_same, get_or-set_other, get_or-tak
 use Rattle.std.proofs.lemmas.Grind.{get_or_default_zero}
 use Rattle.std.specs.Prelude.{replicate, ◌≢◌}
 use Rattle.keys.specs.Chains.{AreChained, bucket_of, key_hash}
-use Rattle.keys.specs.Hashes.{bucket_in}
+use Rattle.keys.specs.Hashes.{upper, bucket_in}
 use Rattle.keys.specs.KeyLists.{key_at}
 
 same_or : (k d : ℕ) → (k ≡ d) ⊎ (k ≡ d → ⊥)
@@ -220,18 +220,18 @@ starts of many last before e f =
 pub record Finding (keys : List (List ℕ)) (key : List ℕ) (many left : ℕ) : Type 0 where
   pub below : (i : ℕ) → i < length keys → key_at keys i ≡ key → i < left
   pub within : left ≤ length keys
-  pub alike : 0 < left → bucket_of keys many (left - 1) ≡ bucket_in (key_hash 0 key) many
+  pub alike : 0 < left → bucket_of keys many (left - 1) ≡ bucket_in (upper (key_hash 0 key)) many
 
 pub finding_starts : (keys : List (List ℕ)) (key : List ℕ) (many hash b left : ℕ) (last before : List ℕ)
-    → AreChained (bucket_of keys many) (length keys) last before → hash ≡ key_hash 0 key → b ≡ bucket_in hash many → left ≡ get_or last b left
+    → AreChained (bucket_of keys many) (length keys) last before → hash ≡ key_hash 0 key → b ≡ bucket_in (upper hash) many → left ≡ get_or last b left
     → b < length last → Finding keys key many left
 finding_starts keys key many hash b left last before a h e l room =
-    let at : b ≡ bucket_in (key_hash 0 key) many = e ∙ ap (λ (x : ℕ). bucket_in x many) h in
+    let at : b ≡ bucket_in (upper (key_hash 0 key)) many = e ∙ ap (λ (x : ℕ). bucket_in (upper x) many) h in
     let is : left ≡ get_or last b 0 = l ∙ get_or_default_zero last b left room in
     record {
       below = λ i h k.
           subst (λ (x : ℕ). i < x) (sym is) (subst (λ (c : ℕ). i < get_or last c 0)
-          (ap (λ (x : List ℕ). bucket_in (key_hash 0 x) many) k ∙ sym at) (a.lasts i h));
+          (ap (λ (x : List ℕ). bucket_in (upper (key_hash 0 x)) many) k ∙ sym at) (a.lasts i h));
       within = inside (get_or last b 0) refl is;
       alike = λ some. ap (λ (x : ℕ). bucket_of keys many (x - 1)) is ∙ (a.heads b (subst (λ (x : ℕ). 0 < x) is some)).1 ∙ at;
     }
@@ -250,11 +250,11 @@ finding_next keys key many left number next last before a f some e other n =
     let is : next ≡ get_or before number 0 = n ∙ get_or_default_zero before number next room in
     let inside : number < length keys = omega (arith, w, e, some) in
     let falls = a.falls number inside in
-    let own : bucket_of keys many number ≡ bucket_in (key_hash 0 key) many = ap (λ (x : ℕ). bucket_of keys many x) e ∙ f.alike some in
+    let own : bucket_of keys many number ≡ bucket_in (upper (key_hash 0 key)) many = ap (λ (x : ℕ). bucket_of keys many x) e ∙ f.alike some in
     record {
       below = λ i h k. subst (λ (x : ℕ). i < x) (sym is)
           (a.befores i number (lower i (f.below i h k) (λ s. other (ap (λ (x : ℕ). key_at keys x) (sym s) ∙ k))) inside
-          (ap (λ (x : List ℕ). bucket_in (key_hash 0 x) many) k ∙ sym own));
+          (ap (λ (x : List ℕ). bucket_in (upper (key_hash 0 x)) many) k ∙ sym own));
       within = omega (arith, falls, is, w, e);
       alike = λ more. ap (λ (x : ℕ). bucket_of keys many (x - 1)) is ∙ a.links number inside (subst (λ (x : ℕ). 0 < x) is more) ∙ own;
     }
@@ -296,7 +296,7 @@ list_last (y ∷ ys) x zero e = absurd (let bad : ⊥ = omega (arith, e) in bad)
 list_last (y ∷ ys) x (suc n) e = list_last ys x n (omega (arith, e))
 
 pub added_kept : (keys more : List (List ℕ)) (key : List ℕ) (many m1 k hash b n : ℕ) (last before last1 before1 : List ℕ)
-    → AreChained (bucket_of keys many) (length keys) last before → more ≡ keys ++ key ∷ [] → hash ≡ key_hash 0 key → b ≡ bucket_in hash k → k ≡ many
+    → AreChained (bucket_of keys many) (length keys) last before → more ≡ keys ++ key ∷ [] → hash ≡ key_hash 0 key → b ≡ bucket_in (upper hash) k → k ≡ many
     → m1 ≡ many → n ≡ length keys
     → ((of : ℕ → ℕ) → AreChained of n last before → of n ≡ b → AreChained of (n + 1) last1 before1)
     → AreChained (bucket_of more m1) (length more) last1 before1
@@ -304,10 +304,10 @@ added_kept keys more key many m1 k hash b n last before last1 before1 a e h f g 
     let old : AreChained (bucket_of (keys ++ key ∷ []) many) n last before =
     subst (λ (i : ℕ). AreChained (bucket_of (keys ++ key ∷ []) many) i last before) (sym c)
     (chained_alike (bucket_of keys many) (bucket_of (keys ++ key ∷ []) many) (length keys) last before
-    (λ i h. ap (λ (x : List ℕ). bucket_in (key_hash 0 x) many) (sym (list_before keys key i h))) a) in
+    (λ i h. ap (λ (x : List ℕ). bucket_in (upper (key_hash 0 x)) many) (sym (list_before keys key i h))) a) in
     let own : bucket_of (keys ++ key ∷ []) many n ≡ b =
-    ap (λ (x : List ℕ). bucket_in (key_hash 0 x) many) (list_last keys key n c)
-    ∙ sym (f ∙ ap (λ (x : ℕ). bucket_in hash x) g ∙ ap (λ (x : ℕ). bucket_in x many) h) in
+    ap (λ (x : List ℕ). bucket_in (upper (key_hash 0 x)) many) (list_last keys key n c)
+    ∙ sym (f ∙ ap (λ (x : ℕ). bucket_in (upper hash) x) g ∙ ap (λ (x : ℕ). bucket_in (upper x) many) h) in
     let long : n + 1 ≡ length more = let l = length-append keys (key ∷ []) in let s = ap length e in omega (arith, l, s, c) in
     subst (λ (i : ℕ). AreChained (bucket_of more i) (length more) last1 before1) (sym m)
     (subst (λ (i : ℕ). AreChained (bucket_of more many) i last1 before1) long
@@ -321,19 +321,19 @@ take_many (suc k) (y ∷ ys) h = ap (λ (m : ℕ). suc m) (take_many k ys (omega
 
 pub dropped_kept : (keys more : List (List ℕ)) (many k hash b n x : ℕ) (last before b1 : List ℕ)
     → AreChained (bucket_of keys many) (length keys) last before → many ≡ length last → 0 < length keys → n ≡ length keys - 1
-    → hash ≡ key_hash 0 (key_at keys n) → b ≡ bucket_in hash k → k ≡ many → b < length last → x ≡ get_or before n x → b1 ≡ take n before
+    → hash ≡ key_hash 0 (key_at keys n) → b ≡ bucket_in (upper hash) k → k ≡ many → b < length last → x ≡ get_or before n x → b1 ≡ take n before
     → more ≡ take n keys → AreChained (bucket_of more (length (set last b x))) (length more) (set last b x) b1
 dropped_kept keys more many k hash b n x last before b1 a m some c h f g room is s e =
     let size : length keys ≡ suc n = omega (arith, c, some) in
     let w = a.many in
-    let own : bucket_of keys many n ≡ b = sym (f ∙ ap (λ (y : ℕ). bucket_in hash y) g ∙ ap (λ (y : ℕ). bucket_in y many) h) in
+    let own : bucket_of keys many n ≡ b = sym (f ∙ ap (λ (y : ℕ). bucket_in (upper hash) y) g ∙ ap (λ (y : ℕ). bucket_in (upper y) many) h) in
     let less : AreChained (bucket_of keys many) n (set last b x) (take n before) =
     chained_less (bucket_of keys many) n b x last before
     (subst (λ (i : ℕ). AreChained (bucket_of keys many) i last before) size a) own room
     (is ∙ get_or_default_zero before n x (omega (arith, w, size))) in
     let again : AreChained (bucket_of (take n keys) many) n (set last b x) (take n before) =
     chained_alike (bucket_of keys many) (bucket_of (take n keys) many) n (set last b x) (take n before)
-    (λ i h. ap (λ (y : List ℕ). bucket_in (key_hash 0 y) many) (sym (get_or-take n keys i [] h))) less in
+    (λ i h. ap (λ (y : List ℕ). bucket_in (upper (key_hash 0 y)) many) (sym (get_or-take n keys i [] h))) less in
     let long : n ≡ length more = sym (ap length e ∙ take_many n keys (omega (arith, size))) in
     subst (λ (i : ℕ). AreChained (bucket_of more i) (length more) (set last b x) b1) (m ∙ sym (length-set last b x))
     (subst (λ (zs : List ℕ). AreChained (bucket_of more many) (length more) (set last b x) zs) (sym s)

@@ -1,7 +1,7 @@
 -- Terms in buckets, by hashes of their keys.
 use Rattle.std.specs.Prelude.{ℕ, ◌≡◌, ◌<◌, ◌≤◌, ◌-◌, List, [], ◌∷◌, length, slice_index}
 use Rattle.keys.specs.KeyLists.{key_at}
-use Rattle.keys.specs.Hashes.{mixed, bucket_in}
+use Rattle.keys.specs.Hashes.{mixed, upper, bucket_in}
 use Rattle.keys.specs.declared.chains.Chains.{Chains}
 
 -- a hash with the numbers of a key mixed into it
@@ -11,7 +11,7 @@ key_hash hash (x ∷ xs) = key_hash (mixed hash x) xs
 
 -- the bucket of a term, where there are so many
 abbrev pub bucket_of : List (List ℕ) → ℕ → ℕ → ℕ
-bucket_of keys many n = bucket_in (key_hash 0 (key_at keys n)) many
+bucket_of keys many n = bucket_in (upper (key_hash 0 (key_at keys n))) many
 
 -- For each bucket one more than its last number, and for each of the first n numbers one more than the number before it in its bucket;
 -- 0 where there is none.

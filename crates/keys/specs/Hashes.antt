@@ -5,6 +5,10 @@ use Rattle.std.specs.Prelude.{ℕ, ◌+◌, ◌-◌, ◌*◌, ◌/◌, ◌%◌, 
 abbrev pub mixed : ℕ → ℕ → ℕ
 mixed hash x = (hash + x) % 2 ^ 64 * 11400714819323198485 % 2 ^ 64
 
--- the bucket of a hash, where there are so many
+-- the upper half of the bits of a hash
+abbrev pub upper : ℕ → ℕ
+upper hash = hash / 4294967296
+
+-- the bucket of the upper half of a hash, where there are so many
 abbrev pub bucket_in : ℕ → ℕ → ℕ
-bucket_in hash many = min (hash / 4294967296 * many % 2 ^ 64 / 4294967296) (many - 1)
+bucket_in half many = min (half * many % 2 ^ 64 / 4294967296) (many - 1)

@@ -7,6 +7,6 @@ mod key_list;
 mod room;
 
 pub use chains::{Chains, add, drop_behind, find, hash_of, make_buckets};
-pub use hashes::{bucket_in, mix};
+pub use hashes::{bucket_in, mix, upper};
 pub use key_list::KeyList;
 pub use room::with_room;
