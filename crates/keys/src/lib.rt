@@ -9,4 +9,4 @@ mod room;
 pub use chains::{Chains, add, drop_behind, find, hash_of, make_buckets};
 pub use hashes::{bucket_in, mix, upper};
 pub use key_list::KeyList;
-pub use room::with_room;
+pub use room::{in_32_bits, with_room};

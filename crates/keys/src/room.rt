@@ -1,5 +1,5 @@
-// Room for what is to come.
-ghost use Rattle.std.specs.Prelude.{◌≡◌, []};
+// Room for what is to come, and numbers in 32 bits.
+ghost use Rattle.std.specs.Prelude.{◌≡◌, [], IfOk};
 
 use std::alloc::{AllocError, Global};
 
@@ -12,4 +12,14 @@ pub fn with_room<T>(alloc: Global, many: usize) -> Vec<T>
         Ok(list) => list,
         Err(AllocError) => Vec::new(alloc),
     }
+}
+
+/// A number in 32 bits. One that does not fit is of more than memory holds, and that is what is answered.
+pub fn in_32_bits(number: usize) -> Result<u32, AllocError>
+    ensures { IfOk result (λ n. n ≡ number) }
+{
+    let Ok(fitting) = u32::try_from(number) else {
+        return Err(AllocError);
+    };
+    Ok(fitting)
 }

@@ -13,5 +13,6 @@ mod DropLemmas
 mod Shortened
 mod TextBytes
 mod AtPlaces
+mod NumberSets
 mod AtomLemmas
 pub mod Facts

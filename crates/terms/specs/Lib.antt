@@ -10,3 +10,4 @@ pub mod Dropping
 pub mod AtomTexts
 pub mod Atoms
 pub mod Vectors
+pub mod NumberSets

@@ -1,5 +1,5 @@
 // Further atoms by number.
-ghost use Rattle.std.specs.Prelude.{ℕ, List, [], ◌∷◌, ◌≡◌, ◌<◌, length, map, OnOk};
+ghost use Rattle.std.specs.Prelude.{ℕ, List, [], ◌∷◌, ◌≡◌, ◌<◌, length, map, IfOk, OnOk};
 ghost use Rattle.profile.specs.Clause.{Atom, tree_of};
 ghost use Rattle.clauses.specs.Numbers.{Begins, word_at};
 ghost use Rattle.terms.specs.Atoms.{AreTermsOf, AddsAtoms};
@@ -8,11 +8,26 @@ ghost use Rattle.terms.specs.Keys.{IsKey, term_at, tree_of_key, trees};
 ghost use Rattle.meaning.specs.Meaning.{atom1, atom2};
 
 use crate::arena::Arena;
-use indexmap::IndexSet;
+use crate::number_set::NumberSet;
+use keys::in_32_bits;
 use std::alloc::AllocError;
 
+/// The key of a word and one term.
+fn key_of_two(word: usize, term: usize) -> Result<[u32; 2], AllocError>
+    ensures { IfOk result (λ key. key ≡ word ∷ term ∷ []) }
+{
+    Ok([in_32_bits(word)?, in_32_bits(term)?])
+}
+
+/// The key of a word and two terms.
+fn key_of_three(word: usize, first: usize, second: usize) -> Result<[u32; 3], AllocError>
+    ensures { IfOk result (λ key. key ≡ word ∷ first ∷ second ∷ []) }
+{
+    Ok([in_32_bits(word)?, in_32_bits(first)?, in_32_bits(second)?])
+}
+
 /// Numbers the atom of a key, if it has no number yet.
-fn add_atom(arena: &mut Arena, atoms: &mut IndexSet<usize>, key: &[usize]) -> Result<(), AllocError>
+fn add_atom(arena: &mut Arena, atoms: &mut NumberSet, key: &[u32]) -> Result<(), AllocError>
     requires { IsKey (length arena.old.sizes) (length arena.old.keys) key.now }
     ensures front { OnOk result (Begins arena.old.keys arena.new.keys) }
     ensures sizes { OnOk result (arena.new.sizes ≡ arena.old.sizes) }
@@ -28,7 +43,7 @@ fn add_atom(arena: &mut Arena, atoms: &mut IndexSet<usize>, key: &[usize]) -> Re
 /// Numbers the atoms `(w t)` of a word and terms, in their order.
 pub fn add_singles(
     arena: &mut Arena,
-    atoms: &mut IndexSet<usize>,
+    atoms: &mut NumberSet,
     word: usize,
     terms: &[usize],
 ) -> Result<(), AllocError>
@@ -41,7 +56,8 @@ pub fn add_singles(
         (map (λ t. atom1 (word_at words word) t) (map (term_at (trees words arena.old.keys)) terms.now))) }
 {
     for term in terms {
-        add_atom(arena, atoms, &[word, *term])?;
+        let key = key_of_two(word, *term)?;
+        add_atom(arena, atoms, &key)?;
     }
     Ok(())
 }
@@ -49,7 +65,7 @@ pub fn add_singles(
 /// Numbers the atoms `(w r t)` of a word, a first term and further terms, in their order.
 pub fn add_pairs(
     arena: &mut Arena,
-    atoms: &mut IndexSet<usize>,
+    atoms: &mut NumberSet,
     word: usize,
     first: usize,
     terms: &[usize],
@@ -64,7 +80,8 @@ pub fn add_pairs(
         (map (λ t. atom2 (word_at words word) (term_at (trees words arena.old.keys) first) t) (map (term_at (trees words arena.old.keys)) terms.now))) }
 {
     for term in terms {
-        add_atom(arena, atoms, &[word, first, *term])?;
+        let key = key_of_three(word, first, *term)?;
+        add_atom(arena, atoms, &key)?;
     }
     Ok(())
 }

@@ -29,7 +29,7 @@ ghost use Rattle.terms.specs.Arena.{cut, sizes_of, with_parts, key_length, AreNu
 ghost use Rattle.meaning.specs.Most.{limits};
 
 use crate::keyed::Terms;
-use keys::{hash_of, with_room};
+use keys::{hash_of, in_32_bits, with_room};
 use rules::RuleSet;
 use std::alloc::{AllocError, Global};
 use std::marker::Model;
@@ -75,7 +75,8 @@ impl Arena {
         let mut lengths = with_room(alloc, ROOM);
         for symbol in 0..rules.count_symbols() {
             lengths.push(cut(rules.symbol(symbol).len()))?;
-            terms.intern(&[symbol])?;
+            let number = in_32_bits(symbol)?;
+            terms.intern(&[number])?;
         }
         Ok(Arena {
             terms,
@@ -110,7 +111,7 @@ impl Arena {
     }
 
     /// The key of a term.
-    pub fn key(&self, number: usize) -> &[usize]
+    pub fn key(&self, number: usize) -> &[u32]
         requires { number < length self.now.keys }
         ensures is { result.now ≡ key_at self.now.keys number }
         ensures numbered { AreNumbered (length self.now.sizes) self.now.keys }
@@ -119,7 +120,7 @@ impl Arena {
     }
 
     /// The number of a key, if it has one.
-    pub fn number(&self, key: &[usize]) -> Option<usize>
+    pub fn number(&self, key: &[u32]) -> Option<usize>
         ensures { MatchOption result
             ((k : ℕ) → k < length self.now.keys → key_at self.now.keys k ≢ key.now)
             (λ k. (k < length self.now.keys) × (key_at self.now.keys k ≡ key.now)) }
@@ -137,7 +138,7 @@ impl Arena {
     }
 
     /// A number near a key, if it has the key.
-    fn found_near(&self, near: Option<usize>, key: &[usize]) -> Option<usize>
+    fn found_near(&self, near: Option<usize>, key: &[u32]) -> Option<usize>
         ensures found { IfSome result (λ k. (k < length self.now.keys) × (key_at self.now.keys k ≡ key.now)) }
         ensures numbered { AreNumbered (length self.now.sizes) self.now.keys }
     {
@@ -153,7 +154,7 @@ impl Arena {
     }
 
     /// The number of a key as by `intern`; a number that may have it is tried first.
-    pub fn intern_near(&mut self, key: &[usize], near: Option<usize>) -> Result<usize, AllocError>
+    pub fn intern_near(&mut self, key: &[u32], near: Option<usize>) -> Result<usize, AllocError>
         requires { IsKey (length self.old.sizes) (length self.old.keys) key.now }
         ensures found { IfOk result (λ k. (k < length self.new.keys) × (key_at self.new.keys k ≡ key.now)) }
         ensures kept { OnOk result (self.new.keys ≡ with_key self.old.keys key.now) }
@@ -180,12 +181,12 @@ impl Arena {
         if behind >= key.len() {
             return None;
         }
-        Some(key[key.len() - 1 - behind])
+        Some(key[key.len() - 1 - behind] as usize)
     }
 
     /// The number of a key, which is the next one if it has none yet. After an error the terms are those
     /// before.
-    pub fn intern(&mut self, key: &[usize]) -> Result<usize, AllocError>
+    pub fn intern(&mut self, key: &[u32]) -> Result<usize, AllocError>
         requires { IsKey (length self.old.sizes) (length self.old.keys) key.now }
         ensures found { IfOk result (λ k. (k < length self.new.keys) × (key_at self.new.keys k ≡ key.now)) }
         ensures kept { OnOk result (self.new.keys ≡ with_key self.old.keys key.now) }
@@ -226,14 +227,14 @@ fn cut(length: usize) -> u16
 }
 
 /// The length of the text of a key whose parts have these lengths.
-fn key_length(lengths: &[u16], key: &[usize]) -> u16
+fn key_length(lengths: &[u16], key: &[u32]) -> u16
     requires short { (i : ℕ) → slice_index lengths.now i ≤ limits.text + 1 }
     requires some { 0 < length key.now }
     requires within { AreBelow (length lengths.now) key.now }
     ensures exact { result ≡ key_length lengths.now key.now }
     ensures cut { result ≤ limits.text + 1 }
 {
-    let word = lengths[key[0]];
+    let word = lengths[key[0] as usize];
     if key.len() == 1 {
         return word;
     }
@@ -241,7 +242,7 @@ fn key_length(lengths: &[u16], key: &[usize]) -> u16
 }
 
 /// The length of a text of so many bytes once parts stand behind it.
-fn with_parts(lengths: &[u16], before: u16, parts: &[usize]) -> u16
+fn with_parts(lengths: &[u16], before: u16, parts: &[u32]) -> u16
     requires short { (i : ℕ) → slice_index lengths.now i ≤ limits.text + 1 }
     requires before { before ≤ limits.text + 1 }
     requires within { AreBelow (length lengths.now) parts.now }
@@ -250,7 +251,7 @@ fn with_parts(lengths: &[u16], before: u16, parts: &[usize]) -> u16
 {
     let mut total = before;
     for part in parts {
-        total = cut(usize::from(total) + 1 + usize::from(lengths[*part]));
+        total = cut(usize::from(total) + 1 + usize::from(lengths[*part as usize]));
     }
     total
 }

@@ -46,16 +46,17 @@ fn is_dropped(
     bases: &IndexSet<usize>,
     roles: &IndexSet<usize>,
     inputs: &[IndexSet<usize>],
-    key: &[usize],
+    key: &[u32],
 ) -> bool
     requires { length inputs.now ≡ length roles.now.keys }
     ensures { result ≡ is_dropped_in words bases.now.keys roles.now.keys (map (λ s. s.keys) inputs.now) key.now }
 {
     if key.len() == 2 {
-        return misses_base(words, bases, key[0], key[1]);
+        return misses_base(words, bases, key[0] as usize, key[1] as usize);
     }
     if key.len() == 3 {
-        return misses_input(words, roles, inputs, key[0], key[1], key[2]);
+        let (word, role, input) = (key[0] as usize, key[1] as usize, key[2] as usize);
+        return misses_input(words, roles, inputs, word, role, input);
     }
     false
 }
@@ -68,7 +69,7 @@ pub fn count_dropped(
     bases: &IndexSet<usize>,
     roles: &IndexSet<usize>,
     inputs: &[IndexSet<usize>],
-    atoms: &[usize],
+    atoms: &[u32],
 ) -> usize
     requires atoms { AreBelow (length arena.now.keys) atoms.now }
     requires beside { length inputs.now ≡ length roles.now.keys }
@@ -76,7 +77,7 @@ pub fn count_dropped(
 {
     let mut count = 0;
     for atom in atoms {
-        count += usize::from(is_dropped(words, bases, roles, inputs, arena.key(*atom)));
+        count += usize::from(is_dropped(words, bases, roles, inputs, arena.key(*atom as usize)));
     }
     count
 }

@@ -66,7 +66,7 @@ impl Terms {
     }
 
     /// The key of a term.
-    pub fn key(&self, number: usize) -> &[usize]
+    pub fn key(&self, number: usize) -> &[u32]
         requires { number < length self.now }
         ensures { result.now ≡ key_at self.now number }
     {
@@ -74,7 +74,7 @@ impl Terms {
     }
 
     /// The number of a key, if it has one.
-    pub fn number(&self, key: &[usize]) -> Option<usize>
+    pub fn number(&self, key: &[u32]) -> Option<usize>
         ensures { MatchOption result
             ((k : ℕ) → k < length self.now → key_at self.now k ≢ key.now)
             (λ k. (k < length self.now) × (key_at self.now k ≡ key.now)) }
@@ -83,7 +83,7 @@ impl Terms {
     }
 
     /// The number of a key with this hash, if it has one.
-    pub fn number_by(&self, key: &[usize], hash: usize) -> Option<usize>
+    pub fn number_by(&self, key: &[u32], hash: usize) -> Option<usize>
         requires { hash ≡ key_hash 0 key.now }
         ensures { MatchOption result
             ((k : ℕ) → k < length self.now → key_at self.now k ≢ key.now)
@@ -94,7 +94,7 @@ impl Terms {
 
     /// The number of a key, which is the next one if it has none yet. After an error the terms are those
     /// before.
-    pub fn intern(&mut self, key: &[usize]) -> Result<usize, AllocError>
+    pub fn intern(&mut self, key: &[u32]) -> Result<usize, AllocError>
         ensures found { IfOk result (λ k. (k < length self.new) × (key_at self.new k ≡ key.now)) }
         ensures kept { OnOk result (self.new ≡ with_key self.old key.now) }
         ensures failed { OnErr result (self.new ≡ self.old) }
@@ -108,7 +108,7 @@ impl Terms {
 
     /// The number of a key that has none yet, which is the next one. After an error the terms are those
     /// before.
-    pub fn add(&mut self, key: &[usize]) -> Result<usize, AllocError>
+    pub fn add(&mut self, key: &[u32]) -> Result<usize, AllocError>
         requires { (k : ℕ) → k < length self.old → key_at self.old k ≢ key.now }
         ensures found { IfOk result (λ k. (k < length self.new) × (key_at self.new k ≡ key.now)) }
         ensures kept { OnOk result (self.new ≡ with_key self.old key.now) }
@@ -119,7 +119,7 @@ impl Terms {
 
     /// The number of a key with this hash that has none yet, which is the next one. After an error the
     /// terms are those before.
-    pub fn add_by(&mut self, key: &[usize], hash: usize) -> Result<usize, AllocError>
+    pub fn add_by(&mut self, key: &[u32], hash: usize) -> Result<usize, AllocError>
         requires next { (k : ℕ) → k < length self.old → key_at self.old k ≢ key.now }
         requires hash { hash ≡ key_hash 0 key.now }
         ensures found { IfOk result (λ k. (k < length self.new) × (key_at self.new k ≡ key.now)) }

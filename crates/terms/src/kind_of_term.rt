@@ -38,17 +38,18 @@ impl Arena {
         let key = self.key(number);
         let words = rules.keywords();
         if key.len() == 1 {
-            return kind_without(words, key[0]);
+            return kind_without(words, key[0] as usize);
         }
         if key.len() == 2 {
-            let place = place_of(base, key[1]);
-            return kind_with_one(words, key[0], place);
+            let place = place_of(base, key[1] as usize);
+            return kind_with_one(words, key[0] as usize, place);
         }
         if key.len() == 3 {
-            let role = place_of(roles, key[1]);
-            let input = input_place(inputs, role, key[2]);
-            let value = self.goal_value(rules, key[2], key[0] == words.goal);
-            return kind_with_two(words, key[0], role, input, value);
+            let (word, last) = (key[0] as usize, key[2] as usize);
+            let role = place_of(roles, key[1] as usize);
+            let input = input_place(inputs, role, last);
+            let value = self.goal_value(rules, last, word == words.goal);
+            return kind_with_two(words, word, role, input, value);
         }
         Kind::Other
     }
@@ -66,7 +67,7 @@ impl Arena {
         if key.len() != 1 {
             return None;
         }
-        value_up_to(rules.symbol(key[0]), 100)
+        value_up_to(rules.symbol(key[0] as usize), 100)
     }
 }
 

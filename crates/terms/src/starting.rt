@@ -5,17 +5,18 @@ ghost use Rattle.clauses.specs.Marks.{AreBelow};
 ghost use Rattle.terms.specs.Starting.{has_key, starts_in};
 
 use crate::arena::Arena;
-use indexmap::IndexSet;
+use crate::number_set::NumberSet;
+use keys::in_32_bits;
 use std::alloc::{AllocError, Global};
 
 /// Whether the term with a key is an atom.
-fn is_atom(arena: &Arena, atoms: &IndexSet<usize>, key: &[usize]) -> bool
+fn is_atom(arena: &Arena, atoms: &NumberSet, key: &[u32]) -> bool
     requires numbered { AreNumbered (length arena.now.sizes) arena.now.keys }
     requires atoms { AreBelow (length arena.now.keys) atoms.now.keys }
     ensures { result ≡ has_key arena.now.keys atoms.now.keys key.now }
 {
     match arena.number(key) {
-        Some(number) => atoms.contains(&number),
+        Some(number) => atoms.contains(number),
         None => false,
     }
 }
@@ -24,7 +25,7 @@ fn is_atom(arena: &Arena, atoms: &IndexSet<usize>, key: &[usize]) -> bool
 pub fn starts_of(
     alloc: Global,
     arena: &Arena,
-    atoms: &IndexSet<usize>,
+    atoms: &NumberSet,
     init: usize,
     bases: &[usize],
 ) -> Result<Vec<bool>, AllocError>
@@ -34,7 +35,8 @@ pub fn starts_of(
 {
     let mut starts = Vec::with_capacity(alloc, bases.len())?;
     for base in bases {
-        starts.push(is_atom(arena, atoms, &[init, *base]))?;
+        let key = [in_32_bits(init)?, in_32_bits(*base)?];
+        starts.push(is_atom(arena, atoms, &key))?;
     }
     Ok(starts)
 }

@@ -17,8 +17,8 @@ fn add_only_part(
     ensures { OnOk result (terms.new.items ≡ terms.old.items ++ one_part arena.now.keys word atom) }
 {
     let key = arena.key(atom);
-    if key.len() == 2 && key[0] == word {
-        terms.push(key[1])?;
+    if key.len() == 2 && key[0] as usize == word {
+        terms.push(key[1] as usize)?;
     }
     Ok(())
 }
@@ -27,14 +27,14 @@ fn add_only_part(
 pub fn add_only_parts(
     arena: &Arena,
     word: usize,
-    atoms: &[usize],
+    atoms: &[u32],
     terms: &mut Vec<usize>,
 ) -> Result<(), AllocError>
     requires { AreBelow (length arena.now.keys) atoms.now }
     ensures { OnOk result (terms.new.items ≡ terms.old.items ++ only_parts arena.now.keys word atoms.now) }
 {
     for atom in atoms {
-        add_only_part(arena, word, *atom, terms)?;
+        add_only_part(arena, word, *atom as usize, terms)?;
     }
     Ok(())
 }
@@ -51,8 +51,8 @@ fn add_second_part(
     ensures { OnOk result (terms.new.items ≡ terms.old.items ++ second_part arena.now.keys word role atom) }
 {
     let key = arena.key(atom);
-    if key.len() == 3 && key[0] == word && key[1] == role {
-        terms.push(key[2])?;
+    if key.len() == 3 && key[0] as usize == word && key[1] as usize == role {
+        terms.push(key[2] as usize)?;
     }
     Ok(())
 }
@@ -62,14 +62,14 @@ pub fn add_second_parts(
     arena: &Arena,
     word: usize,
     role: usize,
-    atoms: &[usize],
+    atoms: &[u32],
     terms: &mut Vec<usize>,
 ) -> Result<(), AllocError>
     requires { AreBelow (length arena.now.keys) atoms.now }
     ensures { OnOk result (terms.new.items ≡ terms.old.items ++ second_parts arena.now.keys word role atoms.now) }
 {
     for atom in atoms {
-        add_second_part(arena, word, role, *atom, terms)?;
+        add_second_part(arena, word, role, *atom as usize, terms)?;
     }
     Ok(())
 }

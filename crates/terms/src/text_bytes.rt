@@ -18,7 +18,7 @@ pub enum Place {
 }
 
 /// What stands at an offset behind the word of a list with these parts.
-fn place_in_parts(arena: &Arena, parts: &[usize], offset: usize) -> Place
+fn place_in_parts(arena: &Arena, parts: &[u32], offset: usize) -> Place
     requires parts { AreBelow (length arena.now.keys) parts.now }
     requires small { offset ≤ limits.text }
     ensures { (words : List (List ℕ)) → sizes_of words ≡ arena.now.sizes → (n : ℕ) → AreBelow n parts.now
@@ -30,9 +30,9 @@ fn place_in_parts(arena: &Arena, parts: &[usize], offset: usize) -> Place
         if left == 0 {
             return Place::Byte(b' ');
         }
-        let length = arena.length_of(*part);
+        let length = arena.length_of(*part as usize);
         if left <= length {
-            return Place::In(*part, left - 1);
+            return Place::In(*part as usize, left - 1);
         }
         left -= length + 1;
     }
@@ -48,7 +48,7 @@ fn place_in_term(arena: &Arena, names: &[Vec<u8>], term: usize, offset: usize) -
     ensures { IsPlace (texts_of names.now) arena.now term (term_text (texts_of names.now) arena.now term) offset result }
 {
     let key = arena.key(term);
-    let word = &names[key[0]];
+    let word = &names[key[0] as usize];
     if key.len() == 1 {
         return Place::Byte(word[offset]);
     }

@@ -82,7 +82,7 @@ impl Arena {
             out.old.items out.new.items pending.old.items pending.new.items) }
     {
         let key = self.key(number);
-        let word = rules.symbol(key[0]);
+        let word = rules.symbol(key[0] as usize);
         if key.len() == 1 {
             out.extend_from_slice(word)?;
             return Ok(());
@@ -96,14 +96,14 @@ impl Arena {
 }
 
 /// Puts the parts of a key on the stack, the first on its top.
-fn push_parts(key: &[usize], pending: &mut Vec<Pending>) -> Result<(), AllocError>
+fn push_parts(key: &[u32], pending: &mut Vec<Pending>) -> Result<(), AllocError>
     requires { 0 < length key.now }
     ensures { OnOk result (pending.new.items ≡ pending.old.items ++ reverse (map (λ k. Pending.Term k) (drop 1 key.now))) }
 {
     let mut left = key.len();
     while left > 1 {
         left -= 1;
-        pending.push(Pending::Term(key[left]))?;
+        pending.push(Pending::Term(key[left] as usize))?;
     }
     Ok(())
 }

@@ -8,4 +8,4 @@ pub returns-clause-added : goal.returns-clause-added
 returns-clause-added c = λ words t x tree.
     added_one words c.args.arena.now c.intern.new.self c.args.atoms.now.keys _ c.args.key.now _ x c.requires c.in_ok-number.ensures.kept
     c.intern.ensures.sizes c.intern.ensures.numbered c.in_ok-number.ensures.found.0 c.in_ok-number.ensures.found.1
-    c.in_ok-insert.ensures.keys t tree
+    c.in_ok-insert.ensures.added t tree

@@ -1,5 +1,6 @@
-use Rattle.std.proofs.Common.{ℕ, ◌+◌, List, [], ◌∷◌, drop, get_or, subst, refl}
+use Rattle.std.proofs.Common.{ℕ, ◌+◌, List, [], ◌∷◌, drop, length, get_or, ap, sym, subst, refl, ◌∙◌}
 use Rattle.clauses.specs.Numbers.{word_at}
+use Rattle.terms.specs.Keys.{IsKey, trees, tree_of_key}
 use Rattle.meaning.specs.Meaning.{atom1}
 use Rattle.terms.proofs.AddingAtoms.{AddingEach, each_begins, each_next, each_ends, number_next, fits_key, single_tree}
 use Rattle.terms.proofs.AtPlaces.{at_end}
@@ -11,7 +12,7 @@ loop-term-init c = each_begins c.args.arena.now c.args.atoms.now.keys (λ words 
 
 pub add_atom-requires : goal.add_atom-requires
 add_atom-requires c =
-    fits_key c.args.arena.now c.loop-term.arena c.args.atoms.now.keys c.loop-term.atoms.keys (λ words t. atom1 (word_at words c.args.word) t)
+    subst (λ (key : List ℕ). IsKey (length c.loop-term.arena.sizes) (length c.loop-term.arena.keys) key) (sym c.in_ok-key.ensures) (fits_key c.args.arena.now c.loop-term.arena c.args.atoms.now.keys c.loop-term.atoms.keys (λ words t. atom1 (word_at words c.args.word) t)
     c.args.terms.now (get_or c.args.terms.now c.loop-term.term-index 0) (drop (c.loop-term.term-index + 1) c.args.terms.now) c.args.word
     ((get_or c.args.terms.now c.loop-term.term-index 0) ∷ [])
     (subst (λ (l : List ℕ). AddingEach c.args.arena.now c.loop-term.arena c.args.atoms.now.keys c.loop-term.atoms.keys
@@ -21,13 +22,13 @@ add_atom-requires c =
           (λ words t. atom1 (word_at words c.args.word) t) c.args.terms.now l)
           (number_next c.args.terms.now c.args.terms.now c.loop-term.term-index refl c.loop-term-test.true) c.loop-term.invariant).below.0,
       tt,
-    )
+    ))
 
 pub loop-term-preserved : goal.loop-term-preserved
 loop-term-preserved c =
     each_next c.args.arena.now c.loop-term.arena c.add_atom.new.arena c.args.atoms.now.keys c.loop-term.atoms.keys c.add_atom.new.atoms.keys
     (λ words t. atom1 (word_at words c.args.word) t) c.args.terms.now (get_or c.args.terms.now c.loop-term.term-index 0)
-    (drop (c.loop-term.term-index + 1) c.args.terms.now) (c.args.word ∷ ((get_or c.args.terms.now c.loop-term.term-index 0) ∷ []))
+    (drop (c.loop-term.term-index + 1) c.args.terms.now) c.in_ok-key.key
     (subst (λ (l : List ℕ). AddingEach c.args.arena.now c.loop-term.arena c.args.atoms.now.keys c.loop-term.atoms.keys
     (λ words t. atom1 (word_at words c.args.word) t) c.args.terms.now l)
     (number_next c.args.terms.now c.args.terms.now c.loop-term.term-index refl c.loop-term-test.true) c.loop-term.invariant)
@@ -35,7 +36,8 @@ loop-term-preserved c =
     (λ words t front. single_tree words c.args.arena.now c.loop-term.arena c.args.word (get_or c.args.terms.now c.loop-term.term-index 0)
     (subst (λ (l : List ℕ). AddingEach c.args.arena.now c.loop-term.arena c.args.atoms.now.keys c.loop-term.atoms.keys
     (λ words t. atom1 (word_at words c.args.word) t) c.args.terms.now l)
-    (number_next c.args.terms.now c.args.terms.now c.loop-term.term-index refl c.loop-term-test.true) c.loop-term.invariant).below.0 front)
+    (number_next c.args.terms.now c.args.terms.now c.loop-term.term-index refl c.loop-term-test.true) c.loop-term.invariant).below.0 front
+    ∙ ap (λ (k : List ℕ). tree_of_key words (trees words c.loop-term.arena.keys) k) (sym c.in_ok-key.ensures))
     c.in_ok-add_atom.ensures.added
 
 pub returns-clause-added : goal.returns-clause-added

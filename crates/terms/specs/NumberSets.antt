@@ -1,0 +1,16 @@
+-- Numbers in the order in which they were added, each once.
+use Rattle.std.specs.Prelude.{ℕ, zero, suc, cond, nat_eq, ◌≡◌, List, slice_index}
+use Rattle.std.specs.List.{list_any}
+use Rattle.meaning.specs.InOrder.{first_place}
+
+-- the numbers, in order
+pub record Members : Type 0 where
+  pub keys : List ℕ
+
+-- one more than the place of a number, and 0 where it is not among them
+abbrev pub ticket_of : List ℕ → ℕ → ℕ
+ticket_of members n = cond (list_any (nat_eq n) members) (suc (first_place (nat_eq n) members)) zero
+
+-- what is noted of each number
+abbrev pub AreTickets : List ℕ → List ℕ → Type 0
+AreTickets members tickets = (n : ℕ) → slice_index tickets n ≡ ticket_of members n
