@@ -5,18 +5,18 @@ use std::alloc::{AllocError, Global};
 use std::test::Fail;
 
 /// The cells of three levels, (x), (y z) and (z x), each row behind its number. Each x stands with two z, the greater first.
-fn cells(alloc: Global) -> Result<Vec<usize>, AllocError> {
+fn cells(alloc: Global) -> Result<Vec<u32>, AllocError> {
     let mut cells = Vec::new(alloc);
-    for row in 0..70usize {
+    for row in 0..70u32 {
         cells.push(row)?;
         cells.push(1_000 + row)?;
     }
-    for row in 0..70usize {
+    for row in 0..70u32 {
         cells.push(100 + row)?;
         cells.push(2_000 + row)?;
         cells.push(3_000 + row)?;
     }
-    for row in 0..70usize {
+    for row in 0..70u32 {
         cells.push(200 + row)?;
         cells.push(3_069 - row)?;
         cells.push(1_000 + row / 2)?;
@@ -36,7 +36,7 @@ fn level(columns_from: usize, columns_to: usize, cells_from: usize, bound: usize
 }
 
 /// The rows of the join of the three levels, if they are found in another order.
-fn rows(alloc: Global, most: usize) -> Result<Option<Vec<usize>>, AllocError> {
+fn rows(alloc: Global, most: usize) -> Result<Option<Vec<u32>>, AllocError> {
     let columns = [
         Column::First,
         Column::First,
