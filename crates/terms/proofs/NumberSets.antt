@@ -23,13 +23,16 @@ use Rattle.std.proofs.Common.{
   refl,
   sym,
   ap,
+  subst,
   ◌∙◌,
   arith,
 }
-use Rattle.std.specs.List.{list_any}
+use Rattle.std.specs.List.{list_any, IsDistinct}
+use Rattle.std.proofs.lemmas.Map.Keys.{IsDistinct-push}
+use Rattle.std.specs.Cmp.{nat_eq_equiv}
 use Rattle.std.proofs.lemmas.List.{get_or-set_same, get_or-set_other}
 use Rattle.meaning.specs.InOrder.{first_place}
-use Rattle.terms.specs.NumberSets.{ticket_of, AreTickets}
+use Rattle.terms.specs.NumberSets.{ticket_of, AreTickets, IsNumberSet}
 use Rattle.terms.proofs.AtPlaces.{none_place}
 
 any_there : (test : ℕ → Bool) (ns : List ℕ) (n : ℕ) → test n ≡ true → list_any test (ns ++ n ∷ []) ≡ true
@@ -74,7 +77,7 @@ not_there true k e = absurd (let bad : ⊥ = omega (arith, e) in bad)
 not_there false k e = refl
 
 -- what is noted once a number was added that was not there
-pub noted : (members all tickets more : List ℕ) (number next : ℕ) → AreTickets members tickets → get_or tickets number 0 ≡ 0
+noted : (members all tickets more : List ℕ) (number next : ℕ) → AreTickets members tickets → get_or tickets number 0 ≡ 0
     → ((n : ℕ) → get_or more n 0 ≡ get_or tickets n 0) → number < length more → all ≡ members ++ number ∷ [] → next ≡ suc (length members)
     → AreTickets all (set more number next)
 noted members all tickets more number next t zero_is same room all_is next_is n = go (nat_eq n number) refl
@@ -97,6 +100,25 @@ noted members all tickets more number next t zero_is same room all_is next_is n 
         let other : n ≡ number → ⊥ = λ e. let bad : true ≡ false = sym (eq-eqb n number e) ∙ f in absurd cc in
         get_or-set_other more number n next 0 other ∙ same n ∙ t n
         ∙ sym (ap (λ (l : List ℕ). ticket_of l n) all_is ∙ ticket_else (nat_eq n) members number f)
+
+pub empty_noted : (members tickets : List ℕ) → members ≡ [] → tickets ≡ [] → IsNumberSet members tickets
+unfolding IsDistinct
+empty_noted members tickets m t =
+    record {
+      noted = λ n. ap (λ (l : List ℕ). get_or l n 0) t ∙ sym (ap (λ (l : List ℕ). ticket_of l n) m);
+      distinct = subst (λ (l : List ℕ). IsDistinct nat_eq l) (sym m) tt;
+    }
+
+pub set_noted : (members all tickets more : List ℕ) (number next : ℕ) → IsNumberSet members tickets → get_or tickets number 0 ≡ 0
+    → ((n : ℕ) → get_or more n 0 ≡ get_or tickets n 0) → number < length more → all ≡ members ++ number ∷ [] → next ≡ suc (length members)
+    → IsNumberSet all (set more number next)
+set_noted members all tickets more number next s zero_is same room all_is next_is =
+    record {
+      noted = noted members all tickets more number next s.noted zero_is same room all_is next_is;
+      distinct = subst (λ (l : List ℕ). IsDistinct nat_eq l) (sym all_is)
+          (IsDistinct-push nat_eq_equiv members number s.distinct (not_there (list_any (nat_eq number) members) (first_place (nat_eq number) members)
+          (sym (s.noted number) ∙ zero_is)));
+    }
 
 -- the place of a number that is not there is behind all
 pub place_past : (members tickets : List ℕ) (n : ℕ) → AreTickets members tickets → get_or tickets n 0 ≡ 0

@@ -1,6 +1,6 @@
 // Numbers in the order in which they were added, each once.
 ghost use Rattle.std.specs.Prelude.{ℕ, ◌≡◌, ◌<◌, [], nat_eq, length, slice_index, OnOk, OnErr};
-ghost use Rattle.std.specs.List.{list_any};
+ghost use Rattle.std.specs.List.{list_any, IsDistinct};
 ghost use Rattle.meaning.specs.InOrder.{first_place};
 ghost use Rattle.terms.specs.Atoms.{with_number};
 ghost use Rattle.terms.specs.NumberSets.{Members, ticket_of, AreTickets};
@@ -19,13 +19,13 @@ pub struct NumberSet {
 }
 
 impl Model for NumberSet {
-    ghost use Rattle.terms.specs.NumberSets.{Members, AreTickets};
+    ghost use Rattle.terms.specs.NumberSets.{Members, IsNumberSet};
 
     ghost Value = { Members };
 
     ghost view = { λ s. record { keys = s.members.items } };
 
-    ghost invariant = { λ s. AreTickets s.members.items s.tickets.items };
+    ghost invariant = { λ s. IsNumberSet s.members.items s.tickets.items };
 }
 
 impl NumberSet {
@@ -48,7 +48,8 @@ impl NumberSet {
 
     /// The numbers in order.
     pub fn as_slice(&self) -> &[u32]
-        ensures { result.now ≡ self.now.keys }
+        ensures keys { result.now ≡ self.now.keys }
+        ensures unique { IsDistinct nat_eq self.now.keys }
     {
         &self.members
     }
