@@ -9,18 +9,17 @@ ghost use Rattle.meaning.specs.Most.{limits};
 ghost use Rattle.listing.specs.SetWords.{words_of};
 
 use crate::tables::copy_of;
-use indexmap::IndexSet;
 use rules::RuleSet;
 use std::alloc::{AllocError, Global};
 use std::marker::Model;
-use terms::{Arena, byte_at};
+use terms::{Arena, NumberSet, byte_at};
 
 /// The texts of atoms by number, in memory for each different term of them. No text is longer than 4,096 bytes.
 #[derive(Drop)]
 pub struct AtomTable {
     names: Vec<Vec<u8>>,
     arena: Arena,
-    atoms: IndexSet<usize>,
+    atoms: NumberSet,
 }
 
 impl Model for AtomTable {
@@ -41,7 +40,7 @@ impl AtomTable {
         alloc: Global,
         rules: &RuleSet,
         arena: Arena,
-        atoms: IndexSet<usize>,
+        atoms: NumberSet,
     ) -> Result<Self, AllocError>
         requires { IsAtomTable (words_of rules.now) arena atoms.keys }
         ensures { IfOk result (λ t. t ≡ atom_texts (words_of rules.now) arena atoms.keys) }
@@ -60,7 +59,7 @@ impl AtomTable {
         ensures { result ≡ name_eq text.now (text_at self.now atom) }
     {
         let atoms = self.atoms.as_slice();
-        is_term_text(&self.arena, &self.names, atoms[atom], text)
+        is_term_text(&self.arena, &self.names, atoms[atom] as usize, text)
     }
 }
 

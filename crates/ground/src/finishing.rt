@@ -1,72 +1,26 @@
 // The instances once all atoms have numbers.
 ghost use Rattle.std.specs.Prelude.{◌≡◌, ◌<◌, ◌++◌, [], ◌∷◌, length, map, nat_eq, get_or, replicate, slice_set, IfOk, OnOk};
 ghost use Rattle.std.specs.List.{list_all};
-ghost use Rattle.ground.specs.Finishing.{is_read_in, reading_in, readings_in, headed_in, numbered_in, ArePlaces};
+ghost use Rattle.ground.specs.Finishing.{is_read_in, reading_in, readings_in, headed_in, numbered_in};
 ghost use Rattle.ground.specs.Grounds.{Kept};
 ghost use Rattle.listing.specs.Founds.{AreLaid, numbers_of_list};
 ghost use Rattle.meaning.specs.InOrder.{first_place};
 
-use indexmap::IndexSet;
 use listing::{Entry, FoundList, push_instance};
 use std::alloc::{AllocError, Global};
+use terms::NumberSet;
 
-/// The same number for each of so many terms.
-fn all_at(alloc: Global, place: u32, terms: usize) -> Result<Vec<u32>, AllocError>
-    ensures { IfOk result (λ places. places.items ≡ replicate terms place) }
-{
-    let places = vec![in alloc; place; terms]?;
-    Ok(places)
-}
-
-/// Sets the number of a term's atom, if the term is among those that have one.
-fn set_place(places: &mut Vec<u32>, term: usize, place: u32)
-    ensures { places.new.items ≡ slice_set places.old.items term place }
-{
-    if term < places.len() {
-        places[term] = place;
-    }
-}
-
-/// For each of so many terms the number of its atom; the count of atoms where it has none.
-fn places_of(alloc: Global, atoms: &[usize], terms: usize) -> Result<Vec<u32>, AllocError>
-    requires { length atoms.now < 4294967296 }
-    ensures { IfOk result (λ places. ArePlaces atoms.now places.items) }
-{
-    let mut places = all_at(alloc, atoms.len() as u32, terms)?;
-    let mut left = atoms.len();
-    while left > 0 {
-        left -= 1;
-        set_place(&mut places, atoms[left], left as u32);
-    }
-    Ok(places)
-}
-
-/// The number of a term's atom, by a search; the count of atoms if it has none.
-fn searched_place(atoms: &IndexSet<usize>, term: usize) -> u32
+/// The number of a term's atom; the count of atoms if it has none.
+fn place_of(atoms: &NumberSet, term: usize) -> u32
     requires { length atoms.now.keys < 4294967296 }
     ensures { result ≡ first_place (nat_eq term) atoms.now.keys }
 {
-    match atoms.get_index_of(&term) {
-        Some(place) => place as u32,
-        None => atoms.len() as u32,
-    }
-}
-
-/// The number of a term's atom, which stands among places that are known; the count of atoms if it has none.
-fn place_of(atoms: &IndexSet<usize>, places: &[u32], term: usize) -> u32
-    requires few { length atoms.now.keys < 4294967296 }
-    requires places { ArePlaces atoms.now.keys places.now }
-    ensures { result ≡ first_place (nat_eq term) atoms.now.keys }
-{
-    if term < places.len() {
-        return places[term];
-    }
-    searched_place(atoms, term)
+    atoms.place(term) as u32
 }
 
 /// Whether a literal may be right in one state and wrong in another, where its atom has this place: it is positive, or its atom
 /// has a number.
-fn is_read(atoms: &IndexSet<usize>, literal: (u32, bool), place: u32) -> bool
+fn is_read(atoms: &NumberSet, literal: (u32, bool), place: u32) -> bool
     requires { place ≡ first_place (nat_eq literal.0) atoms.now.keys }
     ensures { result ≡ is_read_in atoms.now.keys literal }
 {
@@ -78,16 +32,14 @@ fn is_read(atoms: &IndexSet<usize>, literal: (u32, bool), place: u32) -> bool
 
 /// Adds a literal if it is read.
 fn add_read(
-    atoms: &IndexSet<usize>,
-    places: &[u32],
+    atoms: &NumberSet,
     read: &mut Vec<(u32, bool)>,
     literal: (u32, bool),
 ) -> Result<(), AllocError>
     requires few { length atoms.now.keys < 4294967296 }
-    requires places { ArePlaces atoms.now.keys places.now }
     ensures { OnOk result (read.new.items ≡ read.old.items ++ readings_in atoms.now.keys (literal ∷ [])) }
 {
-    let place = place_of(atoms, places, literal.0 as usize);
+    let place = place_of(atoms, literal.0 as usize);
     if !is_read(atoms, literal, place) {
         return Ok(());
     }
@@ -97,31 +49,27 @@ fn add_read(
 
 /// Adds the literals that are read, in order.
 fn add_each_read(
-    atoms: &IndexSet<usize>,
-    places: &[u32],
+    atoms: &NumberSet,
     literals: &[(u32, bool)],
     read: &mut Vec<(u32, bool)>,
 ) -> Result<(), AllocError>
     requires few { length atoms.now.keys < 4294967296 }
-    requires places { ArePlaces atoms.now.keys places.now }
     ensures { OnOk result (read.new.items ≡ read.old.items ++ readings_in atoms.now.keys literals.now) }
 {
     for literal in literals {
-        add_read(atoms, places, read, *literal)?;
+        add_read(atoms, read, *literal)?;
     }
     Ok(())
 }
 
 /// Adds an instance with the numbers of its atoms in the place of those of their terms.
 fn add_renumbered(
-    atoms: &IndexSet<usize>,
-    places: &[u32],
+    atoms: &NumberSet,
     found: &FoundList,
     place: usize,
     numbered: &mut FoundList,
 ) -> Result<(), AllocError>
     requires few { length atoms.now.keys < 4294967296 }
-    requires places { ArePlaces atoms.now.keys places.now }
     requires found { AreLaid found.now }
     requires place { place < length (numbers_of_list found.now) }
     requires laid { AreLaid numbered.old }
@@ -130,21 +78,20 @@ fn add_renumbered(
     ensures laid { OnOk result (AreLaid numbered.new) }
 {
     let start = numbered.bodies.len();
-    add_each_read(atoms, places, found.body(place), &mut numbered.bodies)?;
-    let head = place_of(atoms, places, found.head(place) as usize);
+    add_each_read(atoms, found.body(place), &mut numbered.bodies)?;
+    let head = place_of(atoms, found.head(place) as usize);
     let alternative = found.alternative(place);
     push_instance(numbered, start, alternative as usize, head as usize)?;
     Ok(())
 }
 
 /// Whether all literals are read.
-fn are_all_read(atoms: &IndexSet<usize>, places: &[u32], literals: &[(u32, bool)]) -> bool
+fn are_all_read(atoms: &NumberSet, literals: &[(u32, bool)]) -> bool
     requires few { length atoms.now.keys < 4294967296 }
-    requires places { ArePlaces atoms.now.keys places.now }
     ensures { result ≡ list_all (is_read_in atoms.now.keys) literals.now }
 {
     for literal in literals {
-        let place = place_of(atoms, places, literal.0 as usize);
+        let place = place_of(atoms, literal.0 as usize);
         if !is_read(atoms, *literal, place) {
             return false;
         }
@@ -153,25 +100,23 @@ fn are_all_read(atoms: &IndexSet<usize>, places: &[u32], literals: &[(u32, bool)
 }
 
 /// Writes the numbers of atoms into literals, in the place of those of their terms.
-fn renumber_literals(atoms: &IndexSet<usize>, places: &[u32], literals: &mut Vec<(u32, bool)>)
+fn renumber_literals(atoms: &NumberSet, literals: &mut Vec<(u32, bool)>)
     requires few { length atoms.now.keys < 4294967296 }
-    requires places { ArePlaces atoms.now.keys places.now }
     ensures { literals.new.items ≡ map (reading_in atoms.now.keys) literals.old.items }
 {
     for i in 0..literals.len() {
         let (term, negated) = literals[i];
-        literals[i] = (place_of(atoms, places, term as usize), negated);
+        literals[i] = (place_of(atoms, term as usize), negated);
     }
 }
 
 /// Writes the numbers of atoms into heads, in the place of those of their terms.
-fn renumber_heads(atoms: &IndexSet<usize>, places: &[u32], entries: &mut Vec<Entry>)
+fn renumber_heads(atoms: &NumberSet, entries: &mut Vec<Entry>)
     requires few { length atoms.now.keys < 4294967296 }
-    requires places { ArePlaces atoms.now.keys places.now }
     ensures { entries.new.items ≡ map (headed_in atoms.now.keys) entries.old.items }
 {
     for i in 0..entries.len() {
-        entries[i].head = place_of(atoms, places, entries[i].head as usize);
+        entries[i].head = place_of(atoms, entries[i].head as usize);
     }
 }
 
@@ -179,41 +124,37 @@ fn renumber_heads(atoms: &IndexSet<usize>, places: &[u32], entries: &mut Vec<Ent
 fn renumbered_apart(
     alloc: Global,
     found: &FoundList,
-    atoms: &IndexSet<usize>,
-    places: &[u32],
+    atoms: &NumberSet,
 ) -> Result<FoundList, AllocError>
     requires few { length atoms.now.keys < 4294967296 }
-    requires places { ArePlaces atoms.now.keys places.now }
     requires found { AreLaid found.now }
     ensures numbered { IfOk result (λ f. numbers_of_list f ≡ map (numbered_in atoms.now.keys) (numbers_of_list found.now)) }
     ensures laid { IfOk result AreLaid }
 {
     let mut numbered = FoundList::with_room(alloc, found.count(), found.bodies.len());
     for place in 0..found.count() {
-        add_renumbered(atoms, places, found, place, &mut numbered)?;
+        add_renumbered(atoms, found, place, &mut numbered)?;
     }
     Ok(numbered)
 }
 
-/// The instances with the numbers of their atoms in the place of those of their terms, where there are some number of terms. Where all
+/// The instances with the numbers of their atoms in the place of those of their terms. Where all
 /// literals are read they stay in their lists.
 pub fn renumbered(
     alloc: Global,
     found: FoundList,
-    atoms: &IndexSet<usize>,
-    terms: usize,
+    atoms: &NumberSet,
 ) -> Result<FoundList, AllocError>
     requires few { length atoms.now.keys < 4294967296 }
     requires found { AreLaid found }
     ensures numbered { IfOk result (λ f. numbers_of_list f ≡ map (numbered_in atoms.now.keys) (numbers_of_list found)) }
     ensures laid { IfOk result AreLaid }
 {
-    let places = places_of(alloc, atoms.as_slice(), terms)?;
-    if !are_all_read(atoms, &places, &found.bodies) {
-        return renumbered_apart(alloc, &found, atoms, &places);
+    if !are_all_read(atoms, &found.bodies) {
+        return renumbered_apart(alloc, &found, atoms);
     }
     let mut found = found;
-    renumber_literals(atoms, &places, &mut found.bodies);
-    renumber_heads(atoms, &places, &mut found.entries);
+    renumber_literals(atoms, &mut found.bodies);
+    renumber_heads(atoms, &mut found.entries);
     Ok(found)
 }

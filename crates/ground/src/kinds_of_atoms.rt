@@ -19,7 +19,7 @@ pub fn kinds_of_atoms(
     alloc: Global,
     rules: &RuleSet,
     arena: &Arena,
-    atoms: &[usize],
+    atoms: &[u32],
     fixed_atoms: usize,
     tables: &Tables,
 ) -> Result<Vec<Kind>, AllocError>
@@ -35,7 +35,7 @@ pub fn kinds_of_atoms(
         let is_fixed = place < fixed_atoms;
         let kind = arena.kind_of(
             rules,
-            *atom,
+            *atom as usize,
             is_fixed,
             &tables.roles,
             &tables.base,

@@ -8,5 +8,5 @@ pub returns : goal.returns
 returns c =
     let test = nat_eq c.args.literal.0 in
     let keys = c.args.atoms.now.keys in
-    ap (λ (k : ℕ). nat_lt k c.len.result) c.requires ∙ ap (λ (n : ℕ). nat_lt (first_place test keys) n) c.len.ensures.len
+    ap (λ (k : ℕ). nat_lt k c.len.result) c.requires ∙ ap (λ (n : ℕ). nat_lt (first_place test keys) n) c.len.ensures
     ∙ has_place test keys ∙ ap (λ (b : Bool). b || list_any test keys) (sym c.if-not-literal.false)

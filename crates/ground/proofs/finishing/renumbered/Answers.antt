@@ -13,7 +13,7 @@ returns-clause-numbered c =
     let entries = c.args.found.entries.items in
     let bodies = c.args.found.bodies.items in
     let all : list_all (is_read_in keys) bodies ≡ true =
-    ap (λ (rs : List (ℕ × Bool)). list_all (is_read_in keys) rs) (sym c.deref-2.ensures.value) ∙ sym c.are_all_read.ensures
+    ap (λ (rs : List (ℕ × Bool)). list_all (is_read_in keys) rs) (sym c.deref.ensures.value) ∙ sym c.are_all_read.ensures
     ∙ c.if-not-are_all_read.false in
     ap (λ (rs : List (ℕ × Bool)). map (kept_at rs) c.renumber_heads.new.entries.items) c.renumber_literals.ensures
     ∙ ap (λ (es : List Entry). map (kept_at (map (reading_in keys) bodies)) es) c.renumber_heads.ensures
