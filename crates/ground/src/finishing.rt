@@ -18,16 +18,22 @@ fn place_of(atoms: &NumberSet, term: usize) -> u32
     atoms.place(term) as u32
 }
 
-/// Whether a literal may be right in one state and wrong in another, where its atom has this place: it is positive, or its atom
-/// has a number.
-fn is_read(atoms: &NumberSet, literal: (u32, bool), place: u32) -> bool
-    requires { place ≡ first_place (nat_eq literal.0) atoms.now.keys }
+/// Whether a literal may be right in one state and wrong in another: it is positive, or its atom has a number.
+fn is_read(atoms: &NumberSet, literal: (u32, bool)) -> bool
     ensures { result ≡ is_read_in atoms.now.keys literal }
 {
     if !literal.1 {
         return true;
     }
-    (place as usize) < atoms.len()
+    atoms.contains(literal.0 as usize)
+}
+
+/// A literal with the number of its atom in the place of that of its term.
+fn renumbered_literal(atoms: &NumberSet, literal: (u32, bool)) -> (u32, bool)
+    requires { length atoms.now.keys < 4294967296 }
+    ensures { result ≡ reading_in atoms.now.keys literal }
+{
+    (place_of(atoms, literal.0 as usize), literal.1)
 }
 
 /// Adds a literal if it is read.
@@ -39,11 +45,10 @@ fn add_read(
     requires few { length atoms.now.keys < 4294967296 }
     ensures { OnOk result (read.new.items ≡ read.old.items ++ readings_in atoms.now.keys (literal ∷ [])) }
 {
-    let place = place_of(atoms, literal.0 as usize);
-    if !is_read(atoms, literal, place) {
+    if !is_read(atoms, literal) {
         return Ok(());
     }
-    read.push((place, literal.1))?;
+    read.push(renumbered_literal(atoms, literal))?;
     Ok(())
 }
 
@@ -87,12 +92,10 @@ fn add_renumbered(
 
 /// Whether all literals are read.
 fn are_all_read(atoms: &NumberSet, literals: &[(u32, bool)]) -> bool
-    requires few { length atoms.now.keys < 4294967296 }
     ensures { result ≡ list_all (is_read_in atoms.now.keys) literals.now }
 {
     for literal in literals {
-        let place = place_of(atoms, literal.0 as usize);
-        if !is_read(atoms, *literal, place) {
+        if !is_read(atoms, *literal) {
             return false;
         }
     }
@@ -105,8 +108,7 @@ fn renumber_literals(atoms: &NumberSet, literals: &mut Vec<(u32, bool)>)
     ensures { literals.new.items ≡ map (reading_in atoms.now.keys) literals.old.items }
 {
     for i in 0..literals.len() {
-        let (term, negated) = literals[i];
-        literals[i] = (place_of(atoms, term as usize), negated);
+        literals[i] = renumbered_literal(atoms, literals[i]);
     }
 }
 

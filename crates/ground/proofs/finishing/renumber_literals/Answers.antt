@@ -10,5 +10,5 @@ loop-i-preserved c =
     let xs = c.args.literals.now.items in
     let less : c.loop-i.i < length xs = search rules in
     let here : x ≡ get_or ys c.loop-i.i x = search rules in
-    ap (λ (k : ℕ). set ys c.loop-i.i (k, x.1)) c.place_of.ensures
+    ap (λ (k : ℕ × Bool). set ys c.loop-i.i k) c.renumbered_literal.ensures
     ∙ map_over_more (reading_in c.args.atoms.now.keys) xs ys c.loop-i.i x less c.loop-i.invariant here
