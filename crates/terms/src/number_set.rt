@@ -108,7 +108,9 @@ fn make_room(tickets: &mut Vec<u32>, number: usize) -> Result<(), AllocError>
     if number < tickets.len() {
         return Ok(());
     }
-    let many = number.saturating_add(1).max(tickets.len().saturating_mul(2));
+    let many = number
+        .saturating_add(1)
+        .max(tickets.len().saturating_mul(2));
     tickets.resize(many, 0)?;
     Ok(())
 }
