@@ -19,7 +19,7 @@ use terms::{Arena, NumberSet, byte_at};
 pub struct AtomTable {
     names: Vec<Vec<u8>>,
     arena: Arena,
-    atoms: NumberSet,
+    atoms: Vec<u32>,
 }
 
 impl Model for AtomTable {
@@ -29,23 +29,24 @@ impl Model for AtomTable {
 
     ghost Value = { List (List ℕ) };
 
-    ghost view = { λ t. atom_texts (texts_of t.names.items) t.arena t.atoms.keys };
+    ghost view = { λ t. atom_texts (texts_of t.names.items) t.arena t.atoms.items };
 
-    ghost invariant = { λ t. IsAtomTable (texts_of t.names.items) t.arena t.atoms.keys };
+    ghost invariant = { λ t. IsAtomTable (texts_of t.names.items) t.arena t.atoms.items };
 }
 
 impl AtomTable {
-    /// The texts of these atoms, where names are those of the symbols of the rules.
+    /// The texts of these atoms, where names are those of the symbols of the rules. What is noted of the place of each is not kept.
     pub fn new(
         alloc: Global,
         rules: &RuleSet,
         arena: Arena,
-        atoms: NumberSet,
+        atoms: &NumberSet,
     ) -> Result<Self, AllocError>
-        requires { IsAtomTable (words_of rules.now) arena atoms.keys }
-        ensures { IfOk result (λ t. t ≡ atom_texts (words_of rules.now) arena atoms.keys) }
+        requires { IsAtomTable (words_of rules.now) arena atoms.now.keys }
+        ensures { IfOk result (λ t. t ≡ atom_texts (words_of rules.now) arena atoms.now.keys) }
     {
         let names = names_of(alloc, rules)?;
+        let atoms = Vec::from_slice(alloc, atoms.as_slice())?;
         Ok(AtomTable {
             names,
             arena,

@@ -8,18 +8,18 @@ use Rattle.ground.proofs.atom_table.AtomTable.is_text.Goals as goal
 
 pub bounds-atoms-atom : goal.bounds-atoms-atom
 bounds-atoms-atom c = slice_inside (texts_of c.self.inside.names.items) c.self.inside.arena _ _ _ c.self.view_is c.requires _
-    c.as_slice-atoms.ensures.keys
+    c.as_slice-atoms.ensures.value
 
 pub is_term_text-requires-clause-term : goal.is_term_text-requires-clause-term
 is_term_text-requires-clause-term c = term_here (texts_of c.self.inside.names.items) c.self.inside.arena _ _ _ c.self.view_is c.requires _
-    c.as_slice-atoms.ensures.keys c.self.invariant
+    c.as_slice-atoms.ensures.value c.self.invariant
 
 pub is_term_text-requires-clause-short : goal.is_term_text-requires-clause-short
 is_term_text-requires-clause-short c =
     subst (λ (names : List (Vec ℕ Global)). length
     (term_text (texts_of names) c.self.inside.arena (slice_index c.as_slice-atoms.result.now c.args.atom)) ≤ limits.text)
     (sym c.deref.ensures.value)
-    (short_here (texts_of c.self.inside.names.items) c.self.inside.arena _ _ _ c.self.view_is c.requires _ c.as_slice-atoms.ensures.keys
+    (short_here (texts_of c.self.inside.names.items) c.self.inside.arena _ _ _ c.self.view_is c.requires _ c.as_slice-atoms.ensures.value
     c.self.invariant)
 
 pub returns : goal.returns
@@ -27,4 +27,4 @@ returns c =
     c.is_term_text.ensures ∙ ap (λ (names : List (Vec ℕ Global)). name_eq c.args.text.now
     (term_text (texts_of names) c.self.inside.arena (slice_index c.as_slice-atoms.result.now c.args.atom))) c.deref.ensures.value
     ∙ ap (name_eq c.args.text.now) (sym (text_here (texts_of c.self.inside.names.items) c.self.inside.arena _ _ _ c.self.view_is c.requires _
-    c.as_slice-atoms.ensures.keys))
+    c.as_slice-atoms.ensures.value))
