@@ -17,6 +17,7 @@ mod net_view;
 mod node;
 mod nodes;
 mod pushing;
+mod slot;
 mod sourcing;
 #[cfg(test)]
 mod tests;
