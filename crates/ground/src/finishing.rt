@@ -1,13 +1,15 @@
 // The instances once all atoms have numbers.
 ghost use Rattle.std.specs.Prelude.{◌≡◌, ◌<◌, ◌++◌, [], ◌∷◌, length, map, nat_eq, get_or, replicate, slice_set, IfOk, OnOk};
 ghost use Rattle.std.specs.List.{list_all};
-ghost use Rattle.ground.specs.Finishing.{is_read_in, reading_in, readings_in, headed_in, numbered_in};
+ghost use Rattle.ground.specs.Finishing.{is_read_in, reading_in, readings_in, headed_in, numbered_in, AreNumbered};
 ghost use Rattle.ground.specs.Grounds.{Kept};
 ghost use Rattle.listing.specs.Founds.{AreLaid, numbers_of_list};
 ghost use Rattle.meaning.specs.InOrder.{first_place};
 
 use listing::{Entry, FoundList, push_instance};
+use spread::change_each;
 use std::alloc::{AllocError, Global};
+use std::thread::Threads;
 use terms::NumberSet;
 
 /// The number of a term's atom; the count of atoms if it has none.
@@ -158,5 +160,59 @@ pub fn renumbered(
     let mut found = found;
     renumber_literals(atoms, &mut found.bodies);
     renumber_heads(atoms, &mut found.entries);
+    Ok(found)
+}
+
+/// The same as `renumber_literals`, in several threads where there are many.
+fn renumber_literals_in_threads<R: Threads + Sync>(
+    rt: &R,
+    atoms: &NumberSet,
+    literals: &mut Vec<(u32, bool)>,
+)
+    requires few { length atoms.now.keys < 4294967296 }
+    ensures { literals.new.items ≡ map (reading_in atoms.now.keys) literals.old.items }
+{
+    change_each(
+        rt,
+        literals,
+        &|_place: usize, literal: &mut (u32, bool)|
+            requires { length atoms.now.keys < 4294967296 }
+            ensures { literal.new ≡ reading_in atoms.entry.now.keys literal.old }
+        { *literal = renumbered_literal(atoms, *literal) },
+    );
+}
+
+/// The same as `renumber_heads`, in several threads where there are many.
+fn renumber_heads_in_threads<R: Threads + Sync>(rt: &R, atoms: &NumberSet, entries: &mut Vec<Entry>)
+    requires few { length atoms.now.keys < 4294967296 }
+    ensures { entries.new.items ≡ map (headed_in atoms.now.keys) entries.old.items }
+{
+    change_each(
+        rt,
+        entries,
+        &|_place: usize, entry: &mut Entry|
+            requires { length atoms.now.keys < 4294967296 }
+            ensures { entry.new ≡ headed_in atoms.entry.now.keys entry.old }
+        { entry.head = place_of(atoms, entry.head as usize) },
+    );
+}
+
+/// The same as `renumbered`, in several threads where there are many literals or many instances.
+pub fn renumbered_in_threads<R: Threads + Sync>(
+    rt: &R,
+    alloc: Global,
+    found: FoundList,
+    atoms: &NumberSet,
+) -> Result<FoundList, AllocError>
+    requires few { length atoms.now.keys < 4294967296 }
+    requires found { AreLaid found }
+    ensures { IfOk result (AreNumbered atoms.now.keys found) }
+{
+    if !are_all_read(atoms, &found.bodies) {
+        return renumbered_apart(alloc, &found, atoms);
+    }
+    let mut found = found;
+    renumber_literals_in_threads(rt, atoms, &mut found.bodies);
+    renumber_heads_in_threads(rt, atoms, &mut found.entries);
     Ok(found)
 }

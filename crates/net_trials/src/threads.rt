@@ -17,15 +17,20 @@ const PRODUCT: &[u8] =
     b"(role a)(d 0)(d 1)(d 2)(d 3)(d 4)(d 5)(d 6)(d 7)(d 8)(d 9)(d 10)(d 11)(d 12)(d 13)(d 14)
     (<= (n ?a ?b ?c) (d ?a) (d ?b) (d ?c))(<= (p ?a ?z) (n ?a ?b ?c) (n ?x ?y ?z))";
 
+/// A body of five literals with 100,000 instances, so that the numbers of their atoms are written by several threads.
+const LARGE: &[u8] =
+    b"(role a)(d 0)(d 1)(d 2)(d 3)(d 4)(d 5)(d 6)(d 7)(d 8)(d 9)(<= (base (q ?a)) (d ?a))
+    (<= (n ?a ?b) (true (q ?a)) (true (q ?b)) (true (q ?c)) (true (q ?x)) (true (q ?y)))";
+
 /// The rules of a description.
 fn rules_of(alloc: Global, text: &[u8]) -> Result<RuleSet, Fail> {
     let items = read(alloc, text)?;
     Ok(RuleSet::check(alloc, &items)?)
 }
 
-/// Whether two instances have the same place and head.
+/// Whether two instances have the same place, head and literals.
 fn are_alike(left: &Instance, right: &Instance) -> bool {
-    left.alternative == right.alternative && left.head == right.head
+    left.alternative == right.alternative && left.head == right.head && left.body == right.body
 }
 
 /// Whether two grounds have the same instances, and as many atoms.
@@ -39,12 +44,12 @@ fn have_same(left: &Ground, right: &Ground) -> bool {
         .all(|(ours, theirs)| are_alike(ours, theirs))
 }
 
-/// Whether several threads and one find the same instances.
-fn agree<R: Threads + Sync + AllocGlobal>(rt: &R, text: &[u8]) -> Result<bool, Fail> {
+/// Whether several threads and one find the same instances, which are so many.
+fn agree<R: Threads + Sync + AllocGlobal>(rt: &R, text: &[u8], many: usize) -> Result<bool, Fail> {
     let rules = rules_of(rt.alloc(), text)?;
     let ours = instantiate(rt, &rules)?;
     let theirs = instantiate_alone(rt, &rules)?;
-    Ok(ours.kept().len() == 3398 && have_same(&ours, &theirs))
+    Ok(ours.kept().len() == many && have_same(&ours, &theirs))
 }
 
 /// Whether a fault names the limit of instances.
@@ -63,7 +68,13 @@ fn refuse<R: Threads + Sync + AllocGlobal>(rt: &R, text: &[u8]) -> Result<bool, 
 
 #[test]
 fn several_threads_find_what_one_finds(rt: HostRuntime) -> Result<(), Fail> {
-    assert!(rt; agree(&rt, DEAR)?);
+    assert!(rt; agree(&rt, DEAR, 3398)?);
+    Ok(())
+}
+
+#[test]
+fn several_threads_number_atoms_as_one_does(rt: HostRuntime) -> Result<(), Fail> {
+    assert!(rt; agree(&rt, LARGE, 100_021)?);
     Ok(())
 }
 

@@ -1,3 +1,4 @@
+mod Changing
 mod Counting
 mod Pieces
 pub mod Facts
