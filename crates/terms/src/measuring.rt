@@ -13,8 +13,8 @@ use crate::arena::{Arena, TEXT_LIMIT};
 use rules::Part;
 
 impl Arena {
-    /// The bytes that a part adds to a text, where a list adds those of its symbol and of its brackets alone. A name or a term whose
-    /// length is past the limit counts as one byte more than the limit.
+    /// The bytes that a part adds to a text, with the space before it: a list adds its symbol and its brackets, as its terms are parts of
+    /// their own. The length of a name or of a term counts to one more than the limit.
     fn bytes_of(&self, part: Part, values: &[u32]) -> usize
         requires placed { ArePlaced (length self.now.sizes) (length values.now) (part ∷ []) }
         requires values { AreBelow (length self.now.keys) values.now }
@@ -28,8 +28,8 @@ impl Arena {
         }
     }
 
-    /// Whether an atom of placed parts has a longer text than the head of a kept instance may have: false also where it has, but only
-    /// for the length of its word. No term is built, and no more parts are looked at than there may be bytes.
+    /// Whether placed parts alone are longer, as text, than the head of a kept instance may be, so that each atom of them is. The word of
+    /// an atom is not counted. No term is built, and no more parts are looked at than there may be bytes.
     pub fn are_too_long(&self, parts: &[Part], values: &[u32]) -> bool
         requires placed { ArePlaced (length self.now.sizes) (length values.now) parts.now }
         requires values { AreBelow (length self.now.keys) values.now }
