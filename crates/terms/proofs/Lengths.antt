@@ -83,7 +83,7 @@ length_at terms p = get_or-map (λ (t : Tree). cut (length (text t))) terms p (n
 size_at : (words : List (List ℕ)) (w : ℕ) → get_or (sizes_of words) w 0 ≡ cut (length (word_at words w))
 size_at words w = get_or-map (λ (x : List ℕ). cut (length x)) words w []
 
-further_length : (t : Tree) (ts : List Tree) → length (further_text (trees_of (t ∷ ts))) ≡ suc (length (text t) + length (further_text (trees_of ts)))
+pub further_length : (t : Tree) (ts : List Tree) → length (further_text (trees_of (t ∷ ts))) ≡ suc (length (text t) + length (further_text (trees_of ts)))
 further_length t ts = ap (λ (n : ℕ). suc n) (length-append (text t) (further_text (trees_of ts)))
 
 step_cut : (a b l : ℕ) → b ≡ cut l → cut (cut (a + 1) + 1 + b) ≡ cut (suc (a + l) + 1)

@@ -1,6 +1,7 @@
 mod KeyNumbers
 mod KeyTrees
 mod Lengths
+mod Measures
 mod Built
 mod Written
 mod NamedTerms

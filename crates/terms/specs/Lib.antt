@@ -1,6 +1,7 @@
 pub mod Keys
 pub mod Arena
 pub mod Building
+pub mod Measuring
 pub mod Writing
 pub mod Naming
 pub mod Tables

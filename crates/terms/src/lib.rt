@@ -10,6 +10,7 @@ mod dropping;
 mod flat;
 mod keyed;
 mod kind_of_term;
+mod measuring;
 mod naming;
 mod number_set;
 mod starting;
