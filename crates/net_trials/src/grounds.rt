@@ -2,7 +2,7 @@
 use ground::{Ground, GroundFault, Kind, instantiate_alone};
 use kif::read;
 use rules::RuleSet;
-use std::alloc::Global;
+use std::alloc::{AllocError, Global};
 use std::io::Write;
 use std::test::Fail;
 
@@ -284,6 +284,32 @@ fn the_limit_that_is_passed_is_named(rt: HostRuntime) -> Result<(), Fail> {
     assert_eq!(rt;
         told(&rt, LONGER)?.as_slice(),
         b"N1 TooMany text".as_slice()
+    );
+    Ok(())
+}
+
+/// So many terms, and a rule whose head has three of them and so many further parts.
+fn with_long_head(alloc: Global, terms: usize, parts: usize) -> Result<Vec<u8>, AllocError> {
+    let mut text = Vec::from_slice(alloc, b"(role a)")?;
+    for number in 0..terms {
+        write!(text, "(d {number})").map_err(|_| AllocError)?;
+    }
+    text.extend_from_slice(b"(<= (q")?;
+    for _ in 0..parts {
+        text.extend_from_slice(b" a")?;
+    }
+    text.extend_from_slice(b" ?a ?b ?c) (d ?a) (d ?b) (d ?c))")?;
+    Ok(text)
+}
+
+#[test]
+fn rows_whose_heads_are_too_long_are_counted(rt: HostRuntime) -> Result<(), Fail> {
+    let few = with_long_head(rt.alloc(), 32, 150_000)?;
+    assert_eq!(rt; told(&rt, &few)?.as_slice(), b"N1 TooMany text".as_slice());
+    let many = with_long_head(rt.alloc(), 65, 150_000)?;
+    assert_eq!(rt;
+        told(&rt, &many)?.as_slice(),
+        b"N1 TooMany instances".as_slice()
     );
     Ok(())
 }
