@@ -1,11 +1,12 @@
 // The kept instances of a description in flat lists, and where their atoms stand in play.
 ghost use Rattle.std.specs.Prelude.{◌≡◌, length, map};
 ghost use Rattle.ground.specs.Grounds.{IsSomeGround};
+ghost use Rattle.kept.specs.Props.{AreLaid-prop};
 ghost use Rattle.listing.specs.Founds.{AreLaid, numbers_of_list};
 ghost use Rattle.rules.specs.RuleSets.{texts_of};
 
 use crate::atom_table::AtomTable;
-use listing::FoundList;
+use kept::FoundList;
 use meaning::Kind;
 
 /// The kept instances of a description, in order, with the literals of all of them in one list. Base propositions, and the inputs of
@@ -23,6 +24,6 @@ pub struct FlatGround {
     pub(crate) atom_table: AtomTable,
     pub ghost sound: { ∥ IsSomeGround (texts_of roles.items) (texts_of base.items) (map (λ v. texts_of v.items) inputs.items) starts.items kinds.items
         (numbers_of_list kept) dropped ∥₁ },
-    pub ghost laid: { AreLaid kept },
+    pub ghost laid: { AreLaid kept } by { AreLaid-prop kept },
     pub ghost beside: { length kinds.items ≡ length atom_table },
 }

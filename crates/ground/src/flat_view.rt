@@ -6,6 +6,7 @@ ghost use Rattle.ground.specs.GroundView.{atoms_of, base_of, dropped_of, inputs_
 ghost use Rattle.meaning.specs.declared.kind.Kind.TheVariants.{Other};
 
 use crate::flat_ground::FlatGround;
+use kept::AtomLiteral;
 use meaning::Kind;
 
 impl FlatGround {
@@ -111,7 +112,7 @@ impl FlatGround {
     }
 
     /// What must be right in a kept instance, in the order of its body: an atom's number, and whether it is negated.
-    pub fn body(&self, place: usize) -> &[(u32, bool)]
+    pub fn body(&self, place: usize) -> &[AtomLiteral]
         requires { place < length (instances_of self.now) }
         ensures { (d : Kept) → result.now ≡ (get_or (instances_of self.now) place d).body }
     {

@@ -22,6 +22,7 @@ pub use flat_ground::FlatGround;
 pub use ground::{Ground, Instance};
 pub use ground_laws::a_ground_fits_together;
 pub use instantiating::{instantiate, instantiate_alone, instantiate_flat, instantiate_flat_alone};
+pub use kept::AtomLiteral;
 pub use listing::{
     GroundFault, kept_instances_are_those_of_rows, the_context_step_is_the_definition,
 };

@@ -83,7 +83,7 @@ fn told(rt: &HostRuntime, text: &[u8]) -> Result<Vec<u8>, Fail> {
 }
 
 /// Descriptions with their base propositions, inputs, instances and dropped heads.
-const COUNTED: [(&[u8], &[u8]); 12] = [
+const COUNTED: [(&[u8], &[u8]); 13] = [
     (MATCH, b"2 4 21 0"),
     (TTT, b"29 20 401 0"),
     (
@@ -107,6 +107,14 @@ const COUNTED: [(&[u8], &[u8]); 12] = [
         b"(role a)(d 1)(d 2)(d 3)(<= (p ?x ?y) (d ?x) (d ?y) (not (distinct ?x ?y)))
             (<= (q ?x ?y) (d ?x) (d ?y) (distinct ?x ?y))",
         b"0 0 13 0",
+    ),
+    // What is asked of the first values of a match: of the last rule's matches none is whole.
+    (
+        b"(role a)(d 1)(d 2)(d 3)(e 1 2)(e 2 3)
+            (<= (p ?x ?y ?z) (d ?x) (d ?y) (d ?z) (not (distinct ?x ?y)) (not (e ?y ?z)))
+            (<= (q ?x ?y ?z) (d ?x) (d ?y) (d ?z) (not (e ?x ?y)) (distinct ?y ?z))
+            (<= (r ?x ?y ?z) (d ?x) (d ?y) (e ?y ?z) (e ?z ?x) (not (distinct ?x ?y)))",
+        b"0 0 27 0",
     ),
     // A fixed relation, negated.
     (

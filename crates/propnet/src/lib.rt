@@ -9,6 +9,7 @@ mod eval;
 mod fault;
 mod grouping;
 mod inputs;
+mod label;
 mod laws;
 mod marking;
 mod net;
@@ -27,6 +28,7 @@ mod words;
 pub use bits::{get_bit, put_bit};
 pub use fault::NetFault;
 pub use game::Joint;
+pub use label::Label;
 pub use laws::{
     each_name_is_one_node, factoring_keeps_values, sharing_keeps_values,
     values_solve_the_equations, views_say_what_holds,

@@ -30,7 +30,7 @@ impl Net {
     {
         let node = self.nodes.list[n];
         (
-            node.name,
+            node.name.name(),
             reads(&self.nodes.operands, self.start(n), node.end as usize),
         )
     }

@@ -2,6 +2,7 @@
 
 use crate::naming::Naming;
 use ground::Kind;
+use kept::AtomLiteral;
 
 /// An atom, with where it stands in play.
 #[derive(Clone, Copy)]
@@ -39,8 +40,8 @@ pub struct FlatInstances {
     pub(crate) heads: Vec<u32>,
     /// Where the body of each ends among the literals. It begins where the one before it ends.
     pub(crate) ends: Vec<usize>,
-    /// What must be right: an atom's number, and whether it is negated.
-    pub(crate) literals: Vec<(u32, bool)>,
+    /// What must be right.
+    pub(crate) literals: Vec<AtomLiteral>,
 }
 
 /// The atoms that are asked for in play, in order, and the kept instances.

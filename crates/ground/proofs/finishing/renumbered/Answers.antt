@@ -1,30 +1,17 @@
-use Rattle.std.proofs.Common.{ℕ, Bool, List, ◌≡◌, ◌∙◌, All, length, map, true, ap, sym, subst}
+use Rattle.std.proofs.Common.{◌∙◌, length, ap}
 use Rattle.std.proofs.lemmas.List.{length-map}
-use Rattle.std.specs.List.{list_all}
-use Rattle.listing.specs.declared.found.Entry.{Entry}
-use Rattle.listing.specs.Founds.{kept_at, StandsAmong}
-use Rattle.ground.specs.Finishing.{is_read_in, reading_in}
-use Rattle.ground.proofs.FinishLemmas.{numbers_stay, laid_stay}
+use Rattle.listing.specs.Founds.{numbers_of_list}
+use Rattle.ground.specs.Finishing.{reading_in}
+use Rattle.ground.proofs.FinishLemmas.{both_numbered, laid_stay}
 use Rattle.ground.proofs.finishing.renumbered.Goals as goal
 
-pub returns-clause-numbered : goal.returns-clause-numbered
-returns-clause-numbered c =
+pub returns : goal.returns
+returns c =
     let keys = c.args.atoms.now.keys in
-    let entries = c.args.found.entries.items in
-    let bodies = c.args.found.bodies.items in
-    let all : list_all (is_read_in keys) bodies ≡ true =
-    ap (λ (rs : List (ℕ × Bool)). list_all (is_read_in keys) rs) (sym c.deref.ensures.value) ∙ sym c.are_all_read.ensures
-    ∙ c.if-not-are_all_read.false in
-    ap (λ (rs : List (ℕ × Bool)). map (kept_at rs) c.renumber_heads.new.entries.items) c.renumber_literals.ensures
-    ∙ ap (λ (es : List Entry). map (kept_at (map (reading_in keys) bodies)) es) c.renumber_heads.ensures
-    ∙ numbers_stay keys bodies entries all
-
-pub returns-clause-laid : goal.returns-clause-laid
-returns-clause-laid c =
-    let keys = c.args.atoms.now.keys in
-    let entries = c.args.found.entries.items in
-    let bodies = c.args.found.bodies.items in
-    let long : length c.renumber_literals.new.literals.items ≡ length bodies = ap length c.renumber_literals.ensures ∙ length-map bodies (reading_in keys) in
-    subst (λ (es : List Entry). All (StandsAmong (length c.renumber_literals.new.literals.items)) es) (sym c.renumber_heads.ensures)
-    (laid_stay keys (length c.renumber_literals.new.literals.items) entries
-    (subst (λ (n : ℕ). All (StandsAmong n) entries) (sym long) c.requires.found))
+    let left = c.leave_unread.new.found in
+    record {
+      numbers = both_numbered keys left.runs.items left.bodies.items c.renumber_literals.new.literals.items left.entries.items
+          c.renumber_heads.new.entries.items (numbers_of_list c.args.found) c.leave_unread.ensures.read c.renumber_literals.ensures c.renumber_heads.ensures;
+      laid = laid_stay keys left.runs.items left.entries.items c.renumber_heads.new.entries.items (length left.bodies.items) _ c.renumber_heads.ensures
+          (ap length c.renumber_literals.ensures ∙ length-map left.bodies.items (reading_in keys)) c.leave_unread.ensures.laid;
+    }

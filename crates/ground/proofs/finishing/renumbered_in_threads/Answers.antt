@@ -1,28 +1,17 @@
-use Rattle.std.proofs.Common.{ℕ, Bool, List, ◌≡◌, ◌∙◌, All, length, map, true, ap, sym, subst}
+use Rattle.std.proofs.Common.{◌∙◌, length, ap}
 use Rattle.std.proofs.lemmas.List.{length-map}
-use Rattle.std.specs.List.{list_all}
-use Rattle.listing.specs.declared.found.Entry.{Entry}
-use Rattle.listing.specs.Founds.{kept_at, StandsAmong}
-use Rattle.ground.specs.Finishing.{is_read_in, reading_in}
-use Rattle.ground.proofs.FinishLemmas.{numbers_stay, laid_stay}
+use Rattle.listing.specs.Founds.{numbers_of_list}
+use Rattle.ground.specs.Finishing.{reading_in}
+use Rattle.ground.proofs.FinishLemmas.{both_numbered, laid_stay}
 use Rattle.ground.proofs.finishing.renumbered_in_threads.Goals as goal
 
 pub returns : goal.returns
 returns g c =
     let keys = c.args.atoms.now.keys in
-    let entries = c.args.found.entries.items in
-    let bodies = c.args.found.bodies.items in
-    let all : list_all (is_read_in keys) bodies ≡ true =
-    ap (λ (rs : List (ℕ × Bool)). list_all (is_read_in keys) rs) (sym c.deref.ensures.value) ∙ sym c.are_all_read.ensures
-    ∙ c.if-not-are_all_read.false in
-    let long : length c.renumber_literals_in_threads.new.literals.items ≡ length bodies =
-    ap length c.renumber_literals_in_threads.ensures ∙ length-map bodies (reading_in keys) in
+    let left = c.leave_unread.new.found in
     record {
-      numbers = ap (λ (rs : List (ℕ × Bool)). map (kept_at rs) c.renumber_heads_in_threads.new.entries.items) c.renumber_literals_in_threads.ensures
-          ∙ ap (λ (es : List Entry). map (kept_at (map (reading_in keys) bodies)) es) c.renumber_heads_in_threads.ensures
-          ∙ numbers_stay keys bodies entries all;
-      laid = subst (λ (es : List Entry). All (StandsAmong (length c.renumber_literals_in_threads.new.literals.items)) es)
-          (sym c.renumber_heads_in_threads.ensures)
-          (laid_stay keys (length c.renumber_literals_in_threads.new.literals.items) entries
-          (subst (λ (n : ℕ). All (StandsAmong n) entries) (sym long) c.requires.found));
+      numbers = both_numbered keys left.runs.items left.bodies.items c.renumber_literals_in_threads.new.literals.items left.entries.items
+          c.renumber_heads_in_threads.new.entries.items (numbers_of_list c.args.found) c.leave_unread.ensures.read c.renumber_literals_in_threads.ensures c.renumber_heads_in_threads.ensures;
+      laid = laid_stay keys left.runs.items left.entries.items c.renumber_heads_in_threads.new.entries.items (length left.bodies.items) _ c.renumber_heads_in_threads.ensures
+          (ap length c.renumber_literals_in_threads.ensures ∙ length-map left.bodies.items (reading_in keys)) c.leave_unread.ensures.laid;
     }

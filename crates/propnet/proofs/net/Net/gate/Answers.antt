@@ -1,4 +1,5 @@
 use Rattle.std.proofs.Common.{ℕ, List, ◌<◌, Some, length, slice_range, sym, ◌∙◌, ap, arith}
+use Rattle.propnet.specs.declared.node.Name.{Name}
 use Rattle.propnet.specs.NetView.{gate_with}
 use Rattle.propnet.proofs.Order.{here_is}
 use Rattle.propnet.proofs.Pushes.{length-gates}
@@ -52,3 +53,4 @@ returns c =
     here.is
     ∙ ap (λ (xs : List ℕ). Some (gate_with node.name xs))
     (sym (c.reads.ensures ∙ ap (λ (os : List ℕ). slice_range os c.start.result node.end) c.deref.ensures.value))
+    ∙ ap (λ (x : Name). Some (gate_with x c.reads.result.now)) (sym c.name.ensures)

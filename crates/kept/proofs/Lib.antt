@@ -1,0 +1,4 @@
+mod RunLemmas
+mod Lists
+mod SomeLiterals
+pub mod Facts

@@ -1,0 +1,18 @@
+-- Instances without some of their literals.
+use Rattle.std.specs.Prelude.{ℕ, ◌≡◌, ◌+◌, Bool, List, [], ◌∷◌, length, filter, slice_range}
+use Rattle.kept.specs.declared.entry.Entry.{Entry}
+use Rattle.kept.specs.Kept.{Kept}
+
+-- what answers is a test
+abbrev pub Tells : (ℕ × Bool → Bool) → (ℕ × Bool → Bool → Type 0) → Type 0
+Tells p answers = (l : ℕ × Bool) (b : Bool) → answers l b → b ≡ p l
+
+-- an instance with the literals that pass a test
+abbrev pub with_some : (ℕ × Bool → Bool) → Kept → Kept
+with_some p k = record { alternative = k.alternative; head = k.head; body = filter p k.body }
+
+-- entries whose literals begin at `start` of some literals, by where those end that pass the test, of which `many` stand before
+abbrev pub moved : (ℕ × Bool → Bool) → List (ℕ × Bool) → ℕ → ℕ → List Entry → List Entry
+moved p ls start many [] = []
+moved p ls start many (e ∷ es) =
+    let end = many + length (filter p (slice_range ls start e.end)) in record { head = e.head; end = end } ∷ moved p ls e.end end es

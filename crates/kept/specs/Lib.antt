@@ -1,0 +1,5 @@
+pub mod Codes
+pub mod Kept
+pub mod Lists
+pub mod Props
+pub mod LeavingOut

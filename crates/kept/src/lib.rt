@@ -1,0 +1,16 @@
+//! Kept instances by the numbers of their atoms, in flat lists: each literal in four bytes, and the literals of all instances one
+//! behind the other.
+#![tactic(auto)]
+
+mod atom_literal;
+mod entry;
+mod found_list;
+mod leaving_out;
+mod runs;
+#[cfg(test)]
+mod tests;
+
+pub use atom_literal::AtomLiteral;
+pub use entry::{Entry, Run};
+pub use found_list::{FoundList, push_instance, push_literal};
+pub use leaving_out::leave_out;
