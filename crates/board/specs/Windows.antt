@@ -1,3 +1,4 @@
+-- This crate's own: what `run` promises does not rest on it.
 -- What a result of a window tells, and what narrower windows leave of it.
 use Rattle.std.specs.Prelude.{◌≡◌, ℕ, ◌+◌, ◌-◌, ◌≤◌, min, max}
 use Rattle.board.specs.Books.{seen, first_book, right_part, joined}

@@ -1,4 +1,4 @@
-// Boards that are searched to their end by two workers, and by one.
+//! Boards that are searched to their end by two workers, and by one.
 ghost use Rattle.std.specs.Prelude.{◌≡◌, ℕ, ◌%◌, ◌<◌, ◌≤◌, pos, [], true, false, length, slice_index, IfOk};
 ghost use Rattle.board.specs.Values.{moves, task_count};
 ghost use Rattle.board.specs.Seats.{book, setup_on, IsSeatOf};

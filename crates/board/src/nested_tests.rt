@@ -1,4 +1,4 @@
-// The board of the position behind a task, whose workers look at the board of the task.
+//! The board of the position behind a task, whose workers look at the board of the task.
 ghost use Rattle.std.specs.Prelude.{◌≡◌, ◌-◌, ◌≤◌, pos, negsuc, ◌≤ℤ◌, [], true, false, nat_eq, if◌then◌else◌};
 ghost use Rattle.board.specs.Values.{best_worth};
 ghost use Rattle.board.specs.Books.{seen, all_shares};

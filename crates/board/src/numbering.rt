@@ -1,4 +1,6 @@
-// Which move and which reply the number of a task stands for.
+//! Which move and which reply the number of a task stands for.
+//!
+//! The move is found by halves over the numbers of the moves' first tasks.
 ghost use Rattle.std.specs.Prelude.{◌≡◌, ◌<◌, ◌≤◌, IfOk, IfSome, IfNone};
 ghost use Rattle.board.specs.Values.{most_tasks, task_count, move_of, reply_of, starts_from};
 ghost use Rattle.board.specs.Seats.{setup_on};

@@ -1,4 +1,4 @@
-// A seat for each thread, and back to one.
+//! A seat for each thread, and back to one.
 ghost use Rattle.std.specs.Prelude.{◌≡◌, ◌≤◌};
 ghost use Rattle.board.specs.Books.{left_part, right_part, joined};
 ghost use Rattle.board.specs.Windows.{IsNarrower};

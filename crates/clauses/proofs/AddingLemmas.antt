@@ -3,14 +3,14 @@ use Rattle.std.proofs.Common.{ℕ, suc, zero, ◌≡◌, ◌+◌, ◌-◌, ◌<�
 use Rattle.std.proofs.Common.{ap, subst, arith, get_or, append_assoc, length-append}
 use Rattle.std.specs.Prelude.{slice_index, slice_index_or, slice_range}
 use Rattle.std.proofs.lemmas.List.{append-nil}
-use Rattle.kif.specs.Tree.{Tree, name, list, tree, trees_of}
+use Rattle.statement.specs.Tree.{Tree, name, list, tree, trees_of}
 use Rattle.clauses.specs.declared.numbered.Part.{Part}
 use Rattle.clauses.specs.declared.numbered.Part.TheVariants as parts
 use Rattle.clauses.specs.declared.numbered.Atom.{Atom}
 use Rattle.clauses.specs.declared.numbered.Literal.{Literal}
 use Rattle.clauses.specs.declared.signatures.Signature.{Signature}
-use Rattle.profile.specs.Clause as said
-use Rattle.profile.specs.Clause.{is_variable, positive, negative, count_trees}
+use Rattle.statement.specs.Clause as said
+use Rattle.statement.specs.Clause.{is_variable, positive, negative, count_trees}
 use Rattle.clauses.specs.Signatures.{no_signature, signature_at, with_signature}
 use Rattle.clauses.specs.Numbers.{Begins, word_at, with_word, with_number}
 use Rattle.clauses.specs.Store.{Data, variable_name, with_part, terms_before, count_terms, AreFull, relation_at, literal_of, no_literal}

@@ -5,8 +5,8 @@ use Rattle.std.proofs.lemmas.List.{length-drop}
 use Rattle.clauses.specs.declared.numbered.Part.{Part}
 use Rattle.clauses.specs.declared.numbered.Part.TheVariants as parts
 use Rattle.clauses.specs.declared.numbered.Atom.{Atom}
-use Rattle.profile.specs.Clause as said
-use Rattle.profile.specs.Clause.{count_trees}
+use Rattle.statement.specs.Clause as said
+use Rattle.statement.specs.Clause.{count_trees}
 use Rattle.clauses.specs.Signatures.{signature_at}
 use Rattle.clauses.specs.Store.{Data, terms_before, count_terms}
 use Rattle.clauses.specs.Adding.{StandsFor}

@@ -1,11 +1,11 @@
 -- Items in memory.
 use Rattle.std.proofs.Common.{ℕ, ◌≡◌, ◌+◌, ◌-◌, ◌<◌, ◌≤◌, true, List, length, drop, sym, ◌∙◌, ap, subst, arith, get_or}
 use Rattle.std.proofs.lemmas.List.{get_or-drop, length-drop}
-use Rattle.kif.specs.Tree.{Tree, Trees}
+use Rattle.statement.specs.Tree.{Tree, Trees}
 use Rattle.kif.proofs.Facts.{both}
 use Rattle.clauses.specs.declared.numbered.Span.{Span}
 use Rattle.clauses.specs.declared.items.Item.{Item}
-use Rattle.profile.specs.Items.{is_item, is_atom, are_literals, head_tree, body_trees, readings_of_all, atom_in}
+use Rattle.statement.specs.Items.{is_item, is_atom, are_literals, head_tree, body_trees, readings_of_all, atom_in}
 use Rattle.clauses.specs.Spread.{lists_of}
 use Rattle.clauses.specs.Store.{Data}
 use Rattle.clauses.specs.Adding.{Extends, HasVariables, StandOnce, AddsAtom, Spreads, StandsFor, StandForLists}

@@ -7,9 +7,9 @@ use Rattle.std.specs.List.{position_from, list_any}
 use Rattle.std.proofs.lemmas.Iterator.Adapters.{position_from-zero}
 use Rattle.std.proofs.lemmas.List.Quantifiers.{position-Some}
 use Rattle.std.proofs.lemmas.List.{map-append, append-nil, length-map, drop-append-le}
-use Rattle.kif.specs.Tree.{name_eq}
+use Rattle.statement.specs.Tree.{name_eq}
 use Rattle.kif.proofs.Facts.{name_eq_yes, name_eq_self}
-use Rattle.profile.specs.Safety.{is_name_in}
+use Rattle.statement.specs.Safety.{is_name_in}
 use Rattle.clauses.specs.Numbers.{Begins, word_at, with_word, AreDifferent, is_number_in, with_number}
 use Rattle.clauses.specs.Adding.{StandOnce}
 use Rattle.profile.proofs.Facts.{or_left, or_right}

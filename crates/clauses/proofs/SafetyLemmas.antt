@@ -3,12 +3,12 @@ use Rattle.std.proofs.Common.{ℕ, suc, zero, ◌≡◌, ◌+◌, ◌<◌, ◌�
 use Rattle.std.proofs.Common.{map, take, drop, refl, sym, ◌∙◌, ap, subst, arith, replicate, append_assoc, eqb-true, eq-eqb}
 use Rattle.std.specs.Prelude.{slice_index, slice_index_or, slice_range, slice_set}
 use Rattle.std.proofs.lemmas.List.{append-nil, map-append, length-set, length-replicate, length-drop, get_or-drop}
-use Rattle.kif.specs.Tree.{Tree, name, trees_of, name_eq}
+use Rattle.statement.specs.Tree.{Tree, name, trees_of, name_eq}
 use Rattle.kif.proofs.Facts.{name_eq_yes, name_eq_self}
-use Rattle.profile.specs.Clause as said
-use Rattle.profile.specs.Clause.{is_variable, positive, negative, relation_of}
-use Rattle.profile.specs.Dependence.{is_distinct}
-use Rattle.profile.specs.Safety.{variables, variables_in, is_binding, bound, needed, is_name_in, are_names_in, is_safe}
+use Rattle.statement.specs.Clause as said
+use Rattle.statement.specs.Clause.{is_variable, positive, negative, relation_of}
+use Rattle.statement.specs.Dependence.{is_distinct}
+use Rattle.statement.specs.Safety.{variables, variables_in, is_binding, bound, needed, is_name_in, are_names_in, is_safe}
 use Rattle.clauses.specs.declared.numbered.Part.{Part}
 use Rattle.clauses.specs.declared.numbered.Part.TheVariants as parts
 use Rattle.clauses.specs.declared.numbered.Atom.{Atom}

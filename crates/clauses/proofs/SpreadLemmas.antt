@@ -2,17 +2,17 @@
 use Rattle.std.proofs.Common.{ℕ, ◌≡◌, ◌+◌, ◌<◌, ◌≤◌, List, [], ◌∷◌, ◌++◌, length, drop, refl, sym, ◌∙◌, ap, subst, get_or, append_assoc}
 use Rattle.std.specs.Prelude.{Vec}
 use Rattle.std.proofs.lemmas.List.{append-nil}
-use Rattle.kif.specs.Tree.{Tree, name, list, Trees, tree, trees_of}
+use Rattle.statement.specs.Tree.{Tree, name, list, Trees, tree, trees_of}
 use Rattle.kif.specs.View.{tree_of, trees_in}
 use Rattle.kif.specs.declared.expr.Expr.{Expr}
 use Rattle.kif.proofs.Facts.{parts_from, no_parts}
-use Rattle.profile.specs.Clause as said
-use Rattle.profile.specs.Clause.{positive}
-use Rattle.profile.specs.Words.{w_or, w_and, w_not}
+use Rattle.statement.specs.Clause as said
+use Rattle.statement.specs.Clause.{positive}
+use Rattle.statement.specs.Words.{w_or, w_and, w_not}
 use Rattle.profile.specs.declared.forms.Connective.{Connective}
 use Rattle.profile.specs.declared.forms.Connective.TheVariants as words
 use Rattle.profile.specs.Connectives.{IsNoConnective, IsConnectiveOf}
-use Rattle.profile.specs.Items.{behind_each, picks, readings, readings_in_turn, readings_of_all, atom_in, negated}
+use Rattle.statement.specs.Items.{behind_each, picks, readings, readings_in_turn, readings_of_all, atom_in, negated}
 use Rattle.clauses.specs.Spread.{lists_of, numbers_behind_each, number_picks}
 use Rattle.clauses.specs.Store.{Data}
 use Rattle.clauses.specs.Adding.{AddsLiteral, StandForEach, StandForLists, Spreads}

@@ -1,13 +1,14 @@
+-- This crate's own: what `run` promises does not rest on it.
 -- What an addition to the lists in memory leaves, and what it adds.
 use Rattle.std.specs.Prelude.{ℕ, suc, ◌+◌, ◌<◌, ◌≤◌, ◌≡◌, true, false, List, [], ◌∷◌, ◌++◌, length, drop, slice_index, slice_index_or, slice_range}
-use Rattle.kif.specs.Tree.{Tree, name}
+use Rattle.statement.specs.Tree.{Tree, name}
 use Rattle.clauses.specs.declared.numbered.Part.{Part}
 use Rattle.clauses.specs.declared.numbered.Part.TheVariants as parts
 use Rattle.clauses.specs.declared.numbered.Atom.{Atom}
 use Rattle.clauses.specs.declared.numbered.Span.{Span}
 use Rattle.clauses.specs.declared.signatures.Signature.{Signature}
-use Rattle.profile.specs.Clause as said
-use Rattle.profile.specs.Clause.{is_variable, relation_of}
+use Rattle.statement.specs.Clause as said
+use Rattle.statement.specs.Clause.{is_variable, relation_of}
 use Rattle.clauses.specs.Numbers.{Begins, word_at, AreDifferent}
 use Rattle.clauses.specs.Signatures.{signature_at}
 use Rattle.clauses.specs.Store.{Data, variable_name, with_part, terms_before, count_terms, AreFull, relation_at, atom_of, literal_at, no_literal}

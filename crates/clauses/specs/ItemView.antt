@@ -1,8 +1,9 @@
+-- This crate's own: what `run` promises does not rest on it.
 -- An item in memory, and what it stands for.
 use Rattle.std.specs.Prelude.{◌≡◌, ◌≤◌, length, drop}
-use Rattle.kif.specs.Tree.{Tree}
+use Rattle.statement.specs.Tree.{Tree}
 use Rattle.clauses.specs.declared.items.Item.{Item}
-use Rattle.profile.specs.Items.{item_head, body_trees, readings_of_all}
+use Rattle.statement.specs.Items.{item_head, body_trees, readings_of_all}
 use Rattle.clauses.specs.Numbers.{AreDifferent}
 use Rattle.clauses.specs.Spread.{lists_of}
 use Rattle.clauses.specs.Store.{Data}

@@ -1,3 +1,4 @@
+-- This crate's own: what `run` promises does not rest on it.
 -- Safety over the numbers of variables.
 use Rattle.std.specs.Prelude.{ℕ, ◌<◌, ◌≤◌, ◌≡◌, Bool, true, false, not, cond, ◌&&◌, List, [], ◌∷◌, ◌++◌, length, replicate, slice_index_or}
 use Rattle.std.specs.Prelude.{slice_range, slice_set}
@@ -5,7 +6,7 @@ use Rattle.clauses.specs.declared.numbered.Part.{Part}
 use Rattle.clauses.specs.declared.numbered.Part.TheVariants as parts
 use Rattle.clauses.specs.declared.numbered.Atom.{Atom}
 use Rattle.clauses.specs.declared.numbered.Literal.{Literal}
-use Rattle.profile.specs.Dependence.{is_distinct}
+use Rattle.statement.specs.Dependence.{is_distinct}
 use Rattle.clauses.specs.Signatures.{signature_at}
 use Rattle.clauses.specs.Store.{Data, count_terms, AreFull, relation_at, no_literal}
 use Rattle.clauses.specs.Adding.{AreSorted}

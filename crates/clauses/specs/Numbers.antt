@@ -1,6 +1,7 @@
+-- This crate's own: what `run` promises does not rest on it.
 -- Lists that grow, and names by number.
 use Rattle.std.specs.Prelude.{ℕ, ◌≡◌, ◌<◌, cond, drop, Bool, false, ◌==◌, ◌||◌, List, [], ◌∷◌, ◌++◌, length, slice_index_or}
-use Rattle.profile.specs.Safety.{is_name_in}
+use Rattle.statement.specs.Safety.{is_name_in}
 
 -- what ys is xs and then more
 abbrev pub Begins : {A : Type 0} → List A → List A → Type 0

@@ -1,3 +1,4 @@
+-- This crate's own: what `run` promises does not rest on it.
 -- Relations by number.
 use Rattle.std.specs.Prelude.{ℕ, Bool, false, cond, ◌&&◌, ◌||◌, ◌==◌, List, [], ◌∷◌, ◌++◌, slice_index_or}
 use Rattle.clauses.specs.declared.signatures.Signature.{Signature}

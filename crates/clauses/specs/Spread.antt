@@ -1,3 +1,4 @@
+-- This crate's own: what `run` promises does not rest on it.
 -- Lists of numbers, picked one from each part.
 use Rattle.std.specs.Prelude.{ℕ, List, [], ◌∷◌, ◌++◌, map, Vec}
 

@@ -1,13 +1,14 @@
+-- This crate's own: what `run` promises does not rest on it.
 -- Terms, atoms and literals in flat lists, and what they stand for.
 use Rattle.std.specs.Prelude.{ℕ, suc, ◌+◌, ◌-◌, ◌≤◌, false, cond, List, [], ◌∷◌, take, drop, slice_index, slice_index_or, slice_range}
-use Rattle.kif.specs.Tree.{Tree, name, list, tree, trees_of}
+use Rattle.statement.specs.Tree.{Tree, name, list, tree, trees_of}
 use Rattle.clauses.specs.declared.numbered.Part.{Part}
 use Rattle.clauses.specs.declared.numbered.Part.TheVariants as parts
 use Rattle.clauses.specs.declared.numbered.Atom.{Atom}
 use Rattle.clauses.specs.declared.numbered.Literal.{Literal}
 use Rattle.clauses.specs.declared.signatures.Signature.{Signature}
-use Rattle.profile.specs.Clause as said
-use Rattle.profile.specs.Clause.{is_variable, positive, negative}
+use Rattle.statement.specs.Clause as said
+use Rattle.statement.specs.Clause.{is_variable, positive, negative}
 use Rattle.clauses.specs.Numbers.{word_at}
 use Rattle.clauses.specs.Signatures.{signature_at}
 

@@ -1,3 +1,4 @@
+-- This crate's own: what `run` promises does not rest on it.
 -- The lists of a store.
 use Rattle.clauses.specs.declared.store.Store.{Store}
 use Rattle.clauses.specs.Store.{Data}

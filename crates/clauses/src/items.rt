@@ -1,7 +1,7 @@
-// Items in memory: a head, and the alternatives of the body.
+//! Items in memory: a head, and the alternatives of the body.
 ghost use Rattle.std.specs.Prelude.{◌≡◌, true, IfOk};
 ghost use Rattle.kif.specs.View.{tree_of};
-ghost use Rattle.profile.specs.Items.{is_item};
+ghost use Rattle.statement.specs.Items.{is_item};
 ghost use Rattle.clauses.specs.ItemView.{ReadsItem};
 ghost use Rattle.clauses.specs.StoreView.{data_of};
 

@@ -1,4 +1,4 @@
-// Items as numbers in flat lists, with `or` and `and` spread out, and whether their alternatives are safe.
+//! Items as numbers in flat lists, with `or` and `and` spread out, and whether their alternatives are safe.
 #![tactic(auto)]
 
 mod items;

@@ -1,4 +1,4 @@
-// Terms, atoms, literals and alternatives as numbers in flat lists.
+//! Terms, atoms, literals and alternatives as numbers in flat lists.
 
 /// A part of a term, in the order in which a text has them: a list stands before its terms.
 #[derive(Clone, Copy, Debug, PartialEq, Eq)]

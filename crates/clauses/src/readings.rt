@@ -1,10 +1,10 @@
-// The readings of literals: `or` and `and` are spread out, from left to right.
+//! The readings of literals: `or` and `and` are spread out, from left to right.
 ghost use Rattle.std.specs.Prelude.{◌≡◌, ◌≤◌, ◌∷◌, [], true, length, IfOk, if◌then◌else◌};
-ghost use Rattle.kif.specs.Tree.{trees_of};
+ghost use Rattle.statement.specs.Tree.{trees_of};
 ghost use Rattle.kif.specs.View.{tree_of, trees_in};
 ghost use Rattle.clauses.specs.Adding.{Spreads};
-ghost use Rattle.profile.specs.Clause.{positive, negative};
-ghost use Rattle.profile.specs.Items.{is_atom, is_one_atom, is_literal, are_literals, atom_in, readings, readings_in_turn, readings_of_all};
+ghost use Rattle.statement.specs.Clause.{positive, negative};
+ghost use Rattle.statement.specs.Items.{is_atom, is_one_atom, is_literal, are_literals, atom_in, readings, readings_in_turn, readings_of_all};
 ghost use Rattle.clauses.specs.Spread.{lists_of};
 ghost use Rattle.clauses.specs.StoreView.{data_of};
 

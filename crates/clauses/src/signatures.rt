@@ -1,4 +1,4 @@
-// Relations by number: each different pair of a name and a number of arguments has one.
+//! Relations by number: each different pair of a name and a number of arguments has one.
 ghost use Rattle.std.specs.Prelude.{ℕ, ◌≡◌, ◌<◌, List, length, IfOk, OnOk, OnErr};
 ghost use Rattle.clauses.specs.declared.signatures.Signature.{Signature};
 ghost use Rattle.clauses.specs.Signatures.{signature_at, with_signature};

@@ -1,4 +1,7 @@
-// Lists of literal numbers: the alternatives of a body are picked from those of its parts.
+//! Lists of literal numbers: the alternatives of a body are picked from those of its parts.
+//!
+//! Where the second operand of a product has one reading alone, the lists of the first grow in place. Only a real choice
+//! copies, at most six times before the limit of 64.
 ghost use Rattle.std.specs.Prelude.{◌≡◌, ◌++◌, ◌∷◌, [], IfOk, OnOk};
 ghost use Rattle.clauses.specs.Spread.{lists_of, numbers_behind_each, number_picks};
 

@@ -1,16 +1,16 @@
-// The lists in memory that a description is written to.
+//! The lists in memory that a description is written to.
 ghost use Rattle.std.specs.Prelude.{◌≡◌, ◌≤◌, ◌<◌, ◌+◌, ◌++◌, ◌∷◌, [], true, length, map, drop, slice_index, slice_range, IfOk, OnOk, MatchOption};
 ghost use Rattle.std.specs.Prelude.{position, false, ◌==◌, if◌then◌else◌};
-ghost use Rattle.kif.specs.Tree.{name, trees_of};
+ghost use Rattle.statement.specs.Tree.{name, trees_of};
 ghost use Rattle.kif.specs.View.{tree_of, trees_in};
 ghost use Rattle.profile.specs.Uses.{use_in};
-ghost use Rattle.profile.specs.Items.{is_term, are_terms, is_atom, atom_in};
+ghost use Rattle.statement.specs.Items.{is_term, are_terms, is_atom, atom_in};
 ghost use Rattle.clauses.specs.Adding.{Adds, MakesPart, BeginsList, NumbersRelation, AddsAtom, AddsLiteral};
-ghost use Rattle.profile.specs.Clause.{positive, negative, is_word};
+ghost use Rattle.statement.specs.Clause.{positive, negative, is_word};
 ghost use Rattle.clauses.specs.Numbers.{word_at, with_word, with_number, is_number_in};
 ghost use Rattle.clauses.specs.StoreView.{data_of};
 ghost use Rattle.clauses.specs.Marks.{literal_in};
-ghost use Rattle.profile.specs.Dependence.{is_distinct};
+ghost use Rattle.statement.specs.Dependence.{is_distinct};
 ghost use Rattle.clauses.specs.Signatures.{signature_at};
 ghost use Rattle.clauses.specs.Store.{relation_at};
 

@@ -1,4 +1,4 @@
-// Names by number: each different name has one.
+//! Names by number: each different name has one.
 ghost use Rattle.std.specs.Prelude.{ℕ, ◌≡◌, ◌<◌, ◌≢◌, List, length, map, IfOk, OnOk, OnErr, MatchOption};
 ghost use Rattle.clauses.specs.Numbers.{word_at, with_word};
 

@@ -801,83 +801,11 @@ pub record Cutting (old new : List ℕ) (place : ℕ) : Type 0 where
   pub kept : (j : ℕ) → j < length new → get_or new j 0 ≡ get_or old j 0
   pub behind : (j : ℕ) → length new ≤ j → j < length old → place < get_or old j 0
 
-pub cut_pop : (old new new' : List ℕ) (place : ℕ) (r : Option ℕ) → Cutting old new place → get_or old 0 0 ≤ place
-    → place < get_or new (length new - 1) 0
-    → new ≡ new' ++ option_to_list r → length new' + 1 ≡ length new → Cutting old new' place
-cut_pop old new new' place r c first more e shorter = record {
-  some = some;
-  fewer = (let g = c.fewer in omega (arith, g, shorter));
-  kept = λ j h. kept j h;
-  behind = λ j h k. behind j k (same_or j (length new')) h;
-}
-  where
-    some : 0 < length new'
-    some = go (no_or (length new'))
-      where
-        go : (length new' ≡ 0) ⊎ (0 < length new') → 0 < length new'
-        go (inr h) = h
-        go (inl none) =
-            absurd (
-            let at : length new - 1 ≡ 0 = omega (arith, none, shorter) in
-            let f = ap (λ (i : ℕ). get_or new i 0) at in let g = c.kept 0 c.some in let bad : ⊥ = omega (arith, f, g, first, more) in bad)
-
-    old_at : (j : ℕ) → j < length new' → get_or new j 0 ≡ get_or new' j 0
-    old_at j h = ap (λ (xs : List ℕ). get_or xs j 0) e ∙ get_or-append new' (option_to_list r) 0 j h
-
-    kept : (j : ℕ) → j < length new' → get_or new' j 0 ≡ get_or old j 0
-    kept j h = sym (old_at j h) ∙ c.kept j (omega (arith, h, shorter))
-
-    behind : (j : ℕ) → j < length old → (j ≡ length new') ⊎ (j ≡ length new' → ⊥) → length new' ≤ j → place < get_or old j 0
-    behind j k (inl s) h =
-        let at : j ≡ length new - 1 = omega (arith, s, shorter) in
-        let f = ap (λ (i : ℕ). get_or new i 0) at in let g = c.kept j (omega (arith, s, shorter)) in omega (arith, f, g, more)
-    behind j k (inr o) h = c.behind j (omega (arith, o, h, shorter)) k
-
-pub cut_done : (old new : List ℕ) (place : ℕ) → Cutting old new place → get_or new (length new - 1) 0 ≤ place → IsCut old new place
-cut_done old new place c h = record { some = c.some; fewer = c.fewer; kept = c.kept; last = h; behind = c.behind }
-
 -- the nodes of a range have the number
 pub record NumberedTo (old new nodes : List ℕ) (from to number : ℕ) : Type 0 where
   pub length_is : length new ≡ length old
   pub here : (i : ℕ) → from ≤ i → i < to → get_or new (get_or nodes i 0) 0 ≡ number
   pub others : (p : ℕ) → ((i : ℕ) → from ≤ i → i < to → get_or nodes i 0 ≡ p → ⊥) → get_or new p 0 ≡ get_or old p 0
-
-pub numbered_more : (old new nodes : List ℕ) (from to number node : ℕ) → NumberedTo old new nodes from to number → get_or nodes to 0 ≡ node
-    → node < length new → from ≤ to
-    → NumberedTo old (set new node number) nodes from (to + 1) number
-numbered_more old new nodes from to number node n at inside le = record {
-  length_is = length-set new node number ∙ n.length_is;
-  here = λ i h k. here i h (same_or (get_or nodes i 0) node) (last_or i to k);
-  others = λ p none. others p none (same_or p node);
-}
-  where
-    here : (i : ℕ) → from ≤ i → (get_or nodes i 0 ≡ node) ⊎ (get_or nodes i 0 ≡ node → ⊥) → (i < to) ⊎ (i ≡ to)
-        → get_or (set new node number) (get_or nodes i 0) 0 ≡ number
-    here i h (inl e) _ = ap (λ (x : ℕ). get_or (set new node number) x 0) e ∙ get_or-set_same new node number 0 inside
-    here i h (inr o) (inl k) = get_or-set_other new node (get_or nodes i 0) number 0 o ∙ n.here i h k
-    here i h (inr o) (inr e) = absurd (o (ap (λ (x : ℕ). get_or nodes x 0) e ∙ at))
-
-    others : (p : ℕ) → ((i : ℕ) → from ≤ i → i < to + 1 → get_or nodes i 0 ≡ p → ⊥) → (p ≡ node) ⊎ (p ≡ node → ⊥)
-        → get_or (set new node number) p 0 ≡ get_or old p 0
-    others p none (inl e) = absurd (none to le (omega arith) (at ∙ sym e))
-    others p none (inr o) = get_or-set_other new node p number 0 o ∙ n.others p (λ i h k. none i h (omega (arith, k)))
-
-pub numbered_all_from : (old new nodes : List ℕ) (from to number : ℕ) → to ≡ length nodes → NumberedTo old new nodes from to number
-    → AreNumberedFrom old new nodes from number
-numbered_all_from old new nodes from to number whole n = record {
-  length_is = n.length_is;
-  here = λ i h k. n.here i h (omega (arith, k, whole));
-  others = λ p none. n.others p (λ i h k. none i h (omega (arith, k, whole)));
-}
-
-pub rising_low : (pending : List ℕ) (start : ℕ) → ((i j : ℕ) → i < j → j < length pending → get_or pending i 0 < get_or pending j 0)
-    → get_or pending (length pending - 1) 0 < start
-    → (j : ℕ) → j < length pending → get_or pending j 0 < start
-rising_low pending start up last j h = go (same_or j (length pending - 1))
-  where
-    go : (j ≡ length pending - 1) ⊎ (j ≡ length pending - 1 → ⊥) → get_or pending j 0 < start
-    go (inl e) = let f = ap (λ (i : ℕ). get_or pending i 0) e in omega (arith, f, last)
-    go (inr o) = let g = up j (length pending - 1) (omega (arith, o, h)) (omega (arith, h)) in omega (arith, g, last)
 
 abbrev zeros : ℕ → List ℕ
 zeros n = replicate n 0

@@ -21,9 +21,6 @@ reaches_then arrows zero p q r first last = (1, (q, first, last))
 reaches_then arrows (suc n) p q r first last =
     let more = reaches_then arrows n first.0 q r first.2 last in (suc more.0, (first.0, first.1, more.1))
 
-pub arrow_leads : (arrows : List Arrow) (k : ℕ) → k < length arrows → Leads arrows (arrow_at arrows k).from (arrow_at arrows k).to
-arrow_leads arrows k h = record { place = k; inside = h; from = refl; to = refl }
-
 reached_on : (arrows : List Arrow) (starts : List ℕ) (p q : ℕ) → IsReachedFrom arrows starts p → Leads arrows p q → IsReachedFrom arrows starts q
 reached_on arrows starts p q r l = record { start = r.start; is_start = r.is_start; leads = go r.leads }
   where

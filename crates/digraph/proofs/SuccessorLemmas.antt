@@ -55,20 +55,6 @@ next_target arrows ends before node end next a l e some read next_read =
     next_in : next ≤ end - 1
     next_in = let h = l.before_in (end - 1) inside in omega (arith, h, next_is)
 
--- the arrow before it is one of the node too
-pub next_end : (arrows : List Arrow) (ends before : List ℕ) (node end next : ℕ) → AreLinked arrows ends before → IsEndOf arrows node end → 0 < end
-    → next ≡ get_or before (end - 1) next → IsEndOf arrows node next
-next_end arrows ends before node end next l e some next_read = record {
-  inside = (let h = l.before_in (end - 1) inside in omega (arith, h, next_is, inside));
-  own = λ h. ap (λ (x : ℕ). (arrow_at arrows (x - 1)).from) (sym next_is) ∙ l.before_own (end - 1) inside (omega (arith, next_is, h)) ∙ e.own some;
-}
-  where
-    inside : end - 1 < length arrows
-    inside = let h = e.inside in omega (arith, h, some)
-
-    next_is : get_or before (end - 1) 0 ≡ next
-    next_is = read_nat before (end - 1) next (let g = l.same_length in omega (arith, inside, g)) next_read
-
 -- the end of a node stands behind all of its arrows
 pub first_end : (arrows : List Arrow) (ends before : List ℕ) (node end : ℕ) → AreLinked arrows ends before → node < length ends
     → end ≡ get_or ends node end → IsEndOf arrows node end

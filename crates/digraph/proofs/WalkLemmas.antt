@@ -60,43 +60,6 @@ seen_more arrows n m seen done ends pending order q q_in leads w = record {
     waiting p h undone (inl e) = subst (λ (x : ℕ). Stands (pending ++ q ∷ []) x) (sym e) (stands_last pending q)
     waiting p h undone (inr mark) = stands_more pending q p (w.waiting p h mark undone)
 
--- a root is seen
-pub rooted : (arrows : List Arrow) (n m : ℕ) (seen done : List Bool) (ends pending order : List ℕ) → m < n → pending ≡ []
-    → Walking arrows n m seen done ends pending order
-    → (seen' : List Bool) (pending' : List ℕ) → seen' ≡ set seen m true → pending' ≡ cond (get_or seen m false) pending (pending ++ m ∷ [])
-    → Walking arrows n (m + 1) seen' done ends pending' order
-rooted arrows n m seen done ends pending order m_in idle w seen' pending' e f =
-    let u = go (get_or seen m false) refl in
-    more (subst (λ (x : List Bool). Walking arrows n m x done ends pending' order) (sym e)
-    (subst (λ (x : List ℕ). Walking arrows n m (set seen m true) done ends x order) (sym f) u))
-    (ap (λ (x : List Bool). get_or x m false) e ∙ get_or-set_same seen m true false (let g = w.seen_are in omega (arith, g, m_in)))
-  where
-    go : (b : Bool) → get_or seen m false ≡ b → Walking arrows n m (set seen m true) done ends (cond b pending (pending ++ m ∷ [])) order
-    go true s = subst (λ (x : List Bool). Walking arrows n m x done ends pending order) (sym (mark_again seen m s)) w
-    go false s =
-        seen_more arrows n m seen done ends pending order m m_in (λ h. absurd (let g = ap length idle in let bad : ⊥ = omega (arith, h, g) in bad)) w
-
-    more : Walking arrows n m seen' done ends pending' order → get_or seen' m false ≡ true → Walking arrows n (m + 1) seen' done ends pending' order
-    more u last = record {
-      seen_are = u.seen_are;
-      done_are = u.done_are;
-      ends_are = u.ends_are;
-      end_in = u.end_in;
-      end_own = u.end_own;
-      pending_in = u.pending_in;
-      chain = u.chain;
-      waiting = u.waiting;
-      passed = u.passed;
-      started = λ p h. started p (last_or p m h);
-      listed = u.listed;
-      inside = u.inside;
-      back = u.back;
-    }
-      where
-        started : (p : ℕ) → (p < m) ⊎ (p ≡ m) → get_or seen' p false ≡ true
-        started p (inl h) = u.started p h
-        started p (inr g) = ap (λ (x : ℕ). get_or seen' x false) g ∙ last
-
 -- the newest arrow that was not followed leads to what is done
 pub passed_on : (arrows : List Arrow) (ends0 before : List ℕ) (m : ℕ) (seen done : List Bool) (ends pending order : List ℕ) (node end next : ℕ)
     → AreLinked arrows ends0 before → node < length ends0 → get_or ends node 0 ≡ end → 0 < end → end - 1 < length arrows

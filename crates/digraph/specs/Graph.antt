@@ -1,3 +1,4 @@
+-- This crate's own: what `run` promises does not rest on it.
 -- Directed graphs: nodes are the numbers below some number, and arrows lead from node to node.
 use Rattle.std.specs.Prelude.{ℕ, zero, suc, ◌-◌, ◌<◌, ◌≤◌, ◌≡◌, ◌≢◌, ◌⊎◌, ◌↔◌, Bool, true, false, List, length, slice_index, slice_index_or, Contains}
 use Rattle.digraph.specs.declared.graph.Arrow.{Arrow}

@@ -1,3 +1,4 @@
+-- This crate's own: what `run` promises does not rest on it.
 -- What callers see of a graph.
 use Rattle.std.specs.Prelude.{ℕ, List, vec_len}
 use Rattle.digraph.specs.declared.graph.Arrow.{Arrow}

@@ -1,3 +1,4 @@
+-- This crate's own: what `run` promises does not rest on it.
 -- The components of a graph, and how far a walk that finds them has come.
 use Rattle.std.specs.Prelude.{ℕ, suc, zero, ◌+◌, ◌-◌, ◌*◌, ◌<◌, ◌≤◌, ◌≡◌, ◌≢◌, ◌⊎◌, ◌↔◌, List, [], ◌∷◌, ◌++◌, length, slice_index, slice_set, sum_by}
 use Rattle.digraph.specs.declared.graph.Arrow.{Arrow}

@@ -1,3 +1,4 @@
+-- This crate's own: what `run` promises does not rest on it.
 -- The ranks of a graph's nodes.
 use Rattle.std.specs.Prelude.{ℕ, ◌+◌, ◌<◌, ◌≤◌, ◌≡◌, ◌⊎◌, Bool, cond, false, List, length, slice_index, slice_index_or}
 use Rattle.digraph.specs.declared.graph.Arrow.{Arrow}

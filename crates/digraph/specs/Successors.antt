@@ -1,3 +1,4 @@
+-- This crate's own: what `run` promises does not rest on it.
 -- The nodes that the arrows of a node lead to.
 use Rattle.std.specs.Prelude.{ℕ, zero, suc, ◌-◌, ◌<◌, ◌≤◌, ◌≡◌, ◌==◌, cond, List, [], ◌∷◌, length}
 use Rattle.digraph.specs.declared.graph.Arrow.{Arrow}

@@ -1,3 +1,4 @@
+-- This crate's own: what `run` promises does not rest on it.
 -- What an iterator over successors has still to give.
 use Rattle.std.specs.Prelude.{ℕ, List}
 use Rattle.digraph.specs.declared.successors.Successors.{Successors}

@@ -1,3 +1,4 @@
+-- This crate's own: what `run` promises does not rest on it.
 -- How far a walk through a graph has come.
 use Rattle.std.specs.Prelude.{ℕ, ◌+◌, ◌-◌, ◌<◌, ◌≤◌, ◌≡◌, Bool, true, false, List, length, slice_index, slice_index_or}
 use Rattle.digraph.specs.declared.graph.Arrow.{Arrow}

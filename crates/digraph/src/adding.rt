@@ -1,5 +1,5 @@
-// How a graph is made.
-ghost use Rattle.std.specs.Prelude.{◌≡◌, ◌<◌, map, [], ◌∷◌, ◌++◌, IfOk, OnOk, OnErr, All};
+//! How a graph is made.
+ghost use Rattle.std.specs.Prelude.{◌≡◌, ◌<◌, map, [], ◌∷◌, ◌++◌, IfOk, OnOk, OnErr};
 ghost use Rattle.digraph.specs.Graph.{turned_arrow};
 ghost use Rattle.digraph.specs.GraphView.{arrows_of, nodes_of};
 
@@ -34,21 +34,8 @@ impl Graph {
         Ok(())
     }
 
-    /// The graph of these arrows.
-    pub fn of(alloc: Global, nodes: usize, arrows: &[Arrow]) -> Result<Self, AllocError>
-        requires { All (λ arrow. (arrow.from < nodes) × (arrow.to < nodes)) arrows.now }
-        ensures nodes { IfOk result (λ graph. nodes_of graph ≡ nodes) }
-        ensures arrows { IfOk result (λ graph. arrows_of graph ≡ arrows.now) }
-    {
-        let mut graph = Graph::new(alloc, nodes)?;
-        for arrow in arrows {
-            graph.add(arrow.from, arrow.to)?;
-        }
-        Ok(graph)
-    }
-
     /// The graph with each arrow turned round.
-    pub fn turned(&self, alloc: Global) -> Result<Self, AllocError>
+    pub(crate) fn turned(&self, alloc: Global) -> Result<Self, AllocError>
         ensures nodes { IfOk result (λ graph. nodes_of graph ≡ nodes_of self.now) }
         ensures arrows { IfOk result (λ graph. arrows_of graph ≡ map turned_arrow (arrows_of self.now)) }
     {

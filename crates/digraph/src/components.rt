@@ -1,4 +1,8 @@
 //! The components of a graph: nodes that lead to each other.
+//!
+//! The walk keeps open nodes in groups: the way so far, with what leads back on it drawn together. A group leads to all behind
+//! it, the nodes of a group lead to each other, and an arrow that was followed leads to a node that has its number, to the
+//! node's own group or to one behind it. So linear time finds all components.
 
 ghost use Rattle.std.specs.Prelude.{ℕ, ◌≡◌, ◌<◌, ◌≤◌, ◌+◌, ◌-◌, ◌^◌, ◌++◌, ◌∷◌, [], length, IfOk, OnOk, MatchOption, replicate, slice_index};
 ghost use Rattle.std.specs.Prelude.{slice_set, take};

@@ -1,4 +1,4 @@
-// Where the arrows of a node lead.
+//! Where the arrows of a node lead.
 ghost use Rattle.std.specs.Prelude.{◌≡◌, ◌<◌, All};
 ghost use Rattle.digraph.specs.GraphView.{arrows_of, nodes_of};
 ghost use Rattle.digraph.specs.Successors.{successors_of};
@@ -9,7 +9,7 @@ use crate::successors::Successors;
 
 impl Graph {
     /// The nodes that the arrows of a node lead to, from its last arrow to its first.
-    pub fn successors(&self, node: usize) -> Successors<'_>
+    pub(crate) fn successors(&self, node: usize) -> Successors<'_>
         requires { node < nodes_of self.now }
         ensures all { left_of result ≡ successors_of (arrows_of self.now) node }
         ensures inside { All (λ target. target < nodes_of self.now) (left_of result) }

@@ -1,4 +1,4 @@
-// A directed graph over numbers, in memory.
+//! A directed graph over numbers, in memory.
 ghost use Rattle.digraph.specs.Graph.{AreLinked};
 
 /// An arrow from one node to another.

@@ -1,4 +1,4 @@
-// Directed graphs over numbers: what is reached, which nodes lead to each other, and how far above others a node stands.
+//! Directed graphs over numbers: what is reached, which nodes lead to each other, and how far above others a node stands.
 #![tactic(auto)]
 
 mod adding;
@@ -12,4 +12,3 @@ mod successors;
 pub use components::components_of;
 pub use graph::{Arrow, Graph};
 pub use ranks::{order_of, ranks_of};
-pub use successors::Successors;

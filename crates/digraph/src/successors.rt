@@ -1,4 +1,4 @@
-// The nodes that the arrows of a node lead to.
+//! The nodes that the arrows of a node lead to.
 ghost use Rattle.digraph.specs.Successors.{IsEndOf};
 
 use crate::graph::Graph;

@@ -40,25 +40,13 @@ use Rattle.std.proofs.lemmas.Bool.{cases_eq}
 use Rattle.std.proofs.lemmas.List.{take_more, take_all}
 use Rattle.std.proofs.lemmas.List.Sums.{fold-append}
 use Rattle.kif.specs.declared.expr.Expr.{Expr}
-use Rattle.kif.specs.Tree.{Tree, list, no_trees, text, name_eq}
-use Rattle.kif.specs.View.{tree_of, trees_in, parts_of, is_name_tree}
-use Rattle.game.specs.declared.fault.HistoryFault.{HistoryFault}
-use Rattle.game.specs.declared.fault.HistoryFault.TheVariants.{BadForm, NotLegal}
-use Rattle.game.specs.Rules.{Rules, State}
-use Rattle.game.specs.Played.{
-  MoveNames,
-  first_fault,
-  tree_at,
-  is_turn_list,
-  AreFormed,
-  form_faults,
-  illegal_faults,
-  turn_faults,
-  named_move,
-  named_turn,
-  state_after,
-  played,
-}
+use Rattle.statement.specs.Tree.{Tree, list, no_trees, text, name_eq}
+use Rattle.kif.specs.View.{tree_of, trees_in}
+use Rattle.statement.specs.Tree.{parts_of, is_name_tree}
+use Rattle.statement.specs.declared.history_fault.HistoryFault.{HistoryFault}
+use Rattle.statement.specs.declared.history_fault.HistoryFault.TheVariants.{BadForm, NotLegal}
+use Rattle.statement.specs.Rules.{Rules, State}
+use Rattle.statement.specs.Played.{MoveNames, first_history_fault, nth_tree, is_turn_list, AreFormed, form_faults, illegal_faults, turn_faults, named_move, named_turn, state_after, played}
 
 -- no number of a range passes
 pub filter_none : (p : ℕ → Bool) (a n : ℕ) → ((k : ℕ) → a ≤ k → k < a + n → p k ≡ false) → filter p (range_with_len a n) ≡ []
@@ -109,23 +97,18 @@ flat_map_first {X} f a (suc n) k x xs from to h passes =
     ]
 
 -- there is no fault where a value is answered
-pub no_fault : {X : Type 0} (faults : List HistoryFault) (x y : X) → first_fault faults x ≡ Ok y → faults ≡ []
+pub no_fault : {X : Type 0} (faults : List HistoryFault) (x y : X) → first_history_fault faults x ≡ Ok y → faults ≡ []
 no_fault [] x y h = refl
 no_fault (fault ∷ faults) x y h = cc
 
 -- what is answered is the first fault
-pub has_first : {X : Type 0} (faults : List HistoryFault) (x : X) (fault : HistoryFault) → first_fault faults x ≡ Err fault
+pub has_first : {X : Type 0} (faults : List HistoryFault) (x : X) (fault : HistoryFault) → first_history_fault faults x ≡ Err fault
     → (rest : List HistoryFault) × (faults ≡ fault ∷ rest)
 has_first [] x fault h = absurd cc
 has_first (first ∷ faults) x fault h = (faults, cc)
 
--- the first fault of a list that begins with one
-pub first_of : {X : Type 0} (faults more : List HistoryFault) (x : X) (fault : HistoryFault) (rest : List HistoryFault)
-    → faults ≡ fault ∷ rest → first_fault (faults ++ more) x ≡ Err fault
-first_of faults more x fault rest h = rw h refl
-
 pub tree_at_place : {A : Type 0} (es : List (Expr A)) (k : ℕ) (e : Expr A) → k < length es → e ≡ get_or es k e
-    → tree_at (trees_in es) k ≡ tree_of e
+    → nth_tree (trees_in es) k ≡ tree_of e
 tree_at_place [] k e below same = absurd (omega arith)
 tree_at_place (x ∷ es) zero e below same = ap tree_of (sym same)
 tree_at_place (x ∷ es) (suc k) e below same = tree_at_place es k e (omega arith) same
@@ -142,27 +125,27 @@ list_by_index f a (suc n) (x ∷ xs) size h =
     list_by_index f (a + 1) n xs (omega arith) (λ k below. h (suc k) (omega arith) ∙ ap f (omega arith)) in
     cc
 
-pub form_refused : (roles place : ℕ) (ts : List Tree) → place < length ts → ((k : ℕ) → k < place → not (is_turn_list roles (tree_at ts k)) ≡ false)
-    → not (is_turn_list roles (tree_at ts place)) ≡ true → Err (BadForm (place + 1)) ≡ first_fault {X = Unit {0}} (form_faults roles ts) tt
+pub form_refused : (roles place : ℕ) (ts : List Tree) → place < length ts → ((k : ℕ) → k < place → not (is_turn_list roles (nth_tree ts k)) ≡ false)
+    → not (is_turn_list roles (nth_tree ts place)) ≡ true → Err (BadForm (place + 1)) ≡ first_history_fault {X = Unit {0}} (form_faults roles ts) tt
 form_refused roles place ts inside before here =
-    let found : (rest : List ℕ) × (filter (λ (k : ℕ). not (is_turn_list roles (tree_at ts k))) (range_with_len 0 (length ts)) ≡ place ∷ rest) =
-    filter_first (λ k. not (is_turn_list roles (tree_at ts k))) 0 (length ts) place (omega arith) (omega arith) (λ k _ less. before k less) here in
+    let found : (rest : List ℕ) × (filter (λ (k : ℕ). not (is_turn_list roles (nth_tree ts k))) (range_with_len 0 (length ts)) ≡ place ∷ rest) =
+    filter_first (λ k. not (is_turn_list roles (nth_tree ts k))) 0 (length ts) place (omega arith) (omega arith) (λ k _ less. before k less) here in
     rw found.1 refl
 
-pub forms_right : (roles place : ℕ) (ts : List Tree) → length ts ≤ place → ((k : ℕ) → k < place → not (is_turn_list roles (tree_at ts k)) ≡ false)
-    → Ok tt ≡ first_fault {X = Unit {0}} (form_faults roles ts) tt
+pub forms_right : (roles place : ℕ) (ts : List Tree) → length ts ≤ place → ((k : ℕ) → k < place → not (is_turn_list roles (nth_tree ts k)) ≡ false)
+    → Ok tt ≡ first_history_fault {X = Unit {0}} (form_faults roles ts) tt
 forms_right roles place ts past before =
-    let none : filter (λ (k : ℕ). not (is_turn_list roles (tree_at ts k))) (range_with_len 0 (length ts)) ≡ [] =
-    filter_none (λ k. not (is_turn_list roles (tree_at ts k))) 0 (length ts) (λ k _ less. before k (omega arith)) in
+    let none : filter (λ (k : ℕ). not (is_turn_list roles (nth_tree ts k))) (range_with_len 0 (length ts)) ≡ [] =
+    filter_none (λ k. not (is_turn_list roles (nth_tree ts k))) 0 (length ts) (λ k _ less. before k (omega arith)) in
     rw none refl
 
 not_false : (b : Bool) → not b ≡ false → b ≡ true
 not_false true h = refl
 not_false false h = cc
 
-pub are_formed : (roles place : ℕ) (ts : List Tree) → length ts ≤ place → ((k : ℕ) → k < place → not (is_turn_list roles (tree_at ts k)) ≡ false)
+pub are_formed : (roles place : ℕ) (ts : List Tree) → length ts ≤ place → ((k : ℕ) → k < place → not (is_turn_list roles (nth_tree ts k)) ≡ false)
     → AreFormed roles ts
-are_formed roles place ts past before k inside = not_false (is_turn_list roles (tree_at ts k)) (before k (omega arith))
+are_formed roles place ts past before k inside = not_false (is_turn_list roles (nth_tree ts k)) (before k (omega arith))
 
 both_true : (a b : Bool) → (a && b) ≡ true → b ≡ true
 both_true true b h = h
@@ -179,7 +162,7 @@ named_at g names s es role e r inside same found =
 
 pub role_refused : (g : Rules) (names : MoveNames) (s : State) (parts : List Tree) (number role : ℕ) → role < g.roles
     → ((k : ℕ) → k < role → is_none (named_move g names s parts k) ≡ false) → is_none (named_move g names s parts role) ≡ true
-    → Err (NotLegal number role) ≡ first_fault {X = Unit {0}} (illegal_faults g names s parts number) tt
+    → Err (NotLegal number role) ≡ first_history_fault {X = Unit {0}} (illegal_faults g names s parts number) tt
 role_refused g names s parts number role inside before here =
     let found : (rest : List ℕ) × (filter (λ (q : ℕ). is_none (named_move g names s parts q)) (range_with_len 0 g.roles) ≡ role ∷ rest) =
     filter_first (λ q. is_none (named_move g names s parts q)) 0 g.roles role (omega arith) (omega arith) (λ k _ less. before k less) here in
@@ -187,7 +170,7 @@ role_refused g names s parts number role inside before here =
 
 pub roles_right : (g : Rules) (names : MoveNames) (s : State) (parts : List Tree) (number role : ℕ) → g.roles ≤ role
     → ((k : ℕ) → k < role → is_none (named_move g names s parts k) ≡ false)
-    → Ok tt ≡ first_fault {X = Unit {0}} (illegal_faults g names s parts number) tt
+    → Ok tt ≡ first_history_fault {X = Unit {0}} (illegal_faults g names s parts number) tt
 roles_right g names s parts number role past before =
     let none : filter (λ (q : ℕ). is_none (named_move g names s parts q)) (range_with_len 0 g.roles) ≡ [] =
     filter_none (λ q. is_none (named_move g names s parts q)) 0 g.roles (λ k _ less. before k (omega arith)) in
@@ -196,28 +179,28 @@ roles_right g names s parts number role past before =
 -- one turn more
 pub state_more : (g : Rules) (names : MoveNames) (ts : List Tree) (place : ℕ) → place < length ts
     → state_after g names (take (place + 1) ts)
-    ≡ g.after (state_after g names (take place ts)) (named_turn g names (state_after g names (take place ts)) (parts_of (tree_at ts place)))
+    ≡ g.after (state_after g names (take place ts)) (named_turn g names (state_after g names (take place ts)) (parts_of (nth_tree ts place)))
 state_more g names ts place inside =
     let step = λ (s : State) (t : Tree). g.after s (named_turn g names s (parts_of t)) in
-    ap (fold step g.start) (take_more ts place (list no_trees) inside) ∙ fold-append step g.start (take place ts) (tree_at ts place ∷ [])
+    ap (fold step g.start) (take_more ts place (list no_trees) inside) ∙ fold-append step g.start (take place ts) (nth_tree ts place ∷ [])
 
 pub turn_refused : (g : Rules) (names : MoveNames) (ts : List Tree) (place : ℕ) (fault : HistoryFault) → form_faults g.roles ts ≡ []
     → place < length ts
-    → ((k : ℕ) → k < place → turn_faults g names (state_after g names (take k ts)) (parts_of (tree_at ts k)) (k + 1) ≡ [])
-    → first_fault {X = Unit {0}} (turn_faults g names (state_after g names (take place ts)) (parts_of (tree_at ts place)) (place + 1)) tt ≡ Err fault
+    → ((k : ℕ) → k < place → turn_faults g names (state_after g names (take k ts)) (parts_of (nth_tree ts k)) (k + 1) ≡ [])
+    → first_history_fault {X = Unit {0}} (turn_faults g names (state_after g names (take place ts)) (parts_of (nth_tree ts place)) (place + 1)) tt ≡ Err fault
     → played g names ts ≡ Err fault
 turn_refused g names ts place fault forms inside before here =
-    let faults = λ (k : ℕ). turn_faults g names (state_after g names (take k ts)) (parts_of (tree_at ts k)) (k + 1) in
+    let faults = λ (k : ℕ). turn_faults g names (state_after g names (take k ts)) (parts_of (nth_tree ts k)) (k + 1) in
     let first : (rest : List HistoryFault) × (faults place ≡ fault ∷ rest) = has_first (faults place) tt fault here in
     let found : (rest : List HistoryFault) × (flat_map faults (range_with_len 0 (length ts)) ≡ fault ∷ rest) =
     flat_map_first faults 0 (length ts) place fault first.0 (omega arith) (omega arith) (λ k _ less. before k less) first.1 in
     rw (forms, found.1) refl
 
 pub all_played : (g : Rules) (names : MoveNames) (ts : List Tree) (place : ℕ) → form_faults g.roles ts ≡ [] → length ts ≤ place → place ≤ length ts
-    → ((k : ℕ) → k < place → turn_faults g names (state_after g names (take k ts)) (parts_of (tree_at ts k)) (k + 1) ≡ [])
+    → ((k : ℕ) → k < place → turn_faults g names (state_after g names (take k ts)) (parts_of (nth_tree ts k)) (k + 1) ≡ [])
     → played g names ts ≡ Ok (state_after g names (take place ts))
 all_played g names ts place forms past within before =
-    let faults = λ (k : ℕ). turn_faults g names (state_after g names (take k ts)) (parts_of (tree_at ts k)) (k + 1) in
+    let faults = λ (k : ℕ). turn_faults g names (state_after g names (take k ts)) (parts_of (nth_tree ts k)) (k + 1) in
     let none : flat_map faults (range_with_len 0 (length ts)) ≡ [] =
     flat_map_none faults 0 (length ts) (λ k _ less. before k (omega arith)) in
     let whole : take place ts ≡ ts = take_all place ts past in

@@ -30,9 +30,9 @@ use Rattle.std.proofs.Math.Seq.{drop-cons}
 use Rattle.std.proofs.Math.ListN.{drop_of_length-le}
 use Rattle.std.proofs.lemmas.Bool.{cases_lt}
 use Rattle.std.proofs.lemmas.Option.{get_or_from_slice_get, slice_get_within, slice_get-get_or}
-use Rattle.kif.specs.Tree.{name_eq}
+use Rattle.statement.specs.Tree.{name_eq}
 use Rattle.kif.proofs.Facts.{name_eq_yes, name_eq_self}
-use Rattle.game.specs.Rules.{Rules, State}
+use Rattle.statement.specs.Rules.{Rules, State}
 use Rattle.game.proofs.Ascending.{length_ascending}
 
 -- a move that was found is one of the moves of its role

@@ -26,7 +26,6 @@ use Rattle.std.proofs.Common.{
   inl,
   inr,
 }
-use Rattle.std.specs.Prelude.{replicate}
 use Rattle.std.proofs.Math.ListN.{set}
 use Rattle.std.proofs.lemmas.Bool.{cases_eq}
 use Rattle.smallvec.specs.SmallVec.{SmallVec}
@@ -75,8 +74,3 @@ push_all P [] y one all zero d lt = one
 push_all P [] y one all (suc k) d lt = absurd (omega arith)
 push_all P (p ∷ ps) y one all zero d lt = all 0 d (omega arith)
 push_all P (p ∷ ps) y one all (suc k) d lt = push_all P ps y one (λ i e l. all (suc i) e (omega arith)) k d (omega arith)
-
-pub zeros : (n k : ℕ) → get_or (replicate n 0) k 0 ≤ 8
-zeros zero k = omega arith
-zeros (suc n) zero = omega arith
-zeros (suc n) (suc k) = zeros n k

@@ -2,10 +2,10 @@
 use Rattle.std.proofs.Common.{ℕ, zero, suc, ◌≡◌, Bool, true, false, cond, List, [], ◌∷◌, get_or, refl, ap, ◌∙◌, Option, Some, None}
 use Rattle.std.specs.Prelude.{◌==◌, ◌||◌}
 use Rattle.std.specs.Option.{option_map_or}
-use Rattle.game.specs.declared.at_bound.AtBound.TheVariants.{Zero}
+use Rattle.statement.specs.declared.at_bound.AtBound.TheVariants.{Zero}
 use Rattle.game.specs.PlainValue.{plain_value, plain_worst, plain_choice, plain_reply, plain_line}
-use Rattle.game.specs.Rules.{Rules, State, Turn, is_stuck, turns_with}
-use Rattle.game.specs.Value.{greatest, least, least_after, value, worst, choice_of, reply_of, line_of}
+use Rattle.statement.specs.Rules.{Rules, State, Turn, is_stuck, turns_with}
+use Rattle.statement.specs.Value.{greatest, least, least_after, value, worst, choice_of, reply_of, line_of}
 use Rattle.game.proofs.Alike.{maps_alike, finds_alike}
 
 module _ (g : Rules) (role : ℕ) where

@@ -32,29 +32,16 @@ use Rattle.std.specs.Option.{option_map_or}
 use Rattle.std.specs.List.{range_with_len}
 use Rattle.std.proofs.lemmas.List.Elements.{All-head, All-nil, All-cons, All-append, All-map, All-filter}
 use Rattle.std.proofs.lemmas.List.FromFn.{length-map-range_with_len, get_or-map-range_with_len}
-use Rattle.kif.specs.Tree.{Tree, text, name_eq}
-use Rattle.kif.specs.View.{parts_of}
-use Rattle.game.specs.declared.fault.HistoryFault.{HistoryFault}
-use Rattle.game.specs.declared.fault.HistoryFault.TheVariants.{BadForm, NotLegal, Over, Stuck}
-use Rattle.game.specs.Played.{
-  MoveNames,
-  tree_at,
-  is_turn_list,
-  named_move,
-  named_turn,
-  state_after,
-  form_faults,
-  illegal_faults,
-  turn_faults,
-  play_faults,
-  first_fault,
-  played,
-}
-use Rattle.game.specs.Refusal.{IsRoleOf}
-use Rattle.game.specs.Rules.{Rules, State, Turn, IsTurn, all_roles, is_stuck, picks, turns_with}
+use Rattle.statement.specs.Tree.{Tree, text, name_eq}
+use Rattle.statement.specs.Tree.{parts_of}
+use Rattle.statement.specs.declared.history_fault.HistoryFault.{HistoryFault}
+use Rattle.statement.specs.declared.history_fault.HistoryFault.TheVariants.{BadForm, NotLegal, Over, Stuck}
+use Rattle.statement.specs.Played.{MoveNames, nth_tree, is_turn_list, named_move, named_turn, state_after, form_faults, illegal_faults, turn_faults, play_faults, first_history_fault, played}
+use Rattle.statement.specs.HistoryTexts.{IsRoleOf}
+use Rattle.statement.specs.Rules.{Rules, State, Turn, IsTurn, all_roles, is_stuck, all_picks, turns_with}
 use Rattle.game.specs.SamePlay.{AreLegalMoves}
-use Rattle.game.specs.declared.at_bound.AtBound.{AtBound}
-use Rattle.game.specs.Value.{value, worst, choice_of, reply_of, line_of}
+use Rattle.statement.specs.declared.at_bound.AtBound.{AtBound}
+use Rattle.statement.specs.Value.{value, worst, choice_of, reply_of, line_of}
 use Rattle.game.proofs.Alike.{all_below, found_within, all_flat}
 
 -- Picks.
@@ -75,13 +62,13 @@ one_pick moves from n x j here rest = record {
     each (suc q) lt = subst (λ (i : ℕ). slice_index j q < moves i) (omega arith) (rest.each q (omega arith))
 
 picks_within : (moves : ℕ → ℕ) (lists : ℕ → List ℕ) (from n : ℕ) → ((q : ℕ) → q < from + n → All (λ m. m < moves q) (lists q))
-    → All (IsPick moves from n) (picks (map lists (range_with_len from n)))
+    → All (IsPick moves from n) (all_picks (map lists (range_with_len from n)))
 picks_within moves lists from zero h = All-cons (IsPick moves from 0) [] [] record { size = refl; each = λ q lt. absurd (omega arith) }
     (All-nil (IsPick moves from 0))
 picks_within moves lists from (suc n) h =
     let rest = picks_within moves lists (from + 1) n (λ q lt. h q (omega arith)) in
-    all_flat (IsPick moves from (suc n)) (λ x. map (λ j. x ∷ j) (picks (map lists (range_with_len (from + 1) n)))) (lists from)
-    (λ k d lt. All-map (IsPick moves from (suc n)) (λ (j : Turn). get_or (lists from) k d ∷ j) (picks (map lists (range_with_len (from + 1) n)))
+    all_flat (IsPick moves from (suc n)) (λ x. map (λ j. x ∷ j) (all_picks (map lists (range_with_len (from + 1) n)))) (lists from)
+    (λ k d lt. All-map (IsPick moves from (suc n)) (λ (j : Turn). get_or (lists from) k d ∷ j) (all_picks (map lists (range_with_len (from + 1) n)))
     (λ i e below. one_pick moves from n (get_or (lists from) k d) _ (h from (omega arith) k d lt) (rest i e below)))
 
 module _ (g : Rules) (known : AreLegalMoves g) where
@@ -137,7 +124,7 @@ module _ (g : Rules) (known : AreLegalMoves g) where
 
   pub named_within : (names : MoveNames) (s : State) (parts : List Tree) (q : ℕ) → q < g.roles
       → IfSome (named_move g names s parts q) (λ m. m < g.moves q)
-  named_within names s parts q lt = found_within (λ m. m < g.moves q) (λ m. name_eq (text (tree_at parts q)) (names q m)) (g.legal s q) (known s q lt)
+  named_within names s parts q lt = found_within (λ m. m < g.moves q) (λ m. name_eq (text (nth_tree parts q)) (names q m)) (g.legal s q) (known s q lt)
 
   -- where no role is at fault the turn is one of the game
   pub turn_named : (names : MoveNames) (s : State) (parts : List Tree) → ((q : ℕ) → q < g.roles → is_none (named_move g names s parts q) ≡ false)
@@ -173,7 +160,7 @@ module _ (g : Rules) (names : MoveNames) where
       go false true = All-cons IsNamed (Stuck number) [] tt (All-nil IsNamed)
       go false false = illegal_named s parts number
 
-  first_named : {X : Type 0} (faults : List HistoryFault) (x : X) → All IsNamed faults → IfErr (first_fault faults x) IsNamed
+  first_named : {X : Type 0} (faults : List HistoryFault) (x : X) → All IsNamed faults → IfErr (first_history_fault faults x) IsNamed
   first_named [] x h = tt
   first_named (fault ∷ faults) x h = All-head IsNamed fault faults h
 
@@ -181,7 +168,7 @@ module _ (g : Rules) (names : MoveNames) where
   role_named ts =
       first_named (form_faults g.roles ts ++ play_faults g names ts) (state_after g names ts)
       (All-append IsNamed (form_faults g.roles ts) (play_faults g names ts)
-      (All-map IsNamed (λ (k : ℕ). BadForm (k + 1)) (filter (λ k. not (is_turn_list g.roles (tree_at ts k))) (range_with_len 0 (length ts)))
+      (All-map IsNamed (λ (k : ℕ). BadForm (k + 1)) (filter (λ k. not (is_turn_list g.roles (nth_tree ts k))) (range_with_len 0 (length ts)))
       (λ k d lt. tt))
-      (all_flat IsNamed (λ k. turn_faults g names (state_after g names (take k ts)) (parts_of (tree_at ts k)) (k + 1)) (range_with_len 0 (length ts))
+      (all_flat IsNamed (λ k. turn_faults g names (state_after g names (take k ts)) (parts_of (nth_tree ts k)) (k + 1)) (range_with_len 0 (length ts))
       (λ k d lt. turn_named_faults _ _ _)))

@@ -35,36 +35,25 @@ use Rattle.std.specs.Option.{option_map_or}
 use Rattle.std.specs.List.{flat_map, list_any, range_with_len}
 use Rattle.std.proofs.Math.Nat.{eq-or-lt_of_le}
 use Rattle.std.proofs.lemmas.List.{take_all}
-use Rattle.kif.specs.Tree.{Tree, text, name_eq}
-use Rattle.kif.specs.View.{parts_of}
-use Rattle.game.specs.declared.fault.HistoryFault.{HistoryFault}
-use Rattle.game.specs.declared.fault.HistoryFault.TheVariants.{NotLegal, Over, Stuck}
-use Rattle.game.specs.NamedRules.{NamedRules}
-use Rattle.game.specs.Played.{
-  tree_at,
-  named_move,
-  named_turn,
-  state_after,
-  form_faults,
-  illegal_faults,
-  turn_faults,
-  play_faults,
-  first_fault,
-  played,
-}
-use Rattle.game.specs.Rules.{Rules, State, Turn, IsTurn, all_roles, is_stuck, picks, turns_with}
+use Rattle.statement.specs.Tree.{Tree, text, name_eq}
+use Rattle.statement.specs.Tree.{parts_of}
+use Rattle.statement.specs.declared.history_fault.HistoryFault.{HistoryFault}
+use Rattle.statement.specs.declared.history_fault.HistoryFault.TheVariants.{NotLegal, Over, Stuck}
+use Rattle.statement.specs.NamedRules.{NamedRules}
+use Rattle.statement.specs.Played.{nth_tree, named_move, named_turn, state_after, form_faults, illegal_faults, turn_faults, play_faults, first_history_fault, played}
+use Rattle.statement.specs.Rules.{Rules, State, Turn, IsTurn, all_roles, is_stuck, all_picks, turns_with}
 use Rattle.game.specs.SamePlay.{SamePlay}
-use Rattle.game.specs.declared.at_bound.AtBound.{AtBound}
-use Rattle.game.specs.AtBound.{bound_worth}
-use Rattle.game.specs.Value.{greatest, least, least_after, value, worst, choice_of, reply_of, line_of}
+use Rattle.statement.specs.declared.at_bound.AtBound.{AtBound}
+use Rattle.statement.specs.AtBound.{bound_worth}
+use Rattle.statement.specs.Value.{greatest, least, least_after, value, worst, choice_of, reply_of, line_of}
 use Rattle.game.proofs.Alike.{all_below, each_below, maps_alike, filters_alike, finds_alike, any_alike, options_alike, if_weaker, none_left}
 use Rattle.game.proofs.FirstFaults.{state_more}
 use Rattle.game.proofs.PlayRange.{turns_within, choice_within, reply_within, turn_named}
 
 -- Faults up to the first.
 
-first_more : {X : Type 0} (xs ys zs : List HistoryFault) (x y : X) → first_fault ys x ≡ first_fault zs y
-    → first_fault (xs ++ ys) x ≡ first_fault (xs ++ zs) y
+first_more : {X : Type 0} (xs ys zs : List HistoryFault) (x y : X) → first_history_fault ys x ≡ first_history_fault zs y
+    → first_history_fault (xs ++ ys) x ≡ first_history_fault (xs ++ zs) y
 first_more [] ys zs x y h = h
 first_more (fault ∷ xs) ys zs x y h = refl
 
@@ -72,7 +61,7 @@ first_more (fault ∷ xs) ys zs x y h = refl
 first_alike : {X : Type 0} (F G : ℕ → List HistoryFault) (x y : X) (a n : ℕ)
     → ((k : ℕ) → a ≤ k → k < a + n → ((i : ℕ) → a ≤ i → i < k → F i ≡ []) → F k ≡ G k)
     → (((i : ℕ) → a ≤ i → i < a + n → F i ≡ []) → x ≡ y)
-    → first_fault (flat_map F (range_with_len a n)) x ≡ first_fault (flat_map G (range_with_len a n)) y
+    → first_history_fault (flat_map F (range_with_len a n)) x ≡ first_history_fault (flat_map G (range_with_len a n)) y
 first_alike F G x y a zero each last = ap Ok (last (λ i from to. absurd (omega arith)))
 first_alike {X} F G x y a (suc n) each last =
     go (F a) refl (sym (each a (omega arith) (omega arith) (λ i from to. absurd (omega arith))))
@@ -84,8 +73,8 @@ first_alike {X} F G x y a (suc n) each last =
     joined here k i from to before = elim (eq-or-lt_of_le from) [ inl e ↦ subst (λ (m : ℕ). F m ≡ []) e here | inr lt ↦ before i (omega arith) to ]
 
     go : (fs : List HistoryFault) → F a ≡ fs → G a ≡ F a
-        → (F a ≡ [] → first_fault (flat_map F (range_with_len (a + 1) n)) x ≡ first_fault (flat_map G (range_with_len (a + 1) n)) y)
-        → first_fault (F a ++ flat_map F (range_with_len (a + 1) n)) x ≡ first_fault (G a ++ flat_map G (range_with_len (a + 1) n)) y
+        → (F a ≡ [] → first_history_fault (flat_map F (range_with_len (a + 1) n)) x ≡ first_history_fault (flat_map G (range_with_len (a + 1) n)) y)
+        → first_history_fault (F a ++ flat_map F (range_with_len (a + 1) n)) x ≡ first_history_fault (G a ++ flat_map G (range_with_len (a + 1) n)) y
     go [] e same rest = rw (same, e) (rest e)
     go (fault ∷ fs) e same rest = rw (same, e) refl
 
@@ -107,7 +96,7 @@ module _ (g h : NamedRules) (same : SamePlay g h) where
 
   turns_alike : (s : State) (role own : ℕ) → turns_with g.rules s role own ≡ turns_with h.rules s role own
   turns_alike s role own =
-      ap picks
+      ap all_picks
       (maps_alike (λ q. cond (q == role) (own ∷ []) (g.rules.legal s q)) (λ q. cond (q == role) (own ∷ []) (h.rules.legal s q)) (all_roles g.rules)
       (all_below _ g.rules.roles (λ q lt. ap (λ (ms : List ℕ). cond (q == role) (own ∷ []) ms) (same.legal s q lt)))
       ∙ ap (λ (qs : List ℕ). map (λ q. cond (q == role) (own ∷ []) (h.rules.legal s q)) qs) roles_alike)
@@ -205,10 +194,10 @@ module _ (g h : NamedRules) (same : SamePlay g h) where
   move_alike : (s : State) (parts : List Tree) (q : ℕ) → q < g.rules.roles → named_move g.rules g.move_name s parts q ≡ named_move h.rules h.move_name
       s parts q
   move_alike s parts q lt =
-      finds_alike (λ m. name_eq (text (tree_at parts q)) (g.move_name q m)) (λ m. name_eq (text (tree_at parts q)) (h.move_name q m))
+      finds_alike (λ m. name_eq (text (nth_tree parts q)) (g.move_name q m)) (λ m. name_eq (text (nth_tree parts q)) (h.move_name q m))
       (g.rules.legal s q)
-      (λ k d below. ap (name_eq (text (tree_at parts q))) (same.move_names q _ lt (same.known s q lt k d below)))
-      ∙ ap (find (λ m. name_eq (text (tree_at parts q)) (h.move_name q m))) (same.legal s q lt)
+      (λ k d below. ap (name_eq (text (nth_tree parts q))) (same.move_names q _ lt (same.known s q lt k d below)))
+      ∙ ap (find (λ m. name_eq (text (nth_tree parts q)) (h.move_name q m))) (same.legal s q lt)
 
   turn_alike : (s : State) (parts : List Tree) → named_turn g.rules g.move_name s parts ≡ named_turn h.rules h.move_name s parts
   turn_alike s parts =
@@ -251,10 +240,10 @@ module _ (g h : NamedRules) (same : SamePlay g h) where
 
   module _ (ts : List Tree) where
     abbrev F : ℕ → List HistoryFault
-    F k = turn_faults g.rules g.move_name (state_after g.rules g.move_name (take k ts)) (parts_of (tree_at ts k)) (k + 1)
+    F k = turn_faults g.rules g.move_name (state_after g.rules g.move_name (take k ts)) (parts_of (nth_tree ts k)) (k + 1)
 
     abbrev G : ℕ → List HistoryFault
-    G k = turn_faults h.rules h.move_name (state_after h.rules h.move_name (take k ts)) (parts_of (tree_at ts k)) (k + 1)
+    G k = turn_faults h.rules h.move_name (state_after h.rules h.move_name (take k ts)) (parts_of (nth_tree ts k)) (k + 1)
 
     states_alike : (k : ℕ) → k ≤ length ts → ((i : ℕ) → i < k → F i ≡ []) → state_after g.rules g.move_name (take k ts) ≡ state_after h.rules
         h.move_name (take k ts)
@@ -263,7 +252,7 @@ module _ (g h : NamedRules) (same : SamePlay g h) where
         let here = states_alike k (omega arith) (λ i lt. before i (omega arith)) in
         let s = state_after g.rules g.move_name (take k ts) in
         let t = state_after h.rules h.move_name (take k ts) in
-        let parts = parts_of (tree_at ts k) in
+        let parts = parts_of (nth_tree ts k) in
         let more : k + 1 ≡ suc k = omega arith in
         ap (λ (i : ℕ). state_after g.rules g.move_name (take i ts)) (sym more)
         ∙ state_more g.rules g.move_name ts k (omega arith)
@@ -279,11 +268,11 @@ module _ (g h : NamedRules) (same : SamePlay g h) where
         (state_after g.rules g.move_name ts) (state_after h.rules h.move_name ts)
         (first_alike F G (state_after g.rules g.move_name ts) (state_after h.rules h.move_name ts) 0 (length ts)
         (λ k from to before.
-        faults_alike (state_after g.rules g.move_name (take k ts)) (parts_of (tree_at ts k)) (k + 1)
-        ∙ ap (λ (s : State). turn_faults h.rules h.move_name s (parts_of (tree_at ts k)) (k + 1))
+        faults_alike (state_after g.rules g.move_name (take k ts)) (parts_of (nth_tree ts k)) (k + 1)
+        ∙ ap (λ (s : State). turn_faults h.rules h.move_name s (parts_of (nth_tree ts k)) (k + 1))
         (states_alike k (omega arith) (λ i lt. before i (omega arith) lt)))
         (λ all.
         ap (state_after g.rules g.move_name) (sym (take_all (length ts) ts (omega arith)))
         ∙ states_alike (length ts) (omega arith) (λ i lt. all i (omega arith) (omega arith))
         ∙ ap (state_after h.rules h.move_name) (take_all (length ts) ts (omega arith))))
-        ∙ ap (λ (n : ℕ). first_fault (form_faults n ts ++ play_faults h.rules h.move_name ts) (state_after h.rules h.move_name ts)) same.roles
+        ∙ ap (λ (n : ℕ). first_history_fault (form_faults n ts ++ play_faults h.rules h.move_name ts) (state_after h.rules h.move_name ts)) same.roles

@@ -22,7 +22,7 @@ use Rattle.std.specs.Prelude.{replicate}
 use Rattle.std.specs.List.{range_with_len}
 use Rattle.smallvec.specs.SmallVec.{SmallVec}
 use Rattle.game.specs.Joints.{joint_at}
-use Rattle.game.specs.Rules.{Rules, State, Turn}
+use Rattle.statement.specs.Rules.{Rules, State, Turn}
 use Rattle.game.specs.TurnsAfter.{turns_after}
 
 -- as many states as turns
@@ -32,17 +32,6 @@ turns_after_count g states [] [] size = refl
 turns_after_count g states [] (t ∷ ts) size = absurd (omega arith)
 turns_after_count g states (p ∷ ps) [] size = absurd (omega arith)
 turns_after_count g states (p ∷ ps) (t ∷ ts) size = let rest = turns_after_count g states ps ts (omega arith) in omega arith
-
--- where it makes no difference at which state a turn begins
-pub turns_after_alike : (g : Rules) (states : List State) (s : State) (places : List ℕ) (joints : List (SmallVec ℕ))
-    → ((t : State) (j : Turn) → g.after s j ≡ g.after t j) → length places ≡ length joints
-    → map (λ (j : SmallVec ℕ). g.after s j.items) joints ≡ turns_after g states places (map (λ (j : SmallVec ℕ). j.items) joints)
-turns_after_alike g states s [] [] same size = refl
-turns_after_alike g states s [] (j ∷ js) same size = absurd (omega arith)
-turns_after_alike g states s (p ∷ ps) [] same size = absurd (omega arith)
-turns_after_alike g states s (p ∷ ps) (j ∷ js) same size =
-    ap (λ (t : State). t ∷ map (λ (i : SmallVec ℕ). g.after s i.items) js) (same (get_or states p []) j.items)
-    ∙ ap (λ (ts : List State). g.after (get_or states p []) j.items ∷ ts) (turns_after_alike g states s ps js same (omega arith))
 
 -- the states by their numbers
 pub turns_after_each : (g : Rules) (states : List State) (f : ℕ → State) (places : List ℕ) (joints : List (SmallVec ℕ)) (a n : ℕ)

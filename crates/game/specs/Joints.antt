@@ -1,3 +1,4 @@
+-- This crate's own: what `run` promises does not rest on it.
 -- The joint moves of a list.
 use Rattle.std.specs.Prelude.{ℕ, List, [], Option, Some, None, slice_get}
 use Rattle.smallvec.specs.SmallVec.{SmallVec}

@@ -1,14 +1,6 @@
-pub mod Rules
-pub mod AtBound
 pub mod Value
 pub mod PlainValue
 pub mod Joints
-pub mod Played
-pub mod Refusal
-pub mod Table
-pub mod TableLaws
-pub mod TableMany
 pub mod Told
 pub mod TurnsAfter
-pub mod NamedRules
 pub mod SamePlay

@@ -1,8 +1,9 @@
+-- This crate's own: what `run` promises does not rest on it.
 -- What a role can be sure of where a state at the bound is worth nothing, whatever its goal value.
 use Rattle.std.specs.Prelude.{ℕ, ◌==◌, ◌||◌, zero, suc, Option, None, List, [], ◌∷◌, map, find, if◌then◌else◌}
 use Rattle.std.specs.Option.{option_map_or}
-use Rattle.game.specs.Rules.{Rules, State, Turn, is_stuck, turns_with}
-use Rattle.game.specs.Value.{greatest, least_after}
+use Rattle.statement.specs.Rules.{Rules, State, Turn, is_stuck, turns_with}
+use Rattle.statement.specs.Value.{greatest, least_after}
 
 -- what `role` can be sure of within `depth` turns
 abbrev pub plain_value : Rules → ℕ → ℕ → State → ℕ

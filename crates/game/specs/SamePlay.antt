@@ -1,7 +1,8 @@
+-- This crate's own: what `run` promises does not rest on it.
 -- When two games tell the same of their roles, moves and states.
 use Rattle.std.specs.Prelude.{ℕ, ◌≡◌, ◌<◌, All}
-use Rattle.game.specs.NamedRules.{NamedRules}
-use Rattle.game.specs.Rules.{Rules, State, Turn, IsTurn}
+use Rattle.statement.specs.NamedRules.{NamedRules}
+use Rattle.statement.specs.Rules.{Rules, State, Turn, IsTurn}
 
 -- each legal move of a role is a move of the role
 abbrev pub AreLegalMoves : Rules → Type 0

@@ -1,8 +1,9 @@
+-- This crate's own: what `run` promises does not rest on it.
 -- What is told of a state before it is taken.
 use Rattle.std.specs.Prelude.{ℕ, ◌≡◌, ⊤, true, false, Option, Some, None, if◌then◌else◌}
 use Rattle.game.specs.declared.told.Told.{Told}
 use Rattle.game.specs.declared.told.Told.TheVariants.{Ended, Open, Nothing}
-use Rattle.game.specs.Rules.{Rules, State}
+use Rattle.statement.specs.Rules.{Rules, State}
 
 -- what is told of the state, and of the role's goal value in it, is so
 abbrev pub IsTold : Rules → State → ℕ → Told → Type 0

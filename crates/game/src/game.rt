@@ -1,10 +1,10 @@
-// What every game has.
+//! What every game has.
 ghost use Rattle.std.specs.Prelude.{true, ◌≡◌, ◌≢◌, ℕ, ◌<◌, ◌≤◌, ◌^◌, List, [], None, length, map, get_or, All, IfOk, slice_get};
 ghost use Rattle.std.specs.Ordering.{nat_cmp};
 ghost use Rattle.std.specs.Cmp.Lexicographic.{slice_cmp};
 ghost use Rattle.std.specs.List.Sorted.{IsStrictlyIncreasing};
 ghost use Rattle.std.specs.declared.cmp.Ordering.TheVariants.{Less};
-ghost use Rattle.game.specs.Rules.{Rules, IsTurn};
+ghost use Rattle.statement.specs.Rules.{Rules, IsTurn};
 ghost use Rattle.game.specs.Told.{IsTold, end_worth};
 ghost use Rattle.game.specs.TurnsAfter.{turns_after};
 
@@ -36,7 +36,7 @@ pub trait Game: Sync {
     /// `p` was made for this game.
     ghost fits: { Self → Self.Pos → Type 0 };
 
-    /// The state that `p` keeps: the numbers of the propositions that hold, in ascending order.
+    /// The state that `p` keeps: the numbers of the propositions that hold, in an order that no law asks for.
     ghost state: { Self → Self.Pos → List ℕ };
 
     /// The capacities of what `p` keeps in memory. They are those that `fresh` gave it, for good.
@@ -164,8 +164,7 @@ pub trait Game: Sync {
         ensures { IsTold (rules self.now) (get_or (states self.now many.now) place []) role result };
 
     /// Plays each of 1 to 64 joint moves for the end of the game alone: `w` can then tell of each state after one, in their order,
-    /// whether the game has ended there. The states are not kept. The answer is false where this is no quicker than `steps`, and
-    /// then nothing was played.
+    /// whether the game has ended there. The states are not kept. The answer is false where this is no quicker than `steps`.
     fn judge(&self, p: &Self::Pos, joints: &[Joint], w: &mut Self::Wide) -> bool
         requires from { fits self.now p.now }
         requires some { 0 < length joints.now }

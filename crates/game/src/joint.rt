@@ -1,4 +1,4 @@
-// Joint moves.
+//! Joint moves.
 ghost use Rattle.std.specs.Prelude.{◌≡◌, ◌<◌, IfOk, slice_set};
 ghost use Rattle.smallvec.specs.SmallVec.{small_vec_len};
 

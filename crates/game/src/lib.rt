@@ -2,20 +2,14 @@
 //! worth to a role.
 #![tactic(auto)]
 
-mod at_bound;
-mod fault;
 mod game;
 mod joint;
 mod play_laws;
 mod refusal;
 mod replaying;
 mod stuck;
-pub mod table;
 mod told;
-pub mod watched;
 
-pub use at_bound::AtBound;
-pub use fault::HistoryFault;
 pub use game::Game;
 pub use joint::{Joint, new_joint, put_move};
 pub use play_laws::{
@@ -24,5 +18,6 @@ pub use play_laws::{
 };
 pub use refusal::add_history_refusal;
 pub use replaying::replay;
+pub use statement::{AtBound, HistoryFault};
 pub use stuck::is_stuck;
 pub use told::Told;

@@ -1,15 +1,15 @@
-// What holds of play in every game, and what games that tell the same have in common.
+//! What holds of play in every game, and what games that tell the same have in common.
 ghost use Rattle.std.specs.Prelude.{ℕ, ◌≡◌, ◌<◌, List, All, IfSome, IfErr};
-ghost use Rattle.kif.specs.Tree.{Tree};
-ghost use Rattle.game.specs.declared.at_bound.AtBound.{AtBound};
-ghost use Rattle.game.specs.declared.at_bound.AtBound.TheVariants.{Zero};
-ghost use Rattle.game.specs.NamedRules.{NamedRules};
+ghost use Rattle.statement.specs.Tree.{Tree};
+ghost use Rattle.statement.specs.declared.at_bound.AtBound.{AtBound};
+ghost use Rattle.statement.specs.declared.at_bound.AtBound.TheVariants.{Zero};
+ghost use Rattle.statement.specs.NamedRules.{NamedRules};
 ghost use Rattle.game.specs.PlainValue.{plain_value, plain_worst, plain_choice, plain_reply, plain_line};
-ghost use Rattle.game.specs.Played.{MoveNames, played};
-ghost use Rattle.game.specs.Refusal.{IsRoleOf};
-ghost use Rattle.game.specs.Rules.{Rules, State, IsTurn, is_stuck, turns_with};
+ghost use Rattle.statement.specs.Played.{MoveNames, played};
+ghost use Rattle.statement.specs.HistoryTexts.{IsRoleOf};
+ghost use Rattle.statement.specs.Rules.{Rules, State, IsTurn, is_stuck, turns_with};
 ghost use Rattle.game.specs.SamePlay.{SamePlay, AreLegalMoves};
-ghost use Rattle.game.specs.Value.{value, worst, choice_of, reply_of, line_of};
+ghost use Rattle.statement.specs.Value.{value, worst, choice_of, reply_of, line_of};
 
 /// A refusal names a role of the game, if it names one. Where each legal move of a role is a move of the role, what a role
 /// chooses is one of its moves, and joint moves, replies and the turns of a line have a move of each role.

@@ -1,10 +1,10 @@
-// The line that says why a history is refused.
+//! The line that says why a history is refused.
 ghost use Rattle.std.specs.Prelude.{◌≡◌, ◌<◌, ◌++◌, OnOk};
-ghost use Rattle.kif.specs.Refusal.{refusal_line};
-ghost use Rattle.game.specs.Refusal.{fault_text, role_part, IsRoleOf};
+ghost use Rattle.statement.specs.TextFaults.{refusal_line};
+ghost use Rattle.statement.specs.HistoryTexts.{history_fault_words, role_part, IsRoleOf};
 
-use crate::fault::HistoryFault;
 use crate::game::Game;
+use statement::HistoryFault;
 use std::alloc::{AllocError, Allocator};
 use std::io::Write;
 
@@ -16,7 +16,7 @@ pub fn add_history_refusal<G: Game, A: Allocator>(
     text: &mut Vec<u8, A>,
 ) -> Result<(), AllocError>
     requires { IsRoleOf (G.rules g.now).roles fault }
-    ensures { OnOk result (text.new.items ≡ text.old.items ++ refusal_line (fault_text fault ++ role_part (G.role_name g.now) fault)) }
+    ensures { OnOk result (text.new.items ≡ text.old.items ++ refusal_line (history_fault_words fault ++ role_part (G.role_name g.now) fault)) }
 {
     write!(text, "refused {fault}").map_err(|_| AllocError)?;
     if let HistoryFault::NotLegal(_, role) = fault {

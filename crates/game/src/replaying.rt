@@ -1,17 +1,18 @@
-// From a history to the state after it.
+//! From a history to the state after it.
 ghost use Rattle.std.specs.Prelude.{◌≡◌, ◌≢◌, ◌<◌, length, find, Ok, Err, IfOk, IfErr, IfSome, OnOk, OnErr, slice_set};
-ghost use Rattle.kif.specs.Tree.{text, name_eq};
-ghost use Rattle.kif.specs.View.{tree_of, trees_in, parts_of};
+ghost use Rattle.statement.specs.Tree.{text, name_eq};
+ghost use Rattle.kif.specs.View.{tree_of, trees_in};
+ghost use Rattle.statement.specs.Tree.{parts_of};
 ghost use Rattle.smallvec.specs.SmallVec.{small_vec_len};
-ghost use Rattle.game.specs.Played.{is_turn_list, form_faults, turn_faults, illegal_faults, first_fault, AreFormed, named_move, named_turn, played};
-ghost use Rattle.game.specs.Rules.{IsTurn};
-ghost use Rattle.game.specs.Refusal.{IsRoleOf};
+ghost use Rattle.statement.specs.Played.{is_turn_list, form_faults, turn_faults, illegal_faults, first_history_fault, AreFormed, named_move, named_turn, played};
+ghost use Rattle.statement.specs.Rules.{IsTurn};
+ghost use Rattle.statement.specs.HistoryTexts.{IsRoleOf};
 
-use crate::fault::HistoryFault;
 use crate::game::Game;
 use crate::joint::{Joint, new_joint, put_move};
 use crate::stuck::is_stuck;
 use kif::{Expr, count_parts, is_name, text_is};
+use statement::HistoryFault;
 use std::alloc::{AllocError, Allocator, Global};
 use std::mem;
 
@@ -34,7 +35,7 @@ fn is_formed<A: Allocator>(roles: usize, turn: &Expr<A>) -> bool
 
 /// Refuses the first turn that is not a list with a part for each role.
 fn check_forms<A: Allocator>(roles: usize, turns: &[Expr<A>]) -> Result<(), HistoryFault>
-    ensures faults { result ≡ first_fault (form_faults roles (trees_in turns.now)) tt }
+    ensures faults { result ≡ first_history_fault (form_faults roles (trees_in turns.now)) tt }
     ensures formed { OnOk result (AreFormed roles (trees_in turns.now)) }
     ensures role { IfErr result (IsRoleOf roles) }
 {
@@ -75,7 +76,7 @@ fn read_moves<G: Game, A: Allocator>(
     requires fits { G.fits g.now p.now }
     requires parts { length parts.now ≡ (G.rules g.now).roles }
     requires joint { small_vec_len joint.old ≡ (G.rules g.now).roles }
-    ensures faults { result ≡ first_fault (illegal_faults (G.rules g.now) (G.move_name g.now) (G.state g.now p.now) (trees_in parts.now) number) tt }
+    ensures faults { result ≡ first_history_fault (illegal_faults (G.rules g.now) (G.move_name g.now) (G.state g.now p.now) (trees_in parts.now) number) tt }
     ensures moves { OnOk result (joint.new.items ≡ named_turn (G.rules g.now) (G.move_name g.now) (G.state g.now p.now) (trees_in parts.now)) }
     ensures turn { OnOk result (IsTurn (G.rules g.now) joint.new.items) }
     ensures role { IfErr result (IsRoleOf (G.rules g.now).roles) }
@@ -101,7 +102,7 @@ fn read_turn<G: Game, A: Allocator>(
     requires fits { G.fits g.now p.now }
     requires parts { length parts.now ≡ (G.rules g.now).roles }
     requires joint { small_vec_len joint.old ≡ (G.rules g.now).roles }
-    ensures faults { result ≡ first_fault (turn_faults (G.rules g.now) (G.move_name g.now) (G.state g.now p.now) (trees_in parts.now) number) tt }
+    ensures faults { result ≡ first_history_fault (turn_faults (G.rules g.now) (G.move_name g.now) (G.state g.now p.now) (trees_in parts.now) number) tt }
     ensures moves { OnOk result (joint.new.items ≡ named_turn (G.rules g.now) (G.move_name g.now) (G.state g.now p.now) (trees_in parts.now)) }
     ensures turn { OnOk result (IsTurn (G.rules g.now) joint.new.items) }
     ensures role { IfErr result (IsRoleOf (G.rules g.now).roles) }

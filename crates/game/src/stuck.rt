@@ -1,6 +1,6 @@
-// Whether play can go on.
+//! Whether play can go on.
 ghost use Rattle.std.specs.Prelude.{◌≡◌};
-ghost use Rattle.game.specs.Rules.{is_stuck as stuck};
+ghost use Rattle.statement.specs.Rules.{is_stuck as stuck};
 
 use crate::game::Game;
 

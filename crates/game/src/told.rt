@@ -1,4 +1,4 @@
-// What is told of a state before it is taken.
+//! What is told of a state before it is taken.
 
 /// What a room for many states tells of one of them.
 #[derive(Clone, Copy, Debug, PartialEq, Eq)]

@@ -1,3 +1,4 @@
+-- This crate's own: what `run` promises does not rest on it.
 -- A tape in the making: what each literal stands for, and what a step keeps.
 use Rattle.std.specs.Prelude.{ℕ, Bool, true, false, not, ◌&&◌, ◌||◌, ◌==◌, List, [], ◌∷◌, All, length, ◌≡◌, ◌+◌, ◌*◌, ◌<◌, ◌≤◌, ◌%◌, ◌/◌, slice_index}
 use Rattle.gates.specs.Values.{slots, value, IsTape}

@@ -1,3 +1,4 @@
+-- This crate's own: what `run` promises does not rest on it.
 -- Bits of a group that are marked.
 use Rattle.std.specs.Prelude.{ℕ, Bool, false, ◌&&◌, ◌||◌, ◌+◌, ◌*◌, ◌≡◌, ◌<◌, List, [], ◌∷◌, length, slice_index_or}
 

@@ -1,3 +1,4 @@
+-- This crate's own: what `run` promises does not rest on it.
 -- What a tape says of its gates is a proposition, so it may be a ghost field.
 use Rattle.std.specs.Prelude.{ℕ, ◌+◌, List, [], ◌∷◌}
 use denote.Struct.Props as logic

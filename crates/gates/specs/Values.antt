@@ -1,3 +1,4 @@
+-- This crate's own: what `run` promises does not rest on it.
 -- The values of slots. A gate writes two: the and of two slots, and its negation.
 use Rattle.std.specs.Prelude.{
   ℕ,

@@ -2,45 +2,46 @@
 use Rattle.std.proofs.Common.{ℕ, ◌≡◌, ◌≤◌, ◌<◌, inl, inr, List, ◌++◌, length, drop, refl, sym, ap, subst, ◌∙◌, arith}
 use Rattle.std.proofs.Common.{Bool, true, false, append-nil, drop_of_length-le, drop_at, length-append, rules}
 use Rattle.std.specs.Prelude.{Option, Some, None, nat_lt}
-use Rattle.kif.specs.Reading.{too_long, fault_in, fault_where, or_else, text_limit, first_fault, first_unclosed}
-use Rattle.kif.specs.Lexical.{spots}
-use Rattle.kif.specs.Refusal.{fault_text}
-use Rattle.kif.specs.declared.fault.KifFault.TheVariants as faults
-use Rattle.words.specs.declared.command.Command.{Command}
-use Rattle.gdlsolve.specs.Input.{read_limit, IsReadFrom, RepliesTo}
-use Rattle.replies.specs.Answers.{Reply, refusal}
-use Rattle.replies.specs.Replies.{IsReply}
+use Rattle.statement.specs.Reading.{too_long, text_fault_in, fault_where, or_text_fault, text_limit, first_fault, first_unclosed}
+use Rattle.statement.specs.Lexical.{spots}
+use Rattle.statement.specs.TextFaults.{text_fault_words}
+use Rattle.statement.specs.declared.text_fault.KifFault.TheVariants as faults
+use Rattle.statement.specs.Queries.{Query}
+use Rattle.statement.specs.Input.{read_limit, RepliesTo}
+use Rattle.gdlsolve.specs.Input.{IsReadFrom}
+use Rattle.statement.specs.Answers.{Reply, refusal}
+use Rattle.statement.specs.Replies.{IsReply}
 use Rattle.replies.proofs.Facts.{one_text_fault}
 
 below_is_true : (m n : ℕ) → m < n → nat_lt m n ≡ true
 below_is_true m n h = search (rules, h)
 
-is_too_long : (bytes : List ℕ) → text_limit < length bytes → fault_in bytes ≡ Some too_long
+is_too_long : (bytes : List ℕ) → text_limit < length bytes → text_fault_in bytes ≡ Some too_long
 is_too_long bytes h =
-    ap (λ b. or_else (fault_where b too_long) (or_else (first_fault 0 (spots bytes)) (first_unclosed (spots bytes))))
+    ap (λ b. or_text_fault (fault_where b too_long) (or_text_fault (first_fault 0 (spots bytes)) (first_unclosed (spots bytes))))
     (below_is_true text_limit (length bytes) h)
 
 -- the reply to bytes that are too long says so
-refuses_long : (command : Command) (bytes : List ℕ) (reply : Reply) → text_limit < length bytes → IsReply command bytes reply
-    → reply ≡ refusal (fault_text faults.TooLong)
-refuses_long command bytes reply h (inl p) =
-    p.3 ∙ ap (λ e. refusal (fault_text e)) (one_text_fault bytes p.0 faults.TooLong p.1 p.2 (λ e. cc) (is_too_long bytes h))
-refuses_long command bytes reply h (inr p) = absurd (let short = p.1.short in omega arith)
+refuses_long : (query : Query) (bytes : List ℕ) (reply : Reply) → text_limit < length bytes → IsReply query bytes reply
+    → reply ≡ refusal (text_fault_words faults.TooLong)
+refuses_long query bytes reply h (inl p) =
+    p.3 ∙ ap (λ e. refusal (text_fault_words e)) (one_text_fault bytes p.0 faults.TooLong p.1 p.2 (λ e. cc) (is_too_long bytes h))
+refuses_long query bytes reply h (inr p) = absurd (let short = p.1.short in omega arith)
 
 -- so it is the reply to all that begins with them
-longer_too : (command : Command) (bytes rest : List ℕ) (reply : Reply) → text_limit < length bytes → IsReply command bytes reply
-    → IsReply command (bytes ++ rest) reply
-longer_too command bytes rest reply h p =
+longer_too : (query : Query) (bytes rest : List ℕ) (reply : Reply) → text_limit < length bytes → IsReply query bytes reply
+    → IsReply query (bytes ++ rest) reply
+longer_too query bytes rest reply h p =
     let long : text_limit < length (bytes ++ rest) = omega (arith, length-append bytes rest) in
-    inl (faults.TooLong, (λ e. cc), is_too_long (bytes ++ rest) long, refuses_long command bytes reply h p)
+    inl (faults.TooLong, (λ e. cc), is_too_long (bytes ++ rest) long, refuses_long query bytes reply h p)
 
-pub replies_to : (command : Command) (old left : Option (List ℕ)) (bytes : List ℕ) (reply : Reply)
-    → IsReadFrom old left bytes → IsReply command bytes reply → RepliesTo command old left reply
-replies_to command None left bytes reply read p = (bytes, tt, p)
-replies_to command (Some whole) None bytes reply read p = absurd read.consumed
-replies_to command (Some whole) (Some left) bytes reply read p = go (nat_lt (length bytes) read_limit) refl
+pub replies_to : (query : Query) (old left : Option (List ℕ)) (bytes : List ℕ) (reply : Reply)
+    → IsReadFrom old left bytes → IsReply query bytes reply → RepliesTo query old left reply
+replies_to query None left bytes reply read p = (bytes, tt, p)
+replies_to query (Some whole) None bytes reply read p = absurd read.consumed
+replies_to query (Some whole) (Some left) bytes reply read p = go (nat_lt (length bytes) read_limit) refl
   where
-    go : (b : Bool) → nat_lt (length bytes) read_limit ≡ b → RepliesTo command (Some whole) (Some left) reply
+    go : (b : Bool) → nat_lt (length bytes) read_limit ≡ b → RepliesTo query (Some whole) (Some left) reply
     go true e =
         let less : length bytes < read_limit = search (rules, e) in
         let none = read.ended less in
@@ -52,4 +53,4 @@ replies_to command (Some whole) (Some left) bytes reply read p = go (nat_lt (len
         let rest : left ≡ drop read_limit whole =
         sym (drop_at bytes left read_limit full) ∙ ap (λ (l : List ℕ). drop read_limit l) (sym read.consumed) in
         let long : text_limit < length bytes = omega (arith, full) in
-        (whole, (refl, rest), subst (λ (l : List ℕ). IsReply command l reply) (sym read.consumed) (longer_too command bytes left reply long p))
+        (whole, (refl, rest), subst (λ (l : List ℕ). IsReply query l reply) (sym read.consumed) (longer_too query bytes left reply long p))

@@ -1,2 +1,4 @@
 pub mod Input
+pub mod Faults
 pub mod Exits
+pub mod Fulfilling

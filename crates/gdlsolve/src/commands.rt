@@ -1,12 +1,14 @@
-// The command line: from words to a run, and from a run to its exit status.
-ghost use Rattle.std.specs.Prelude.{◌≡◌, ◌≢◌, ◌≤◌, ◌⊎◌, IfOk, IfErr};
+//! The command line: from words to a request, and from a request to its exit status.
+ghost use Rattle.std.specs.Prelude.{◌≡◌, ◌≤◌, ◌⊎◌, None};
 ghost use Rattle.std.specs.Io.KnownBytes.{Keeps};
-ghost use Rattle.gdlsolve.specs.Exits.{exit_status, Replied};
+ghost use Rattle.kif.specs.Written.{AppendsFront};
+ghost use Rattle.gdlsolve.specs.Exits.{exit_status, IsTold, Replied};
+ghost use Rattle.gdlsolve.specs.Fulfilling.{AreDone, HasRun, HasShown, IsFulfilled, streams};
 
 use crate::fault::RunFault;
 use crate::running::{run, write_out};
-use replies::{Request, Status, request_of};
-use std::alloc::Global;
+use kif::write_bytes;
+use replies::{Command, Request, Status, request_of};
 use std::io::{Read, Write};
 use std::thread::Threads;
 
@@ -25,31 +27,23 @@ const STARVED: u8 = 3;
 /// The exit status of a reader or a writer that failed.
 const BROKEN: u8 = 4;
 
-/// Writes the text of help to the output.
-fn write_help<W: Write>(
-    alloc: Global,
-    help: &clap::Error,
-    output: &mut W,
-) -> Result<Status, RunFault>
-    ensures status { IfOk result (λ status. status ≡ Status.Answer) }
-    ensures silent { IfErr result (λ fault. fault ≢ RunFault.Write → Keeps (W.contents output.old) (W.contents output.new)) }
+/// Writes a text to the errors. A fault in writing it is passed over.
+fn tell<E: Write>(errors: &mut E, text: &[u8])
+    ensures { AppendsFront (E.contents errors.old) (E.contents errors.new) text.now }
 {
-    let Ok(text) = format!(in alloc; "{help}") else {
-        return Err(RunFault::Memory);
-    };
-    write_out(output, text.as_bytes())?;
-    Ok(Status::Answer)
+    let _ = write_bytes(errors, text);
 }
 
 /// The exit status of a run, whose fault is told to the errors.
 fn status_of<E: Write>(ended: Result<Status, RunFault>, errors: &mut E) -> u8
-    ensures { result ≡ exit_status ended }
+    ensures status { result ≡ exit_status ended }
+    ensures told { IsTold ended (E.contents errors.old) (E.contents errors.new) }
 {
     match ended {
         Ok(Status::Answer) => ANSWERED,
         Ok(Status::Refused) => REFUSED,
         Err(fault) => {
-            let _ = writeln!(errors, "{fault}");
+            tell(errors, fault.line());
             match fault {
                 RunFault::Memory => STARVED,
                 RunFault::Read | RunFault::Write => BROKEN,
@@ -58,12 +52,62 @@ fn status_of<E: Write>(ended: Result<Status, RunFault>, errors: &mut E) -> u8
     }
 }
 
-/// Does what the words ask for, which are the arguments without the program's name, and answers the exit
-/// status: 0 for an answer, help or the version, 1 for words that are no command, 2 for a refusal, 3 for want
-/// of memory, 4 where the input or the output failed.
+/// Runs a command.
+fn run_told<T: Threads + Sync + AllocGlobal, R: Read, W: Write, E: Write>(
+    rt: &T,
+    command: &Command,
+    input: &mut R,
+    output: &mut W,
+    errors: &mut E,
+) -> u8
+    ensures { HasRun command.now result
+        (streams (R.remaining input.old) (W.contents output.old) (E.contents errors.old))
+        (streams (R.remaining input.new) (W.contents output.new) (E.contents errors.new)) }
+{
+    let ended = run(rt, command, input, output);
+    status_of(ended, errors)
+}
+
+/// Writes a text of help.
+fn show<W: Write, E: Write>(text: &str, output: &mut W, errors: &mut E) -> u8
+    ensures { HasShown text.now result
+        (streams None (W.contents output.old) (E.contents errors.old))
+        (streams None (W.contents output.new) (E.contents errors.new)) }
+{
+    let Ok(()) = write_out(output, text.as_bytes()) else {
+        return status_of(Err(RunFault::Write), errors);
+    };
+    ANSWERED
+}
+
+/// Does what a request asks for, and answers the exit status: 0 for an answer, help or the version, 1 for words that are no command,
+/// 2 for a refusal, 3 for want of memory, 4 where the input or the output failed.
 ///
-/// The words are read before the input. What goes to the errors is for people, and a fault in writing it is
-/// passed over.
+/// What goes to the errors is for people, and a fault in writing it is passed over.
+pub fn fulfil<T: Threads + Sync + AllocGlobal, R: Read, W: Write, E: Write>(
+    rt: &T,
+    request: &Request,
+    input: &mut R,
+    output: &mut W,
+    errors: &mut E,
+) -> u8
+    ensures { IsFulfilled request.now result
+        (streams (R.remaining input.old) (W.contents output.old) (E.contents errors.old))
+        (streams (R.remaining input.new) (W.contents output.new) (E.contents errors.new)) }
+{
+    match request {
+        Request::Run(command) => run_told(rt, command, input, output, errors),
+        Request::Help(text) => show(text, output, errors),
+        Request::Misuse(text) => {
+            tell(errors, text.as_bytes());
+            MISUSED
+        }
+    }
+}
+
+/// Does what the words ask for, which are the arguments without the program's name, and answers the exit status of `fulfil`.
+///
+/// The words are read before the input. Where there is no memory to make a request of them, the status is 3, and nothing is read.
 pub fn main_with<T: Threads + Sync + AllocGlobal, R: Read, W: Write, E: Write>(
     rt: &T,
     words: &[&str],
@@ -71,6 +115,9 @@ pub fn main_with<T: Threads + Sync + AllocGlobal, R: Read, W: Write, E: Write>(
     output: &mut W,
     errors: &mut E,
 ) -> u8
+    ensures done { AreDone result
+        (streams (R.remaining input.old) (W.contents output.old) (E.contents errors.old))
+        (streams (R.remaining input.new) (W.contents output.new) (E.contents errors.new)) }
     ensures statuses { result ≤ 4 }
     ensures answered { result ≡ 0
         → Replied Status.Answer (R.remaining input.old) (R.remaining input.new) (W.contents output.old) (W.contents output.new)
@@ -83,22 +130,5 @@ pub fn main_with<T: Threads + Sync + AllocGlobal, R: Read, W: Write, E: Write>(
     let Ok(request) = request_of(rt.alloc(), words) else {
         return status_of(Err(RunFault::Memory), errors);
     };
-    match request {
-        Request::Run(command) => {
-            let ended = run(rt, &command, input, output);
-            status_of(ended, errors)
-        }
-        Request::Help(text) => {
-            let ended = write_help(rt.alloc(), &text, output);
-            status_of(ended, errors)
-        }
-        Request::Misuse(text) => {
-            let _ = write!(errors, "{text}");
-            MISUSED
-        }
-        Request::Misread(line) => {
-            let _ = writeln!(errors, "{line}");
-            MISUSED
-        }
-    }
+    fulfil(rt, &request, input, output, errors)
 }

@@ -1,4 +1,4 @@
-// Why a run ends without its reply.
+//! Why a run ends without its reply.
 use thiserror::Error;
 
 /// Why a run ends without its reply.
@@ -13,4 +13,20 @@ pub enum RunFault {
     /// The writer failed, or took no byte. It holds a beginning of the reply.
     #[error("write fault")]
     Write,
+}
+
+impl RunFault {
+    ghost use Rattle.std.specs.Prelude.{◌≡◌};
+    ghost use Rattle.gdlsolve.specs.Faults.{fault_line};
+
+    /// The line that tells of the fault.
+    pub(crate) fn line(self) -> &'static [u8]
+        ensures { result.now ≡ fault_line self }
+    {
+        match self {
+            RunFault::Memory => b"no memory\n",
+            RunFault::Read => b"read fault\n",
+            RunFault::Write => b"write fault\n",
+        }
+    }
 }

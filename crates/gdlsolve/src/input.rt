@@ -1,4 +1,4 @@
-// The bytes of the input.
+//! The bytes of the input.
 ghost use Rattle.std.specs.Prelude.{◌≡◌, ◌≢◌, ◌+◌, ◌++◌, ◌≤◌, ◌<◌, length, take, drop, vec_len, IfOk, IfErr};
 ghost use Rattle.std.specs.Io.KnownBytes.{Consumes, IsAtEnd};
 ghost use Rattle.gdlsolve.specs.Input.{IsReadFrom};

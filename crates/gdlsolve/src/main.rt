@@ -1,4 +1,4 @@
-// The program `gdlsolve`: the rules of a game on standard input, answers on standard output.
+//! The program `gdlsolve`: the rules of a game on standard input, answers on standard output.
 #![tactic(auto)]
 
 mod commands;

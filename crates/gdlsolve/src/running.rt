@@ -1,9 +1,10 @@
-// One run: from the bytes of the input to those of the output.
+//! One run: from the bytes of the input to those of the output.
 ghost use Rattle.std.specs.Prelude.{◌≡◌, ◌≢◌, ℕ, List, IfOk, IfErr, OnOk, OnErr};
 ghost use Rattle.std.specs.Io.KnownBytes.{Appends, Keeps};
 ghost use Rattle.kif.specs.Written.{AppendsFront};
-ghost use Rattle.replies.specs.Answers.{Reply};
-ghost use Rattle.gdlsolve.specs.Input.{RepliesTo};
+ghost use Rattle.statement.specs.Answers.{Reply};
+ghost use Rattle.statement.specs.Input.{RepliesTo};
+ghost use Rattle.words.specs.Asked.{query_of};
 
 use crate::fault::RunFault;
 use crate::input::read_input;
@@ -34,11 +35,11 @@ fn run_with<T: Threads + Sync + AllocGlobal, R: Read, W: Write>(
     output: &mut W,
 ) -> Result<Status, RunFault>
     ensures answers { IfOk result (λ status. (written : List ℕ)
-        × RepliesTo command.now (R.remaining input.old) (R.remaining input.new) (record { output = written; status = status })
+        × RepliesTo (query_of command.now) (R.remaining input.old) (R.remaining input.new) (record { output = written; status = status })
         × Appends (W.contents output.old) (W.contents output.new) written) }
     ensures silent { IfErr result (λ fault. fault ≢ RunFault.Write → Keeps (W.contents output.old) (W.contents output.new)) }
     ensures broken { IfErr result (λ fault. fault ≡ RunFault.Write → (reply : Reply)
-        × RepliesTo command.now (R.remaining input.old) (R.remaining input.new) reply
+        × RepliesTo (query_of command.now) (R.remaining input.old) (R.remaining input.new) reply
         × AppendsFront (W.contents output.old) (W.contents output.new) reply.output) }
 {
     let bytes = read_input(rt.alloc(), input)?;
@@ -57,11 +58,11 @@ pub fn run<T: Threads + Sync + AllocGlobal, R: Read, W: Write>(
     output: &mut W,
 ) -> Result<Status, RunFault>
     ensures answers { IfOk result (λ status. (written : List ℕ)
-        × RepliesTo command.now (R.remaining input.old) (R.remaining input.new) (record { output = written; status = status })
+        × RepliesTo (query_of command.now) (R.remaining input.old) (R.remaining input.new) (record { output = written; status = status })
         × Appends (W.contents output.old) (W.contents output.new) written) }
     ensures silent { IfErr result (λ fault. fault ≢ RunFault.Write → Keeps (W.contents output.old) (W.contents output.new)) }
     ensures broken { IfErr result (λ fault. fault ≡ RunFault.Write → (reply : Reply)
-        × RepliesTo command.now (R.remaining input.old) (R.remaining input.new) reply
+        × RepliesTo (query_of command.now) (R.remaining input.old) (R.remaining input.new) reply
         × AppendsFront (W.contents output.old) (W.contents output.new) reply.output) }
 {
     run_with(rt, Player::Network, command, input, output)
@@ -75,11 +76,11 @@ pub fn run_rules<T: Threads + Sync + AllocGlobal, R: Read, W: Write>(
     output: &mut W,
 ) -> Result<Status, RunFault>
     ensures answers { IfOk result (λ status. (written : List ℕ)
-        × RepliesTo command.now (R.remaining input.old) (R.remaining input.new) (record { output = written; status = status })
+        × RepliesTo (query_of command.now) (R.remaining input.old) (R.remaining input.new) (record { output = written; status = status })
         × Appends (W.contents output.old) (W.contents output.new) written) }
     ensures silent { IfErr result (λ fault. fault ≢ RunFault.Write → Keeps (W.contents output.old) (W.contents output.new)) }
     ensures broken { IfErr result (λ fault. fault ≡ RunFault.Write → (reply : Reply)
-        × RepliesTo command.now (R.remaining input.old) (R.remaining input.new) reply
+        × RepliesTo (query_of command.now) (R.remaining input.old) (R.remaining input.new) reply
         × AppendsFront (W.contents output.old) (W.contents output.new) reply.output) }
 {
     run_with(rt, Player::Rules, command, input, output)

@@ -1,4 +1,4 @@
-// Worked texts, through a run and through the command line, over readers and writers in memory.
+//! Worked texts, through a run and through the command line, over readers and writers in memory.
 mod beginnings;
 mod bounds;
 mod broken;
@@ -11,6 +11,7 @@ mod lines;
 mod moves;
 mod nets;
 mod starved;
+mod workers;
 
 use crate::{Command, RunFault, Status, main_with, run, run_rules};
 use devices::{Full, Silent, Slow, Torn};

@@ -1,14 +1,15 @@
-// The reply to a command, with its search shared by workers.
+//! The reply to a command, with its search shared by workers.
 ghost use Rattle.std.specs.Prelude.{◌≡◌, ◌<◌, IfOk, IfErr};
-ghost use Rattle.ground.specs.GroundView.{IsGround, HasAtoms};
+ghost use Rattle.ground.specs.GroundView.{IsGround};
 ghost use Rattle.listing.specs.Progress.{IsFaultOf};
-ghost use Rattle.meaning.specs.Limits.{excess_in};
+ghost use Rattle.statement.specs.Limits.{excess_in};
 ghost use Rattle.rules.specs.RuleSetView.{rules_in};
-ghost use Rattle.replies.specs.Answers.{answer};
+ghost use Rattle.statement.specs.Answers.{answer};
 ghost use Rattle.replies.specs.Histories.{named};
 ghost use Rattle.replies.specs.Questions.{reply_of};
-ghost use Rattle.replies.specs.Replies.{IsReply};
-ghost use Rattle.replies.specs.Solving.{solve_lines};
+ghost use Rattle.statement.specs.Replies.{IsReply};
+ghost use Rattle.words.specs.Asked.{query_of};
+ghost use Rattle.statement.specs.Solving.{solve_lines};
 
 use game::Game;
 use ground::{FlatGround, GroundFault, instantiate_flat};
@@ -57,11 +58,10 @@ pub(crate) fn reply_by_workers<T: Threads + Sync + AllocGlobal>(
     command: &Command,
     bytes: &[u8],
 ) -> Result<Reply, AllocError>
-    ensures { IfOk result (λ reply. IsReply command.now bytes.now (reply_of reply)) }
+    ensures { IfOk result (λ reply. IsReply (query_of command.now) bytes.now (reply_of reply)) }
 {
     let instantiate_here = |rules: &RuleSet| -> Result<FlatGround, GroundFault>
         ensures ground { IfOk result (λ g. IsGround (rules_in rules.now) g) }
-        ensures atoms { IfOk result (λ g. HasAtoms (rules_in rules.now) g) }
         ensures fault { IfErr result (IsFaultOf (excess_in (rules_in rules.now))) }
     { instantiate_flat(rt, rules) };
     let means = Means {

@@ -1,19 +1,18 @@
 -- What is told of a request is told of the rules.
 use Rattle.std.proofs.Common.{ℕ, List}
 use Rattle.std.specs.Prelude.{Result, Ok, Err, IfOk}
+use Rattle.words.specs.Asked.{query_of}
 use Rattle.words.specs.declared.grammar.Request.{Request}
-use Rattle.words.specs.declared.grammar.Request.TheVariants.{Run, Help, Misuse, Misread}
+use Rattle.words.specs.declared.grammar.Request.TheVariants.{Run, Help, Misuse}
 use Rattle.gdlsolve_c.specs.declared.told.Told.{Told}
 use Rattle.gdlsolve_c.specs.declared.told.Told.TheVariants.{Reply, Words}
 use Rattle.gdlsolve_c.specs.Telling.{IsTold, IsToldOf}
 
 pub is_told : {E : Type 0} (request : Request) (rules : List ℕ) (r : Result Told E) → IfOk r (IsToldOf request rules) → IfOk r (IsTold rules)
 is_told request rules (Err e) h = tt
-is_told (Run command) rules (Ok (Reply reply)) h = (command, h)
+is_told (Run command) rules (Ok (Reply reply)) h = (query_of command, h)
 is_told (Run command) rules (Ok (Words text)) h = tt
 is_told (Help help) rules (Ok (Reply reply)) h = absurd h
 is_told (Help help) rules (Ok (Words text)) h = tt
 is_told (Misuse fault) rules (Ok (Reply reply)) h = absurd h
 is_told (Misuse fault) rules (Ok (Words text)) h = tt
-is_told (Misread line) rules (Ok (Reply reply)) h = absurd h
-is_told (Misread line) rules (Ok (Words text)) h = tt

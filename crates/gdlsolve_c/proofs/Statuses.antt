@@ -1,9 +1,9 @@
 -- What each status says of what was told.
 use Rattle.std.proofs.Common.{ℕ, ◌≡◌, List, refl, arith, subst}
-use Rattle.words.specs.declared.command.Command.{Command}
-use Rattle.replies.specs.declared.status.Status.{Status}
-use Rattle.replies.specs.declared.status.Status.TheVariants.{Answer, Refused}
-use Rattle.replies.specs.Replies.{IsReply}
+use Rattle.statement.specs.Queries.{Query}
+use Rattle.statement.specs.declared.status.Status.{Status}
+use Rattle.statement.specs.declared.status.Status.TheVariants.{Answer, Refused}
+use Rattle.statement.specs.Replies.{IsReply}
 use Rattle.gdlsolve_c.specs.declared.told.Told.{Told}
 use Rattle.gdlsolve_c.specs.declared.told.Told.TheVariants.{Reply, Words}
 use Rattle.gdlsolve_c.specs.Calls.{Fills, Replied}
@@ -17,11 +17,11 @@ is_refusal : (s : Status) → reply_status s ≡ 2 → s ≡ Refused
 is_refusal Answer e = absurd (omega arith)
 is_refusal Refused e = refl
 
-replied : (s t : Status) (command : Command) (rules bytes old new : List ℕ) (size : ℕ) → s ≡ t
-    → IsReply command rules (record { output = bytes; status = s }) → Fills old new size bytes → Replied t rules old new size
-replied s t command rules bytes old new size e h f =
-    let P : Status → Type 0 = λ x. IsReply command rules (record { output = bytes; status = x }) in
-    (command, bytes, subst P e h, f)
+replied : (s t : Status) (query : Query) (rules bytes old new : List ℕ) (size : ℕ) → s ≡ t
+    → IsReply query rules (record { output = bytes; status = s }) → Fills old new size bytes → Replied t rules old new size
+replied s t query rules bytes old new size e h f =
+    let P : Status → Type 0 = λ x. IsReply query rules (record { output = bytes; status = x }) in
+    (query, bytes, subst P e h, f)
 
 pub answer_told : (told : Told) (rules old new : List ℕ) (size : ℕ) → IsTold rules told → Fills old new size (bytes_of told)
     → status_of told ≡ 0 → Replied Answer rules old new size

@@ -1,8 +1,9 @@
+-- This crate's own: what `run` promises does not rest on it.
 -- What a call leaves in the caller's memory.
 use Rattle.std.specs.Prelude.{ℕ, ◌≡◌, List, ◌++◌, length, take, drop}
-use Rattle.words.specs.declared.command.Command.{Command}
-use Rattle.replies.specs.declared.status.Status.{Status}
-use Rattle.replies.specs.Replies.{IsReply}
+use Rattle.statement.specs.Queries.{Query}
+use Rattle.statement.specs.declared.status.Status.{Status}
+use Rattle.statement.specs.Replies.{IsReply}
 
 -- a room with the bytes at its front, as many as it has place for, and behind them what stood there
 abbrev pub filled : List ℕ → List ℕ → List ℕ
@@ -12,7 +13,7 @@ filled room bytes = take (length room) bytes ++ drop (length bytes) room
 abbrev pub Fills : List ℕ → List ℕ → ℕ → List ℕ → Type 0
 Fills old new size bytes = (new ≡ filled old bytes) × (size ≡ length bytes)
 
--- some command has the reply of this status over the rules, and the room is filled with it
+-- some query has the reply of this status over the rules, and the room is filled with it
 abbrev pub Replied : Status → List ℕ → List ℕ → List ℕ → ℕ → Type 0
 Replied status rules old new size =
-    (command : Command) × (bytes : List ℕ) × IsReply command rules (record { output = bytes; status = status }) × Fills old new size bytes
+    (query : Query) × (bytes : List ℕ) × IsReply query rules (record { output = bytes; status = status }) × Fills old new size bytes

@@ -1,12 +1,14 @@
+-- This crate's own: what `run` promises does not rest on it.
 -- What a caller is told of a request, and by which status.
 use Rattle.std.specs.Prelude.{ℕ, List}
-use Rattle.words.specs.declared.command.Command.{Command}
-use Rattle.replies.specs.declared.status.Status.{Status}
-use Rattle.replies.specs.declared.status.Status.TheVariants.{Answer, Refused}
+use Rattle.statement.specs.Queries.{Query}
+use Rattle.statement.specs.declared.status.Status.{Status}
+use Rattle.statement.specs.declared.status.Status.TheVariants.{Answer, Refused}
 use Rattle.words.specs.declared.grammar.Request.{Request}
-use Rattle.words.specs.declared.grammar.Request.TheVariants.{Run, Help, Misuse, Misread}
+use Rattle.words.specs.declared.grammar.Request.TheVariants.{Run, Help, Misuse}
+use Rattle.words.specs.Asked.{query_of}
 use Rattle.replies.specs.Questions.{reply_of}
-use Rattle.replies.specs.Replies.{IsReply}
+use Rattle.statement.specs.Replies.{IsReply}
 use Rattle.gdlsolve_c.specs.declared.told.Told.{Told}
 use Rattle.gdlsolve_c.specs.declared.told.Told.TheVariants.{Reply, Words}
 
@@ -27,16 +29,14 @@ status_of (Words text) = 1
 
 -- a reply is that to some command over the rules
 abbrev pub IsTold : List ℕ → Told → Type 0
-IsTold rules (Reply reply) = (command : Command) × IsReply command rules (reply_of reply)
+IsTold rules (Reply reply) = (query : Query) × IsReply query rules (reply_of reply)
 IsTold rules (Words text) = Unit
 
 -- of a command its reply is told, and of any other request a text
 abbrev pub IsToldOf : Request → List ℕ → Told → Type 0
-IsToldOf (Run command) rules (Reply reply) = IsReply command rules (reply_of reply)
+IsToldOf (Run command) rules (Reply reply) = IsReply (query_of command) rules (reply_of reply)
 IsToldOf (Run command) rules (Words text) = ⊥
 IsToldOf (Help help) rules (Reply reply) = ⊥
 IsToldOf (Help help) rules (Words text) = Unit
 IsToldOf (Misuse fault) rules (Reply reply) = ⊥
 IsToldOf (Misuse fault) rules (Words text) = Unit
-IsToldOf (Misread line) rules (Reply reply) = ⊥
-IsToldOf (Misread line) rules (Words text) = Unit

@@ -1,6 +1,6 @@
-// The call.
+//! The call.
 ghost use Rattle.std.specs.Prelude.{◌≡◌, ◌≤◌, ℕ, List, []};
-ghost use Rattle.replies.specs.declared.status.Status.TheVariants.{Answer, Refused};
+ghost use Rattle.statement.specs.declared.status.Status.TheVariants.{Answer, Refused};
 ghost use Rattle.gdlsolve_c.specs.Calls.{filled, Fills, Replied};
 
 use crate::told::tell;

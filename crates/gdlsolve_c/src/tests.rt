@@ -1,4 +1,4 @@
-// Calls with worked texts, in rooms of any size.
+//! Calls with worked texts, in rooms of any size.
 use crate::gdlsolve_reply;
 use std::alloc::{AllocError, Global};
 

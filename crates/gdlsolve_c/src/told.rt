@@ -1,4 +1,4 @@
-// What a caller is told: the reply to a command, or what is said of words that make none.
+//! What a caller is told: the reply to a command, or what is said of words that make none.
 ghost use Rattle.std.specs.Prelude.{◌≡◌, IfOk};
 ghost use Rattle.gdlsolve_c.specs.Telling.{IsToldOf, IsTold, bytes_of, status_of};
 
@@ -59,10 +59,6 @@ fn tell_of(alloc: Global, request: &Request, rules: &[u8]) -> Result<Told, Alloc
         }
         Request::Help(text) | Request::Misuse(text) => {
             let text = format!(in alloc; "{text}")?;
-            Ok(Told::Words(text.into_bytes()))
-        }
-        Request::Misread(line) => {
-            let text = format!(in alloc; "{line}\n")?;
             Ok(Told::Words(text.into_bytes()))
         }
     }

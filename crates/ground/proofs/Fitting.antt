@@ -42,44 +42,27 @@ use Rattle.std.proofs.lemmas.List.{length-map, get_or-map}
 use Rattle.std.specs.Coded.{×_prop, Unit-prop, le_prop}
 use Rattle.std.specs.Option.{option_map}
 use Rattle.std.specs.declared.cmp.Ordering.TheVariants.{Less}
-use Rattle.kif.specs.Tree.{Tree, Trees, no_trees, tree, text, tree_eq, printed_cmp}
-use Rattle.kif.specs.Lexical.{HasNames}
+use Rattle.statement.specs.Tree.{Tree, Trees, no_trees, tree, text, tree_eq, printed_cmp}
+use Rattle.statement.specs.Lexical.{HasNames}
 use Rattle.kif.proofs.Facts.{tree_eq_yes, text_once}
-use Rattle.profile.specs.Clause.{Atom, Alternative, Relation, relation_of, is_word, atom_eq}
-use Rattle.profile.specs.Dependence.{IsAmong, is_fixed}
-use Rattle.profile.specs.Order.{relations_in_order}
-use Rattle.profile.specs.Words.{w_role, w_true, w_does}
-use Rattle.meaning.specs.declared.kind.Kind.{Kind}
-use Rattle.meaning.specs.declared.kind.Kind.TheVariants.{Fixed, Now, Does, Next, Legal, Goal, Terminal, Other}
-use Rattle.meaning.specs.Meaning.{source_of, ordinary, atom1, atom2}
-use Rattle.meaning.specs.InOrder.{AreInOrder}
-use Rattle.meaning.specs.Kinds.{place_in, kind_of}
+use Rattle.statement.specs.Clause.{Atom, Alternative, Relation, relation_of, is_word, atom_eq}
+use Rattle.statement.specs.Dependence.{IsAmong, is_fixed}
+use Rattle.statement.specs.Order.{relations_in_order}
+use Rattle.statement.specs.Words.{w_role, w_true, w_does}
+use Rattle.statement.specs.declared.kind.Kind.{Kind}
+use Rattle.statement.specs.declared.kind.Kind.TheVariants.{Fixed, Now, Does, Next, Legal, Goal, Terminal, Other}
+use Rattle.statement.specs.Meaning.{source_of, ordinary, atom1, atom2}
+use Rattle.statement.specs.Printed.{AreInOrder}
+use Rattle.statement.specs.Kinds.{place_in, kind_of}
 use Rattle.meaning.specs.Effects.{IsWithin}
-use Rattle.meaning.specs.Limits.{count_inputs}
-use Rattle.meaning.specs.Most.{limits}
+use Rattle.statement.specs.Limits.{count_inputs}
+use Rattle.statement.specs.Most.{limits}
 use Rattle.meaning.specs.Listed.{IsWellFormed}
-use Rattle.meaning.specs.Listing.{
-  Instance,
-  is_atom_in,
-  with_atoms,
-  Listing,
-  heads,
-  list_relation,
-  list_relations,
-  kept_of_relation,
-  one_term,
-  terms_of,
-  context_atoms,
-  moves_of,
-  fixed_listing,
-  listing,
-  role_list,
-  base_list,
-  input_list,
-}
-use Rattle.meaning.specs.Gates.{gate}
-use Rattle.meaning.specs.Play as play
-use Rattle.ground.specs.Grounds.{Kept, numbered, texts_at, IsGroundOf, IsSomeGround}
+use Rattle.statement.specs.Listing.{Instance, is_atom_in, with_atoms, Listing, heads, list_relation, list_relations, kept_of_relation, one_term, terms_of, context_atoms, moves_of, fixed_listing, listing, role_list, base_list, input_list}
+use Rattle.statement.specs.Kept.{gate}
+use Rattle.statement.specs.GoalsAndMoves as play
+use Rattle.statement.specs.Kept.{Kept, numbered}
+use Rattle.ground.specs.Grounds.{texts_at, IsGroundOf, IsSomeGround}
 use Rattle.ground.specs.Fits.{Rise, Differ, count_all, IsInputWithin, IsKindWithin, IsKeptWithin, FitTogether}
 use Rattle.meaning.proofs.Facts.{
   among_map_out,

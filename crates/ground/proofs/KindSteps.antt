@@ -1,12 +1,12 @@
 -- The kinds of atoms one after the other.
 use Rattle.std.proofs.Common.{ℕ, ◌+◌, ◌≡◌, List, [], ◌∷◌, ◌++◌, map, nat_lt, append_assoc, refl, sym, ap, ◌∙◌}
 use Rattle.std.proofs.lemmas.List.{append-nil}
-use Rattle.kif.specs.Tree.{Tree}
-use Rattle.profile.specs.Clause.{Atom, Alternative, relation_of, tree_of}
-use Rattle.profile.specs.Dependence.{is_fixed}
-use Rattle.meaning.specs.declared.kind.Kind.{Kind}
+use Rattle.statement.specs.Tree.{Tree}
+use Rattle.statement.specs.Clause.{Atom, Alternative, relation_of, tree_of}
+use Rattle.statement.specs.Dependence.{is_fixed}
+use Rattle.statement.specs.declared.kind.Kind.{Kind}
 use Rattle.terms.specs.Keys.{term_at}
-use Rattle.meaning.specs.Kinds.{kind_of}
+use Rattle.statement.specs.Kinds.{kind_of}
 use Rattle.meaning.specs.Marked.{AreMarked}
 
 -- the kinds of the atoms before a place are known, and some atoms are left
@@ -22,9 +22,6 @@ pub record Kinding (rules : List Alternative) (terms : List Tree) (n : ℕ) (all
     pub each : (xs : List Atom) → map (term_at terms) all ≡ map tree_of xs → AreMarked rules n 0 xs → KindsTo rules terms n kinds place rest xs
 
 module _ (rules : List Alternative) (terms : List Tree) (n : ℕ) (all : List ℕ) where
-  pub kinding_begins : Kinding rules terms n all [] 0 all
-  kinding_begins = record { each = λ xs e m. record { left = xs; same = e; marked = m; kinds_are = refl } }
-
   pub kinding_next : (kinds new : List Kind) (place a : ℕ) (rest : List ℕ) (k : Kind) → Kinding rules terms n all kinds place (a ∷ rest)
       → ((x : Atom) → tree_of x ≡ term_at terms a → is_fixed rules (relation_of x) ≡ nat_lt place n → k ≡ kind_of rules x) → new ≡ kinds ++ k ∷ []
       → Kinding rules terms n all new (place + 1) rest

@@ -26,8 +26,8 @@ use Rattle.std.proofs.Common.{
 }
 use Rattle.std.specs.List.{list_any}
 use Rattle.std.proofs.lemmas.List.{append-nil}
-use Rattle.kif.specs.Tree.{Tree}
-use Rattle.profile.specs.Dependence.{IsAmong}
+use Rattle.statement.specs.Tree.{Tree}
+use Rattle.statement.specs.Dependence.{IsAmong}
 use Rattle.profile.proofs.Facts.{IsAmong-append}
 use Rattle.terms.specs.Atoms.{with_numbers}
 use Rattle.meaning.specs.InOrder.{AreDistinct}

@@ -1,12 +1,14 @@
+-- This crate's own: what `run` promises does not rest on it.
 -- How the parts of an instantiation fit together.
 use Rattle.std.specs.Prelude.{ℕ, ◌≡◌, ◌≢◌, ◌<◌, ◌≤◌, ◌+◌, Bool, List, [], ◌∷◌, All, AllPairs, length, ⊤}
 use Rattle.std.specs.Ordering.{nat_cmp}
 use Rattle.std.specs.Cmp.Lexicographic.{slice_cmp}
 use Rattle.std.specs.declared.cmp.Ordering.TheVariants.{Less}
-use Rattle.meaning.specs.declared.kind.Kind.{Kind}
-use Rattle.meaning.specs.declared.kind.Kind.TheVariants.{Fixed, Now, Does, Next, Legal, Goal, Terminal, Other}
-use Rattle.ground.specs.Grounds.{Kept, texts_at}
-use Rattle.meaning.specs.Most.{limits}
+use Rattle.statement.specs.declared.kind.Kind.{Kind}
+use Rattle.statement.specs.declared.kind.Kind.TheVariants.{Fixed, Now, Does, Next, Legal, Goal, Terminal, Other}
+use Rattle.statement.specs.Kept.{Kept}
+use Rattle.ground.specs.Grounds.{texts_at}
+use Rattle.statement.specs.Most.{limits}
 
 -- each text stands before all later ones in the order of bytes
 abbrev pub Rise : List (List ℕ) → Type 0

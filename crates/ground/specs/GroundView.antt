@@ -1,13 +1,14 @@
+-- This crate's own: what `run` promises does not rest on it.
 -- What a ground tells, by its flat lists.
 use Rattle.std.specs.Prelude.{ℕ, ◌≡◌, Bool, List, map}
-use Rattle.profile.specs.Clause.{Alternative}
-use Rattle.meaning.specs.declared.kind.Kind.{Kind}
+use Rattle.statement.specs.Clause.{Alternative}
+use Rattle.statement.specs.declared.kind.Kind.{Kind}
 use Rattle.ground.specs.declared.flat_ground.FlatGround.{FlatGround}
 use Rattle.ground.specs.declared.ground.Ground.{Ground}
 use Rattle.ground.specs.declared.ground.Instance.{Instance}
-use Rattle.listing.specs.Founds.{numbers_of_list}
-use Rattle.terms.specs.AtomTexts.{listed_texts}
-use Rattle.ground.specs.Grounds.{Kept, IsGroundOf}
+use Rattle.kept.specs.Lists.{numbers_of_list}
+use Rattle.statement.specs.Kept.{Kept}
+use Rattle.ground.specs.Grounds.{IsGroundOf}
 use Rattle.rules.specs.RuleSets.{texts_of}
 
 abbrev pub roles_of : FlatGround → List (List ℕ)
@@ -30,19 +31,12 @@ starts_of g = g.starts.items
 abbrev pub dropped_of : FlatGround → ℕ
 dropped_of g = g.dropped
 
-abbrev pub atoms_of : FlatGround → List (List ℕ)
-atoms_of g = g.atom_table
-
 abbrev pub instances_of : FlatGround → List Kept
 instances_of g = numbers_of_list g.kept
 
 -- the ground is that of the rules
 abbrev pub IsGround : List Alternative → FlatGround → Type 0
 IsGround rules g = IsGroundOf rules (roles_of g) (base_of g) (inputs_of g) (starts_of g) (kinds_of g) (instances_of g) (dropped_of g)
-
--- the texts of its atoms are those of the rules
-abbrev pub HasAtoms : List Alternative → FlatGround → Type 0
-HasAtoms rules g = atoms_of g ≡ listed_texts rules
 
 -- the flat lists of a ground, and its instances one by one
 abbrev pub flat_of : Ground → FlatGround

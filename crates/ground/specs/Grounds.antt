@@ -1,15 +1,16 @@
+-- This crate's own: what `run` promises does not rest on it.
 -- What an instantiation gives, in numbers and texts.
 use Rattle.std.specs.Prelude.{ℕ, ◌≡◌, Bool, List, [], map, slice_index_or, None}
-use Rattle.kif.specs.Tree.{text}
-use Rattle.profile.specs.Clause.{Alternative}
-use Rattle.meaning.specs.declared.kind.Kind.{Kind}
-use Rattle.meaning.specs.Kinds.{kind_of}
-use Rattle.meaning.specs.Limits.{excess_in}
+use Rattle.statement.specs.Tree.{text}
+use Rattle.statement.specs.Clause.{Alternative}
+use Rattle.statement.specs.declared.kind.Kind.{Kind}
+use Rattle.statement.specs.Kinds.{kind_of}
+use Rattle.statement.specs.Limits.{excess_in}
 use Rattle.meaning.specs.Listed.{IsWellFormed}
-use Rattle.meaning.specs.Listing.{listing, role_list, base_list, input_list}
-use Rattle.meaning.specs.Play as play
+use Rattle.statement.specs.Listing.{listing, role_list, base_list, input_list}
+use Rattle.statement.specs.GoalsAndMoves as play
 use Rattle.ground.specs.declared.ground.Instance as shown
-pub use Rattle.listing.specs.Kept.{Kept, numbered}
+pub use Rattle.statement.specs.Kept.{Kept, numbered}
 
 -- an instance in memory
 abbrev pub kept_of : shown.Instance → Kept

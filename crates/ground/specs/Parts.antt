@@ -1,11 +1,12 @@
+-- This crate's own: what `run` promises does not rest on it.
 -- The marks and kinds of a ground.
 use Rattle.std.specs.Prelude.{ℕ, ◌≡◌, Bool, List, map}
-use Rattle.profile.specs.Clause.{Alternative}
-use Rattle.meaning.specs.declared.kind.Kind.{Kind}
-use Rattle.meaning.specs.Kinds.{kind_of}
-use Rattle.meaning.specs.Listing.{base_list, listing}
-use Rattle.meaning.specs.Play as play
-use Rattle.listing.specs.Kept.{Kept, numbered}
+use Rattle.statement.specs.Clause.{Alternative}
+use Rattle.statement.specs.declared.kind.Kind.{Kind}
+use Rattle.statement.specs.Kinds.{kind_of}
+use Rattle.statement.specs.Listing.{base_list, listing}
+use Rattle.statement.specs.GoalsAndMoves as play
+use Rattle.statement.specs.Kept.{Kept, numbered}
 
 -- the marks and kinds are those of the rules, and so many heads have no effect
 pub record ArePartsOf (rules : List Alternative) (starts : List Bool) (kinds : List Kind) (dropped : ℕ) : Type 0 where

@@ -1,10 +1,12 @@
-// The instances once all atoms have numbers.
+//! The instances once all atoms have numbers.
+//!
+//! Each is numbered by itself, so where there are many literals or instances a piece of the list goes to each thread.
 ghost use Rattle.std.specs.Prelude.{◌≡◌, ◌<◌, length, map, nat_eq};
 ghost use Rattle.std.specs.List.{list_all};
 ghost use Rattle.ground.specs.Finishing.{is_read_in, reading_in, headed_in, AreNumbered};
 ghost use Rattle.kept.specs.LeavingOut.{with_some};
-ghost use Rattle.listing.specs.Founds.{AreLaid, numbers_of_list};
-ghost use Rattle.meaning.specs.InOrder.{first_place};
+ghost use Rattle.kept.specs.Lists.{AreLaid, numbers_of_list};
+ghost use Rattle.statement.specs.Printed.{first_place};
 
 use kept::{AtomLiteral, Entry, FoundList, leave_out};
 use spread::change_each;

@@ -1,19 +1,19 @@
-// The laws of the last pass.
+//! The laws of the last pass.
 ghost use Rattle.std.specs.Prelude.{ℕ, ◌≡◌, List, length, map};
-ghost use Rattle.profile.specs.Clause.{Alternative};
+ghost use Rattle.statement.specs.Clause.{Alternative};
 ghost use Rattle.rules.specs.RuleSets.{IsNumberOf, AreKeywords};
 ghost use Rattle.rules.specs.declared.rule_set.Keywords.{Keywords};
-ghost use Rattle.profile.specs.Words.{w_init};
+ghost use Rattle.statement.specs.Words.{w_init};
 ghost use Rattle.terms.specs.Arena.{Held};
 ghost use Rattle.terms.specs.Dropping.{AreShown, dropped_in};
 ghost use Rattle.ground.specs.Finishing.{numbered_in};
-ghost use Rattle.ground.specs.Grounds.{Kept, numbered};
+ghost use Rattle.statement.specs.Kept.{Kept, numbered};
 ghost use Rattle.clauses.specs.Marks.{AreBelow};
 ghost use Rattle.clauses.specs.Numbers.{AreDifferent};
 ghost use Rattle.terms.specs.Keys.{term_at, trees};
 ghost use Rattle.meaning.specs.Listed.{IsWellFormed};
-ghost use Rattle.meaning.specs.Listing.{listing, base_list};
-ghost use Rattle.meaning.specs.Play.{starts, dropped};
+ghost use Rattle.statement.specs.Listing.{listing, base_list};
+ghost use Rattle.statement.specs.GoalsAndMoves.{starts, dropped};
 ghost use Rattle.listing.specs.Progress.{IsListed};
 ghost use Rattle.terms.specs.Starting.{starts_in};
 

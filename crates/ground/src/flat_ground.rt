@@ -1,11 +1,11 @@
-// The kept instances of a description in flat lists, and where their atoms stand in play.
-ghost use Rattle.std.specs.Prelude.{◌≡◌, length, map};
+//! The kept instances of a description in flat lists, and where their atoms stand in play.
+ghost use Rattle.std.specs.Prelude.{◌≤◌, length, map};
 ghost use Rattle.ground.specs.Grounds.{IsSomeGround};
 ghost use Rattle.kept.specs.Props.{AreLaid-prop};
-ghost use Rattle.listing.specs.Founds.{AreLaid, numbers_of_list};
+ghost use Rattle.statement.specs.RuleLimits.{most_roles};
+ghost use Rattle.kept.specs.Lists.{AreLaid, numbers_of_list};
 ghost use Rattle.rules.specs.RuleSets.{texts_of};
 
-use crate::atom_table::AtomTable;
 use kept::FoundList;
 use meaning::Kind;
 
@@ -21,9 +21,8 @@ pub struct FlatGround {
     pub(crate) kinds: Vec<Kind>,
     pub(crate) kept: FoundList,
     pub(crate) dropped: usize,
-    pub(crate) atom_table: AtomTable,
     pub ghost sound: { ∥ IsSomeGround (texts_of roles.items) (texts_of base.items) (map (λ v. texts_of v.items) inputs.items) starts.items kinds.items
         (numbers_of_list kept) dropped ∥₁ },
     pub ghost laid: { AreLaid kept } by { AreLaid-prop kept },
-    pub ghost beside: { length kinds.items ≡ length atom_table },
+    pub ghost few_roles: { length roles.items ≤ most_roles },
 }

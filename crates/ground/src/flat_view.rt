@@ -1,9 +1,9 @@
-// What flat lists of instances tell.
+//! What flat lists of instances tell.
 ghost use Rattle.std.specs.Prelude.{◌≡◌, ◌<◌, length, get_or, slice_index_or, false};
-ghost use Rattle.kif.specs.Tree.{name_eq};
-ghost use Rattle.ground.specs.Grounds.{Kept, text_at, texts_at};
-ghost use Rattle.ground.specs.GroundView.{atoms_of, base_of, dropped_of, inputs_of, instances_of, kinds_of, roles_of, starts_of};
-ghost use Rattle.meaning.specs.declared.kind.Kind.TheVariants.{Other};
+ghost use Rattle.statement.specs.Kept.{Kept};
+ghost use Rattle.ground.specs.Grounds.{text_at, texts_at};
+ghost use Rattle.ground.specs.GroundView.{base_of, dropped_of, inputs_of, instances_of, kinds_of, roles_of, starts_of};
+ghost use Rattle.statement.specs.declared.kind.Kind.TheVariants.{Other};
 
 use crate::flat_ground::FlatGround;
 use kept::AtomLiteral;
@@ -78,14 +78,6 @@ impl FlatGround {
         ensures { result ≡ slice_index_or (kinds_of self.now) atom Other }
     {
         self.kinds[atom as usize]
-    }
-
-    /// Whether the canonical text of an atom is this one.
-    pub fn atom_is(&self, atom: u32, text: &[u8]) -> bool
-        requires { atom < length (kinds_of self.now) }
-        ensures { result ≡ name_eq text.now (text_at (atoms_of self.now) atom) }
-    {
-        self.atom_table.is_text(atom as usize, text)
     }
 
     /// How many kept instances there are.

@@ -1,7 +1,7 @@
-// What an instantiation gives.
+//! What an instantiation gives.
 ghost use Rattle.std.specs.Prelude.{◌≡◌, map};
 ghost use Rattle.ground.specs.Grounds.{kept_of};
-ghost use Rattle.listing.specs.Founds.{numbers_of_list};
+ghost use Rattle.kept.specs.Lists.{numbers_of_list};
 
 use crate::flat_ground::FlatGround;
 

@@ -1,4 +1,4 @@
-// What follows from the type of an instantiation alone.
+//! What follows from the type of an instantiation alone.
 ghost use Rattle.ground.specs.declared.flat_ground.FlatGround.{FlatGround};
 ghost use Rattle.ground.specs.Fits.{FitTogether};
 ghost use Rattle.ground.specs.GroundView.{roles_of, base_of, inputs_of, kinds_of, instances_of};

@@ -1,4 +1,4 @@
-// The instances of a ground, one by one.
+//! The instances of a ground, one by one.
 ghost use Rattle.std.specs.Prelude.{◌≡◌};
 ghost use Rattle.ground.specs.GroundView.{flat_of, kept_in};
 

@@ -1,10 +1,10 @@
-// Where all atoms stand in play.
+//! Where all atoms stand in play.
 ghost use Rattle.std.specs.Prelude.{List, ◌≡◌, length, map, IfOk};
-ghost use Rattle.profile.specs.Clause.{Atom, tree_of};
+ghost use Rattle.statement.specs.Clause.{Atom, tree_of};
 ghost use Rattle.rules.specs.RuleSetView.{lists_of_set, rules_in};
 ghost use Rattle.clauses.specs.Marks.{AreBelow};
 ghost use Rattle.terms.specs.Keys.{term_at, trees};
-ghost use Rattle.meaning.specs.Kinds.{kind_of};
+ghost use Rattle.statement.specs.Kinds.{kind_of};
 ghost use Rattle.meaning.specs.Marked.{AreMarked};
 ghost use Rattle.terms.specs.Tables.{AreTables};
 

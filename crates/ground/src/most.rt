@@ -1,4 +1,4 @@
-// How much an instantiation may have.
+//! How much an instantiation may have.
 
 /// The most instances that are kept.
 pub const INSTANCES_LIMIT: usize = 262_144;

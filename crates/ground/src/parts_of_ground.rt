@@ -1,12 +1,12 @@
-// The parts of a ground that have no texts.
+//! The parts of a ground that have no texts.
 ghost use Rattle.std.specs.Prelude.{◌≡◌, map, None, IfOk};
 ghost use Rattle.rules.specs.RuleSetView.{rules_in};
 ghost use Rattle.listing.specs.AllListed.{IsAllListed};
 ghost use Rattle.ground.specs.Parts.{ArePartsOf};
 ghost use Rattle.terms.specs.Vectors.{items_of};
 ghost use Rattle.listing.specs.Contexts.{terms_named};
-ghost use Rattle.listing.specs.Founds.{numbers_of_list};
-ghost use Rattle.meaning.specs.Limits.{excess_in};
+ghost use Rattle.kept.specs.Lists.{numbers_of_list};
+ghost use Rattle.statement.specs.Limits.{excess_in};
 ghost use Rattle.listing.specs.SetWords.{words_of};
 
 use crate::kinds_of_atoms::kinds_of_atoms;

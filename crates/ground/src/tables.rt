@@ -1,4 +1,4 @@
-// The roles, base propositions and inputs as sets of terms, and their texts.
+//! The roles, base propositions and inputs as sets of terms, and their texts.
 ghost use Rattle.std.specs.Prelude.{◌≡◌, [], map, IfOk};
 ghost use Rattle.rules.specs.RuleSets.{texts_of};
 ghost use Rattle.terms.specs.Vectors.{items_of};

@@ -6,7 +6,7 @@ use Rattle.std.proofs.lemmas.List.Elements.{filter-append}
 use Rattle.std.proofs.Math.Seq.{take-add, take-append_seam, drop-append_seam, take-length}
 use Rattle.kept.specs.declared.entry.Entry.{Entry}
 use Rattle.kept.specs.declared.entry.Run.{Run}
-use Rattle.kept.specs.Kept.{Kept}
+use Rattle.statement.specs.Kept.{Kept}
 use Rattle.kept.specs.LeavingOut.{moved, with_some}
 use Rattle.kept.specs.Lists.{alternative_at, kept_behind, kept_from, StandBetween, Rise}
 

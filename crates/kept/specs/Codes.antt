@@ -1,3 +1,4 @@
+-- This crate's own: what `run` promises does not rest on it.
 -- A literal by the number of its atom as one number: twice that of the atom, and one more where it is negated.
 use Rattle.std.specs.Prelude.{ℕ, zero, suc, Bool, if◌then◌else◌, ◌≡◌, ◌<◌, ◌+◌, ◌*◌, ◌/◌, ◌%◌, ◌==◌, refl}
 use Rattle.std.proofs.Common.{ap, ◌∙◌}

@@ -1,7 +1,8 @@
+-- This crate's own: what `run` promises does not rest on it.
 -- Instances without some of their literals.
 use Rattle.std.specs.Prelude.{ℕ, ◌≡◌, ◌+◌, Bool, List, [], ◌∷◌, length, filter, slice_range}
 use Rattle.kept.specs.declared.entry.Entry.{Entry}
-use Rattle.kept.specs.Kept.{Kept}
+use Rattle.statement.specs.Kept.{Kept}
 
 -- what answers is a test
 abbrev pub Tells : (ℕ × Bool → Bool) → (ℕ × Bool → Bool → Type 0) → Type 0

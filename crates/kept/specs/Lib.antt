@@ -1,5 +1,4 @@
 pub mod Codes
-pub mod Kept
 pub mod Lists
 pub mod Props
 pub mod LeavingOut

@@ -1,3 +1,4 @@
+-- This crate's own: what `run` promises does not rest on it.
 -- There is at most one proof that lists are laid.
 use Rattle.std.specs.Prelude.{ℕ, List, [], ◌∷◌, length}
 use Rattle.std.specs.Coded.{×_prop, le_prop}

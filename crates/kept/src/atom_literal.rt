@@ -1,4 +1,4 @@
-// A literal by the number of its atom.
+//! A literal by the number of its atom.
 ghost use Rattle.std.specs.Prelude.{ℕ, Bool, ◌≡◌, ◌<◌, IfOk};
 
 use std::alloc::AllocError;
@@ -40,7 +40,7 @@ impl AtomLiteral {
         AtomLiteral { code: atom * 2 }
     }
 
-    /// A literal of an atom. A number that does not fit is of more atoms than memory holds, and that is what is answered.
+    /// A literal of an atom. A number that does not fit is refused as want of memory is.
     pub fn new(atom: usize, negated: bool) -> Result<AtomLiteral, AllocError>
         ensures { IfOk result (λ literal. literal ≡ (atom, negated)) }
     {

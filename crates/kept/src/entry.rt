@@ -1,4 +1,4 @@
-// Where an instance stands in a list.
+//! Where an instance stands in a list.
 
 /// A kept instance but for its alternative and its literals, which begin where those of the instance before it end. Its head is by
 /// number: that of a term while the relations are listed, that of an atom once all atoms have numbers.

@@ -1,4 +1,7 @@
-// Literals are left out of instances.
+//! Literals are left out of instances.
+//!
+//! First the ends of the instances move to where they will be, and then the literals that stay move up, so no second list is
+//! made.
 ghost use Rattle.std.specs.Prelude.{ℕ, Bool, ◌≡◌, ◌≤◌, filter, length, map};
 ghost use Rattle.kept.specs.LeavingOut.{Tells, moved, with_some};
 ghost use Rattle.kept.specs.Lists.{AreLaid, StandBetween, numbers_of_list};

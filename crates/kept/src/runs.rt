@@ -1,4 +1,4 @@
-// The alternatives of instances, once for each run of them.
+//! The alternatives of instances, once for each run of them.
 ghost use Rattle.std.specs.Prelude.{ℕ, ◌≡◌, ◌<◌, ◌≤◌, get_or, leb, length, true, OnOk};
 ghost use Rattle.kept.specs.Lists.{Adds, Rise, alternative_at, last_behind};
 

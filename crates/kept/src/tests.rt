@@ -1,4 +1,4 @@
-// Literals and instances with numbers of their own.
+//! Literals and instances with numbers of their own.
 use crate::{AtomLiteral, FoundList, push_instance};
 use std::test::Fail;
 

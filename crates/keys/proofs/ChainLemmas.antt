@@ -118,18 +118,6 @@ chained_on of n b x last before a own room is =
         (subst (λ (k : ℕ). of (k - 1) ≡ of n) (sym new_at)
         ((a.heads b (subst (λ (k : ℕ). 0 < k) new_at (subst (λ (m : ℕ). 0 < get_or (before ++ x ∷ []) m 0) f some))).1 ∙ sym own))
 
--- no numbers yet
-pub none_chained : (of : ℕ → ℕ) (last : List ℕ) → ((b : ℕ) → get_or last b 0 ≡ 0) → AreChained of 0 last []
-none_chained of last none =
-    record {
-      many = refl;
-      lasts = λ i h. absurd (let bad : ⊥ = omega (arith, h) in bad);
-      befores = λ i j h k e. absurd (let bad : ⊥ = omega (arith, k) in bad);
-      falls = λ j h. absurd (let bad : ⊥ = omega (arith, h) in bad);
-      heads = λ b some. absurd (let e = none b in let bad : ⊥ = omega (arith, e, some) in bad);
-      links = λ j h some. absurd (let bad : ⊥ = omega (arith, h) in bad);
-    }
-
 -- the same buckets under another name
 pub chained_alike : (of to : ℕ → ℕ) (n : ℕ) (last before : List ℕ) → ((i : ℕ) → i < n → of i ≡ to i) → AreChained of n last before
     → AreChained to n last before
@@ -205,16 +193,6 @@ linked of n b x last before b1 b2 a own room is e f =
     subst (λ (zs : List ℕ). AreChained of (n + 1) (set last b (n + 1)) zs) (sym (f ∙ ap (λ (zs : List ℕ). zs ++ x ∷ []) e))
     (chained_on of n b x last before a own room (is ∙ get_or_default_zero last b x room))
 
-zeros : (n b : ℕ) → ◌≡◌ {A = ℕ} (get_or (replicate n 0) b 0) 0
-zeros zero b = refl
-zeros (suc n) zero = refl
-zeros (suc n) (suc b) = zeros n b
-
-pub starts : (of : ℕ → ℕ) (many : ℕ) (last before : List ℕ) → last ≡ replicate many 0 → before ≡ [] → AreChained of 0 last before
-starts of many last before e f =
-    subst (λ (zs : List ℕ). AreChained of 0 last zs) (sym f)
-    (none_chained of last (λ b. ap (λ (zs : List ℕ). get_or zs b 0) e ∙ zeros many b))
-
 -- Looking for a key.
 
 pub record Finding (keys : List (List ℕ)) (key : List ℕ) (many left : ℕ) : Type 0 where
@@ -261,26 +239,6 @@ finding_next keys key many left number next last before a f some e other n =
   where
     lower : (i : ℕ) → i < left → (i ≡ number → ⊥) → i < number
     lower i h other = grind (arith, e, some)
-
-pub finding_falls : (keys : List (List ℕ)) (key : List ℕ) (many left number next : ℕ) (last before : List ℕ)
-    → AreChained (bucket_of keys many) (length keys) last before → Finding keys key many left → 0 < left → number ≡ left - 1
-    → next ≡ get_or before number next → next < left
-finding_falls keys key many left number next last before a f some e n =
-    let w = f.within in
-    let m = a.many in
-    let is : next ≡ get_or before number 0 = n ∙ get_or_default_zero before number next (omega (arith, w, m, e, some)) in
-    let falls = a.falls number (omega (arith, w, e, some)) in
-    omega (arith, falls, is, e, some)
-
-pub none_left : (keys : List (List ℕ)) (key : List ℕ) (many left : ℕ) → Finding keys key many left → left ≡ 0
-    → (k : ℕ) → k < length keys → key_at keys k ≢ key
-none_left keys key many left f e k h same = let b = f.below k h same in let bad : ⊥ = omega (arith, b, e) in bad
-
--- without a bucket there is no key
-pub none_kept : (keys : List (List ℕ)) (key : List ℕ) (many : ℕ) (last before : List ℕ)
-    → AreChained (bucket_of keys many) (length keys) last before → length last ≡ 0 → (k : ℕ) → k < length keys → key_at keys k ≢ key
-none_kept keys key many [] before a e k h same = let b = a.lasts k h in let bad : ⊥ = omega (arith, b) in bad
-none_kept keys key many (x ∷ last) before a e k h same = let bad : ⊥ = omega (arith, e) in bad
 
 -- One key more, and one less.
 
@@ -339,30 +297,3 @@ dropped_kept keys more many k hash b n x last before b1 a m some c h f g room is
     (subst (λ (zs : List ℕ). AreChained (bucket_of more many) (length more) (set last b x) zs) (sym s)
     (subst (λ (i : ℕ). AreChained (bucket_of more many) i (set last b x) (take n before)) long
     (subst (λ (ks : List (List ℕ)). AreChained (bucket_of ks many) n (set last b x) (take n before)) (sym e) again)))
-
-take_again : (many n : ℕ) (xs : List (List ℕ)) → many ≤ n → take many (take n xs) ≡ take many xs
-take_again zero n xs h = refl
-take_again (suc many) zero xs h = absurd (let bad : ⊥ = omega (arith, h) in bad)
-take_again (suc many) (suc n) [] h = refl
-take_again (suc many) (suc n) (x ∷ xs) h = ap (λ (zs : List (List ℕ)). x ∷ zs) (take_again many n xs (omega (arith, h)))
-
-pub front_less : (many n k : ℕ) (old new all : List (List ℕ)) → many < k → k ≡ length old → n ≡ length old - 1 → new ≡ take n old
-    → take many old ≡ take many all → take many new ≡ take many all
-front_less many n k old new all h l e f s =
-    ap (λ (xs : List (List ℕ)). take many xs) f ∙ take_again many n old (omega (arith, h, l, e)) ∙ s
-
-pub front_is : (many k : ℕ) (new all : List (List ℕ)) → k ≤ many → k ≡ length new → take many new ≡ take many all → new ≡ take many all
-front_is many k new all h l s = sym (much many new (omega (arith, h, l))) ∙ s
-  where
-    much : (n : ℕ) (xs : List (List ℕ)) → length xs ≤ n → take n xs ≡ xs
-    much zero [] h = refl
-    much (suc n) [] h = refl
-    much zero (x ∷ xs) h = absurd (let bad : ⊥ = omega (arith, h) in bad)
-    much (suc n) (x ∷ xs) h = ap (λ (zs : List (List ℕ)). x ∷ zs) (much n xs (omega (arith, h)))
-
-pub empty_kept : (keys : List (List ℕ)) (last before : List ℕ) → keys ≡ [] → last ≡ [] → before ≡ []
-    → AreChained (bucket_of keys (length last)) (length keys) last before
-empty_kept keys last before e f g =
-    subst (λ (ks : List (List ℕ)). AreChained (bucket_of ks (length last)) (length ks) last before) (sym e)
-    (subst (λ (zs : List ℕ). AreChained (bucket_of [] (length zs)) 0 zs before) (sym f)
-    (subst (λ (zs : List ℕ). AreChained (bucket_of [] 0) 0 [] zs) (sym g) (none_chained (bucket_of [] 0) [] (λ b. refl))))

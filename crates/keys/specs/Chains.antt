@@ -1,3 +1,4 @@
+-- This crate's own: what `run` promises does not rest on it.
 -- Terms in buckets, by hashes of their keys.
 use Rattle.std.specs.Prelude.{ℕ, ◌≡◌, ◌<◌, ◌≤◌, ◌-◌, List, [], ◌∷◌, length, slice_index}
 use Rattle.keys.specs.KeyLists.{key_at}

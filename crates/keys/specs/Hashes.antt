@@ -1,3 +1,4 @@
+-- This crate's own: what `run` promises does not rest on it.
 -- Hashes of numbers, and their buckets. Nothing is asked of a hash but that equal numbers have equal hashes.
 use Rattle.std.specs.Prelude.{ℕ, ◌+◌, ◌-◌, ◌*◌, ◌/◌, ◌%◌, ◌^◌, min}
 

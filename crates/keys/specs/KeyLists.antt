@@ -1,3 +1,4 @@
+-- This crate's own: what `run` promises does not rest on it.
 -- Lists of numbers, one behind the other.
 use Rattle.std.specs.Prelude.{ℕ, ◌≡◌, ◌≤◌, List, [], ◌∷◌, slice_range, slice_index_or}
 

@@ -1,4 +1,4 @@
-// Lists of numbers, kept one behind the other.
+//! Lists of numbers, kept one behind the other.
 ghost use Rattle.std.specs.Prelude.{◌≡◌, ◌<◌, ◌≤◌, ◌++◌, ◌∷◌, [], length, take, slice_index, slice_range, OnOk, OnErr};
 ghost use Rattle.keys.specs.KeyLists.{key_at};
 
@@ -54,16 +54,6 @@ fn part_of(numbers: &[u32], from: usize, to: usize) -> &[u32]
 }
 
 impl KeyList {
-    /// No lists yet.
-    pub fn new(alloc: Global) -> Self
-        ensures { result ≡ [] }
-    {
-        KeyList {
-            numbers: Vec::new(alloc),
-            ends: Vec::new(alloc),
-        }
-    }
-
     /// No lists yet, with room for so many, and for so many numbers in all, where it can be had.
     pub fn with_room(alloc: Global, lists: usize, numbers: usize) -> Self
         ensures { result ≡ [] }

@@ -1,4 +1,4 @@
-// Room for what is to come, and numbers in 32 bits.
+//! Room for what is to come, and numbers in 32 bits.
 ghost use Rattle.std.specs.Prelude.{◌≡◌, [], IfOk};
 
 use std::alloc::{AllocError, Global};
@@ -14,7 +14,7 @@ pub fn with_room<T>(alloc: Global, many: usize) -> Vec<T>
     }
 }
 
-/// A number in 32 bits. One that does not fit is of more than memory holds, and that is what is answered.
+/// A number in 32 bits. One that does not fit is refused as want of memory is.
 pub fn in_32_bits(number: usize) -> Result<u32, AllocError>
     ensures { IfOk result (λ n. n ≡ number) }
 {

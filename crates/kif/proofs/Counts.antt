@@ -4,7 +4,7 @@ use Rattle.std.specs.Prelude.{count_by, pos, ◌-ℤ◌}
 use Rattle.std.proofs.lemmas.Bool.Decides.{nat_tests}
 use Rattle.std.proofs.lemmas.Int.{ints}
 use Rattle.std.proofs.lemmas.List.Sums.{count_by_more_yes, count_by_more_no}
-use Rattle.kif.specs.Lexical.{is_name_byte, Token, opening, closing, word, stray}
+use Rattle.statement.specs.Lexical.{is_name_byte, Token, opening, closing, word, stray}
 use Rattle.kif.specs.Offsets.{is_opening, is_closing, is_stray}
 use Rattle.kif.proofs.Here.{IsTokenIn, token_byte}
 use Rattle.kif.proofs.Tokens.{token_within}

@@ -4,16 +4,16 @@ use Rattle.std.proofs.Common.{refl, sym, ap, subst, ◌∙◌, arith, eqb-true, 
 use Rattle.std.specs.Prelude.{◌==◌}
 use Rattle.std.proofs.lemmas.Bool.Decides.{nat_tests}
 use Rattle.std.proofs.lemmas.List.{length-map}
-use Rattle.kif.specs.Lexical.{is_name_byte, lower, Token, opening, closing, word, stray, Spot, token_here, spots_at}
-use Rattle.kif.specs.Reading.{open_limit, name_limit, Fault, too_long, bad_byte, too_deep, unclosed, unopened, name_too_long, or_else, is_zero}
-use Rattle.kif.specs.Reading.{open_after, fault_where, fault_of, first_fault}
+use Rattle.statement.specs.Lexical.{is_name_byte, lower, Token, opening, closing, word, stray, Spot, token_here, spots_at}
+use Rattle.statement.specs.Reading.{open_limit, name_limit, TextFault, too_long, bad_byte, too_deep, unclosed, unopened, name_too_long, or_text_fault, is_zero}
+use Rattle.statement.specs.Reading.{open_after, fault_where, fault_of, first_fault}
 use Rattle.kif.specs.Offsets.{offset}
 use Rattle.kif.proofs.Here.{IsRunIn, IsTokenIn, IsPlace, next_place, in_place, Here, none, one, here}
 use Rattle.kif.proofs.Tokens.{within_if_seen, token_within, spots_by, le_or_same}
 use Rattle.kif.proofs.Counts.{AreOpen, IsStep, opens, shuts, token_step, no_step}
 
 -- the fault stands at a token
-abbrev pub IsFaultIn : List ℕ → Fault → Type 0
+abbrev pub IsFaultIn : List ℕ → TextFault → Type 0
 IsFaultIn v too_long = ⊥
 IsFaultIn v (bad_byte o) = IsTokenIn v o stray
 IsFaultIn v (too_deep o) = IsTokenIn v o opening × AreOpen v open_limit o
@@ -22,7 +22,7 @@ IsFaultIn v (name_too_long o) = (end : ℕ) × IsRunIn v o end × (o + name_limi
 IsFaultIn v (unclosed o) = ⊥
 
 -- a token at which the fault stands, where n lists are open
-record IsGiven (v : List ℕ) (n : ℕ) (f : Fault) : Type 0 where
+record IsGiven (v : List ℕ) (n : ℕ) (f : TextFault) : Type 0 where
   token : Token
   stands : IsTokenIn v (offset f) token
   gives : fault_of n (offset f) token ≡ Some f
@@ -47,7 +47,7 @@ word_size v o end r =
 long : (n : ℕ) → 255 < n → nat_lt 255 n ≡ true
 long n h = grind (arith, nat_tests)
 
-given : (v : List ℕ) (n : ℕ) (f : Fault) → IsFaultIn v f → AreOpen v n (offset f) → IsGiven v n f
+given : (v : List ℕ) (n : ℕ) (f : TextFault) → IsFaultIn v f → AreOpen v n (offset f) → IsGiven v n f
 given v n too_long t a = absurd t
 given v n (bad_byte o) t a = record { token = stray; stands = t; gives = refl }
 given v n (too_deep o) t a =
@@ -67,15 +67,15 @@ given v n (name_too_long o) t a =
 given v n (unclosed o) t a = absurd t
 
 -- the fault that stands at the token at o
-record IsTaken (v : List ℕ) (o : ℕ) (f : Fault) : Type 0 where
+record IsTaken (v : List ℕ) (o : ℕ) (f : TextFault) : Type 0 where
   it : IsFaultIn v f
   place : offset f ≡ o
 
-where_some : (b : Bool) (x f : Fault) → fault_where b x ≡ Some f → (b ≡ true) × (x ≡ f)
+where_some : (b : Bool) (x f : TextFault) → fault_where b x ≡ Some f → (b ≡ true) × (x ≡ f)
 where_some true x f e = (refl, cc)
 where_some false x f e = absurd cc
 
-taken : (v : List ℕ) (n o : ℕ) (k : Token) (f : Fault) → IsTokenIn v o k → AreOpen v n o → fault_of n o k ≡ Some f → IsTaken v o f
+taken : (v : List ℕ) (n o : ℕ) (k : Token) (f : TextFault) → IsTokenIn v o k → AreOpen v n o → fault_of n o k ≡ Some f → IsTaken v o f
 taken v n o opening f t a e =
     let w = where_some (n == open_limit) (too_deep o) f e in
     let m : n ≡ open_limit = eqb-true n open_limit w.0 in
@@ -97,21 +97,21 @@ taken v n o (word w) f t a e =
     far m h = grind (arith, nat_tests)
 taken v n o stray f t a e = subst (IsTaken v o) (same (bad_byte o) f e) (record { it = t; place = refl })
   where
-    same : (x y : Fault) → Some x ≡ Some y → x ≡ y
+    same : (x y : TextFault) → Some x ≡ Some y → x ≡ y
     same x y h = cc
 
 -- the fault that a walk from o on finds
-pub record IsFirstIn (v : List ℕ) (o : ℕ) (f : Fault) : Type 0 where
+pub record IsFirstIn (v : List ℕ) (o : ℕ) (f : TextFault) : Type 0 where
   pub it : IsFaultIn v f
   pub from_here : o ≤ offset f
-  pub least : (g : Fault) → IsFaultIn v g → o ≤ offset g → offset f ≤ offset g
-  pub only : (g : Fault) → IsFaultIn v g → offset g ≡ offset f → g ≡ f
+  pub least : (g : TextFault) → IsFaultIn v g → o ≤ offset g → offset f ≤ offset g
+  pub only : (g : TextFault) → IsFaultIn v g → offset g ≡ offset f → g ≡ f
 
-abbrev pub IsFoundFrom : List ℕ → ℕ → Option Fault → Type 0
-IsFoundFrom v o None = (g : Fault) → IsFaultIn v g → o ≤ offset g → ⊥
+abbrev pub IsFoundFrom : List ℕ → ℕ → Option TextFault → Type 0
+IsFoundFrom v o None = (g : TextFault) → IsFaultIn v g → o ≤ offset g → ⊥
 IsFoundFrom v o (Some f) = IsFirstIn v o f
 
-fault_within : (v : List ℕ) (f : Fault) → IsFaultIn v f → offset f < length v
+fault_within : (v : List ℕ) (f : TextFault) → IsFaultIn v f → offset f < length v
 fault_within v too_long t = absurd t
 fault_within v (bad_byte o) t = token_within v o stray t
 fault_within v (too_deep o) t = token_within v o opening t.0
@@ -120,10 +120,10 @@ fault_within v (name_too_long o) t = token_within v o (word (the_word v o t.0)) 
 fault_within v (unclosed o) t = absurd t
 
 -- where no fault stands at o, a walk from there finds what one from behind it does
-found_later : (v : List ℕ) (o : ℕ) (r : Option Fault) → ((g : Fault) → IsFaultIn v g → offset g ≡ o → ⊥) → IsFoundFrom v (suc o) r → IsFoundFrom v o r
+found_later : (v : List ℕ) (o : ℕ) (r : Option TextFault) → ((g : TextFault) → IsFaultIn v g → offset g ≡ o → ⊥) → IsFoundFrom v (suc o) r → IsFoundFrom v o r
 found_later v o None clear h = λ g t l. go g t (le_or_same o (offset g) l)
   where
-    go : (g : Fault) → IsFaultIn v g → (offset g ≡ o) ⊎ (suc o ≤ offset g) → ⊥
+    go : (g : TextFault) → IsFaultIn v g → (offset g ≡ o) ⊎ (suc o ≤ offset g) → ⊥
     go g t (inl e) = clear g t e
     go g t (inr m) = h g t m
 found_later v o (Some f) clear h = record {
@@ -133,20 +133,20 @@ found_later v o (Some f) clear h = record {
   only = h.only;
 }
   where
-    go : (g : Fault) → IsFaultIn v g → (offset g ≡ o) ⊎ (suc o ≤ offset g) → offset f ≤ offset g
+    go : (g : TextFault) → IsFaultIn v g → (offset g ≡ o) ⊎ (suc o ≤ offset g) → offset f ≤ offset g
     go g t (inl e) = absurd (clear g t e)
     go g t (inr m) = h.least g t m
 
 abbrev at_offset : (v : List ℕ) (o p : ℕ) → p ≡ o → (k : Token) → IsTokenIn v p k → IsTokenIn v o k
 at_offset v o p e k t = subst (λ (q : ℕ). IsTokenIn v q k) e t
 
-no_token_no_fault : (v : List ℕ) (o n : ℕ) → AreOpen v n o → ((k : Token) → IsTokenIn v o k → ⊥) → (g : Fault) → IsFaultIn v g → offset g ≡ o → ⊥
+no_token_no_fault : (v : List ℕ) (o n : ℕ) → AreOpen v n o → ((k : Token) → IsTokenIn v o k → ⊥) → (g : TextFault) → IsFaultIn v g → offset g ≡ o → ⊥
 no_token_no_fault v o n a u g t e =
     let i = given v n g t (subst (AreOpen v n) (sym e) a) in
     u i.token (at_offset v o (offset g) e i.token i.stands)
 
 -- at the one token of o, all faults are what the walk says of it
-given_here : (v : List ℕ) (o n : ℕ) (k : Token) → AreOpen v n o → ((j : Token) → IsTokenIn v o j → j ≡ k) → (g : Fault) → IsFaultIn v g → offset g ≡ o
+given_here : (v : List ℕ) (o n : ℕ) (k : Token) → AreOpen v n o → ((j : Token) → IsTokenIn v o j → j ≡ k) → (g : TextFault) → IsFaultIn v g → offset g ≡ o
     → fault_of n o k ≡ Some g
 given_here v o n k a u g t e =
     let i = given v n g t (subst (AreOpen v n) (sym e) a) in
@@ -171,15 +171,15 @@ walk_faults v o after [] n p a = λ g t l.
 walk_faults v o after (b ∷ bs) n p a =
     go (here v o after b bs p) (λ m. walk_faults v (suc o) (is_name_byte b) bs m (next_place v o after b bs p))
   where
-    nothing_here : (k : Token) → fault_of n o k ≡ None → ((j : Token) → IsTokenIn v o j → j ≡ k) → (g : Fault) → IsFaultIn v g → offset g ≡ o → ⊥
+    nothing_here : (k : Token) → fault_of n o k ≡ None → ((j : Token) → IsTokenIn v o j → j ≡ k) → (g : TextFault) → IsFaultIn v g → offset g ≡ o → ⊥
     nothing_here k e u g t f = let h = given_here v o n k a u g t f in let bad : Some g ≡ None = sym h ∙ e in cc
 
-    same : (x y : Fault) → Some x ≡ Some y → x ≡ y
+    same : (x y : TextFault) → Some x ≡ Some y → x ≡ y
     same x y h = cc
 
-    by_fault : (k : Token) (x : Option Fault) → fault_of n o k ≡ x → IsTokenIn v o k → ((j : Token) → IsTokenIn v o j → j ≡ k)
+    by_fault : (k : Token) (x : Option TextFault) → fault_of n o k ≡ x → IsTokenIn v o k → ((j : Token) → IsTokenIn v o j → j ≡ k)
         → ((m : ℕ) → AreOpen v m (suc o) → IsFoundFrom v (suc o) (first_fault m (spots_at (suc o) (is_name_byte b) bs)))
-        → IsFoundFrom v o (or_else x (first_fault (open_after n k) (spots_at (suc o) (is_name_byte b) bs)))
+        → IsFoundFrom v o (or_text_fault x (first_fault (open_after n k) (spots_at (suc o) (is_name_byte b) bs)))
     by_fault k (Some f) e t u later =
         let w = taken v n o k f t a e in
         let place = w.place in

@@ -4,7 +4,7 @@ use Rattle.std.proofs.Common.{sym, ap, subst, ◌∙◌, arith, eqb-true, drop-c
 use Rattle.std.specs.Prelude.{◌==◌}
 use Rattle.std.proofs.lemmas.List.{get_or-drop}
 use Rattle.std.proofs.lemmas.Bool.Decides.{nat_tests}
-use Rattle.kif.specs.Lexical.{is_name_byte, is_space, lower, Token, opening, closing, word, stray, name_front, token_here}
+use Rattle.statement.specs.Lexical.{is_name_byte, is_space, lower, Token, opening, closing, word, stray, name_front, token_here}
 use Rattle.kif.specs.Offsets.{is_opening, is_closing, is_stray}
 
 -- a longest run of name bytes goes from o up to end

@@ -1,8 +1,8 @@
 -- The walk over the tokens finds the first bracket that nothing closes.
 use Rattle.std.proofs.Common.{ℕ, zero, suc, ◌+◌, ◌≡◌, ◌<◌, ◌≤◌, ◌⊎◌, inl, inr, Bool, true, false, List, [], ◌∷◌, length, refl, sym, ap, subst, arith}
 use Rattle.std.proofs.Common.{length-drop, Option, Some, None}
-use Rattle.kif.specs.Lexical.{is_name_byte, Token, opening, closing, word, stray, Spot, token_here, tokens_of, spots_at}
-use Rattle.kif.specs.Reading.{Fault, unclosed, or_else, fault_where, never_closed, unclosed_at, first_unclosed}
+use Rattle.statement.specs.Lexical.{is_name_byte, Token, opening, closing, word, stray, Spot, token_here, tokens_of, spots_at}
+use Rattle.statement.specs.Reading.{TextFault, unclosed, or_text_fault, fault_where, never_closed, unclosed_at, first_unclosed}
 use Rattle.kif.proofs.Here.{IsTokenIn, IsPlace, next_place, in_place, Here, none, one, here}
 use Rattle.kif.proofs.Tokens.{token_within, spots_by, le_or_same}
 use Rattle.kif.proofs.Counts.{opened, closed, AreSame, IsStep, opens, shuts, token_step, no_step}
@@ -67,18 +67,18 @@ walk_closing v o p after (b ∷ bs) m i a =
         (by_token m k a t (token_step v p k t) later)
 
 -- the first bracket from o on that nothing closes
-pub record IsFirstLeft (v : List ℕ) (o : ℕ) (f : Fault) : Type 0 where
+pub record IsFirstLeft (v : List ℕ) (o : ℕ) (f : TextFault) : Type 0 where
   pub place : ℕ
   pub same : f ≡ unclosed place
   pub it : IsLeftOpen v place
   pub from_here : o ≤ place
   pub least : (q : ℕ) → IsLeftOpen v q → o ≤ q → place ≤ q
 
-abbrev pub IsLeftFrom : List ℕ → ℕ → Option Fault → Type 0
+abbrev pub IsLeftFrom : List ℕ → ℕ → Option TextFault → Type 0
 IsLeftFrom v o None = (q : ℕ) → IsLeftOpen v q → o ≤ q → ⊥
 IsLeftFrom v o (Some f) = IsFirstLeft v o f
 
-left_later : (v : List ℕ) (o : ℕ) (r : Option Fault) → (IsLeftOpen v o → ⊥) → IsLeftFrom v (suc o) r → IsLeftFrom v o r
+left_later : (v : List ℕ) (o : ℕ) (r : Option TextFault) → (IsLeftOpen v o → ⊥) → IsLeftFrom v (suc o) r → IsLeftFrom v o r
 left_later v o None clear h = λ q t l. go q t (le_or_same o q l)
   where
     go : (q : ℕ) → IsLeftOpen v q → (q ≡ o) ⊎ (suc o ≤ q) → ⊥
@@ -109,7 +109,7 @@ walk_left v o after (b ∷ bs) p =
   where
     by_answer : (r : Bool) → IsTokenIn v o opening → IsAnswer v o (suc o) r
         → IsLeftFrom v (suc o) (first_unclosed (spots_at (suc o) (is_name_byte b) bs))
-        → IsLeftFrom v o (or_else (fault_where r (unclosed o)) (first_unclosed (spots_at (suc o) (is_name_byte b) bs)))
+        → IsLeftFrom v o (or_text_fault (fault_where r (unclosed o)) (first_unclosed (spots_at (suc o) (is_name_byte b) bs)))
     by_answer true t h later = record {
       place = o;
       same = refl;
@@ -122,7 +122,7 @@ walk_left v o after (b ∷ bs) p =
     by_token : (k : Token) → IsTokenIn v o k → IsStep v o (opens k) (shuts k) → ((j : Token) → IsTokenIn v o j → j ≡ k)
         → (AreMore v o 0 (suc o) → IsAnswer v o (suc o) (never_closed 0 (tokens_of (spots_at (suc o) (is_name_byte b) bs))))
         → IsLeftFrom v (suc o) (first_unclosed (spots_at (suc o) (is_name_byte b) bs))
-        → IsLeftFrom v o (or_else (unclosed_at o k (tokens_of (spots_at (suc o) (is_name_byte b) bs)))
+        → IsLeftFrom v o (or_text_fault (unclosed_at o k (tokens_of (spots_at (suc o) (is_name_byte b) bs)))
         (first_unclosed (spots_at (suc o) (is_name_byte b) bs)))
     by_token opening t s u answer later =
         by_answer _ t (answer (let x = s.opens_so_many in let y = s.closes_so_many in omega arith)) later

@@ -7,8 +7,8 @@ use Rattle.std.specs.Ordering.{nat_cmp, ordering_then}
 use Rattle.std.specs.Cmp.Lexicographic.{slice_cmp}
 use Rattle.std.specs.declared.cmp.Ordering.{Ordering}
 use Rattle.std.specs.declared.cmp.Ordering.TheVariants.{Less, Greater}
-use Rattle.kif.specs.Tree.{Tree, name, list, Trees, no_trees, tree, text, parts_text, further_text, printed_cmp}
-use Rattle.kif.specs.Lexical.{is_name_byte, is_capital, AreNameBytes, HasNames, HaveNames}
+use Rattle.statement.specs.Tree.{Tree, name, list, Trees, no_trees, tree, text, parts_text, further_text, printed_cmp}
+use Rattle.statement.specs.Lexical.{is_name_byte, is_capital, AreNameBytes, HasNames, HaveNames}
 use Rattle.kif.proofs.Equality.{both}
 use Rattle.kif.specs.Marks.{name_mark, compared_bytes, marks, parts_marks, further_marks, marked_cmp}
 

@@ -2,10 +2,10 @@
 use Rattle.std.proofs.Common.{ℕ, zero, suc, ◌+◌, ◌≡◌, Bool, true, false, cond, ◌==◌, List, [], ◌∷◌, ◌++◌, map, refl, sym, subst, ◌∙◌, arith}
 use Rattle.std.specs.Prelude.{⊤, All}
 use Rattle.std.proofs.lemmas.Bool.Decides.{nat_tests}
-use Rattle.kif.specs.Tree.{Tree, name, list, Trees, no_trees, tree, trees_of}
-use Rattle.kif.specs.Lexical.{is_name_byte, is_capital, is_space, is_lower_name_byte, lower, name_front, visible, Token, opening, closing, word}
-use Rattle.kif.specs.Lexical.{stray, spots_at, tokens_of, AreNameBytes, IsName, HasNames, HaveNames}
-use Rattle.kif.specs.Reading.{tree_tokens, trees_tokens, Reads}
+use Rattle.statement.specs.Tree.{Tree, name, list, Trees, no_trees, tree, trees_of}
+use Rattle.statement.specs.Lexical.{is_name_byte, is_capital, is_space, is_lower_name_byte, lower, name_front, visible, Token, opening, closing, word}
+use Rattle.statement.specs.Lexical.{stray, spots_at, tokens_of, AreNameBytes, IsName, HasNames, HaveNames}
+use Rattle.statement.specs.Reading.{tree_tokens, trees_tokens, Reads}
 use Rattle.kif.proofs.Grammar.{list_tokens, more_tokens, append_none}
 
 abbrev HaveLawfulNames : List Token → Type 0

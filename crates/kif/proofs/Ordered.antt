@@ -9,7 +9,7 @@ use Rattle.std.specs.Cmp.Lexicographic.{slice_cmp}
 use Rattle.std.specs.declared.cmp.Ordering.{Ordering}
 use Rattle.std.specs.declared.cmp.Ordering.TheVariants.{Less, Equal, Greater}
 use Rattle.kif.specs.declared.expr.Expr.{Expr}
-use Rattle.kif.specs.Tree.{Tree, list, Trees, trees_of}
+use Rattle.statement.specs.Tree.{Tree, list, Trees, trees_of}
 use Rattle.kif.specs.View.{tree_of, trees_in}
 use Rattle.kif.specs.Marks.{name_mark, marks, parts_marks, further_marks, Orders, Begins}
 use Rattle.kif.proofs.Writing.{parts_from}

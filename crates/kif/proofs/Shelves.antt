@@ -2,7 +2,7 @@
 use Rattle.std.proofs.Common.{ℕ, suc, ◌+◌, ◌≡◌, ◌≤◌, ◌⊎◌, inl, inr, List, [], ◌∷◌, ◌++◌, take, drop, length, refl, sym, ap, ◌∙◌, arith, append_assoc}
 use Rattle.std.proofs.Common.{length-append}
 use Rattle.kif.specs.declared.reader.Open.{Open}
-use Rattle.kif.specs.Tree.{Tree}
+use Rattle.statement.specs.Tree.{Tree}
 
 -- an open list: where it was opened, and the trees that stand before it in the list around it
 pub record Shelf : Type 0 where

@@ -3,10 +3,10 @@ use Rattle.std.proofs.Common.{ℕ, ◌+◌, ◌-◌, ◌≡◌, ◌≢◌, ◌<�
 use Rattle.std.proofs.Common.{◌∙◌, arith}
 use Rattle.std.specs.Prelude.{Some}
 use Rattle.kif.specs.declared.reader.Open.{Open}
-use Rattle.kif.specs.Tree.{Tree, name, list, trees_of}
-use Rattle.kif.specs.Lexical.{is_space, is_name_byte}
+use Rattle.statement.specs.Tree.{Tree, name, list, trees_of}
+use Rattle.statement.specs.Lexical.{is_space, is_name_byte}
 use Rattle.kif.specs.Kinds.{IsStray}
-use Rattle.kif.specs.Reading.{Reads, text_limit, name_limit, open_limit, fault_in, too_deep, unopened, unclosed, bad_byte, name_too_long}
+use Rattle.statement.specs.Reading.{Reads, text_limit, name_limit, open_limit, text_fault_in, too_deep, unopened, unclosed, bad_byte, name_too_long}
 use Rattle.kif.proofs.Shelves.{Shelf, IsShelved, length-opens, none_shelved, add_shelved, open_shelved, close_shelved}
 use Rattle.kif.proofs.Progress.{Progress, begun, read_all, left_open}
 use Rattle.kif.proofs.Turns.{left, name_between, turn-opening, turn-closing, turn-space, turn-comment, turn-name, fault-opening, fault-closing}
@@ -99,32 +99,32 @@ state-name text o end os ps ts us s further h names stops short f g =
 
 pub deep_fault : (text : List ℕ) (o : ℕ) (os : List Open) (ts : List Tree)
     → IsState text o os ts → length text ≤ text_limit → o < length text → get_or text o 0 ≡ 40 → length os ≡ open_limit
-    → fault_in text ≡ Some (too_deep o)
+    → text_fault_in text ≡ Some (too_deep o)
 deep_fault text o os ts s short h e full =
     fault-opening text o s.shelves s.trees s.progress short h e (sym (length-opens 0 s.shelves) ∙ ap length (sym s.shelved.opened) ∙ full)
 
 pub unopened_fault : (text : List ℕ) (o : ℕ) (os : List Open) (ts : List Tree)
-    → IsState text o os ts → length text ≤ text_limit → o < length text → get_or text o 0 ≡ 41 → length os ≡ 0 → fault_in text ≡ Some (unopened o)
+    → IsState text o os ts → length text ≤ text_limit → o < length text → get_or text o 0 ≡ 41 → length os ≡ 0 → text_fault_in text ≡ Some (unopened o)
 unopened_fault text o os ts s short h e none =
     fault-closing text o s.shelves s.trees s.progress short h e (sym (length-opens 0 s.shelves) ∙ ap length (sym s.shelved.opened) ∙ none)
 
 pub stray_fault : (text : List ℕ) (o : ℕ) (os : List Open) (ts : List Tree)
-    → IsState text o os ts → length text ≤ text_limit → o < length text → IsStray (get_or text o 0) → fault_in text ≡ Some (bad_byte o)
+    → IsState text o os ts → length text ≤ text_limit → o < length text → IsStray (get_or text o 0) → text_fault_in text ≡ Some (bad_byte o)
 stray_fault text o os ts s short h e = fault-stray text o s.shelves s.trees s.progress short h e
 
 pub name_fault : (text : List ℕ) (o end : ℕ) (os : List Open) (ts : List Tree)
     → IsState text o os ts → length text ≤ text_limit → o < end → end ≤ length text
     → ((k : ℕ) → o ≤ k → k < end → is_name_byte (get_or text k 0) ≡ true)
     → (end < length text → is_name_byte (get_or text end 0) ≡ false)
-    → name_limit < end - o → fault_in text ≡ Some (name_too_long o)
+    → name_limit < end - o → text_fault_in text ≡ Some (name_too_long o)
 name_fault text o end os ts s short further h names stops long = fault-name text o end s.shelves s.trees s.progress short further h names stops long
 
 pub unclosed_fault : (text : List ℕ) (o : ℕ) (os : List Open) (p : Open) (ts : List Tree)
     → IsState text o os ts → length text ≤ text_limit → o ≤ length text → length text ≤ o → 0 < length os → get_or os 0 p ≡ p
-    → fault_in text ≡ Some (unclosed p.start)
+    → text_fault_in text ≡ Some (unclosed p.start)
 unclosed_fault text o os p ts s short within end some e = go s.shelves s.shelved (at_end text o s.shelves s.trees s.progress within end)
   where
-    go : (fs : List Shelf) → IsShelved os ts fs s.trees → Progress text fs s.trees [] → fault_in text ≡ Some (unclosed p.start)
+    go : (fs : List Shelf) → IsShelved os ts fs s.trees → Progress text fs s.trees [] → text_fault_in text ≡ Some (unclosed p.start)
     go [] h q = absurd (let size = ap length h.opened in omega arith)
     go (f ∷ fs) h q =
         left_open text f fs s.trees q short

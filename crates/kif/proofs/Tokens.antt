@@ -4,7 +4,7 @@ use Rattle.std.proofs.Common.{get_or, refl, sym, ap, subst, ◌∙◌, arith, le
 use Rattle.std.specs.Prelude.{⊤, slice_range}
 use Rattle.std.specs.List.Sorted.{IsStrictlyIncreasing}
 use Rattle.std.proofs.lemmas.List.{get_or-drop}
-use Rattle.kif.specs.Lexical.{is_name_byte, lower, visible, Token, opening, closing, word, stray, Spot, token_here, spots_at, spots}
+use Rattle.statement.specs.Lexical.{is_name_byte, lower, visible, Token, opening, closing, word, stray, Spot, token_here, spots_at, spots}
 use Rattle.kif.specs.Offsets.{is_opening, is_closing, is_stray, IsAt, IsRun, IsTokenAt}
 use Rattle.kif.proofs.Comments.{others_stay}
 use Rattle.kif.proofs.Visible.{length-visible, seen_if_at, at_if_seen}

@@ -1,7 +1,7 @@
 -- The visible text, byte by byte.
 use Rattle.std.proofs.Common.{ℕ, suc, ◌≡◌, ◌<◌, Bool, true, false, List, [], ◌∷◌, length, get_or, refl, sym, ap, ◌∙◌}
 use Rattle.std.specs.Prelude.{not, ◌&&◌, ◌||◌, ◌==◌}
-use Rattle.kif.specs.Lexical.{IsInComment, without_comments, visible}
+use Rattle.statement.specs.Lexical.{IsInComment, without_comments, visible}
 use Rattle.kif.specs.Offsets.{IsAt}
 use Rattle.kif.proofs.Comments.{comment_blank, others_stay}
 

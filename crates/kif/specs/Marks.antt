@@ -1,9 +1,10 @@
+-- This crate's own: what `run` promises does not rest on it.
 -- An order of all trees, whatever bytes their names hold.
 use Rattle.std.specs.Prelude.{ℕ, List, [], ◌∷◌, ◌++◌, ◌+◌, ◌*◌, ◌≡◌, map}
 use Rattle.std.specs.Ordering.{nat_cmp, ordering_then}
 use Rattle.std.specs.Cmp.Lexicographic.{slice_cmp}
 use Rattle.std.specs.declared.cmp.Ordering.{Ordering}
-use Rattle.kif.specs.Tree.{Tree, name, list, Trees, no_trees, tree}
+use Rattle.statement.specs.Tree.{Tree, name, list, Trees, no_trees, tree}
 
 -- the mark of a name's byte: odd, where a bracket or a space has twice its byte
 abbrev pub name_mark : ℕ → ℕ

@@ -1,8 +1,9 @@
+-- This crate's own: what `run` promises does not rest on it.
 -- What stands at an offset of a text, and which fault a text has, by offsets and counts.
 use Rattle.std.specs.Prelude.{ℕ, suc, ◌+◌, Bool, true, not, ◌||◌, ◌==◌, ◌<◌, ◌≤◌, ◌≡◌, ◌≢◌, ◌⊎◌, List, length, map, take, count_by, slice_index}
 use Rattle.std.specs.Prelude.{slice_range, ℤ, pos, ◌-ℤ◌}
-use Rattle.kif.specs.Lexical.{is_space, is_name_byte, lower, IsInComment, visible, Token, opening, closing, word, stray}
-use Rattle.kif.specs.Reading.{text_limit, name_limit, open_limit, Fault, too_long, bad_byte, too_deep, unclosed, unopened, name_too_long}
+use Rattle.statement.specs.Lexical.{is_space, is_name_byte, lower, IsInComment, visible, Token, opening, closing, word, stray}
+use Rattle.statement.specs.Reading.{text_limit, name_limit, open_limit, TextFault, too_long, bad_byte, too_deep, unclosed, unopened, name_too_long}
 
 abbrev pub is_opening : ℕ → Bool
 is_opening b = b == 40
@@ -43,7 +44,7 @@ abbrev pub open_before : List ℕ → ℕ → ℤ
 open_before text o = pos (count_before is_opening text o) -ℤ pos (count_before is_closing text o)
 
 -- the fault stands in the text, alone or beside others
-abbrev pub Stands : List ℕ → Fault → Type 0
+abbrev pub Stands : List ℕ → TextFault → Type 0
 Stands text too_long = text_limit < length text
 Stands text (bad_byte o) = IsAt is_stray text o
 Stands text (too_deep o) = IsAt is_opening text o × (open_before text o ≡ pos open_limit)
@@ -52,7 +53,7 @@ Stands text (name_too_long o) = (end : ℕ) × IsRun text o end × (o + name_lim
 Stands text (unclosed o) = IsAt is_opening text o × ((p : ℕ) → o < p → p ≤ length text → open_before text p ≢ open_before text o)
 
 -- the length is looked at before all else, and lists that are left open after all else
-abbrev pub stage : Fault → ℕ
+abbrev pub stage : TextFault → ℕ
 stage too_long = 0
 stage (bad_byte o) = 1
 stage (too_deep o) = 1
@@ -60,7 +61,7 @@ stage (unopened o) = 1
 stage (name_too_long o) = 1
 stage (unclosed o) = 2
 
-abbrev pub offset : Fault → ℕ
+abbrev pub offset : TextFault → ℕ
 offset too_long = 0
 offset (bad_byte o) = o
 offset (too_deep o) = o
@@ -69,10 +70,10 @@ offset (name_too_long o) = o
 offset (unclosed o) = o
 
 -- f is named before g
-abbrev pub Precedes : Fault → Fault → Type 0
+abbrev pub Precedes : TextFault → TextFault → Type 0
 Precedes f g = (stage f < stage g) ⊎ ((stage f ≡ stage g) × (offset f < offset g))
 
 -- the fault stands in the text, and none that stands there precedes it
-pub record IsFirstFault (text : List ℕ) (f : Fault) : Type 0 where
+pub record IsFirstFault (text : List ℕ) (f : TextFault) : Type 0 where
   pub stands : Stands text f
-  pub first : (g : Fault) → Stands text g → Precedes g f → ⊥
+  pub first : (g : TextFault) → Stands text g → Precedes g f → ⊥

@@ -1,9 +1,9 @@
-// The laws of the orders of trees.
+//! The laws of the orders of trees.
 ghost use Rattle.std.specs.Prelude.{◌≡◌};
 ghost use Rattle.std.specs.Cmp.{IsTotalOrder};
 ghost use Rattle.std.specs.declared.cmp.Ordering.TheVariants.{Equal};
-ghost use Rattle.kif.specs.Tree.{Tree, printed_cmp};
-ghost use Rattle.kif.specs.Lexical.{HasNames};
+ghost use Rattle.statement.specs.Tree.{Tree, printed_cmp};
+ghost use Rattle.statement.specs.Lexical.{HasNames};
 ghost use Rattle.kif.specs.Marks.{marked_cmp};
 
 /// Printed order is a total order, in which two trees are equal exactly if they are one tree, where

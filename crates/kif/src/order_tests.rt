@@ -1,4 +1,4 @@
-// The printed order of worked trees, over each allocator.
+//! The printed order of worked trees, over each allocator.
 use crate::{Expr, order, read, text_is};
 use bumpalo::Bump;
 use linked_list_allocator::LocalHeap;

@@ -1,8 +1,11 @@
-// The order of trees by their canonical texts, without the texts.
+//! The order of trees by their canonical texts, without the texts.
+//!
+//! A part is compared together with the byte behind it, since the name byte `!` sorts below `)` and above the space.
 ghost use Rattle.std.specs.Prelude.{◌≡◌, ◌≢◌, ◌<◌, ◌≤◌, ◌+◌, ◌%◌, ◌↔◌, false, length, slice_index, take};
-ghost use Rattle.kif.specs.Tree.{name, list, trees_of, printed_cmp};
-ghost use Rattle.kif.specs.Lexical.{HasNames};
-ghost use Rattle.kif.specs.View.{is_name_tree, tree_of, trees_in};
+ghost use Rattle.statement.specs.Tree.{name, list, trees_of, printed_cmp};
+ghost use Rattle.statement.specs.Lexical.{HasNames};
+ghost use Rattle.statement.specs.Tree.{is_name_tree};
+ghost use Rattle.kif.specs.View.{tree_of, trees_in};
 ghost use Rattle.kif.specs.Marks.{Begins, Orders, compared_bytes, marked_cmp, marks, name_mark, parts_marks};
 
 use crate::expr::Expr;

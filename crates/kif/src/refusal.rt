@@ -1,6 +1,6 @@
-// The line that says why an input is refused.
+//! The line that says why an input is refused.
 ghost use Rattle.std.specs.Prelude.{◌≡◌, ◌++◌, OnOk, IfSome};
-ghost use Rattle.kif.specs.Refusal.{refusal_line};
+ghost use Rattle.statement.specs.TextFaults.{refusal_line};
 
 use std::alloc::{AllocError, Allocator};
 use std::fmt::Display;

@@ -4,7 +4,7 @@ use Rattle.std.proofs.lemmas.Int.{ints, clamps, to_z-of_z}
 use mir.Val.{SFits, of_z, to_z}
 use Rattle.std.specs.Prelude.{ℤ, pos, ◌+ℤ◌, ◌-ℤ◌, ◌<ℤ◌, ◌≤ℤ◌, ◌==◌, min, map, Some}
 use Rattle.std.specs.Int.{int_min, int_max}
-use Rattle.game.specs.Rules.{Turn}
+use Rattle.statement.specs.Rules.{Turn}
 use Rattle.game.specs.Value.{Answers}
 use Rattle.maximin.proofs.Reply.{least_worth, first_least, find_here, find_behind, test_true, test_false, least_part}
 
@@ -52,13 +52,6 @@ pub record IsAhead (worth : Turn → ℕ) (turns : List Turn) (all : ℕ) (left 
   pub reached : least_worth worth left ≡ all
   pub ahead : first_least worth all turns ≡ first_least worth all left
 
-pub ahead_start : (worth : Turn → ℕ) (turns : List Turn) (all : ℕ) (left : List Turn) → turns ≡ left → all ≡ least_worth worth turns
-    → IsAhead worth turns all left
-ahead_start worth turns all left same e = record {
-  reached = ap (least_worth worth) (sym same) ∙ sym e;
-  ahead = ap (first_least worth all) same;
-}
-
 -- a turn that is worth more stands before it
 pub ahead_next : (worth : Turn → ℕ) (turns : List Turn) (all : ℕ) (joint next : Turn) (behind rest : List Turn) → behind ≡ next ∷ rest
     → all < worth joint
@@ -80,12 +73,3 @@ ahead_found worth turns all joint behind less h =
     let reached = h.reached in
     let part = least_part (worth joint) (map worth behind) in
     h.ahead ∙ find_here (λ j. worth j == all) joint behind (test_true (worth joint) all (omega arith))
-
--- so is one behind which there is none
-pub ahead_last : (worth : Turn → ℕ) (turns : List Turn) (all : ℕ) (joint : Turn) (behind : List Turn) → behind ≡ []
-    → IsAhead worth turns all (joint ∷ behind)
-    → first_least worth all turns ≡ Some joint
-ahead_last worth turns all joint behind e h =
-    let one : least_worth worth (joint ∷ behind) ≡ worth joint = rw e refl in
-    let reached = h.reached in
-    ahead_found worth turns all joint behind (omega arith) h

@@ -3,9 +3,10 @@ use Rattle.std.proofs.lemmas.Int.{ints, clamps}
 use Rattle.std.proofs.lemmas.Bool.{cases_lt}
 use Rattle.std.proofs.lemmas.Bool.Decides.{nat_tests}
 use Rattle.std.specs.Prelude.{ℤ, pos, negsuc, ◌<ℤ◌, ◌≤ℤ◌, ◌==◌, ◌||◌, ◌⊎◌, if◌then◌else◌, find, Option, None, slice_get}
-use Rattle.game.specs.Rules.{Rules, State, is_stuck}
-use Rattle.game.specs.declared.at_bound.AtBound.{AtBound}
-use Rattle.game.specs.Value.{Answers, value, worst, choice_of}
+use Rattle.statement.specs.Rules.{Rules, State, is_stuck}
+use Rattle.statement.specs.declared.at_bound.AtBound.{AtBound}
+use Rattle.game.specs.Value.{Answers}
+use Rattle.statement.specs.Value.{value, worst, choice_of}
 use Rattle.maximin.proofs.Values.{IsOpen, value_reached, worst_le_value}
 use Rattle.maximin.specs.Best.{IsBest, own_worth}
 
@@ -91,16 +92,6 @@ best_is_value g role depth at s place best chosen h known all is =
 
 either_false : (b c : Bool) (x y : Option ℕ) → b ≡ false → c ≡ false → (if b || c then x else y) ≡ y
 either_false b c x y e f = rw (e, f) refl
-
-either_true : (b c : Bool) (x y : Option ℕ) → (b ≡ true) ⊎ (c ≡ true) → (if b || c then x else y) ≡ x
-either_true true c x y h = refl
-either_true false true x y h = refl
-either_true false false x y h = elim h [ inl e ↦ cc | inr e ↦ cc ]
-
-pub choice_none : (g : Rules) (role depth : ℕ) (at : AtBound) (s : State) → (g.ended s ≡ true) ⊎ (is_stuck g s ≡ true)
-    → choice_of g role depth at s ≡ None
-choice_none g role zero at s h = refl
-choice_none g role (suc depth) at s h = either_true (g.ended s) (is_stuck g s) None _ h
 
 test_true : (x y : ℕ) → x ≡ y → (x == y) ≡ true
 test_true x y e = grind (arith, nat_tests)

@@ -1,10 +1,10 @@
 use Rattle.std.proofs.Common.{true, false, ℕ, ◌≤◌, Bool, List, [], ◌∷◌, zero, suc, arith}
 use Rattle.std.specs.Prelude.{map, if◌then◌else◌}
-use Rattle.game.specs.Rules.{Rules, State, Turn, is_stuck, turns_with}
-use Rattle.game.specs.declared.at_bound.AtBound.{AtBound}
-use Rattle.game.specs.declared.at_bound.AtBound.TheVariants.{Zero, Goal}
-use Rattle.game.specs.AtBound.{bound_worth}
-use Rattle.game.specs.Value.{value, worst, least, greatest}
+use Rattle.statement.specs.Rules.{Rules, State, Turn, is_stuck, turns_with}
+use Rattle.statement.specs.declared.at_bound.AtBound.{AtBound}
+use Rattle.statement.specs.declared.at_bound.AtBound.TheVariants.{Zero, Goal}
+use Rattle.statement.specs.AtBound.{bound_worth}
+use Rattle.statement.specs.Value.{value, worst, least, greatest}
 use Rattle.maximin.proofs.Windows.{least_head}
 
 if_at_most : (b : Bool) (x y n : ℕ) → x ≤ n → y ≤ n → (if b then x else y) ≤ n

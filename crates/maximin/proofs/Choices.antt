@@ -2,7 +2,7 @@ use Rattle.std.proofs.Common.{◌≡◌, ◌≢◌, ℕ, ◌<◌, ◌≤◌, ◌
 use Rattle.std.specs.Prelude.{◌==◌, if◌then◌else◌}
 use Rattle.std.proofs.lemmas.Bool.Decides.{nat_tests}
 use Rattle.std.proofs.lemmas.List.FromFn.{get_or-map-range_with_len, length-map-range_with_len}
-use Rattle.game.specs.Rules.{Rules, State, choices, is_stuck}
+use Rattle.statement.specs.Rules.{Rules, State, choices, is_stuck}
 use Rattle.game.proofs.Facts.{list_any_range}
 
 pub length-choices : (g : Rules) (s : State) (role own : ℕ) → length (choices g s role own) ≡ g.roles

@@ -24,7 +24,7 @@ use Rattle.std.proofs.Common.{inl, inr}
 use Rattle.std.proofs.lemmas.Bool.{cases_order}
 use Rattle.std.specs.Prelude.{Some, slice_get}
 use Rattle.std.proofs.lemmas.Option.{get_or_from_slice_get, slice_get_within}
-use Rattle.game.specs.Rules.{Turn, picks}
+use Rattle.statement.specs.Rules.{Turn, all_picks}
 use Rattle.maximin.specs.Turns.{StandsAt, later}
 use Rattle.maximin.proofs.TurnLemmas.{picks_first, later_next, later_none}
 
@@ -56,7 +56,7 @@ first_stands lists n places joint a b all some h = record {
 }
 
 pub first_picks : (lists : List (List ℕ)) (n : ℕ) (places : List ℕ) (joint : Turn) → length lists ≤ n
-    → StandsAt lists places joint → IsFirstBelow lists n places joint → picks lists ≡ joint ∷ later lists places
+    → StandsAt lists places joint → IsFirstBelow lists n places joint → all_picks lists ≡ joint ∷ later lists places
 first_picks lists n places joint all stands h = picks_first lists places joint stands (λ q below. h.place q (omega arith))
 
 -- the roles from n on have gone from their last moves to their first, and the others have stayed
@@ -66,16 +66,6 @@ pub record IsWrappedFrom (lists : List (List ℕ)) (n : ℕ) (old_places : List 
   pub move : (k : ℕ) → n ≤ k → k < length lists → get_or joint k 0 ≡ get_or (get_or lists k []) 0 0
   pub same_place : (k : ℕ) → k < n → get_or places k 0 ≡ get_or old_places k 0
   pub same_move : (k : ℕ) → k < n → get_or joint k 0 ≡ get_or old_joint k 0
-
-pub wrapped_none : (lists : List (List ℕ)) (n : ℕ) (places : List ℕ) (joint : Turn) → length lists ≤ n
-    → IsWrappedFrom lists n places joint places joint
-wrapped_none lists n places joint all = record {
-  was_last = λ k from to. absurd (omega arith);
-  place = λ k from to. absurd (omega arith);
-  move = λ k from to. absurd (omega arith);
-  same_place = λ _ _. refl;
-  same_move = λ _ _. refl;
-}
 
 -- no move is left to the role n
 pub wrapped_more : (lists : List (List ℕ)) (n : ℕ) (old_places : List ℕ) (old_joint : Turn) (places : List ℕ) (joint : Turn) (x : ℕ)

@@ -1,11 +1,11 @@
 -- What a state of the last turn is worth.
 use Rattle.std.proofs.Common.{◌≡◌, ℕ, Bool, true, false, refl}
 use Rattle.std.specs.Prelude.{Some, None, unwrap_or, if◌then◌else◌}
-use Rattle.game.specs.declared.at_bound.AtBound.{AtBound}
-use Rattle.game.specs.declared.at_bound.AtBound.TheVariants.{Zero}
-use Rattle.game.specs.Rules.{Rules, State, is_stuck}
+use Rattle.statement.specs.declared.at_bound.AtBound.{AtBound}
+use Rattle.statement.specs.declared.at_bound.AtBound.TheVariants.{Zero}
+use Rattle.statement.specs.Rules.{Rules, State, is_stuck}
 use Rattle.game.specs.Told.{end_worth}
-use Rattle.game.specs.Value.{value}
+use Rattle.statement.specs.Value.{value}
 
 -- the goal where the game has ended, and else nothing, stuck or not
 pub last_worth : (g : Rules) (role depth : ℕ) (at : AtBound) (s : State) → depth ≡ 0 → at ≡ Zero

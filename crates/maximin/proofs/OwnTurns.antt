@@ -32,9 +32,10 @@ use Rattle.std.proofs.lemmas.Int.{ints, clamps}
 use Rattle.std.proofs.lemmas.List.{take_more, get_or-drop, get_or-take, length-drop, length-take-le, map-append, length-map, get_or-map}
 use Rattle.std.specs.Int.{int_min, int_max}
 use Rattle.std.specs.Prelude.{ℤ, pos, ◌≤ℤ◌, map}
-use Rattle.game.specs.declared.at_bound.AtBound.{AtBound}
-use Rattle.game.specs.Rules.{Rules, State, Turn, IsTurn, picks, choices, turns_with}
-use Rattle.game.specs.Value.{Answers, value, worst, least, greatest}
+use Rattle.statement.specs.declared.at_bound.AtBound.{AtBound}
+use Rattle.statement.specs.Rules.{Rules, State, Turn, IsTurn, all_picks, choices, turns_with}
+use Rattle.game.specs.Value.{Answers}
+use Rattle.statement.specs.Value.{value, worst, least, greatest}
 use Rattle.maximin.specs.Alone.{IsAlone}
 use Rattle.maximin.specs.Turns.{StandsAt}
 use Rattle.maximin.proofs.Choices.{length-choices, choices_own, choices_other}
@@ -64,13 +65,13 @@ own_more f legal p n n' own old new inside here next before added =
 -- where each list has one element, there is one pick
 picks_single : (lists : List (List ℕ)) (joint : Turn) → length joint ≡ length lists
     → ((q : ℕ) → q < length lists → get_or lists q [] ≡ get_or joint q 0 ∷ [])
-    → picks lists ≡ joint ∷ []
+    → all_picks lists ≡ joint ∷ []
 picks_single [] [] size each = refl
 picks_single [] (x ∷ j) size each = absurd (omega arith)
 picks_single (xs ∷ rest) [] size each = absurd (omega arith)
 picks_single (xs ∷ rest) (x ∷ j) size each =
     let here : xs ≡ x ∷ [] = each 0 (omega arith) in
-    let below : picks rest ≡ j ∷ [] = picks_single rest j (omega arith) (λ q lt. each (suc q) (omega arith)) in
+    let below : all_picks rest ≡ j ∷ [] = picks_single rest j (omega arith) (λ q lt. each (suc q) (omega arith)) in
     rw (here, below) refl
 
 pub one_element : (xs : List ℕ) (k : ℕ) → k < length xs → length xs ≤ 1 → xs ≡ get_or xs k 0 ∷ []

@@ -45,10 +45,10 @@ use Rattle.std.specs.Option.{is_some}
 use Rattle.std.specs.Prelude.{All, IfSome, replicate}
 use Rattle.smallvec.specs.SmallVec.{SmallVec}
 use Rattle.game.proofs.Facts.{turns_after_count, turns_after_more}
-use Rattle.game.specs.declared.at_bound.AtBound.{AtBound}
-use Rattle.game.specs.Rules.{Rules, State, Turn, IsTurn, choices, turns_with}
+use Rattle.statement.specs.declared.at_bound.AtBound.{AtBound}
+use Rattle.statement.specs.Rules.{Rules, State, Turn, IsTurn, choices, turns_with}
 use Rattle.game.specs.TurnsAfter.{turns_after}
-use Rattle.game.specs.Value.{value, worst, least, greatest}
+use Rattle.statement.specs.Value.{value, worst, least, greatest}
 use Rattle.maximin.specs.declared.ahead.Ahead.{Ahead}
 use Rattle.maximin.specs.declared.pack.Pack.{Pack}
 use Rattle.maximin.specs.declared.pack.Part.{Part}
@@ -68,10 +68,6 @@ turns_count roles run h =
     let size = h.size in
     let few = h.few in
     length-map (take run.count run.joints.items) (λ (j : SmallVec ℕ). j.items) ∙ length-take-le run.count run.joints.items (omega arith)
-
--- a list with something behind it
-pub front_list : {A : Type 0} (xs ys all : List A) (n : ℕ) → all ≡ xs ++ ys → length xs ≡ n → take n all ≡ xs
-front_list {A} xs ys all n e size = ap (λ (l : List A). take n l) e ∙ take_at xs ys n size
 
 pub rest_list : {A : Type 0} (xs ys all : List A) (n : ℕ) → all ≡ xs ++ ys → length xs ≡ n → drop n all ≡ ys
 rest_list {A} xs ys all n e size =
@@ -192,33 +188,6 @@ All-same : (P : ℕ → Type 0) (n x : ℕ) → P x → All P (replicate n x)
 All-same P zero x h k d below = absurd (omega arith)
 All-same P (suc n) x h zero d below = h
 All-same P (suc n) x h (suc k) d below = All-same P n x h k d (omega arith)
-
--- no joint moves
-pub pack_none : (g : Rules) (states : List State) (worth next : State → ℕ) (pack : Pack) (run : Run) → run.count ≡ 0
-    → ((k : ℕ) → get_or pack.parts k None ≡ None) → IsPackOf g states worth next pack run
-pack_none g states worth next pack run none parts = record {
-  known = subst (λ (n : ℕ). All (IsTurn g) (map (λ (j : SmallVec ℕ). j.items) (take n run.joints.items))) (sym none) (λ k d below. absurd (omega arith));
-  places = subst (λ (n : ℕ). All (λ k. k < length states) (take n pack.places)) (sym none) (λ k d below. absurd (omega arith));
-  parts = λ k below. subst (λ (o : Option Part). IfSome o (IsPartOf next (packed_after g states pack.places run) (worth (get_or states k []))))
-      (sym (parts k)) tt;
-}
-
--- the same joint moves
-pub pack_same : (g : Rules) (states : List State) (worth next : State → ℕ) (pack : Pack) (run same : Run) → same.count ≡ run.count
-    → turns_in same ≡ turns_in run → IsPackOf g states worth next pack run → IsPackOf g states worth next pack same
-pack_same g states worth next pack run same count turns h = record {
-  known = subst (All (IsTurn g)) (sym turns) h.known;
-  places = subst (λ (n : ℕ). All (λ k. k < length states) (take n pack.places)) (sym count) h.places;
-  parts = λ k below.
-      subst
-      (λ (ts : List Turn). IfSome (get_or pack.parts k None)
-      (IsPartOf next (turns_after g states (take same.count pack.places) ts) (worth (get_or states k []))))
-      (sym turns)
-      (subst
-      (λ (n : ℕ). IfSome (get_or pack.parts k None)
-      (IsPartOf next (turns_after g states (take n pack.places) (turns_in run)) (worth (get_or states k []))))
-      (sym count) (h.parts k below));
-}
 
 -- those of one state more
 pub pack_more : (g : Rules) (states : List State) (worth next : State → ℕ) (roles : ℕ) (old new : Pack) (run more : Run) (place : ℕ) (part : Part)

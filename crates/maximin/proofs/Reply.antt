@@ -3,8 +3,9 @@ use Rattle.std.proofs.lemmas.Int.{ints, clamps}
 use Rattle.std.proofs.lemmas.Bool.Decides.{nat_tests}
 use Rattle.std.specs.Prelude.{ℤ, pos, negsuc, ◌<ℤ◌, ◌≤ℤ◌, ◌==◌, min, map, find, Option, Some}
 use Rattle.std.specs.Int.{int_min}
-use Rattle.game.specs.Rules.{Turn}
-use Rattle.game.specs.Value.{Answers, least}
+use Rattle.statement.specs.Rules.{Turn}
+use Rattle.game.specs.Value.{Answers}
+use Rattle.statement.specs.Value.{least}
 
 -- the least worth of the joint moves
 abbrev pub least_worth : (Turn → ℕ) → List Turn → ℕ

@@ -29,8 +29,8 @@ use Rattle.std.proofs.lemmas.List.{map-append, length-map, get_or-map}
 use Rattle.std.specs.Bool.{OnTrue, OnFalse}
 use Rattle.std.specs.Prelude.{All, map, min}
 use Rattle.smallvec.specs.SmallVec.{SmallVec}
-use Rattle.game.specs.Rules.{Turn}
-use Rattle.game.specs.Value.{least}
+use Rattle.statement.specs.Rules.{Turn}
+use Rattle.statement.specs.Value.{least}
 
 -- what holds of each turn holds of each joint move
 pub known_each : (P : Turn → Type 0) (xs : List (SmallVec ℕ)) → All P (map (λ (j : SmallVec ℕ). j.items) xs) → All (λ (j : SmallVec ℕ). P j.items) xs

@@ -3,9 +3,9 @@ use Rattle.std.specs.Prelude.{All, map}
 use Rattle.std.proofs.lemmas.Grind.{common_steps}
 use Rattle.std.proofs.lemmas.List.{get_or-map}
 use Rattle.std.proofs.lemmas.Bool.{cases_eq}
-use Rattle.game.specs.Rules.{Rules, State, Turn, is_stuck, choices, IsTurn}
-use Rattle.game.specs.declared.at_bound.AtBound.{AtBound}
-use Rattle.game.specs.Value.{value, worst, greatest}
+use Rattle.statement.specs.Rules.{Rules, State, Turn, is_stuck, choices, IsTurn}
+use Rattle.statement.specs.declared.at_bound.AtBound.{AtBound}
+use Rattle.statement.specs.Value.{value, worst, greatest}
 use Rattle.maximin.specs.Turns.{StandsAt}
 use Rattle.maximin.proofs.Windows.{le_greatest, greatest_reached}
 use Rattle.maximin.proofs.Choices.{length-choices, choices_own, choices_other, legal_some}

@@ -4,7 +4,8 @@ use Rattle.std.specs.Prelude.{ℤ, pos, ◌<ℤ◌, ◌≤ℤ◌, min, Option, S
 use Rattle.std.proofs.lemmas.Bool.{cases_lt}
 use Rattle.std.specs.Int.{int_min, int_max}
 use Rattle.std.specs.Int.Signed.{le_z, lt_z}
-use Rattle.game.specs.Value.{Answers, least, greatest}
+use Rattle.game.specs.Value.{Answers}
+use Rattle.statement.specs.Value.{least, greatest}
 
 -- an own move whose worst is w, in all moves that are worth v, raises the lower bound
 pub raised_most : (v w : ℕ) (a b best r : ℤ) → w ≤ v → best ≤ℤ int_max (pos v) a → Answers w best b r → int_max best r ≤ℤ int_max (pos v) a

@@ -1,6 +1,7 @@
+-- This crate's own: what `run` promises does not rest on it.
 -- What is known of the states of a run before they are searched.
 use Rattle.std.specs.Prelude.{◌≡◌, ℕ, ◌<◌, ◌≤◌, List, [], length, slice_index_or, None, IfSome}
-use Rattle.game.specs.Rules.{State}
+use Rattle.statement.specs.Rules.{State}
 use Rattle.maximin.specs.declared.ahead.Ahead.{Ahead}
 
 -- each worth that is known is that of its state

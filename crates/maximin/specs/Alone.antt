@@ -1,6 +1,7 @@
+-- This crate's own: what `run` promises does not rest on it.
 -- States in which no other role has a choice.
 use Rattle.std.specs.Prelude.{◌≢◌, ℕ, ◌<◌, ◌≤◌, List, length, map, take, drop, slice_set}
-use Rattle.game.specs.Rules.{Rules, State, Turn}
+use Rattle.statement.specs.Rules.{Rules, State, Turn}
 
 -- each other role has one legal move at most
 abbrev pub IsAlone : Rules → State → ℕ → Type 0

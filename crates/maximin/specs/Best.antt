@@ -1,8 +1,9 @@
+-- This crate's own: what `run` promises does not rest on it.
 -- The first best of the moves of a role.
 use Rattle.std.specs.Prelude.{ℕ, ℤ, pos, negsuc, ◌≡◌, ◌<◌, ◌<ℤ◌, ◌≤ℤ◌, get_or}
-use Rattle.game.specs.Rules.{Rules, State}
-use Rattle.game.specs.declared.at_bound.AtBound.{AtBound}
-use Rattle.game.specs.Value.{worst}
+use Rattle.statement.specs.Rules.{Rules, State}
+use Rattle.statement.specs.declared.at_bound.AtBound.{AtBound}
+use Rattle.statement.specs.Value.{worst}
 
 -- the best of the moves before `place` stands at `chosen`, and is better than each move before it
 pub record IsBest (worth : ℕ → ℕ) (place : ℕ) (best : ℤ) (chosen : ℕ) : Type 0 where

@@ -1,3 +1,4 @@
+-- This crate's own: what `run` promises does not rest on it.
 -- What is remembered of moves.
 use Rattle.std.specs.Prelude.{ℕ, List, [], ◌∷◌, vec_capacity}
 use Rattle.maximin.specs.declared.history.History.{History}

@@ -1,8 +1,9 @@
+-- This crate's own: what `run` promises does not rest on it.
 -- The joint moves of several states in one run.
 use Rattle.std.specs.Prelude.{◌≡◌, ℕ, ◌+◌, ◌<◌, ◌≤◌, List, All, [], length, map, take, drop, slice_index_or, None, IfSome}
-use Rattle.game.specs.Rules.{Rules, State, IsTurn}
+use Rattle.statement.specs.Rules.{Rules, State, IsTurn}
 use Rattle.game.specs.TurnsAfter.{turns_after}
-use Rattle.game.specs.Value.{greatest, least}
+use Rattle.statement.specs.Value.{greatest, least}
 use Rattle.maximin.specs.declared.pack.Pack.{Pack}
 use Rattle.maximin.specs.declared.pack.Part.{Part}
 use Rattle.maximin.specs.declared.pack.Pick.{Pick}

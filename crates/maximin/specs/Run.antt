@@ -1,7 +1,8 @@
+-- This crate's own: what `run` promises does not rest on it.
 -- A run of joint moves.
 use Rattle.std.specs.Prelude.{◌≡◌, ℕ, ◌≤◌, List, ◌∷◌, All, length, map, take, vec_capacity}
 use Rattle.smallvec.specs.SmallVec.{SmallVec}
-use Rattle.game.specs.Rules.{Turn}
+use Rattle.statement.specs.Rules.{Turn}
 use Rattle.maximin.specs.declared.run.Run.{Run}
 
 -- a run for a game with this many roles

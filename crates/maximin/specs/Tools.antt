@@ -1,3 +1,4 @@
+-- This crate's own: what `run` promises does not rest on it.
 -- What all levels of a search share.
 use Rattle.std.specs.Prelude.{ℕ, List, ◌++◌}
 use Rattle.maximin.specs.declared.tools.Tools.{Tools}

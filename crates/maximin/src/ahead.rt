@@ -1,8 +1,11 @@
-// What is known of the states of a run before they are searched.
+//! What is known of the states of a run before they are searched.
+//!
+//! A state is taken for this once, or twice where it had no room. What is found is the value itself, so it answers any window.
+//! The run of the level below serves, which the search does not use at that moment, so no memory is taken.
 ghost use Rattle.std.specs.Prelude.{◌≡◌, ◌≢◌, ◌+◌, ◌-◌, ◌<◌, ◌≤◌, ℕ, List, true, All, length, map, take, drop, slice_index_or, None, IfSome};
-ghost use Rattle.game.specs.Rules.{State, IsTurn};
-ghost use Rattle.game.specs.Value.{value};
-ghost use Rattle.game.specs.declared.at_bound.AtBound.TheVariants.{Zero};
+ghost use Rattle.statement.specs.Rules.{State, IsTurn};
+ghost use Rattle.statement.specs.Value.{value};
+ghost use Rattle.statement.specs.declared.at_bound.AtBound.TheVariants.{Zero};
 ghost use Rattle.maximin.specs.Ahead.{IsAheadOf};
 ghost use Rattle.maximin.specs.Level.{IsLevelOf, level_capacities, all_capacities};
 ghost use Rattle.maximin.specs.Pack.{picked, packed_after, IsPartOf, IsPackOf};

@@ -1,8 +1,8 @@
-// States in which no other role has a choice.
+//! States in which no other role has a choice.
 ghost use Rattle.std.specs.Prelude.{◌≡◌, ◌+◌, ◌<◌, ◌≤◌, ◌++◌, ◌∷◌, [], All, length, slice_set};
 ghost use Rattle.std.specs.Bool.{OnTrue};
 ghost use Rattle.smallvec.specs.SmallVec.{small_vec_len};
-ghost use Rattle.game.specs.Rules.{IsTurn};
+ghost use Rattle.statement.specs.Rules.{IsTurn};
 ghost use Rattle.maximin.specs.Alone.{IsAlone, turns_from};
 ghost use Rattle.maximin.specs.Run.{IsRunOf, turns_in, run_capacities};
 

@@ -1,8 +1,9 @@
-// The first best move of a state with a turn to come.
+//! The first best move of a state with a turn to come.
 ghost use Rattle.std.specs.Prelude.{◌≡◌, ◌+◌, ◌-◌, ◌<◌, ◌≤◌, ◌<ℤ◌, ◌≤ℤ◌, ◌^◌, ℕ, pos, negsuc, false, [], All, length, get_or, slice_get};
 ghost use Rattle.std.specs.Int.{int_max};
-ghost use Rattle.game.specs.Rules.{is_stuck as stuck, IsTurn};
-ghost use Rattle.game.specs.Value.{Answers, choice_of, value, worst};
+ghost use Rattle.statement.specs.Rules.{is_stuck as stuck, IsTurn};
+ghost use Rattle.game.specs.Value.{Answers};
+ghost use Rattle.statement.specs.Value.{choice_of, value, worst};
 ghost use Rattle.maximin.specs.Ahead.{IsAheadOf};
 ghost use Rattle.maximin.specs.Alone.{IsAlone};
 ghost use Rattle.maximin.specs.Best.{IsBest, own_worth};

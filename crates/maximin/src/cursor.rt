@@ -1,8 +1,8 @@
-// A place among the joint moves of a state.
+//! A place among the joint moves of a state.
 ghost use Rattle.std.specs.Prelude.{◌≡◌, ◌≢◌, ℕ, ◌+◌, ◌<◌, ◌≤◌, ◌∷◌, [], false, IfOk, slice_get, slice_index_or};
 ghost use Rattle.std.specs.Bool.{OnTrue, OnFalse};
 ghost use Rattle.smallvec.specs.SmallVec.{small_vec_len};
-ghost use Rattle.game.specs.Rules.{is_stuck as stuck, choices, turns_with};
+ghost use Rattle.statement.specs.Rules.{is_stuck as stuck, choices, turns_with};
 ghost use Rattle.maximin.specs.Turns.{StandsAt, later};
 ghost use Rattle.maximin.specs.Cursor.{IsCursorOf, cursor_capacities};
 

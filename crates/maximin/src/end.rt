@@ -1,8 +1,9 @@
-// The last turn, where all that counts is whether the game ends in it.
+//! The last turn, where all that counts is whether the game ends in it.
 ghost use Rattle.std.specs.Prelude.{◌≡◌, ◌+◌, ◌<◌, ◌≤◌, pos, true, [], All, length, map, max, min, take, drop, get_or};
-ghost use Rattle.game.specs.declared.at_bound.AtBound.TheVariants.{Zero};
-ghost use Rattle.game.specs.Rules.{IsTurn};
-ghost use Rattle.game.specs.Value.{Answers, greatest, least, value};
+ghost use Rattle.statement.specs.declared.at_bound.AtBound.TheVariants.{Zero};
+ghost use Rattle.statement.specs.Rules.{IsTurn};
+ghost use Rattle.game.specs.Value.{Answers};
+ghost use Rattle.statement.specs.Value.{greatest, least, value};
 
 use crate::search::Asked;
 use game::{AtBound, Game, Joint};

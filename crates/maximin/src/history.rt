@@ -1,4 +1,4 @@
-// What is remembered of moves: how much search they cut off.
+//! What is remembered of moves: how much search they cut off.
 ghost use Rattle.std.specs.Prelude.{◌≡◌};
 ghost use Rattle.maximin.specs.History.{history_capacities};
 

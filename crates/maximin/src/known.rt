@@ -1,7 +1,7 @@
-// The choice and the reply where it is known what they are worth.
+//! The choice and the reply where it is known what they are worth.
 ghost use Rattle.std.specs.Prelude.{◌≡◌, ◌<◌, ◌≤◌, pos, false, Some, All, length};
-ghost use Rattle.game.specs.Rules.{is_stuck as stuck};
-ghost use Rattle.game.specs.Value.{choice_of, reply_of, value, worst};
+ghost use Rattle.statement.specs.Rules.{is_stuck as stuck};
+ghost use Rattle.statement.specs.Value.{choice_of, reply_of, value, worst};
 ghost use Rattle.maximin.specs.Level.{IsLevelOf, all_capacities};
 ghost use Rattle.maximin.specs.Tools.{tools_capacities};
 

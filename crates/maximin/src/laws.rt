@@ -1,8 +1,8 @@
-// The law of best play.
+//! The law of best play.
 ghost use Rattle.std.specs.Prelude.{◌≡◌, ℕ, ◌-◌, Some};
-ghost use Rattle.game.specs.declared.at_bound.AtBound.{AtBound};
-ghost use Rattle.game.specs.Rules.{Rules, State, Turn};
-ghost use Rattle.game.specs.Value.{value, worst, choice_of, reply_of};
+ghost use Rattle.statement.specs.declared.at_bound.AtBound.{AtBound};
+ghost use Rattle.statement.specs.Rules.{Rules, State, Turn};
+ghost use Rattle.statement.specs.Value.{value, worst, choice_of, reply_of};
 
 /// Where a role plays its choice, and the others the first reply to it, the value stays: the choice is worth what the state is, and
 /// the state after the reply is worth what the choice is, with a turn less to come.

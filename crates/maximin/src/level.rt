@@ -1,4 +1,4 @@
-// What the search keeps of one turn.
+//! What the search keeps of one turn.
 ghost use Rattle.std.specs.Prelude.{IfOk};
 ghost use Rattle.maximin.specs.Level.{IsLevelOf};
 

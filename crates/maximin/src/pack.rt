@@ -1,4 +1,8 @@
-// The joint moves of several states in one run.
+//! The joint moves of several states in one run.
+//!
+//! A state is packed where no other role has a choice, and is then worth the greatest of its lanes, or where the role has one
+//! move alone, and is then worth the least of them. One in which both sides have a choice, or which has more than 32 joint
+//! moves, is left to the search; there the packing ends, and begins anew when the search has come so far.
 ghost use Rattle.std.specs.Prelude.{
   ◌≡◌,
   ◌≢◌,
@@ -19,8 +23,8 @@ ghost use Rattle.std.specs.Prelude.{
   IfSome,
 };
 ghost use Rattle.std.specs.Bool.{OnTrue};
-ghost use Rattle.game.specs.Rules.{is_stuck as stuck, choices, IsTurn};
-ghost use Rattle.game.specs.Value.{value};
+ghost use Rattle.statement.specs.Rules.{is_stuck as stuck, choices, IsTurn};
+ghost use Rattle.statement.specs.Value.{value};
 ghost use Rattle.maximin.specs.Alone.{IsAlone};
 ghost use Rattle.maximin.specs.Cursor.{IsCursorOf, cursor_capacities};
 ghost use Rattle.maximin.specs.Level.{IsLevelOf, level_capacities};

@@ -1,7 +1,8 @@
-// The memory of a search, and the calls that use it.
+//! The memory of a search, and the calls that use it.
 ghost use Rattle.std.specs.Prelude.{◌≡◌, ◌-◌, ◌<◌, ◌≤◌, ◌<ℤ◌, ◌≤ℤ◌, pos, negsuc, false, length, slice_get, IfOk, Some, Contains};
-ghost use Rattle.game.specs.Rules.{is_stuck as stuck};
-ghost use Rattle.game.specs.Value.{Answers, value, worst, choice_of, reply_of};
+ghost use Rattle.statement.specs.Rules.{is_stuck as stuck};
+ghost use Rattle.game.specs.Value.{Answers};
+ghost use Rattle.statement.specs.Value.{value, worst, choice_of, reply_of};
 ghost use Rattle.maximin.specs.Room.{IsRoomOf, room_depth, room_capacities};
 
 use crate::choosing::{best_move, choice_at};

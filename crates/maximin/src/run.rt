@@ -1,8 +1,8 @@
-// A run of joint moves that are stepped at once.
+//! A run of joint moves that are stepped at once.
 ghost use Rattle.std.specs.Prelude.{◌≡◌, ◌+◌, ◌<◌, ◌≤◌, ◌∷◌, ◌++◌, [], false, All, IfOk};
 ghost use Rattle.std.specs.Bool.{OnTrue, OnFalse};
 ghost use Rattle.smallvec.specs.SmallVec.{small_vec_len};
-ghost use Rattle.game.specs.Rules.{is_stuck as stuck, choices, IsTurn};
+ghost use Rattle.statement.specs.Rules.{is_stuck as stuck, choices, IsTurn};
 ghost use Rattle.maximin.specs.Turns.{StandsAt, later};
 ghost use Rattle.maximin.specs.Cursor.{IsCursorOf, cursor_capacities};
 ghost use Rattle.maximin.specs.Run.{IsRunOf, turns_in, run_capacities};

@@ -1,8 +1,9 @@
-// The search, level by level.
+//! The search, level by level.
 ghost use Rattle.std.specs.Prelude.{◌≡◌, ◌<◌, ◌≤◌, ◌<ℤ◌, ◌≤ℤ◌, pos, negsuc, false, Some, [], All, length, map, get_or, if◌then◌else◌};
-ghost use Rattle.game.specs.AtBound.{bound_worth};
-ghost use Rattle.game.specs.Rules.{is_stuck as stuck, IsTurn};
-ghost use Rattle.game.specs.Value.{Answers, greatest, least, reply_of, value, worst};
+ghost use Rattle.statement.specs.AtBound.{bound_worth};
+ghost use Rattle.statement.specs.Rules.{is_stuck as stuck, IsTurn};
+ghost use Rattle.game.specs.Value.{Answers};
+ghost use Rattle.statement.specs.Value.{greatest, least, reply_of, value, worst};
 ghost use Rattle.maximin.specs.Ahead.{IsAheadOf};
 ghost use Rattle.maximin.specs.Alone.{IsAlone};
 ghost use Rattle.maximin.specs.Level.{IsLevelOf, level_capacities, all_capacities};

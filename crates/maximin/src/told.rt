@@ -1,7 +1,7 @@
-// What is known of many states before any of them is searched.
+//! What is known of many states before any of them is searched.
 ghost use Rattle.std.specs.Prelude.{◌≡◌, ◌<◌, ◌≤ℤ◌, pos, [], length, map, get_or, IfSome};
 ghost use Rattle.std.specs.Int.{int_min, int_max};
-ghost use Rattle.game.specs.Value.{greatest, least, value};
+ghost use Rattle.statement.specs.Value.{greatest, least, value};
 
 use crate::search::Asked;
 use game::{AtBound, Game, Told};

@@ -1,4 +1,4 @@
-// What all levels of a search share.
+//! What all levels of a search share.
 ghost use Rattle.std.specs.Prelude.{IfOk};
 
 use crate::history::History;

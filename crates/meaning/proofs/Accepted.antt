@@ -1,48 +1,12 @@
 -- An accepted list of items is well formed.
 use Rattle.std.proofs.Common.{ℕ, zero, suc, Bool, true, false, not, ◌&&◌, ◌||◌, ◌≡◌, List, [], refl, sym, ap, subst, ◌∙◌, Option}
-use Rattle.kif.specs.Tree.{Tree, name, list, Trees, no_trees, tree}
+use Rattle.statement.specs.Tree.{Tree, name, list, Trees, no_trees, tree}
 use Rattle.kif.proofs.Facts.{both}
-use Rattle.profile.specs.Words.{w_base, w_input, w_init, w_legal, w_goal, w_terminal}
-use Rattle.profile.specs.Clause.{Atom, Alternative, Relation, relation_of, is_word}
-use Rattle.profile.specs.Dependence.{IsAmong, Edge, dependences, is_distinct, is_moving, DependsDirectly, DependsIn, IsFixed, is_fixed}
-use Rattle.profile.specs.Items.{
-  is_constant,
-  is_connective,
-  is_atom,
-  atom_in,
-  are_terms,
-  are_literals,
-  is_item,
-  item_head,
-  item_alternatives,
-  head_tree,
-  body_trees,
-  alternatives,
-}
-use Rattle.profile.specs.Profile.{
-  Fault,
-  or_else,
-  first_failing,
-  bad_form,
-  bad_keyword,
-  not_safe,
-  recursive,
-  bad_dependence,
-  first_too_many,
-  is_unsafe,
-  is_recursive,
-  depends_badly,
-  rests_on_move,
-  some_body,
-  none_of,
-  roles,
-  misuses_word,
-  uses,
-  heads_well,
-  bodies_stand_well,
-  is_role_well,
-  HasNoFault,
-}
+use Rattle.statement.specs.Words.{w_base, w_input, w_init, w_legal, w_goal, w_terminal}
+use Rattle.statement.specs.Clause.{Atom, Alternative, Relation, relation_of, is_word}
+use Rattle.statement.specs.Dependence.{IsAmong, Edge, dependences, is_distinct, is_moving, DependsDirectly, DependsIn, IsFixed, is_fixed}
+use Rattle.statement.specs.Items.{is_constant, is_connective, is_atom, atom_in, are_terms, are_literals, is_item, item_head, item_alternatives, head_tree, body_trees, alternatives}
+use Rattle.statement.specs.Profile.{ItemFault, or_item_fault, first_failing, bad_form, bad_keyword, not_safe, recursive, bad_dependence, first_too_many, is_unsafe, is_recursive, depends_badly, rests_on_move, some_body, none_of, roles, misuses_word, uses, heads_well, bodies_stand_well, is_role_well, HasNoFault}
 use Rattle.profile.proofs.Facts.{
   or_none,
   none_fails,
@@ -61,7 +25,7 @@ use Rattle.profile.proofs.Facts.{
   base_fixed,
   input_fixed,
 }
-use Rattle.meaning.specs.Meaning.{ordinary, source_at}
+use Rattle.statement.specs.Meaning.{ordinary, source_at}
 use Rattle.meaning.specs.Listed.{IsWellFormed}
 
 own_source : (w : List ℕ) (ts : Trees) → IsOwn w → source_at w ts ≡ ordinary
@@ -80,28 +44,28 @@ atom_word (list (tree (name c) ts)) h = (both (is_constant c) (not (is_connectiv
 -- each item has its form
 items_formed : (items : List Tree) → HasNoFault items → (t : Tree) → IsAmong t items → is_item t ≡ true
 items_formed items e t a =
-    let form : Option Fault = first_failing bad_form (λ (u : Tree). not (is_item u)) 1 items in
-    let words : Option Fault = first_failing bad_keyword misuses_word 1 items in
-    let many : Option Fault = first_too_many 1 [] items in
-    let risky : Option Fault = first_failing not_safe is_unsafe 1 items in
-    let cycles : Option Fault = first_failing recursive (is_recursive (dependences (alternatives items))) 1 items in
-    let badly : Option Fault = first_failing bad_dependence (depends_badly (dependences (alternatives items)) (alternatives items)) 1 items in
-    let last : Option Fault = none_of (roles items) in
-    let k = or_none form (or_else words (or_else many (or_else risky (or_else cycles (or_else badly last))))) e in
+    let form : Option ItemFault = first_failing bad_form (λ (u : Tree). not (is_item u)) 1 items in
+    let words : Option ItemFault = first_failing bad_keyword misuses_word 1 items in
+    let many : Option ItemFault = first_too_many 1 [] items in
+    let risky : Option ItemFault = first_failing not_safe is_unsafe 1 items in
+    let cycles : Option ItemFault = first_failing recursive (is_recursive (dependences (alternatives items))) 1 items in
+    let badly : Option ItemFault = first_failing bad_dependence (depends_badly (dependences (alternatives items)) (alternatives items)) 1 items in
+    let last : Option ItemFault = none_of (roles items) in
+    let k = or_none form (or_item_fault words (or_item_fault many (or_item_fault risky (or_item_fault cycles (or_item_fault badly last))))) e in
     not_not _ (none_fails bad_form (λ (u : Tree). not (is_item u)) 1 items k.0 t a)
 
 -- an item with the word `role` is a fact without a variable
 pub words_well : (items : List Tree) → HasNoFault items → (t : Tree) → IsAmong t items → is_role_well t ≡ true
 words_well items e t a =
-    let form : Option Fault = first_failing bad_form (λ (u : Tree). not (is_item u)) 1 items in
-    let words : Option Fault = first_failing bad_keyword misuses_word 1 items in
-    let many : Option Fault = first_too_many 1 [] items in
-    let risky : Option Fault = first_failing not_safe is_unsafe 1 items in
-    let cycles : Option Fault = first_failing recursive (is_recursive (dependences (alternatives items))) 1 items in
-    let badly : Option Fault = first_failing bad_dependence (depends_badly (dependences (alternatives items)) (alternatives items)) 1 items in
-    let last : Option Fault = none_of (roles items) in
-    let f = or_none form (or_else words (or_else many (or_else risky (or_else cycles (or_else badly last))))) e in
-    let g = or_none words (or_else many (or_else risky (or_else cycles (or_else badly last)))) f.1 in
+    let form : Option ItemFault = first_failing bad_form (λ (u : Tree). not (is_item u)) 1 items in
+    let words : Option ItemFault = first_failing bad_keyword misuses_word 1 items in
+    let many : Option ItemFault = first_too_many 1 [] items in
+    let risky : Option ItemFault = first_failing not_safe is_unsafe 1 items in
+    let cycles : Option ItemFault = first_failing recursive (is_recursive (dependences (alternatives items))) 1 items in
+    let badly : Option ItemFault = first_failing bad_dependence (depends_badly (dependences (alternatives items)) (alternatives items)) 1 items in
+    let last : Option ItemFault = none_of (roles items) in
+    let f = or_none form (or_item_fault words (or_item_fault many (or_item_fault risky (or_item_fault cycles (or_item_fault badly last))))) e in
+    let g = or_none words (or_item_fault many (or_item_fault risky (or_item_fault cycles (or_item_fault badly last)))) f.1 in
     let ok = not_not _ (none_fails bad_keyword misuses_word 1 items g.0 t a) in
     let k = both (heads_well (relation_of (item_head t)) uses) (bodies_stand_well (item_alternatives t) && is_role_well t) ok in
     (both (bodies_stand_well (item_alternatives t)) (is_role_well t) k.1).1
@@ -117,18 +81,18 @@ accepted_words items e rule a =
 depends_well : (items : List Tree) → HasNoFault items → (t : Tree) → IsAmong t items
     → depends_badly (dependences (alternatives items)) (alternatives items) t ≡ false
 depends_well items e t a =
-    let form : Option Fault = first_failing bad_form (λ (u : Tree). not (is_item u)) 1 items in
-    let words : Option Fault = first_failing bad_keyword misuses_word 1 items in
-    let many : Option Fault = first_too_many 1 [] items in
-    let risky : Option Fault = first_failing not_safe is_unsafe 1 items in
-    let cycles : Option Fault = first_failing recursive (is_recursive (dependences (alternatives items))) 1 items in
-    let badly : Option Fault = first_failing bad_dependence (depends_badly (dependences (alternatives items)) (alternatives items)) 1 items in
-    let last : Option Fault = none_of (roles items) in
-    let f = or_none form (or_else words (or_else many (or_else risky (or_else cycles (or_else badly last))))) e in
-    let g = or_none words (or_else many (or_else risky (or_else cycles (or_else badly last)))) f.1 in
-    let h = or_none many (or_else risky (or_else cycles (or_else badly last))) g.1 in
-    let i = or_none risky (or_else cycles (or_else badly last)) h.1 in
-    let j = or_none cycles (or_else badly last) i.1 in
+    let form : Option ItemFault = first_failing bad_form (λ (u : Tree). not (is_item u)) 1 items in
+    let words : Option ItemFault = first_failing bad_keyword misuses_word 1 items in
+    let many : Option ItemFault = first_too_many 1 [] items in
+    let risky : Option ItemFault = first_failing not_safe is_unsafe 1 items in
+    let cycles : Option ItemFault = first_failing recursive (is_recursive (dependences (alternatives items))) 1 items in
+    let badly : Option ItemFault = first_failing bad_dependence (depends_badly (dependences (alternatives items)) (alternatives items)) 1 items in
+    let last : Option ItemFault = none_of (roles items) in
+    let f = or_none form (or_item_fault words (or_item_fault many (or_item_fault risky (or_item_fault cycles (or_item_fault badly last))))) e in
+    let g = or_none words (or_item_fault many (or_item_fault risky (or_item_fault cycles (or_item_fault badly last)))) f.1 in
+    let h = or_none many (or_item_fault risky (or_item_fault cycles (or_item_fault badly last))) g.1 in
+    let i = or_none risky (or_item_fault cycles (or_item_fault badly last)) h.1 in
+    let j = or_none cycles (or_item_fault badly last) i.1 in
     let k = or_none badly last j.1 in
     none_fails bad_dependence (depends_badly (dependences (alternatives items)) (alternatives items)) 1 items k.0 t a
 

@@ -2,17 +2,18 @@
 use Rattle.std.proofs.Common.{ℕ, zero, suc, ◌≤◌, Bool, true, false, cond, ◌≡◌, List, refl, sym, ap, subst, ◌∙◌, arith, Option, Some, None}
 use Rattle.std.specs.Prelude.{decimal}
 use Rattle.std.proofs.lemmas.Fmt.{decimal_injective}
-use Rattle.kif.specs.Tree.{Tree, name, list, Trees, no_trees, tree, name_eq}
+use Rattle.statement.specs.Tree.{Tree, name, list, Trees, no_trees, tree, name_eq}
 use Rattle.kif.proofs.Facts.{name_eq_yes, name_eq_self}
-use Rattle.profile.specs.Words.{w_true, w_does, w_next, w_legal, w_goal, w_terminal}
-use Rattle.profile.specs.Clause.{Atom, Alternative, Relation, relation_of}
-use Rattle.profile.specs.Dependence.{IsAcyclic, is_moving, is_fixed}
+use Rattle.statement.specs.Words.{w_true, w_does, w_next, w_legal, w_goal, w_terminal}
+use Rattle.statement.specs.Clause.{Atom, Alternative, Relation, relation_of}
+use Rattle.statement.specs.Dependence.{IsAcyclic, is_moving, is_fixed}
 use Rattle.profile.proofs.Facts.{fixed_tested}
-use Rattle.meaning.specs.declared.kind.Kind.{Kind}
-use Rattle.meaning.specs.declared.kind.Kind.TheVariants.{Fixed, Now, Does, Next, Legal, Goal, Terminal, Other}
-use Rattle.meaning.specs.Meaning.{atom0, atom1, atom2}
-use Rattle.meaning.specs.Listing.{role_list, base_list, input_list}
-use Rattle.meaning.specs.Kinds.{place_in, value_up_to, value_of, one_number, two_numbers, kind_at, kind_of, MeansKind}
+use Rattle.statement.specs.declared.kind.Kind.{Kind}
+use Rattle.statement.specs.declared.kind.Kind.TheVariants.{Fixed, Now, Does, Next, Legal, Goal, Terminal, Other}
+use Rattle.statement.specs.Meaning.{atom0, atom1, atom2}
+use Rattle.statement.specs.Listing.{role_list, base_list, input_list}
+use Rattle.statement.specs.Kinds.{place_in, value_up_to, value_of, one_number, two_numbers, kind_at, kind_of}
+use Rattle.meaning.specs.Kinds.{MeansKind}
 
 value_sound : (n : ℕ) (ds : List ℕ) (v : ℕ) → value_up_to n ds ≡ Some v → (ds ≡ decimal v) × (v ≤ n)
 value_sound zero ds v h = go (name_eq ds (decimal zero)) refl h

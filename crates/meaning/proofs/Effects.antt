@@ -1,16 +1,16 @@
 -- What is dropped has no effect, and the first limit passed is none exactly where all are kept.
 use Rattle.std.proofs.Common.{ℕ, Bool, true, false, not, ◌&&◌, ◌||◌, ◌≡◌, ◌⊎◌, ◌↔◌, inl, inr, List, [], ◌∷◌, refl, ap, subst, ◌∙◌}
-use Rattle.kif.specs.Tree.{Tree, Trees, no_trees, tree, name_eq, tree_eq}
+use Rattle.statement.specs.Tree.{Tree, Trees, no_trees, tree, name_eq, tree_eq}
 use Rattle.kif.proofs.Facts.{both, true_and, name_eq_yes, tree_eq_yes, tree_eq_self}
-use Rattle.profile.specs.Words.{w_init, w_next, w_legal}
-use Rattle.profile.specs.Clause.{Atom, Alternative, relation_of, is_word}
-use Rattle.profile.specs.Dependence.{IsAmong}
+use Rattle.statement.specs.Words.{w_init, w_next, w_legal}
+use Rattle.statement.specs.Clause.{Atom, Alternative, relation_of, is_word}
+use Rattle.statement.specs.Dependence.{IsAmong}
 use Rattle.profile.proofs.Facts.{or_cases, or_left, or_right, not_true}
-use Rattle.meaning.specs.Meaning.{atom1, IsBase, IsInput}
-use Rattle.meaning.specs.Listing.{role_list, base_list, input_list}
+use Rattle.statement.specs.Meaning.{atom1, IsBase, IsInput}
+use Rattle.statement.specs.Listing.{role_list, base_list, input_list}
 use Rattle.meaning.specs.Listed.{IsWellFormed}
-use Rattle.profile.specs.Profile.{is_tree_in}
-use Rattle.meaning.specs.Play.{misses_base, misses_input, is_dropped}
+use Rattle.statement.specs.Profile.{is_tree_in}
+use Rattle.statement.specs.GoalsAndMoves.{misses_base, misses_input, is_dropped}
 use Rattle.meaning.specs.Effects.{HasNoEffect}
 use Rattle.meaning.proofs.Fold.{roles_exact, bases_exact, inputs_exact}
 

@@ -22,7 +22,7 @@ pub use Rattle.meaning.proofs.Matches.{same_some, Extends, map_of-Agrees, atom_s
 -- The listing has exactly the kept instances.
 pub use Rattle.meaning.proofs.ListedLaw.{source_under, is_atom_yes, is_atom_in_yes}
 -- Possible atoms, and what the tests of the listing say of literals.
-pub use Rattle.meaning.proofs.Possible.{now_is, does_is, always_kept, kept_always}
+pub use Rattle.meaning.proofs.Possible.{now_is, does_is, kept_always}
 -- One step of the listing: the kept instances of one relation.
 pub use Rattle.meaning.proofs.Steps.{possible_plain}
 -- The listing, relation by relation.
@@ -40,6 +40,8 @@ pub use Rattle.meaning.proofs.Fold.{
   bases_exact,
   inputs_exact,
 }
+-- The roles of the listing are those that the items state.
+pub use Rattle.meaning.proofs.Roles.{roles_stated}
 -- An accepted list of items is well formed.
 pub use Rattle.meaning.proofs.Accepted.{accepted_well_formed}
 -- Going through the kept instances in order finds exactly what holds.

@@ -1,13 +1,13 @@
 -- Listings of whole games, by computation.
 use Rattle.std.proofs.Common.{ℕ, ◌≡◌, List, [], ◌∷◌, length, map, refl}
 use Rattle.std.specs.Prelude.{codes}
-use Rattle.kif.specs.Tree.{text}
+use Rattle.statement.specs.Tree.{text}
 use Rattle.kif.proofs.Facts.{items_in}
-use Rattle.profile.specs.Clause.{tree_of}
-use Rattle.profile.specs.Items.{alternatives}
+use Rattle.statement.specs.Clause.{tree_of}
+use Rattle.statement.specs.Items.{alternatives}
 use Rattle.profile.proofs.Facts.{match_text, four_text, tictactoe_text}
-use Rattle.meaning.specs.Play.{dropped}
-use Rattle.meaning.specs.Listing.{listing, Instance}
+use Rattle.statement.specs.GoalsAndMoves.{dropped}
+use Rattle.statement.specs.Listing.{listing, Instance}
 
 match_instances : length (listing (alternatives (items_in match_text))).kept ≡ 21
 unfolding items_in match_text

@@ -29,37 +29,21 @@ use Rattle.std.proofs.Common.{
   eqb-true,
 }
 use Rattle.std.specs.Prelude.{filter}
-use Rattle.kif.specs.Tree.{Tree, name_eq}
+use Rattle.statement.specs.Tree.{Tree, name_eq}
 use Rattle.kif.proofs.Facts.{both, name_eq_yes}
-use Rattle.profile.specs.Clause.{Atom, Literal, positive, negative, Alternative, Relation, relation_of, atom_eq, atom_of}
-use Rattle.profile.specs.Words.{w_distinct}
-use Rattle.profile.specs.Dependence.{IsAmong, is_moving, is_distinct, DependsDirectly, DependsIn, IsFixed, is_fixed}
+use Rattle.statement.specs.Clause.{Atom, Literal, positive, negative, Alternative, Relation, relation_of, atom_eq, atom_of}
+use Rattle.statement.specs.Words.{w_distinct}
+use Rattle.statement.specs.Dependence.{IsAmong, is_moving, is_distinct, DependsDirectly, DependsIn, IsFixed, is_fixed}
 use Rattle.profile.proofs.Facts.{IsHead, fixed_tested, not_true}
-use Rattle.meaning.specs.Substitution.{literal_under}
-use Rattle.meaning.specs.Meaning.{
-  State,
-  Joint,
-  Source,
-  now,
-  does,
-  distinct,
-  ordinary,
-  source_of,
-  RightAs,
-  IsRight,
-  Holds,
-  HoldsAlways,
-  nothing,
-  nobody,
-  IsWithinBase,
-  IsWithinInput,
-}
+use Rattle.statement.specs.Substitution.{literal_under}
+use Rattle.statement.specs.Meaning.{StateOfTerms, Joint, Source, now, does, distinct, ordinary, source_of, RightAs, IsRight, Holds, HoldsAlways, nothing, nobody, IsWithinBase, IsWithinInput}
 use Rattle.meaning.specs.Kept.{PossibleAs, Keeps, HeadsKept, PossibleIf, IsPossible}
-use Rattle.meaning.specs.InOrder.{first_place}
-use Rattle.meaning.specs.Numbers.{number_of}
-use Rattle.meaning.specs.Listing.{Instance, is_atom_in, listing}
+use Rattle.statement.specs.Printed.{first_place}
+use Rattle.statement.specs.Kept.{number_of}
+use Rattle.statement.specs.Listing.{Instance, is_atom_in, listing}
 use Rattle.meaning.specs.Listed.{IsKeptInstance, IsWellFormed}
-use Rattle.meaning.specs.Gates.{is_read, reading, gate, atom_at, literal_at, IsGateRight, IsBodyRight}
+use Rattle.statement.specs.Kept.{is_read, reading, gate}
+use Rattle.meaning.specs.Gates.{atom_at, literal_at, IsGateRight, IsBodyRight}
 use Rattle.meaning.proofs.Ordered.{place_below, filter_none, among_filter, among_filter_in, among_map_out, among_map_in}
 use Rattle.meaning.proofs.Rising.{atom_test}
 use Rattle.meaning.proofs.Derivations.{relation-under, relation-literal_under, ordinary_not_distinct}
@@ -141,7 +125,7 @@ module _ (rules : List Alternative) (w : IsWellFormed rules) where
   read_there (negative x) e k = is_atom_yes x (listing rules).atoms
       (both (not (is_fixed rules (relation_of x))) (is_atom_in x (listing rules).atoms) e).1
 
-  module _ (S : State) (J : Joint) where
+  module _ (S : StateOfTerms) (J : Joint) where
     -- an atom of a fixed relation is right in a context exactly when it is in the empty one
     fixed_right : (x : Atom) → IsFixed rules (relation_of x) → RightAs S J (Holds rules S J x) (source_of x) ↔ RightAs nothing nobody
         (HoldsAlways rules x) (source_of x)

@@ -1,40 +1,19 @@
 -- Within `Base` and `Input`, what holds is derived by kept instances alone.
 use Rattle.std.proofs.Common.{ℕ, zero, suc, Bool, true, false, ◌&&◌, cond, ◌≡◌, ◌⊎◌, ◌↔◌, inl, inr, List, length, refl, sym, subst}
-use Rattle.kif.specs.Tree.{Tree, Trees, no_trees, tree, name_eq}
+use Rattle.statement.specs.Tree.{Tree, Trees, no_trees, tree, name_eq}
 use Rattle.kif.proofs.Facts.{name_eq_yes}
-use Rattle.profile.specs.Words.{w_true, w_does, w_distinct}
-use Rattle.profile.specs.Clause.{Atom, Literal, positive, negative, Alternative, Relation, relation_of, count_trees, atom_of}
-use Rattle.profile.specs.Dependence.{is_distinct, is_moving, DependsDirectly, IsAcyclic, IsFixed}
+use Rattle.statement.specs.Words.{w_true, w_does, w_distinct}
+use Rattle.statement.specs.Clause.{Atom, Literal, positive, negative, Alternative, Relation, relation_of, count_trees, atom_of}
+use Rattle.statement.specs.Dependence.{is_distinct, is_moving, DependsDirectly, IsAcyclic, IsFixed}
 use Rattle.profile.proofs.Facts.{IsHead, along_dependence}
-use Rattle.meaning.specs.Substitution.{literal_under}
-use Rattle.meaning.specs.Meaning.{
-  State,
-  Joint,
-  Source,
-  now,
-  does,
-  distinct,
-  ordinary,
-  source_at,
-  source_of,
-  RightAs,
-  IsRight,
-  IsDerived,
-  Holds,
-  nothing,
-  nobody,
-  IsWithinBase,
-  IsWithinInput,
-}
+use Rattle.statement.specs.Substitution.{literal_under}
+use Rattle.statement.specs.Meaning.{StateOfTerms, Joint, Source, now, does, distinct, ordinary, source_at, source_of, RightAs, IsRight, IsDerived, Holds, nothing, nobody, IsWithinBase, IsWithinInput}
 use Rattle.meaning.specs.Kept.{PossibleAs, UndecidedAs, Keeps, HeadsKept, HasRightInstance}
 use Rattle.meaning.proofs.Derivations.{IsLocal, IsRight-local, derived_by_a_rule, derived_heads, derivation_again, ordinary_at, ordinary_not_distinct}
 
 -- an atom is a `distinct`, or else it is ordinary or its relation is one that moves
 abbrev pub IsSorted : Source → Relation → Type 0
 IsSorted k p = ((s : Tree) × (t : Tree) × (k ≡ distinct s t)) ⊎ ((is_distinct p ≡ false) × ((k ≡ ordinary) ⊎ (is_moving p ≡ true)))
-
-relation_at : List ℕ → Trees → Relation
-relation_at w ts = record { word = w; arity = count_trees ts }
 
 pub sorted_at : (w : List ℕ) (ts : Trees) → IsSorted (source_at w ts) (record { word = w; arity = count_trees ts })
 sorted_at w no_trees = inr (ordinary_at w no_trees refl, inl refl)
@@ -67,7 +46,7 @@ sorted_at w (tree t (tree u no_trees)) = go (name_eq w w_does) (name_eq w w_dist
 sorted_at w (tree t (tree u (tree v vs))) = inr (ordinary_at w (tree t (tree u (tree v vs))) refl, inl refl)
 
 -- an atom that doesn't move is right in one context where it is right in another
-pub right_elsewhere : (S S' : State) (J J' : Joint) (A B : Type 0) (k : Source) (p : Relation) → IsSorted k p
+pub right_elsewhere : (S S' : StateOfTerms) (J J' : Joint) (A B : Type 0) (k : Source) (p : Relation) → IsSorted k p
     → (is_distinct p ≡ false → is_moving p ≡ false) → (k ≡ ordinary → is_distinct p ≡ false → A ↔ B) → RightAs S J A k ↔ RightAs S' J' B k
 right_elsewhere S S' J J' A B k p (inl test) still same =
     subst (λ (j : Source). RightAs S J A j ↔ RightAs S' J' B j) (sym test.2) ((λ h. h), (λ h. h))
@@ -77,14 +56,14 @@ right_elsewhere S S' J J' A B k p (inr (other, inr moves)) still same =
     let stays = still other in absurd cc
 
 module _ (rules : List Alternative) (acyclic : IsAcyclic rules) where
-  abbrev Alike : (S S' : State) (J J' : Joint) → ℕ → Relation → Type 0
+  abbrev Alike : (S S' : StateOfTerms) (J J' : Joint) → ℕ → Relation → Type 0
   Alike S S' J J' k p = IsFixed rules p → (x : Atom) → relation_of x ≡ p → Holds rules S J x ↔ Holds rules S' J' x
 
   -- atoms of fixed relations hold in every context or in none
-  pub fixed_alike : (S S' : State) (J J' : Joint) (p : Relation) → Alike S S' J J' (length rules) p
+  pub fixed_alike : (S S' : StateOfTerms) (J J' : Joint) (p : Relation) → Alike S S' J J' (length rules) p
   fixed_alike S S' J J' = along_dependence rules acyclic (Alike S S' J J') none step
     where
-      by_rule : (T : State) (K : Joint) (x : Atom) → Holds rules T K x ↔ IsDerived rules (IsRight T K (Holds rules T K)) x
+      by_rule : (T : StateOfTerms) (K : Joint) (x : Atom) → Holds rules T K x ↔ IsDerived rules (IsRight T K (Holds rules T K)) x
       by_rule T K x = derived_by_a_rule rules acyclic (IsRight T K) (IsRight-local T K) x
 
       none : (p : Relation) → (IsHead rules p → ⊥) → Alike S S' J J' zero p
@@ -139,7 +118,7 @@ Keeps-local rules H G (negative x) e h = h
 pub kept_by_a_rule : (rules : List Alternative) → IsAcyclic rules → (x : Atom) → HeadsKept rules x ↔ IsDerived rules (Keeps rules (HeadsKept rules)) x
 kept_by_a_rule rules acyclic x = derived_by_a_rule rules acyclic (Keeps rules) (Keeps-local rules) x
 
-module _ (rules : List Alternative) (acyclic : IsAcyclic rules) (S : State) (J : Joint) (base : IsWithinBase rules S) (input : IsWithinInput rules J)
+module _ (rules : List Alternative) (acyclic : IsAcyclic rules) (S : StateOfTerms) (J : Joint) (base : IsWithinBase rules S) (input : IsWithinInput rules J)
   where
     possible : (fixed holds heads A : Type 0) (k : Source) → (k ≡ ordinary → (fixed → A → holds) × (A → heads)) → RightAs S J A k
         → PossibleAs rules fixed holds heads k

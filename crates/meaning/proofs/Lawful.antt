@@ -1,35 +1,16 @@
 -- Heads of kept instances are made of lawful names, and so is what holds in the empty context.
 use Rattle.std.proofs.Common.{ℕ, suc, Bool, true, false, not, cond, ◌≡◌, ◌⊎◌, inl, inr, List, [], ◌∷◌, length, refl, sym, ap, subst, ◌∙◌}
-use Rattle.kif.specs.Tree.{Tree, name, list, Trees, no_trees, tree}
-use Rattle.kif.specs.Lexical.{AreNameBytes, IsName, is_lower_name_byte, HasNames, HaveNames}
+use Rattle.statement.specs.Tree.{Tree, name, list, Trees, no_trees, tree}
+use Rattle.statement.specs.Lexical.{AreNameBytes, IsName, is_lower_name_byte, HasNames, HaveNames}
 use Rattle.kif.proofs.Facts.{both, true_and}
-use Rattle.profile.specs.Words.{w_role, w_base, w_input}
-use Rattle.profile.specs.Clause.{is_variable, Atom, Literal, positive, negative, Alternative, Relation, relation_of, atom_of, tree_of}
-use Rattle.profile.specs.Items.{are_name_bytes, is_name, is_constant, begins_compound, is_term, are_terms}
-use Rattle.profile.specs.Dependence.{IsAmong, is_distinct, DependsDirectly, IsFixed}
-use Rattle.profile.specs.Safety.{variables, variables_in, is_binding}
+use Rattle.statement.specs.Words.{w_role, w_base, w_input}
+use Rattle.statement.specs.Clause.{is_variable, Atom, Literal, positive, negative, Alternative, Relation, relation_of, atom_of, tree_of}
+use Rattle.statement.specs.Items.{are_name_bytes, is_name, is_constant, begins_compound, is_term, are_terms}
+use Rattle.statement.specs.Dependence.{IsAmong, is_distinct, DependsDirectly, IsFixed}
+use Rattle.statement.specs.Safety.{variables, variables_in, is_binding}
 use Rattle.profile.proofs.Facts.{not_true, IsAmong-append, IsAmong-append_left, IsAmong-append_right, IsHead, along_dependence}
-use Rattle.meaning.specs.Substitution.{Map, is_ground, are_ground, substitute, substitute_all, atom_under, IsLawful, IsLawfulTerm}
-use Rattle.meaning.specs.Meaning.{
-  Source,
-  now,
-  does,
-  distinct,
-  ordinary,
-  source_of,
-  atom1,
-  atom2,
-  HoldsAlways,
-  IsRole,
-  IsBase,
-  IsInput,
-  IsDerived,
-  State,
-  Joint,
-  Holds,
-  IsWithinBase,
-  IsWithinInput,
-}
+use Rattle.statement.specs.Substitution.{Map, is_ground, are_ground, substitute, substitute_all, atom_under, IsLawful, IsLawfulTerm}
+use Rattle.statement.specs.Meaning.{Source, now, does, distinct, ordinary, source_of, atom1, atom2, HoldsAlways, IsRole, IsBase, IsInput, IsDerived, StateOfTerms, Joint, Holds, IsWithinBase, IsWithinInput}
 use Rattle.meaning.specs.Kept.{Keeps, HeadsKept, PossibleIf, IsPossible}
 use Rattle.meaning.specs.Listed.{IsWellFormed}
 use Rattle.meaning.proofs.Derivations.{relation-under, derived_direct, derived_heads}
@@ -170,7 +151,7 @@ module _ (rules : List Alternative) (w : IsWellFormed rules) where
             (ground_all_under d.map d.maps_to_ground d.rule.head.terms (w.terms d.rule d.is_rule));
       }
 
-  pub holding_lawful : (S : State) (J : Joint) → IsWithinBase rules S → IsWithinInput rules J → (x : Atom) → Holds rules S J x → IsLawful x
+  pub holding_lawful : (S : StateOfTerms) (J : Joint) → IsWithinBase rules S → IsWithinInput rules J → (x : Atom) → Holds rules S J x → IsLawful x
   holding_lawful S J base input x h = heads_lawful x (holds_heads rules w.acyclic S J base input (relation_of x) x refl h)
 
   pub always_lawful : (x : Atom) → HoldsAlways rules x → IsLawful x

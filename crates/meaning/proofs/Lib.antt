@@ -23,4 +23,5 @@ mod Printed
 mod Numbered
 mod Rising
 mod FixedFirst
+mod Determined
 pub mod Facts

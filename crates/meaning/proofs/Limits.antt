@@ -2,9 +2,9 @@
 use Rattle.std.proofs.Common.{ℕ, ◌≡◌, List, refl, Some, None}
 use Rattle.std.specs.Prelude.{codes}
 use Rattle.kif.proofs.Facts.{items_in}
-use Rattle.profile.specs.Items.{alternatives}
-use Rattle.meaning.specs.declared.excess.Excess.TheVariants.{Base, Inputs, Instances, Text}
-use Rattle.meaning.specs.Limits.{excess_by, excess_in}
+use Rattle.statement.specs.Items.{alternatives}
+use Rattle.statement.specs.declared.excess.Excess.TheVariants.{Base, Inputs, Instances, Text}
+use Rattle.statement.specs.Limits.{excess_by, excess_in}
 
 doubled_nine : List ℕ
 doubled_nine = codes "(role a)(p0 a)(<= (p1 (f ?x ?x)) (p0 ?x))(<= (p2 (f ?x ?x)) (p1 ?x))(<= (p3 (f ?x ?x)) (p2 ?x))(<= (p4 (f ?x ?x)) (p3 ?x))(<= (p5 (f ?x ?x)) (p4 ?x))(<= (p6 (f ?x ?x)) (p5 ?x))(<= (p7 (f ?x ?x)) (p6 ?x))(<= (p8 (f ?x ?x)) (p7 ?x))(<= (p9 (f ?x ?x)) (p8 ?x))"

@@ -6,6 +6,7 @@ use Rattle.std.proofs.Common.{
   Bool,
   true,
   false,
+  not,
   cond,
   ◌≡◌,
   ◌⊎◌,
@@ -26,9 +27,10 @@ use Rattle.std.proofs.Common.{
   arith,
 }
 use Rattle.std.specs.Prelude.{filter}
-use Rattle.profile.specs.Dependence.{IsAmong}
+use Rattle.statement.specs.Dependence.{IsAmong}
 use Rattle.profile.proofs.Facts.{IsAmong-append, IsAmong-append_left}
-use Rattle.meaning.specs.InOrder.{AreInOrder, AreDistinct, first_place, IsLess}
+use Rattle.statement.specs.Printed.{AreInOrder, first_place}
+use Rattle.meaning.specs.InOrder.{AreDistinct, IsLess}
 
 pub less_never : (ns : List ℕ) → IsLess ns ns → ⊥
 less_never [] h = h
@@ -129,6 +131,27 @@ order_filter B f (x ∷ xs) h = go (f x) (order_filter B f xs h.1)
     go : (t : Bool) → AreInOrder B (filter f xs) → AreInOrder B (cond t (x ∷ filter f xs) (filter f xs))
     go true k = ((λ y a. h.0 y (among_filter f y xs a).0), k)
     go false k = k
+
+-- a list of which those that pass a test stand first is the list of these and then of the others
+pub parted : {A : Type 0} (B : A → A → Type 0) (f : A → Bool) (xs : List A) → AreInOrder B xs
+    → ((x y : A) → IsAmong x xs → IsAmong y xs → f x ≡ false → f y ≡ true → B x y → ⊥)
+    → xs ≡ filter f xs ++ filter (λ (x : A). not (f x)) xs
+parted B f [] h never = refl
+parted {A} B f (x ∷ xs) h never = go (f x) refl (parted B f xs h.1 (λ y z a b. never y z (inr a) (inr b)))
+  where
+    behind : f x ≡ false → (y : A) → IsAmong y xs → (b : Bool) → f y ≡ b → b ≡ false
+    behind e y a true k = absurd (never x y (inl refl) (inr a) e k (h.0 y a))
+    behind e y a false k = refl
+
+    go : (b : Bool) → f x ≡ b → xs ≡ filter f xs ++ filter (λ (y : A). not (f y)) xs
+        → x ∷ xs
+        ≡ cond b (x ∷ filter f xs) (filter f xs) ++ cond (not b) (x ∷ filter (λ (y : A). not (f y)) xs) (filter (λ (y : A). not (f y)) xs)
+    go true e more = ap (λ (l : List A). x ∷ l) more
+    go false e more =
+        let one : filter f xs ≡ [] = filter_none f xs (λ y a. behind e y a (f y) refl) in
+        let two : filter (λ (y : A). not (f y)) xs ≡ xs
+        = filter_all (λ (y : A). not (f y)) xs (λ y a. ap not (behind e y a (f y) refl)) in
+        cc
 
 -- of two members, one stands before the other, or they are one
 pub order_cases : {A : Type 0} (B : A → A → Type 0) (xs : List A) → AreInOrder B xs → (x y : A) → IsAmong x xs → IsAmong y xs → (x ≡ y)

@@ -1,18 +1,18 @@
 -- Gates, kinds, starts and dropped heads of small games, by computation.
 use Rattle.std.proofs.Common.{ℕ, true, false, ◌≡◌, List, [], ◌∷◌, length, map, cond, refl, Option, Some, None}
 use Rattle.std.specs.Prelude.{codes}
-use Rattle.kif.specs.Tree.{Tree, name, text, tree_eq}
+use Rattle.statement.specs.Tree.{Tree, name, text, tree_eq}
 use Rattle.kif.proofs.Facts.{items_in}
-use Rattle.profile.specs.Words.{w_true, w_does, w_next, w_legal, w_terminal, w_init}
-use Rattle.profile.specs.Items.{alternatives}
+use Rattle.statement.specs.Words.{w_true, w_does, w_next, w_legal, w_terminal, w_init}
+use Rattle.statement.specs.Items.{alternatives}
 use Rattle.profile.proofs.Facts.{match_text, tictactoe_text}
-use Rattle.meaning.specs.declared.kind.Kind.TheVariants.{Fixed, Now, Does, Next, Legal, Terminal, Other}
-use Rattle.meaning.specs.Meaning.{atom0, atom1, atom2, nothing}
-use Rattle.meaning.specs.Listing.{listing}
-use Rattle.meaning.specs.Gates.{gate}
-use Rattle.meaning.specs.Kinds.{kind_of}
-use Rattle.profile.specs.Profile.{is_tree_in}
-use Rattle.meaning.specs.Play.{dropped, start_list}
+use Rattle.statement.specs.declared.kind.Kind.TheVariants.{Fixed, Now, Does, Next, Legal, Terminal, Other}
+use Rattle.statement.specs.Meaning.{atom0, atom1, atom2, nothing}
+use Rattle.statement.specs.Listing.{listing}
+use Rattle.statement.specs.Kept.{gate}
+use Rattle.statement.specs.Kinds.{kind_of}
+use Rattle.statement.specs.Profile.{is_tree_in}
+use Rattle.statement.specs.GoalsAndMoves.{dropped, start_list}
 use Rattle.meaning.specs.Evaluation.{after_list, legal_list, is_ended}
 
 -- the propositions done and same have the numbers 8 and 9, and the inputs 10 to 13

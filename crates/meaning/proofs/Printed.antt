@@ -7,17 +7,17 @@ use Rattle.std.specs.Ordering.{ordering_reverse}
 use Rattle.std.specs.declared.cmp.Ordering.{Ordering}
 use Rattle.std.specs.declared.cmp.Ordering.TheVariants.{Less, Equal, Greater}
 use Rattle.std.proofs.lemmas.Cmp.{tied_itself}
-use Rattle.kif.specs.Tree.{Tree, Trees, no_trees, tree, text, tree_eq, printed_cmp}
-use Rattle.kif.specs.Lexical.{HasNames}
+use Rattle.statement.specs.Tree.{Tree, Trees, no_trees, tree, text, tree_eq, printed_cmp}
+use Rattle.statement.specs.Lexical.{HasNames}
 use Rattle.kif.proofs.Facts.{text_once}
-use Rattle.profile.specs.Clause.{Atom, relation_of, is_word}
-use Rattle.profile.specs.Dependence.{IsAmong}
-use Rattle.profile.specs.Order.{is_less}
+use Rattle.statement.specs.Clause.{Atom, relation_of, is_word}
+use Rattle.statement.specs.Dependence.{IsAmong}
+use Rattle.statement.specs.Order.{is_less}
 use Rattle.profile.proofs.Facts.{IsAmong-append_left}
-use Rattle.meaning.specs.Meaning.{atom1, atom2}
+use Rattle.statement.specs.Meaning.{atom1, atom2}
 use Rattle.meaning.specs.InOrder.{AreDistinct}
-use Rattle.meaning.specs.Listing.{into_printed_order, in_printed_order, one_term, terms_of, second_of, terms_with}
-use Rattle.meaning.specs.Play.{AreInPrintedOrder}
+use Rattle.statement.specs.Listing.{into_printed_order, in_printed_order, one_term, terms_of, second_of, terms_with}
+use Rattle.statement.specs.GoalsAndMoves.{AreInPrintedOrder}
 use Rattle.meaning.proofs.Ordered.{order_append, one_list}
 use Rattle.meaning.proofs.Fold.{printed_from, printed_out, terms_out, seconds_out}
 

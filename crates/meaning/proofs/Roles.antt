@@ -29,34 +29,21 @@ use Rattle.std.proofs.Common.{
   eqb-true,
 }
 use Rattle.std.specs.Prelude.{filter}
-use Rattle.kif.specs.Tree.{Tree, name, list, Trees, no_trees, tree, name_eq, tree_eq}
+use Rattle.statement.specs.Tree.{Tree, name, list, Trees, no_trees, tree, name_eq, tree_eq}
 use Rattle.kif.proofs.Facts.{both, name_eq_yes, tree_eq_yes, tree_eq_self}
-use Rattle.profile.specs.Words.{w_role}
-use Rattle.profile.specs.Clause.{is_variable, Atom, Alternative, Relation, relation_of, relation_eq, count_trees, is_word}
-use Rattle.profile.specs.Dependence.{IsAmong, is_among, is_fixed}
-use Rattle.profile.specs.Items.{item_head, item_alternatives, alternatives, body_trees, is_some, readings_of_all}
-use Rattle.profile.specs.Order.{relations_in_order}
-use Rattle.profile.specs.Safety.{variables, variables_in}
-use Rattle.profile.specs.Profile.{HasNoFault, is_empty, is_role_well, is_tree_in, first_of, role_in, with_new, roles_from, roles}
+use Rattle.statement.specs.Words.{w_role}
+use Rattle.statement.specs.Clause.{is_variable, Atom, Alternative, Relation, relation_of, relation_eq, count_trees, is_word}
+use Rattle.statement.specs.Dependence.{IsAmong, is_among, is_fixed}
+use Rattle.statement.specs.Items.{item_head, item_alternatives, alternatives, body_trees, is_some, readings_of_all}
+use Rattle.statement.specs.Order.{relations_in_order}
+use Rattle.statement.specs.Safety.{variables, variables_in}
+use Rattle.statement.specs.Profile.{HasNoFault, is_empty, is_role_well, is_tree_in, first_of, role_in, with_new, roles_from, roles}
 use Rattle.profile.proofs.Facts.{right_if, same_head, fixed_tested, relations_complete, or_cases, or_left, or_right, relation_eq_yes}
-use Rattle.meaning.specs.Substitution.{Map, substitute, substitute_all}
-use Rattle.meaning.specs.Meaning.{atom1}
+use Rattle.statement.specs.Substitution.{Map, substitute, substitute_all}
+use Rattle.statement.specs.Meaning.{atom1}
 use Rattle.meaning.specs.InOrder.{AreDistinct}
-use Rattle.meaning.specs.Matching.{map_of}
-use Rattle.meaning.specs.Listing.{
-  Instance,
-  is_atom_in,
-  kept_of,
-  kept_of_relation,
-  with_atoms,
-  Listing,
-  heads,
-  list_relation,
-  list_relations,
-  one_term,
-  terms_of,
-  role_list,
-}
+use Rattle.statement.specs.Matching.{map_of}
+use Rattle.statement.specs.Listing.{Instance, is_atom_in, kept_of, kept_of_relation, with_atoms, Listing, heads, list_relation, list_relations, one_term, terms_of, role_list}
 use Rattle.meaning.proofs.Accepted.{words_well, accepted_well_formed}
 use Rattle.meaning.proofs.ListedLaw.{is_atom_yes, is_atom_in_yes}
 use Rattle.meaning.proofs.Fold.{terms_in, terms_out}

@@ -30,44 +30,32 @@ use Rattle.std.proofs.Common.{
 }
 use Rattle.std.specs.Prelude.{nat_lt, filter, ◌||◌}
 use Rattle.std.proofs.lemmas.Bool.Decides.{nat_tests}
-use Rattle.kif.specs.Tree.{text}
-use Rattle.profile.specs.Clause.{Alternative, Relation, tree_of}
-use Rattle.profile.specs.Dependence.{IsAmong, is_fixed}
-use Rattle.profile.specs.Order.{relations_in_order}
+use Rattle.statement.specs.Tree.{text}
+use Rattle.statement.specs.Clause.{Alternative, Relation, tree_of}
+use Rattle.statement.specs.Dependence.{IsAmong, is_fixed}
+use Rattle.statement.specs.Order.{relations_in_order}
 use Rattle.profile.proofs.Facts.{IsAmong-append, IsAmong-append_left, IsAmong-append_right}
-use Rattle.meaning.specs.declared.excess.Excess.{Excess}
-use Rattle.meaning.specs.declared.excess.Excess.TheVariants.{Base, Inputs, Instances, Text}
-use Rattle.meaning.specs.Listing.{
-  Instance,
-  kept_of_relation,
-  with_atoms,
-  Listing,
-  heads,
-  list_relation,
-  list_relations,
-  context_atoms,
-  fixed_listing,
-  role_list,
-  base_list,
-}
-use Rattle.meaning.specs.Limits.{or_else, where_true, has_long_text, first_excess, count_inputs, excess_by}
-use Rattle.meaning.specs.Most.{Limits}
+use Rattle.statement.specs.declared.excess.Excess.{Excess}
+use Rattle.statement.specs.declared.excess.Excess.TheVariants.{Base, Inputs, Instances, Text}
+use Rattle.statement.specs.Listing.{Instance, kept_of_relation, with_atoms, Listing, heads, list_relation, list_relations, context_atoms, fixed_listing, role_list, base_list}
+use Rattle.statement.specs.Limits.{or_excess, where_true, has_long_text, first_excess, count_inputs, excess_by}
+use Rattle.statement.specs.Most.{Limits}
 use Rattle.meaning.specs.Effects.{IsWithin}
-use Rattle.meaning.proofs.Exact.{added}
+use Rattle.meaning.proofs.Exact.{more_of, added}
 
-both_none : (a : Bool) (x : Excess) (o : Option Excess) → or_else (where_true a x) o ≡ None → (a ≡ false) × (o ≡ None)
+both_none : (a : Bool) (x : Excess) (o : Option Excess) → or_excess (where_true a x) o ≡ None → (a ≡ false) × (o ≡ None)
 both_none true x o h = absurd cc
 both_none false x o h = (refl, h)
 
-none_both : (a : Bool) (x : Excess) (o : Option Excess) → a ≡ false → o ≡ None → or_else (where_true a x) o ≡ None
+none_both : (a : Bool) (x : Excess) (o : Option Excess) → a ≡ false → o ≡ None → or_excess (where_true a x) o ≡ None
 none_both true x o e h = absurd cc
 none_both false x o e h = h
 
-or_else_none : (a b : Option Excess) → or_else a b ≡ None → (a ≡ None) × (b ≡ None)
+or_else_none : (a b : Option Excess) → or_excess a b ≡ None → (a ≡ None) × (b ≡ None)
 or_else_none None b h = (refl, h)
 or_else_none (Some x) b h = absurd cc
 
-none_or_else : (a b : Option Excess) → a ≡ None → b ≡ None → or_else a b ≡ None
+none_or_else : (a b : Option Excess) → a ≡ None → b ≡ None → or_excess a b ≡ None
 none_or_else None b h k = k
 none_or_else (Some x) b h k = absurd cc
 
@@ -108,7 +96,7 @@ module _ (most : Limits) (rules : List Alternative) where
   relations_within g [] h w = w
   relations_within g (p ∷ ps) h w =
       let a = both_none (nat_lt most.instances (length (list_relation rules g p).kept)) Instances
-      (or_else (where_true (has_long_text most.text (heads (kept_of_relation rules g.atoms p zero rules))) Text)
+      (or_excess (where_true (has_long_text most.text (heads (kept_of_relation rules g.atoms p zero rules))) Text)
       (first_excess most rules (list_relation rules g p) ps)) h in
       let b = both_none (has_long_text most.text (heads (kept_of_relation rules g.atoms p zero rules))) Text
       (first_excess most rules (list_relation rules g p) ps) a.1 in
@@ -125,11 +113,10 @@ module _ (most : Limits) (rules : List Alternative) where
   -- fewer are within where more are
   less_within : (g : Listing) (ps : List Relation) → AreWithin (list_relations rules g ps) → AreWithin g
   less_within g ps w =
-      let r = added rules g ps in
-      let e = r.kept in
-      let size : length g.kept + length r.more ≤ most.instances = subst (λ (n : ℕ). n ≤ most.instances) (ap length e ∙ length-append g.kept r.more)
-      w.0 in
-      (omega arith, (λ i a. w.1 i (subst (λ (is : List Instance). IsAmong i is) (sym e) (IsAmong-append_left i g.kept r.more a))))
+      let e = (added rules g ps).kept in
+      let size : length g.kept + length (more_of rules g ps) ≤ most.instances = subst (λ (n : ℕ). n ≤ most.instances)
+      (ap length e ∙ length-append g.kept (more_of rules g ps)) w.0 in
+      (omega arith, (λ i a. w.1 i (subst (λ (is : List Instance). IsAmong i is) (sym e) (IsAmong-append_left i g.kept (more_of rules g ps) a))))
 
   within_relations : (g : Listing) (ps : List Relation) → AreWithin (list_relations rules g ps) → first_excess most rules g ps ≡ None
   within_relations g [] w = refl
@@ -162,10 +149,10 @@ module _ (most : Limits) (rules : List Alternative) where
 
       there : excess_by most rules ≡ None → IsWithin most rules
       there h =
-          let a = or_else_none first (or_else (where_true (nat_lt most.base (length (base_list rules))) Base)
-          (or_else (where_true (nat_lt most.inputs (count_inputs rules (role_list rules))) Inputs) last)) h in
+          let a = or_else_none first (or_excess (where_true (nat_lt most.base (length (base_list rules))) Base)
+          (or_excess (where_true (nat_lt most.inputs (count_inputs rules (role_list rules))) Inputs) last)) h in
           let b = both_none (nat_lt most.base (length (base_list rules))) Base
-          (or_else (where_true (nat_lt most.inputs (count_inputs rules (role_list rules))) Inputs) last) a.1 in
+          (or_excess (where_true (nat_lt most.inputs (count_inputs rules (role_list rules))) Inputs) last) a.1 in
           let c = both_none (nat_lt most.inputs (count_inputs rules (role_list rules))) Inputs last b.1 in
           let fixed = relations_within empty (filter (λ p. is_fixed rules p) (relations_in_order rules)) a.0 (omega arith, (λ i k. absurd k)) in
           let whole = relations_within start rests c.1 fixed in

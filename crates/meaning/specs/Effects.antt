@@ -1,13 +1,14 @@
+-- This crate's own: what `run` promises does not rest on it.
 -- Heads that have no effect on play, and what keeps within the limits.
 use Rattle.std.specs.Prelude.{◌≡◌, ◌≤◌, ◌⊎◌, List, length}
-use Rattle.kif.specs.Tree.{Tree, text}
-use Rattle.profile.specs.Words.{w_init, w_next, w_legal}
-use Rattle.profile.specs.Clause.{Atom, Alternative, tree_of}
-use Rattle.profile.specs.Dependence.{IsAmong}
-use Rattle.meaning.specs.Meaning.{atom1, atom2, IsBase, IsInput}
-use Rattle.meaning.specs.Listing.{Instance, listing, role_list, base_list}
-use Rattle.meaning.specs.Limits.{count_inputs}
-use Rattle.meaning.specs.Most.{Limits}
+use Rattle.statement.specs.Tree.{Tree, text}
+use Rattle.statement.specs.Words.{w_init, w_next, w_legal}
+use Rattle.statement.specs.Clause.{Atom, Alternative, tree_of}
+use Rattle.statement.specs.Dependence.{IsAmong}
+use Rattle.statement.specs.Meaning.{atom1, atom2, IsBase, IsInput}
+use Rattle.statement.specs.Listing.{Instance, listing, role_list, base_list}
+use Rattle.statement.specs.Limits.{count_inputs}
+use Rattle.statement.specs.Most.{Limits}
 
 -- `init` or `next` outside `Base`, or `legal` of what is no input of a role
 abbrev pub HasNoEffect : List Alternative → Atom → Type 0

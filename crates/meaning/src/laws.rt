@@ -1,35 +1,27 @@
-// The laws of the meaning of rules, and of kept instances.
-ghost use Rattle.std.specs.Prelude.{◌≡◌, ◌↔◌, List, Bool, false, true, IsTrue};
-ghost use Rattle.kif.specs.Lexical.{HasNames};
-ghost use Rattle.kif.specs.Tree.{Tree};
-ghost use Rattle.profile.specs.Clause.{Atom, Alternative, relation_of, tree_of};
-ghost use Rattle.profile.specs.Dependence.{IsAcyclic, IsFixed, is_distinct};
-ghost use Rattle.profile.specs.Items.{alternatives, is_term};
-ghost use Rattle.profile.specs.Profile.{HasNoFault};
-ghost use Rattle.meaning.specs.Meaning.{State, Joint, Holds, HoldsAlways, IsDerived, IsRight, IsWithinBase, IsWithinInput, IsRole, IsBase, IsInput};
+//! The laws of the meaning of rules, and of kept instances.
+ghost use Rattle.std.specs.Prelude.{◌≡◌, ◌↔◌, List, false, true};
+ghost use Rattle.statement.specs.Lexical.{HasNames};
+ghost use Rattle.statement.specs.Tree.{Tree};
+ghost use Rattle.statement.specs.Clause.{Atom, Alternative, relation_of, tree_of};
+ghost use Rattle.statement.specs.Dependence.{IsAcyclic, IsFixed, is_distinct};
+ghost use Rattle.statement.specs.Items.{alternatives, is_term};
+ghost use Rattle.statement.specs.Profile.{HasNoFault};
+ghost use Rattle.statement.specs.Meaning.{StateOfTerms, Joint, Holds, HoldsAlways, IsDerived, IsRight, IsWithinBase, IsWithinInput, IsRole, IsBase, IsInput};
 ghost use Rattle.meaning.specs.Kept.{HasRightInstance, HeadsKept, IsPossible};
-ghost use Rattle.meaning.specs.Substitution.{IsLawful, IsLawfulTerm};
+ghost use Rattle.statement.specs.Substitution.{IsLawful, IsLawfulTerm};
 ghost use Rattle.meaning.specs.Listed.{IsWellFormed};
 
 /// An atom holds exactly when some alternative, and some map from its variables to ground terms, make
 /// its head the atom and every literal right.
 pub fn holds_by_a_rule()
-    ensures { (rules : List Alternative) → IsAcyclic rules → (S : State) (J : Joint) (x : Atom)
+    ensures { (rules : List Alternative) → IsAcyclic rules → (S : StateOfTerms) (J : Joint) (x : Atom)
         → Holds rules S J x ↔ IsDerived rules (IsRight S J (Holds rules S J)) x }
-{}
-
-/// There is one meaning: whatever tells of each atom that it holds exactly when a rule makes it so
-/// tells what holds.
-pub fn one_meaning()
-    ensures { (rules : List Alternative) → IsAcyclic rules → (S : State) (J : Joint) (tells : Atom → Bool)
-        → ((x : Atom) → IsTrue (tells x) ↔ IsDerived rules (IsRight S J (λ y. IsTrue (tells y))) x)
-        → (x : Atom) → IsTrue (tells x) ↔ Holds rules S J x }
 {}
 
 /// For a state within `Base` and a joint move within `Input`, an atom holds exactly when some kept
 /// instance with that head has every literal right.
 pub fn kept_instances_suffice()
-    ensures { (rules : List Alternative) → IsAcyclic rules → (S : State) (J : Joint)
+    ensures { (rules : List Alternative) → IsAcyclic rules → (S : StateOfTerms) (J : Joint)
         → IsWithinBase rules S → IsWithinInput rules J
         → (x : Atom) → Holds rules S J x ↔ HasRightInstance rules S J x }
 {}
@@ -52,7 +44,7 @@ pub fn accepted_items_are_well_formed()
 /// and have no variable, and lawful terms and atoms have the names that texts have.
 pub fn what_holds_is_lawful()
     ensures heads { (rules : List Alternative) → IsWellFormed rules → (x : Atom) → HeadsKept rules x → IsLawful x }
-    ensures holds { (rules : List Alternative) → IsWellFormed rules → (S : State) (J : Joint)
+    ensures holds { (rules : List Alternative) → IsWellFormed rules → (S : StateOfTerms) (J : Joint)
         → IsWithinBase rules S → IsWithinInput rules J → (x : Atom) → Holds rules S J x → IsLawful x }
     ensures roles { (rules : List Alternative) → IsWellFormed rules → (r : Tree) → IsRole rules r → IsLawfulTerm r }
     ensures base { (rules : List Alternative) → IsWellFormed rules → (p : Tree) → IsBase rules p → IsLawfulTerm p }

@@ -1,30 +1,17 @@
-// The laws of the listing: which instances it has, in which order, and how atoms are numbered.
-ghost use Rattle.std.specs.Prelude.{[], ◌≡◌, ◌↔◌, ◌++◌, List, IsTrue};
-ghost use Rattle.kif.specs.Tree.{Tree};
-ghost use Rattle.profile.specs.Clause.{Atom, Literal, Alternative};
-ghost use Rattle.profile.specs.Dependence.{IsAmong};
-ghost use Rattle.profile.specs.Items.{alternatives};
-ghost use Rattle.profile.specs.Profile.{HasNoFault, roles};
-ghost use Rattle.meaning.specs.Meaning.{State, Joint, Holds, IsWithinBase, IsWithinInput, IsRole, IsBase, IsInput};
+//! The laws of the listing: which instances it has, in which order, and how atoms are numbered.
+ghost use Rattle.std.specs.Prelude.{[], ◌≡◌, ◌↔◌, ◌++◌, List};
+ghost use Rattle.statement.specs.Tree.{Tree};
+ghost use Rattle.statement.specs.Clause.{Atom, Alternative};
+ghost use Rattle.statement.specs.Dependence.{IsAmong};
+ghost use Rattle.statement.specs.Items.{alternatives};
+ghost use Rattle.statement.specs.Profile.{HasNoFault, roles};
+ghost use Rattle.statement.specs.Meaning.{StateOfTerms, Joint, Holds, IsWithinBase, IsWithinInput, IsRole, IsBase, IsInput};
 ghost use Rattle.meaning.specs.Kept.{HeadsKept, IsPossible};
-ghost use Rattle.meaning.specs.Listing.{
-  Instance,
-  listing,
-  fixed_listing,
-  context_atoms,
-  with_atoms,
-  heads,
-  fixed_part,
-  other_part,
-  role_list,
-  base_list,
-  input_list,
-};
-ghost use Rattle.meaning.specs.Substitution.{are_ground};
-ghost use Rattle.meaning.specs.Matching.{rows};
-ghost use Rattle.meaning.specs.InOrder.{AreDistinct, AreInOrder};
-ghost use Rattle.meaning.specs.Numbers.{StandInOrder, StandsBefore};
-ghost use Rattle.meaning.specs.Play.{AreInPrintedOrder};
+ghost use Rattle.statement.specs.Listing.{Instance, listing, fixed_listing, context_atoms, with_atoms, heads, fixed_part, other_part, role_list, base_list, input_list};
+ghost use Rattle.meaning.specs.InOrder.{AreDistinct};
+ghost use Rattle.statement.specs.Printed.{AreInOrder};
+ghost use Rattle.meaning.specs.Numbers.{StandsBefore};
+ghost use Rattle.statement.specs.GoalsAndMoves.{AreInPrintedOrder};
 ghost use Rattle.meaning.specs.Listed.{IsKeptInstance, IsWellFormed, HasListed, HasRightListed};
 
 /// The listing has exactly the kept instances, and exactly their heads; and the atoms that have a
@@ -60,7 +47,7 @@ pub fn atoms_are_numbered_in_order()
 /// For a state within `Base` and a joint move within `Input`, an atom holds exactly when some instance
 /// of the listing with that head has every literal right.
 pub fn listed_instances_suffice()
-    ensures { (rules : List Alternative) → IsWellFormed rules → (S : State) (J : Joint)
+    ensures { (rules : List Alternative) → IsWellFormed rules → (S : StateOfTerms) (J : Joint)
         → IsWithinBase rules S → IsWithinInput rules J
         → (x : Atom) → Holds rules S J x ↔ HasRightListed rules S J x }
 {}
@@ -76,11 +63,4 @@ pub fn the_context_is_listed()
     ensures inputs { (rules : List Alternative) → IsWellFormed rules → (r m : Tree) → IsRole rules r
         → IsAmong m (input_list rules r) ↔ IsInput rules r m }
     ensures inputs_order { (rules : List Alternative) → IsWellFormed rules → (r : Tree) → IsRole rules r → AreInPrintedOrder (input_list rules r) }
-{}
-
-/// The rows over ground atoms stand in the order of the numbers of the atoms that they match, from
-/// left to right.
-pub fn rows_stand_in_order()
-    ensures { (atoms : List Atom) → ((x : Atom) → IsAmong x atoms → IsTrue (are_ground x.terms)) → AreDistinct atoms
-        → (literals : List Literal) → StandInOrder atoms literals (rows atoms literals []) }
 {}

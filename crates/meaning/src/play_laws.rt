@@ -1,22 +1,23 @@
-// The laws of play: states and legal moves as lists, goal values, what an and gate reads, and the
-// kinds of atoms.
+//! The laws of play: states and legal moves as lists, goal values, what an and gate reads, and the
+//! kinds of atoms.
 ghost use Rattle.std.specs.Prelude.{ℕ, None, Bool, true, [], ◌≡◌, ◌≢◌, ◌↔◌, ◌<◌, List, length};
-ghost use Rattle.kif.specs.Tree.{Tree};
-ghost use Rattle.profile.specs.Clause.{Atom, Alternative, relation_of};
-ghost use Rattle.profile.specs.Dependence.{IsAcyclic, IsAmong, IsFixed};
-ghost use Rattle.meaning.specs.declared.kind.Kind.{Kind};
-ghost use Rattle.meaning.specs.declared.kind.Kind.TheVariants.{Other};
-ghost use Rattle.meaning.specs.Meaning.{State, Joint, Holds, IsWithinBase, IsWithinInput, HoldsAlways, IsRole, IsEnded, IsStuck, atom1};
-ghost use Rattle.profile.specs.Words.{w_init};
-ghost use Rattle.meaning.specs.Listing.{Instance, listing};
+ghost use Rattle.statement.specs.Tree.{Tree};
+ghost use Rattle.statement.specs.Clause.{Atom, Alternative, relation_of};
+ghost use Rattle.statement.specs.Dependence.{IsAcyclic, IsAmong, IsFixed};
+ghost use Rattle.statement.specs.declared.kind.Kind.{Kind};
+ghost use Rattle.statement.specs.declared.kind.Kind.TheVariants.{Other};
+ghost use Rattle.statement.specs.Meaning.{StateOfTerms, Joint, IsWithinBase, IsWithinInput, HoldsAlways, atom1};
+ghost use Rattle.statement.specs.Words.{w_init};
+ghost use Rattle.statement.specs.Listing.{Instance, listing};
 ghost use Rattle.meaning.specs.Listed.{IsWellFormed};
-ghost use Rattle.meaning.specs.Evaluation.{holding, after_list, legal_list, is_ended, is_stuck, goal_of};
-ghost use Rattle.meaning.specs.Gates.{gate, IsGateRight, IsBodyRight};
-ghost use Rattle.meaning.specs.Kinds.{kind_of, MeansKind};
-ghost use Rattle.meaning.specs.Play.{AreInPrintedOrder, AreStart, AreAfter, AreLegal, IsGoal, starts, start_list, is_dropped};
+ghost use Rattle.statement.specs.Kept.{gate};
+ghost use Rattle.meaning.specs.Gates.{IsGateRight, IsBodyRight};
+ghost use Rattle.statement.specs.Kinds.{kind_of};
+ghost use Rattle.meaning.specs.Kinds.{MeansKind};
+ghost use Rattle.statement.specs.GoalsAndMoves.{AreInPrintedOrder, AreStart, AreAfter, AreLegal, IsGoal, starts, start_list, is_dropped};
 ghost use Rattle.meaning.specs.Effects.{HasNoEffect, IsWithin};
-ghost use Rattle.meaning.specs.Limits.{excess_by};
-ghost use Rattle.meaning.specs.Most.{Limits};
+ghost use Rattle.statement.specs.Limits.{excess_by};
+ghost use Rattle.statement.specs.Most.{Limits};
 
 /// A list in printed order is determined by its members. So there is one list for the start, one for
 /// the state after a turn, and one of the legal moves of each role; and each role has one goal value.
@@ -24,11 +25,11 @@ pub fn play_is_determined()
     ensures lists { (ts us : List Tree) → AreInPrintedOrder ts → AreInPrintedOrder us
         → ((t : Tree) → IsAmong t ts ↔ IsAmong t us) → ts ≡ us }
     ensures start { (rules : List Alternative) (ps qs : List Tree) → AreStart rules ps → AreStart rules qs → ps ≡ qs }
-    ensures after { (rules : List Alternative) (S : State) (J : Joint) (ps qs : List Tree)
+    ensures after { (rules : List Alternative) (S : StateOfTerms) (J : Joint) (ps qs : List Tree)
         → AreAfter rules S J ps → AreAfter rules S J qs → ps ≡ qs }
-    ensures legal { (rules : List Alternative) (S : State) (r : Tree) (ms ns : List Tree)
+    ensures legal { (rules : List Alternative) (S : StateOfTerms) (r : Tree) (ms ns : List Tree)
         → AreLegal rules S r ms → AreLegal rules S r ns → ms ≡ ns }
-    ensures goal { (rules : List Alternative) (S : State) (r : Tree) (u v : ℕ) → IsGoal rules S r u → IsGoal rules S r v → u ≡ v }
+    ensures goal { (rules : List Alternative) (S : StateOfTerms) (r : Tree) (u v : ℕ) → IsGoal rules S r u → IsGoal rules S r v → u ≡ v }
 {}
 
 /// The base propositions that hold at the start are those of which `init` holds, in printed order.
@@ -42,7 +43,7 @@ pub fn the_start_is_listed()
 /// within `Base` and a joint move within `Input`. It reads nothing of an instance of a fixed relation,
 /// and no atom without a number.
 pub fn gates_read_enough()
-    ensures right { (rules : List Alternative) → IsWellFormed rules → (S : State) (J : Joint)
+    ensures right { (rules : List Alternative) → IsWellFormed rules → (S : StateOfTerms) (J : Joint)
         → IsWithinBase rules S → IsWithinInput rules J
         → (i : Instance) → IsAmong i (listing rules).kept → IsGateRight rules S J i ↔ IsBodyRight rules S J i }
     ensures fixed { (rules : List Alternative) → IsWellFormed rules
@@ -57,24 +58,6 @@ pub fn kinds_say_what_atoms_are()
         → (x : Atom) (kind : Kind) → kind_of rules x ≡ kind → kind ≢ Other → MeansKind rules x kind }
     ensures complete { (rules : List Alternative) → IsAcyclic rules
         → (x : Atom) (kind : Kind) → MeansKind rules x kind → kind_of rules x ≡ kind }
-{}
-
-/// Going through the kept instances in their order, each by what was found before it, finds exactly
-/// what holds, for a state within `Base` and a joint move within `Input`. So the state after a turn, the
-/// legal moves and the goal of a role, and whether a state is ended or stuck, can be computed.
-pub fn going_through_finds_what_holds()
-    ensures found { (rules : List Alternative) → IsWellFormed rules → (S : State) (J : Joint)
-        → IsWithinBase rules S → IsWithinInput rules J → (x : Atom) → IsAmong x (holding rules S J) ↔ Holds rules S J x }
-    ensures after { (rules : List Alternative) → IsWellFormed rules → (S : State) (J : Joint)
-        → IsWithinBase rules S → IsWithinInput rules J → AreAfter rules S J (after_list rules S J) }
-    ensures legal { (rules : List Alternative) → IsWellFormed rules → (S : State)
-        → IsWithinBase rules S → (r : Tree) → IsRole rules r → AreLegal rules S r (legal_list rules S r) }
-    ensures ended { (rules : List Alternative) → IsWellFormed rules → (S : State)
-        → IsWithinBase rules S → (is_ended rules S ≡ true) ↔ IsEnded rules S }
-    ensures stuck { (rules : List Alternative) → IsWellFormed rules → (S : State)
-        → IsWithinBase rules S → (is_stuck rules S ≡ true) ↔ IsStuck rules S }
-    ensures goal { (rules : List Alternative) → IsWellFormed rules → (S : State)
-        → IsWithinBase rules S → (r : Tree) → IsGoal rules S r (goal_of rules S r) }
 {}
 
 /// The heads that are counted as dropped are those that have no effect on play: `init` and `next`

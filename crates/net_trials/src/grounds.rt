@@ -1,10 +1,11 @@
-// What descriptions instantiate to: counts, limits, the order of instances, and kinds of atoms.
-use ground::{Ground, GroundFault, Kind, instantiate_alone};
+//! What descriptions instantiate to: counts, limits, the order of instances, and kinds of atoms.
+use ground::{Ground, GroundFault, Kind, instantiate};
 use kif::read;
 use rules::RuleSet;
-use std::alloc::{AllocError, Global};
+use std::alloc::{AllocError, AllocGlobal, Global};
 use std::io::Write;
 use std::test::Fail;
+use std::thread::Threads;
 
 const MATCH: &[u8] =
     b"(role a)(role b)(base done)(base same)(input a h)(input a t)(input b h)(input b t)
@@ -39,10 +40,13 @@ const TTT: &[u8] = b"(role xplayer)(role oplayer)(index 1)(index 2)(index 3)
     (<= terminal (line x))(<= terminal (line o))(<= terminal (not open))";
 
 /// What a description instantiates to.
-fn ground_of(rt: &HostRuntime, text: &[u8]) -> Result<Result<Ground, GroundFault>, Fail> {
+fn ground_of<R: Threads + Sync + AllocGlobal>(
+    rt: &R,
+    text: &[u8],
+) -> Result<Result<Ground, GroundFault>, Fail> {
     let items = read(rt.alloc(), text)?;
     let rules = RuleSet::check(rt.alloc(), &items)?;
-    Ok(instantiate_alone(rt, &rules))
+    Ok(instantiate(rt, &rules))
 }
 
 /// The counts of a ground: its base propositions, the atoms `does`, its instances and dropped heads.
@@ -71,7 +75,7 @@ fn is_input(kind: Kind) -> bool {
 }
 
 /// The counts of a description, or why it is refused.
-fn told(rt: &HostRuntime, text: &[u8]) -> Result<Vec<u8>, Fail> {
+fn told<R: Threads + Sync + AllocGlobal>(rt: &R, text: &[u8]) -> Result<Vec<u8>, Fail> {
     match ground_of(rt, text)? {
         Ok(ground) => counts_of(rt.alloc(), &ground),
         Err(fault) => {
@@ -385,90 +389,42 @@ fn goals_have_values_without_leading_zeros(rt: HostRuntime) -> Result<(), Fail> 
     Ok(())
 }
 
-/// The atoms of the first description with their texts: those of fixed relations, what may be true and done, and the heads of the
+/// Where the atoms of the first description stand in play: those of fixed relations, what may be true and done, and the heads of the
 /// other relations.
-const ATOMS: [(u32, &[u8]); 25] = [
-    (0, b"(base done)"),
-    (1, b"(base same)"),
-    (2, b"(input a h)"),
-    (3, b"(input a t)"),
-    (4, b"(input b h)"),
-    (5, b"(input b t)"),
-    (6, b"(role a)"),
-    (7, b"(role b)"),
-    (8, b"(true done)"),
-    (9, b"(true same)"),
-    (10, b"(does a h)"),
-    (11, b"(does a t)"),
-    (12, b"(does b h)"),
-    (13, b"(does b t)"),
-    (14, b"(goal a 100)"),
-    (15, b"(goal a 0)"),
-    (16, b"(goal b 0)"),
-    (17, b"(goal b 100)"),
-    (18, b"(legal a h)"),
-    (19, b"(legal a t)"),
-    (20, b"(legal b h)"),
-    (21, b"(legal b t)"),
-    (22, b"(next done)"),
-    (23, b"(next same)"),
-    (24, b"terminal"),
+const KINDS: [Kind; 25] = [
+    Kind::Fixed,
+    Kind::Fixed,
+    Kind::Fixed,
+    Kind::Fixed,
+    Kind::Fixed,
+    Kind::Fixed,
+    Kind::Fixed,
+    Kind::Fixed,
+    Kind::Now(0),
+    Kind::Now(1),
+    Kind::Does(0, 0),
+    Kind::Does(0, 1),
+    Kind::Does(1, 0),
+    Kind::Does(1, 1),
+    Kind::Goal(0, 100),
+    Kind::Goal(0, 0),
+    Kind::Goal(1, 0),
+    Kind::Goal(1, 100),
+    Kind::Legal(0, 0),
+    Kind::Legal(0, 1),
+    Kind::Legal(1, 0),
+    Kind::Legal(1, 1),
+    Kind::Next(0),
+    Kind::Next(1),
+    Kind::Terminal,
 ];
-
-/// Whether there is an atom of that number, and its text is this one.
-fn has_text(ground: &Ground, atom: u32, text: &[u8]) -> bool {
-    (atom as usize) < ground.atoms() && ground.atom_is(atom, text)
-}
 
 #[test]
 fn atoms_are_numbered_by_first_appearance(rt: HostRuntime) -> Result<(), Fail> {
     let ground = ground_of(&rt, MATCH)??;
     assert_eq!(rt; ground.atoms(), 25);
-    for (atom, text) in ATOMS {
-        assert!(rt; has_text(&ground, atom, text));
-    }
-    Ok(())
-}
-
-/// Texts that are not those of the atoms: others of the same length, a front, longer ones and none.
-const OTHERS: [(u32, &[u8]); 9] = [
-    (0, b"(base same)"),
-    (0, b"(base donf)"),
-    (0, b"[base done)"),
-    (0, b"(base done]"),
-    (0, b"(base_done)"),
-    (0, b"(base done"),
-    (0, b"(base done))"),
-    (0, b""),
-    (24, b"terminat"),
-];
-
-#[test]
-fn other_texts_are_no_atoms(rt: HostRuntime) -> Result<(), Fail> {
-    let ground = ground_of(&rt, MATCH)??;
-    for (atom, text) in OTHERS {
-        assert!(rt; !has_text(&ground, atom, text));
-    }
-    Ok(())
-}
-
-/// Terms in terms.
-const NESTED: &[u8] = b"(role a)(<= (p (f (g ?x (f ?x b)) (h c))) (role ?x))";
-
-/// Texts of its second atom, and whether they are.
-const NESTED_TEXTS: [(&[u8], bool); 5] = [
-    (b"(p (f (g a (f a b)) (h c)))", true),
-    (b"(p (f (g a (f a c)) (h c)))", false),
-    (b"(p (f (g a (f a b)) (h d)))", false),
-    (b"(p (f (g a (f a b) (h c))))", false),
-    (b"(p (f (g a (f a b)) (h c))", false),
-];
-
-#[test]
-fn terms_are_compared_in_terms(rt: HostRuntime) -> Result<(), Fail> {
-    let ground = ground_of(&rt, NESTED)??;
-    for (text, want) in NESTED_TEXTS {
-        assert_eq!(rt; has_text(&ground, 1, text), want);
+    for (atom, kind) in KINDS.iter().enumerate() {
+        assert!(rt; ground.atom_kind(atom as u32) == *kind);
     }
     Ok(())
 }

@@ -1,10 +1,10 @@
-// Terms are numbered once each, also past many growths of their table, and sets of numbers tell the place of each.
+//! Terms are numbered once each, also past many growths of their table, and sets of numbers tell the place of each.
 use std::test::Fail;
 use terms::{NumberSet, Terms};
 
 #[test]
 fn each_term_has_one_number(rt: HostRuntime) -> Result<(), Fail> {
-    let mut terms = Terms::new(rt.alloc());
+    let mut terms = Terms::with_room(rt.alloc(), 0, 0);
     for word in 0..3000_u32 {
         let name = u32::try_from(terms.intern(&[word])?)?;
         terms.intern(&[word, name, name])?;

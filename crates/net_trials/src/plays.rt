@@ -1,9 +1,8 @@
-// Answers over games of rules, whose workers meet.
+//! Answers over games of rules, whose workers meet.
 ghost use Rattle.std.specs.Prelude.{◌<◌};
 
-use game::watched::{Watch, Watched};
 use game::{AtBound, Game, Joint};
-use ground::instantiate_alone;
+use ground::instantiate_flat_alone;
 use kif::read;
 use position::RuleGame;
 use rules::RuleSet;
@@ -14,6 +13,7 @@ use std::process::Abort;
 use std::sync::atomic::{AtomicBool, AtomicUsize, Ordering};
 use std::test::Fail;
 use std::thread::Threads;
+use trial_games::watched::{Watch, Watched};
 
 /// One role and four moves, of which the second and the third are worth the same.
 pub(crate) const FOUR: &[u8] = b"(role a) (val x 40) (val y 70) (val z 70) (val zz 10)
@@ -75,8 +75,8 @@ const WIDER: &[u8] = b"(role r1) (role r2) (role r3) (role r4) (role r5)
 pub(crate) fn game_of<R: Abort + AllocGlobal>(rt: &R, text: &[u8]) -> Result<RuleGame, Fail> {
     let items = read(rt.alloc(), text)?;
     let rules = RuleSet::check(rt.alloc(), items.as_slice())?;
-    let ground = instantiate_alone(rt, &rules)?;
-    Ok(RuleGame::new(rt.alloc(), ground)?)
+    let ground = instantiate_flat_alone(rt, &rules)?;
+    Ok(RuleGame::of_flat(rt.alloc(), ground)?)
 }
 
 /// A growth of so many bytes is a mark for bench/refuse, which refuses what is asked for between two marks.
@@ -109,7 +109,7 @@ fn solved<R: Threads + Abort + Sync + AllocGlobal, G: Game, K: Gate>(
 }
 
 /// Searches a game from its start for the first role, and asserts its value and choice.
-fn finds<R: Threads + Abort + Sync + AllocGlobal, G: Game, K: Gate>(
+pub(crate) fn finds<R: Threads + Abort + Sync + AllocGlobal, G: Game, K: Gate>(
     rt: &R,
     game: &G,
     depth: u32,
@@ -125,7 +125,7 @@ fn finds<R: Threads + Abort + Sync + AllocGlobal, G: Game, K: Gate>(
 }
 
 // Waits until a number is reached, at most 2^30 turns. It tells whether it gave up.
-fn gives_up(number: &AtomicUsize, least: usize) -> bool {
+pub(crate) fn gives_up(number: &AtomicUsize, least: usize) -> bool {
     for _ in 0..1u32 << 30 {
         if number.load(Ordering::SeqCst) >= least {
             return false;
@@ -137,7 +137,7 @@ fn gives_up(number: &AtomicUsize, least: usize) -> bool {
 
 /// A gate that counts.
 #[derive(Drop)]
-struct Tally {
+pub(crate) struct Tally {
     passed: AtomicUsize,
 }
 
@@ -147,7 +147,7 @@ impl Gate for Tally {
     }
 }
 
-fn new_tally() -> Tally {
+pub(crate) fn new_tally() -> Tally {
     Tally {
         passed: AtomicUsize::new(0),
     }

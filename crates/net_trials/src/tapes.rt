@@ -1,12 +1,13 @@
 //! Tapes beside the networks that they were made of.
-use ground::instantiate_alone;
+use ground::instantiate;
 use kif::read;
 use propnet::{Joint, Net, get_bit};
 use rules::RuleSet;
 use smallvec::SmallVec;
-use std::alloc::{AllocError, Global};
+use std::alloc::{AllocError, AllocGlobal, Global};
 use std::process::Abort;
 use std::test::Fail;
+use std::thread::Threads;
 use tape::Tape;
 
 const MATCH: &[u8] =
@@ -16,10 +17,10 @@ const MATCH: &[u8] =
     (<= (goal a 0) (not (true same)))(<= (goal b 0) (true same))(<= (goal b 100) (not (true same)))";
 
 /// The network of a description.
-fn net_of(rt: &HostRuntime, text: &[u8]) -> Result<Net, Fail> {
+fn net_of<R: Threads + Sync + AllocGlobal>(rt: &R, text: &[u8]) -> Result<Net, Fail> {
     let items = read(rt.alloc(), text)?;
     let rules = RuleSet::check(rt.alloc(), &items)?;
-    let ground = instantiate_alone(rt, &rules)?;
+    let ground = instantiate(rt, &rules)?;
     Ok(Net::compile(rt.alloc(), &ground)?)
 }
 

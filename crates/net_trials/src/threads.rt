@@ -1,5 +1,8 @@
-// Kept instances by several threads and by one.
-use ground::{Excess, Ground, GroundFault, Instance, instantiate, instantiate_alone};
+//! Kept instances by several threads and by one.
+ghost use Rattle.std.specs.Prelude.{◌<◌, length};
+ghost use Rattle.ground.specs.GroundView.{instances_of};
+
+use ground::{Excess, FlatGround, GroundFault, instantiate, instantiate_flat_alone};
 use kif::read;
 use rules::RuleSet;
 use std::alloc::Global;
@@ -28,32 +31,42 @@ fn rules_of(alloc: Global, text: &[u8]) -> Result<RuleSet, Fail> {
     Ok(RuleSet::check(alloc, &items)?)
 }
 
-/// Whether two instances have the same place, head and literals.
-fn are_alike(left: &Instance, right: &Instance) -> bool {
-    left.alternative == right.alternative && left.head == right.head && left.body == right.body
+/// Whether an instance of two lists has the same alternative, head and literals in both.
+fn are_alike(left: &FlatGround, right: &FlatGround, place: usize) -> bool
+    requires left { place < length (instances_of left.now) }
+    requires right { place < length (instances_of right.now) }
+{
+    let (ours, theirs) = (left.body(place), right.body(place));
+    left.alternative(place) == right.alternative(place)
+        && left.head(place) == right.head(place)
+        && ours.len() == theirs.len()
+        && ours.iter().zip(theirs).all(|(ours, theirs)| ours.atom() == theirs.atom()
+            && ours.is_negated() == theirs.is_negated())
 }
 
-/// Whether two grounds have the same instances, and as many atoms.
-fn have_same(left: &Ground, right: &Ground) -> bool {
-    let (ours, theirs) = (left.kept(), right.kept());
-    if ours.len() != theirs.len() || left.atoms() != right.atoms() {
+/// Whether two lists have the same instances, and as many atoms.
+fn have_same(left: &FlatGround, right: &FlatGround) -> bool {
+    if left.many_kept() != right.many_kept() || left.atoms() != right.atoms() {
         return false;
     }
-    ours.iter()
-        .zip(theirs)
-        .all(|(ours, theirs)| are_alike(ours, theirs))
+    for place in 0..left.many_kept() {
+        if !are_alike(left, right, place) {
+            return false;
+        }
+    }
+    true
 }
 
 /// Whether several threads and one find the same instances, which are so many.
 fn agree<R: Threads + Sync + AllocGlobal>(rt: &R, text: &[u8], many: usize) -> Result<bool, Fail> {
     let rules = rules_of(rt.alloc(), text)?;
     let ours = instantiate(rt, &rules)?;
-    let theirs = instantiate_alone(rt, &rules)?;
-    Ok(ours.kept().len() == many && have_same(&ours, &theirs))
+    let theirs = instantiate_flat_alone(rt, &rules)?;
+    Ok(ours.kept().len() == many && have_same(ours.flat(), &theirs))
 }
 
 /// Whether a fault names the limit of instances.
-fn is_over(ground: Result<Ground, GroundFault>) -> bool {
+fn is_over<G: Drop>(ground: Result<G, GroundFault>) -> bool {
     match ground {
         Err(GroundFault::TooMany(Excess::Instances)) => true,
         _ => false,
@@ -63,7 +76,7 @@ fn is_over(ground: Result<Ground, GroundFault>) -> bool {
 /// Whether several threads and one name the limit of instances.
 fn refuse<R: Threads + Sync + AllocGlobal>(rt: &R, text: &[u8]) -> Result<bool, Fail> {
     let rules = rules_of(rt.alloc(), text)?;
-    Ok(is_over(instantiate(rt, &rules)) && is_over(instantiate_alone(rt, &rules)))
+    Ok(is_over(instantiate(rt, &rules)) && is_over(instantiate_flat_alone(rt, &rules)))
 }
 
 #[test]

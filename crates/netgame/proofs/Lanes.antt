@@ -41,7 +41,7 @@ use Rattle.std.proofs.lemmas.Nat.Bits.{bit_at-lt, bit_at-zero}
 use Rattle.std.proofs.lemmas.List.{length-map, get_or-map, get_or_past}
 use Rattle.std.proofs.lemmas.List.FromFn.{length-range_with_len, get_or-range_with_len, get_or-map-range_with_len}
 use Rattle.smallvec.specs.SmallVec.{SmallVec}
-use Rattle.meaning.specs.declared.kind.Kind.{Kind}
+use Rattle.statement.specs.declared.kind.Kind.{Kind}
 use Rattle.ground.specs.declared.flat_ground.FlatGround.{FlatGround}
 use Rattle.ground.specs.GroundView.{inputs_of, kinds_of, instances_of}
 use Rattle.ground.specs.Grounds.{texts_at}
@@ -55,7 +55,7 @@ use Rattle.propnet.specs.Values.{lane}
 use Rattle.tape.specs.Tapes.{kept_in, HasRun, IsLane, IsJointOf, IsTurnTapeOf, IsTurnWordOf}
 use Rattle.game.proofs.Facts.{turns_after_each}
 use Rattle.game.specs.Joints.{moves_of, joint_at}
-use Rattle.game.specs.Rules.{State, IsTurn}
+use Rattle.statement.specs.Rules.{State, IsTurn}
 use Rattle.rulegame.specs.declared.naming.Naming.TheVariants.{ByNext}
 use Rattle.netgame.specs.declared.lane_plan.Asking.{Asking}
 use Rattle.netgame.specs.declared.lane_plan.LanePlan.{LanePlan}

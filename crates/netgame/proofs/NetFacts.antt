@@ -22,9 +22,6 @@ module _ (g : FlatGround) (net : Net) (made : ∥ IsNetOf g net ∥₁) where
   pub inputs_count : net.inputs.items ≡ input_counts g
   inputs_count = ∥∥₁_elim made (Prim.hlevel props) (λ of. of.inputs)
 
-  pub transitions_count : length net.transitions.items ≡ length g.starts.items
-  transitions_count = ∥∥₁_elim made (Prim.hlevel props) (λ of. of.transitions.size ∙ sym (fits g).starts_fit)
-
   pub transition_below : (p : ℕ) → p < length g.starts.items → get_or net.transitions.items p 0 < length (gates_of net)
   transition_below p lt = ∥∥₁_elim made (Prim.hlevel props) (λ of. let same = (fits g).starts_fit in
       stands_below (gates_of net) _ _ (of.transitions.each p (omega arith)))

@@ -31,24 +31,24 @@ use Rattle.std.specs.Prelude.{◌==◌, nat_lt, slice_index, unwrap_or, IsTrue}
 use Rattle.std.proofs.Math.Logic.{∥∥₁_elim}
 use Rattle.std.proofs.Props.{props}
 use Rattle.std.proofs.lemmas.List.{length-map}
-use Rattle.kif.specs.Tree.{Tree, text}
-use Rattle.profile.specs.Words.{w_legal}
-use Rattle.profile.specs.Clause.{Atom, Alternative, relation_of}
-use Rattle.profile.specs.Dependence.{IsAmong, is_fixed}
-use Rattle.meaning.specs.declared.kind.Kind.{Kind}
-use Rattle.meaning.specs.declared.kind.Kind.TheVariants.{Fixed, Now, Does, Next, Legal, Goal, Terminal, Other}
+use Rattle.statement.specs.Tree.{Tree, text}
+use Rattle.statement.specs.Words.{w_legal}
+use Rattle.statement.specs.Clause.{Atom, Alternative, relation_of}
+use Rattle.statement.specs.Dependence.{IsAmong, is_fixed}
+use Rattle.statement.specs.declared.kind.Kind.{Kind}
+use Rattle.statement.specs.declared.kind.Kind.TheVariants.{Fixed, Now, Does, Next, Legal, Goal, Terminal, Other}
 use Rattle.ground.specs.declared.flat_ground.FlatGround.{FlatGround}
 use Rattle.meaning.specs.Gates.{atom_at}
-use Rattle.ground.specs.Grounds.{Kept, numbered}
+use Rattle.statement.specs.Kept.{Kept, numbered}
 use Rattle.ground.specs.GroundView.{base_of, kinds_of, instances_of, IsGround}
-use Rattle.meaning.specs.Kinds.{kind_of, place_in}
-use Rattle.meaning.specs.Listing.{listing, role_list, base_list, input_list}
+use Rattle.statement.specs.Kinds.{kind_of, place_in}
+use Rattle.statement.specs.Listing.{listing, role_list, base_list, input_list}
 use Rattle.meaning.specs.Listed.{IsWellFormed}
-use Rattle.meaning.specs.Meaning as meaning
-use Rattle.meaning.specs.Meaning.{ordinary}
-use Rattle.meaning.specs.Meaning.{source_of, Holds, nobody, IsRole, RightAs, atom1, atom2}
-use Rattle.meaning.specs.Numbers.{number_of}
-use Rattle.meaning.specs.Play as play
+use Rattle.statement.specs.Meaning as meaning
+use Rattle.statement.specs.Meaning.{ordinary}
+use Rattle.statement.specs.Meaning.{source_of, Holds, nobody, IsRole, RightAs, atom1, atom2}
+use Rattle.statement.specs.Kept.{number_of}
+use Rattle.statement.specs.GoalsAndMoves as play
 use Rattle.meaning.proofs.Facts.{kind_sound}
 use Rattle.meaning.proofs.Facts.{bases_in_order, inputs_in_order}
 use Rattle.meaning.proofs.Facts.{roles_exact, bases_exact}
@@ -61,9 +61,9 @@ use Rattle.propnet.specs.Nets.{gates_of}
 use Rattle.propnet.specs.Network.{given, value}
 use Rattle.propnet.proofs.Facts.{stands_below, view_law, transition_law, told_law}
 use Rattle.rulegame.specs.declared.naming.Naming.TheVariants.{ByNext}
-use Rattle.game.specs.Rules.{State, Turn, IsTurn}
-use Rattle.game.specs.Played.{tree_at}
-use Rattle.rulegame.specs.RuleMeaning.{stands_at, state_of, chosen_at, joint_of}
+use Rattle.statement.specs.Rules.{State, Turn, IsTurn}
+use Rattle.statement.specs.Played.{nth_tree}
+use Rattle.statement.specs.GameNumbers.{stands_at, state_of, chosen_at, joint_of}
 use Rattle.rulegame.specs.RulePlay.{no_turn, kind_at, holds, is_named}
 use Rattle.rulegame.specs.RuleState.{rules_of, holds_in}
 use Rattle.netgame.specs.declared.lane_plan.Asking.{Asking}
@@ -156,7 +156,7 @@ module _ (rules : List Alternative) (w : IsWellFormed rules) where
             absurd cc
 
     module _ (j : Turn) (many : length j ≡ length (role_list rules))
-        (below : (q : ℕ) → q < length (role_list rules) → slice_index j q < length (input_list rules (tree_at (role_list rules) q))) where
+        (below : (q : ℕ) → q < length (role_list rules) → slice_index j q < length (input_list rules (nth_tree (role_list rules) q))) where
       given_told : (r m : Tree) (k n : ℕ) → place_in r (role_list rules) ≡ Some k → place_in m (input_list rules r) ≡ Some n
           → (given j k n ≡ 1) ↔ (joint_of rules j r ≡ Some m)
       given_told r m k n e f = (there, back)
@@ -164,7 +164,7 @@ module _ (rules : List Alternative) (w : IsWellFormed rules) where
           role : IsRole rules r
           role = (roles_exact rules w r).0 (place_among r (role_list rules) k e)
 
-          same : joint_of rules j r ≡ Some (tree_at (input_list rules r) (slice_index j k))
+          same : joint_of rules j r ≡ Some (nth_tree (input_list rules r) (slice_index j k))
           same = ap (chosen_at (input_list rules r) j) e
 
           in_turn : nat_lt k (length j) ≡ true
@@ -176,11 +176,11 @@ module _ (rules : List Alternative) (w : IsWellFormed rules) where
           there : given j k n ≡ 1 → joint_of rules j r ≡ Some m
           there h =
               let i : slice_index j k ≡ n = eqb-true (slice_index j k) n (one_if (slice_index j k == n) (sym test ∙ h)) in
-              same ∙ ap (λ (q : ℕ). Some (tree_at (input_list rules r) q)) i ∙ ap Some (placed m (input_list rules r) n f)
+              same ∙ ap (λ (q : ℕ). Some (nth_tree (input_list rules r) q)) i ∙ ap Some (placed m (input_list rules r) n f)
 
           back : joint_of rules j r ≡ Some m → given j k n ≡ 1
           back h =
-              let tree : tree_at (input_list rules r) (slice_index j k) ≡ m = let z : Some (tree_at (input_list rules r) (slice_index j k)) ≡ Some
+              let tree : nth_tree (input_list rules r) (slice_index j k) ≡ m = let z : Some (nth_tree (input_list rules r) (slice_index j k)) ≡ Some
               m = sym same ∙ h in cc in
               let once = in_order_once (input_list rules r) (inputs_in_order rules w r role) in
               let lt : slice_index j k < length (input_list rules r) =
@@ -276,7 +276,7 @@ module _ (rules : List Alternative) (g : FlatGround) (is : IsGround rules g) (ne
     many : length j ≡ length (role_list rules)
     many = turn.of_each_role ∙ (game_of_ground rules g is).roles_are
 
-    known : (q : ℕ) → q < length (role_list rules) → slice_index j q < length (input_list rules (tree_at (role_list rules) q))
+    known : (q : ℕ) → q < length (role_list rules) → slice_index j q < length (input_list rules (nth_tree (role_list rules) q))
     known q below =
         let lt : q < (rules_of g).roles = subst (λ (n : ℕ). q < n) (sym (game_of_ground rules g is).roles_are) below in
         subst (λ (n : ℕ). slice_index j q < n) ((game_of_ground rules g is).moves_are q lt) (turn.each_known q lt)
@@ -289,7 +289,7 @@ module _ (rules : List Alternative) (g : FlatGround) (is : IsGround rules g) (ne
         ∙ length-map (base_list rules) text in
         let S = state_of rules kept_words in
         let J = joint_of rules j in
-        let t = tree_at (base_list rules) p in
+        let t = nth_tree (base_list rules) p in
         let place : place_in t (base_list rules) ≡ Some p = place_at (base_list rules) (in_order_once (base_list rules) (bases_in_order rules w)) p
         inside in
         let n = get_or net.transitions.items p 0 in
@@ -331,7 +331,7 @@ transition_told g net made state is_bit j turn p lt = record {
 
 module _ (rules : List Alternative) (g : FlatGround) (is : IsGround rules g) (r m : ℕ) where
   abbrev move_atom : Atom
-  move_atom = let role = tree_at (role_list rules) r in atom2 w_legal role (tree_at (input_list rules role) m)
+  move_atom = let role = nth_tree (role_list rules) r in atom2 w_legal role (nth_tree (input_list rules role) m)
 
   legal_atom : (a : ℕ) → a < length (kinds_of g) → kind_at (kinds_of g) a ≡ Legal r m → number_of move_atom (listing rules).atoms ≡ a
   legal_atom a lt e =
@@ -344,7 +344,7 @@ module _ (rules : List Alternative) (g : FlatGround) (is : IsGround rules g) (r 
       let k = kind_sound rules is.well_formed.acyclic x (Legal r m) kind (λ f. absurd cc) in
       let same : x ≡ move_atom =
       k.2 ∙ ap (λ (t : Tree). atom2 w_legal k.0 t) (sym (placed k.1 (input_list rules k.0) m k.4))
-      ∙ ap (λ (q : Tree). atom2 w_legal q (tree_at (input_list rules q) m)) (sym (placed k.0 (role_list rules) r k.3)) in
+      ∙ ap (λ (q : Tree). atom2 w_legal q (nth_tree (input_list rules q) m)) (sym (placed k.0 (role_list rules) r k.3)) in
       ap (λ (y : Atom). number_of y (listing rules).atoms) (sym same) ∙ number_at (listing rules).atoms (one_number rules) a within
 
 pub one_legal : (g : FlatGround) (r m a b : ℕ) → a < length (kinds_of g) → b < length (kinds_of g) → kind_at (kinds_of g) a ≡ Legal r m

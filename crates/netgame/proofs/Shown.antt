@@ -27,8 +27,8 @@ use Rattle.std.proofs.Common.{
 use Rattle.std.specs.Prelude.{All, filter}
 use Rattle.std.specs.List.{list_any, range_with_len}
 use Rattle.std.proofs.lemmas.List.Elements.{All-map}
-use Rattle.meaning.specs.declared.kind.Kind.{Kind}
-use Rattle.meaning.specs.declared.kind.Kind.TheVariants.{Fixed, Now, Does, Next, Legal, Goal, Terminal, Other}
+use Rattle.statement.specs.declared.kind.Kind.{Kind}
+use Rattle.statement.specs.declared.kind.Kind.TheVariants.{Fixed, Now, Does, Next, Legal, Goal, Terminal, Other}
 use Rattle.rulegame.specs.declared.naming.Naming.TheVariants.{ByLegal}
 use Rattle.rulegame.specs.declared.plan.Sought.{Sought}
 use Rattle.rulegame.specs.declared.plan.Sought.TheVariants.{Goals}

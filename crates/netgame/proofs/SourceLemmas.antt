@@ -52,43 +52,10 @@ marked_more places old new i place is here word others h = record {
   fresh = λ l k above. others l k (λ e. omega arith) ∙ h.fresh l k (omega arith);
 }
 
-pub marked_none : (places words : List ℕ) → ((l k : ℕ) → lane words l k ≡ 0) → AreMarked places words 0
-marked_none places words fresh = record {
-  here = λ l below. absurd (omega arith);
-  other = λ l k below apart. absurd (omega arith);
-  fresh = λ l k above. fresh l k;
-}
-
 -- the lanes whose states stand before k have their bits, and the others none
 pub record AreGathered (places : List ℕ) (word k lanes : ℕ) : Type 0 where
   pub past : (l : ℕ) → l < length places → get_or places l 0 < k → bit_at lanes l ≡ bit_at word (get_or places l 0)
   pub rest : (l : ℕ) → l < length places → k ≤ get_or places l 0 → bit_at lanes l ≡ 0
-
--- those of one state more
-pub gathered_more : (places : List ℕ) (s : Sources) (word k old new : ℕ) → AreSources places s → length places ≤ 64
-    → ((l : ℕ) → l < 64 → bit_at new l ≡ max (bit_at old l) (min (bit_at word k) (lane s.lanes l k)))
-    → AreGathered places word k old → AreGathered places word (k + 1) new
-gathered_more places s word k old new is few step h = record {
-  past = λ l below before. elim (cases_eq k (get_or places l 0)) [
-    | inl same ↦
-        let mark : lane s.lanes l k ≡ 1 = ap (λ (p : ℕ). lane s.lanes l p) same ∙ is.marked.here l below in
-        let none = h.rest l below (omega arith) in
-        let bit = bit_at-lt word k in
-        let now = step l (omega arith) in
-        let there : bit_at word k ≡ bit_at word (get_or places l 0) = ap (bit_at word) same in
-        omega arith
-    | inr apart ↦
-        let mark = is.marked.other l k below apart in
-        let done = h.past l below (omega arith) in
-        let now = step l (omega arith) in
-        omega arith
-  ];
-  rest = λ l below above.
-      let mark = is.marked.other l k below (λ e. omega arith) in
-      let none = h.rest l below (omega arith) in
-      let now = step l (omega arith) in
-      omega arith;
-}
 
 -- no lane is marked
 none_marked : (n k : ℕ) → ◌≡◌ {A = ℕ} (get_or (replicate n 0) k 0) 0

@@ -37,14 +37,14 @@ use Rattle.std.proofs.Math.Bool.{or-false}
 use Rattle.std.proofs.lemmas.List.{map-append, take_more}
 use Rattle.std.proofs.lemmas.List.Elements.{All-append, All-map, filter-append}
 use Rattle.std.proofs.lemmas.List.Folds.{list_any-append}
-use Rattle.meaning.specs.declared.kind.Kind.{Kind}
+use Rattle.statement.specs.declared.kind.Kind.{Kind}
 use Rattle.ground.specs.declared.flat_ground.FlatGround.{FlatGround}
 use Rattle.ground.specs.GroundView.{kinds_of}
 use Rattle.rulegame.specs.declared.naming.Naming.TheVariants.{ByLegal}
 use Rattle.rulegame.specs.declared.plan.Sought.TheVariants.{Goals, Ends}
 use Rattle.rulegame.specs.declared.plan.Standing.{Standing}
 use Rattle.rulegame.specs.RulePlay.{kind_at, names, is_named, named_below, some_below, is_terminal, ends, best_goal}
-use Rattle.game.specs.Value.{greatest}
+use Rattle.statement.specs.Value.{greatest}
 use Rattle.rulegame.specs.Plans.{standing_at, all_standing}
 use Rattle.rulegame.proofs.Facts.{ends_all, goals_all, filter_range_more, greatest_snoc, legal_only}
 use Rattle.netgame.specs.declared.lane_plan.Asking.{Asking}

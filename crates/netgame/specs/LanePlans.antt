@@ -1,3 +1,4 @@
+-- This crate's own: what `run` promises does not rest on it.
 -- The tapes of play, and where one of them keeps what is asked of a state.
 use Rattle.std.specs.Prelude.{
   ℕ,
@@ -21,7 +22,7 @@ use Rattle.std.specs.Prelude.{
   if◌then◌else◌,
 }
 use Rattle.std.specs.List.{range_with_len}
-use Rattle.meaning.specs.declared.kind.Kind.{Kind}
+use Rattle.statement.specs.declared.kind.Kind.{Kind}
 use Rattle.ground.specs.declared.flat_ground.FlatGround.{FlatGround}
 use Rattle.ground.specs.Grounds.{texts_at}
 use Rattle.ground.specs.GroundView.{inputs_of, kinds_of}

@@ -1,3 +1,4 @@
+-- This crate's own: what `run` promises does not rest on it.
 -- Many states of a game over a network, a word for each base proposition, and what is told of each.
 use Rattle.std.specs.Prelude.{
   ℕ,
@@ -36,8 +37,8 @@ use Rattle.netgame.specs.declared.net_many.NetMany.{NetMany}
 use Rattle.netgame.specs.declared.net_many.NetTurn.{NetTurn}
 use Rattle.netgame.specs.declared.net_many.NetWide.{NetWide}
 use Rattle.netgame.specs.declared.net_pos.NetPos.{NetPos}
-use Rattle.game.specs.Rules.{State}
-use Rattle.game.specs.Value.{greatest}
+use Rattle.statement.specs.Rules.{State}
+use Rattle.statement.specs.Value.{greatest}
 use Rattle.rulegame.specs.RulePlay.{ends}
 use Rattle.rulegame.specs.RuleState.{holds_in, rules_of, HaveRoom, AreRead, all_capacities}
 use Rattle.netgame.specs.NetState.{lane_state, kept_state, AreSpread}

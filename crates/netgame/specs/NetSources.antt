@@ -1,10 +1,11 @@
+-- This crate's own: what `run` promises does not rest on it.
 -- The states at which the joint moves of the lanes begin.
 use Rattle.std.specs.Prelude.{◌≡◌, ◌≢◌, ℕ, ◌<◌, ◌≤◌, List, length, map, slice_index}
 use Rattle.std.specs.List.{range_with_len}
 use Rattle.smallvec.specs.SmallVec.{SmallVec}
 use Rattle.ground.specs.declared.flat_ground.FlatGround.{FlatGround}
 use Rattle.propnet.specs.Values.{lane}
-use Rattle.game.specs.Rules.{State}
+use Rattle.statement.specs.Rules.{State}
 use Rattle.game.specs.TurnsAfter.{turns_after}
 use Rattle.rulegame.specs.RuleState.{rules_of}
 use Rattle.netgame.specs.declared.net_sources.Sources.{Sources}

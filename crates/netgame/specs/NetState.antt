@@ -1,14 +1,15 @@
+-- This crate's own: what `run` promises does not rest on it.
 -- What a state of a game over a network keeps.
 use Rattle.std.specs.Prelude.{ℕ, ◌≡◌, ◌<◌, ◌==◌, Bool, true, false, List, length, filter, get_or, unwrap_or, Option, None}
 use Rattle.std.specs.List.{range_with_len}
-use Rattle.meaning.specs.declared.kind.Kind.{Kind}
-use Rattle.meaning.specs.declared.kind.Kind.TheVariants.{Fixed, Now, Does, Next, Legal, Goal, Terminal, Other}
+use Rattle.statement.specs.declared.kind.Kind.{Kind}
+use Rattle.statement.specs.declared.kind.Kind.TheVariants.{Fixed, Now, Does, Next, Legal, Goal, Terminal, Other}
 use Rattle.ground.specs.declared.flat_ground.FlatGround.{FlatGround}
 use Rattle.propnet.specs.Values.{lane}
 use Rattle.netgame.specs.declared.lane_plan.Asking.{Asking}
 use Rattle.netgame.specs.declared.lane_plan.Asking.TheVariants.{EndAlone, WithMoves}
 use Rattle.netgame.specs.declared.net_pos.NetPos.{NetPos}
-use Rattle.game.specs.Rules.{State}
+use Rattle.statement.specs.Rules.{State}
 use Rattle.rulegame.specs.RulePlay.{kind_at}
 
 -- bit k of word n is 1

@@ -1,4 +1,4 @@
-// What is kept of a network to play up to 64 joint moves at a time.
+//! What is kept of a network to play up to 64 joint moves at a time.
 
 use tape::Tape;
 

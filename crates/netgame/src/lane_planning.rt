@@ -1,4 +1,7 @@
-// Makes the tapes of play.
+//! Makes the tapes of play.
+//!
+//! The place of an atom in a tape of what is asked is how many atoms below it are asked. One structure serves what play goes on
+//! from and what it does not: they differ in which atoms are asked.
 ghost use Rattle.std.specs.Prelude.{◌≡◌, ◌<◌, ◌++◌, ℕ, [], ◌∷◌, length, map, OnOk, IfOk, Some, if◌then◌else◌};
 ghost use Rattle.ground.specs.GroundView.{kinds_of};
 ghost use Rattle.propnet.specs.Builders.{IsNetOf};

@@ -1,7 +1,7 @@
-// The states after up to 64 joint moves that each begin at one of many states.
+//! The states after up to 64 joint moves that each begin at one of many states.
 ghost use Rattle.std.specs.Prelude.{◌≡◌, ◌<◌, ◌≤◌, All, true, length, map, vec_capacity};
 ghost use Rattle.std.specs.List.{range_with_len};
-ghost use Rattle.game.specs.Rules.{IsTurn};
+ghost use Rattle.statement.specs.Rules.{IsTurn};
 ghost use Rattle.game.specs.TurnsAfter.{turns_after};
 ghost use Rattle.rulegame.specs.RuleState.{rules_of};
 ghost use Rattle.netgame.specs.NetState.{lane_state};

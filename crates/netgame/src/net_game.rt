@@ -1,4 +1,4 @@
-// The game of a network.
+//! The game of a network.
 ghost use Rattle.std.specs.Prelude.{◌≡◌, IfOk};
 ghost use Rattle.ground.specs.GroundView.{flat_of};
 ghost use Rattle.propnet.specs.Builders.{IsNetOf};

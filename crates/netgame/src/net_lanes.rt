@@ -1,6 +1,6 @@
-// The states after up to 64 joint moves at a time, and what is told of them.
+//! The states after up to 64 joint moves at a time, and what is told of them.
 ghost use Rattle.std.specs.Prelude.{◌≡◌, ◌<◌, ◌≤◌, All, true, length, map, vec_capacity, IfOk};
-ghost use Rattle.game.specs.Rules.{IsTurn};
+ghost use Rattle.statement.specs.Rules.{IsTurn};
 ghost use Rattle.tape.specs.Tapes.{slots_in};
 ghost use Rattle.rulegame.specs.RuleState.{rules_of};
 ghost use Rattle.netgame.specs.NetState.{kept_state, AreSpread};

@@ -1,4 +1,7 @@
-// Up to 64 states of a game over a network, and what is told of them.
+//! Up to 64 states of a game over a network, and what is told of them.
+//!
+//! A pass is kept as it was written. The ends alone are gathered at once, as they are asked in each state; what else is told of
+//! a state is read when it is taken.
 
 /// Room for the passes that lead to states: words with a bit for each state.
 #[derive(Drop)]

@@ -1,4 +1,4 @@
-// Passes over tapes.
+//! Passes over tapes.
 ghost use Rattle.std.specs.Prelude.{◌≡◌, ◌<◌, ◌≤◌, ◌+◌, ℕ, List, length, sum, get_or, slice_index, vec_capacity};
 ghost use Rattle.propnet.specs.declared.net.Net.{Net};
 ghost use Rattle.propnet.specs.Given.{AreGiven};

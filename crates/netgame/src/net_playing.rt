@@ -1,6 +1,6 @@
-// Play over a network.
+//! Play over a network.
 ghost use Rattle.std.specs.Prelude.{◌≡◌, ◌<◌, ℕ, length, slice_index_or, false, vec_capacity, IfOk};
-ghost use Rattle.game.specs.Rules.{IsTurn};
+ghost use Rattle.statement.specs.Rules.{IsTurn};
 ghost use Rattle.rulegame.specs.RulePlay.{marked};
 ghost use Rattle.rulegame.specs.RuleState.{rules_of};
 ghost use Rattle.netgame.specs.NetState.{is_lane_on, lane_state, kept_state};

@@ -1,4 +1,4 @@
-// A state of a game over a network, with what is told of it.
+//! A state of a game over a network, with what is told of it.
 
 use crate::net_many::{NetMany, NetTurn};
 use rulegame::RoleState;

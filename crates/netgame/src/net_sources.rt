@@ -1,4 +1,7 @@
-// Words of lanes, each of which is given one of many states.
+//! Words of lanes, each of which is given one of many states.
+//!
+//! A word for each state marks the lanes that begin at it, and each word of a pass is gathered from the states between the
+//! first and the last that are named: a step for each state, and not for each lane.
 ghost use Rattle.std.specs.Prelude.{◌≡◌, ◌≢◌, ◌<◌, ◌≤◌, ◌+◌, ℕ, All, length, max, min, sum, slice_index, vec_capacity};
 ghost use Rattle.std.specs.Int.{bit_at};
 ghost use Rattle.propnet.specs.Given.{AreGiven};

@@ -1,4 +1,4 @@
-// One state out of up to 64.
+//! One state out of up to 64.
 ghost use Rattle.std.specs.Prelude.{◌≡◌, ◌<◌, ◌≤◌, ℕ, [], None, length, get_or, vec_capacity};
 ghost use Rattle.ground.specs.Grounds.{texts_at};
 ghost use Rattle.ground.specs.GroundView.{inputs_of, kinds_of};

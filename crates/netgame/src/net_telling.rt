@@ -1,5 +1,5 @@
-// What a pass over the tape of what is asked tells of up to 64 states. What holds is told by any test that agrees with the words of
-// kept nodes, as the tape speaks of them.
+//! What a pass over the tape of what is asked tells of up to 64 states. What holds is told by any test that agrees with the words of
+//! kept nodes, as the tape speaks of them.
 ghost use Rattle.std.specs.Prelude.{
   ◌≡◌,
   ◌<◌,

@@ -1,4 +1,4 @@
-// Words with a bit for each lane.
+//! Words with a bit for each lane.
 ghost use Rattle.std.specs.Prelude.{◌≡◌, ◌<◌, ℕ};
 ghost use Rattle.std.specs.Int.{bit_at};
 

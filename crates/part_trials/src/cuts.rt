@@ -1,5 +1,4 @@
-// Texts of cuts, and answers over the table.
-use game::table::Table;
+//! Texts of cuts, and answers over the table.
 use game::{AtBound, Game};
 use share::{Cut, Gate, solve};
 use std::alloc::AllocGlobal;
@@ -7,6 +6,7 @@ use std::process::Abort;
 use std::sync::atomic::{AtomicUsize, Ordering};
 use std::test::Fail;
 use std::thread::Threads;
+use trial_games::table::Table;
 
 /// A gate that counts how often it was passed.
 #[derive(Drop)]

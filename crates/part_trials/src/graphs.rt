@@ -1,5 +1,5 @@
-// Graphs that are worked out by hand.
-ghost use Rattle.std.specs.Prelude.{◌≡◌, ◌<◌, IfOk};
+//! Graphs that are worked out by hand.
+ghost use Rattle.std.specs.Prelude.{◌≡◌, ◌<◌, All, IfOk};
 ghost use Rattle.digraph.specs.GraphView.{nodes_of};
 
 use digraph::{Arrow, Graph, components_of, order_of, ranks_of};
@@ -14,6 +14,18 @@ fn chain(alloc: Global, nodes: usize) -> Result<Graph, AllocError>
     let mut graph = Graph::new(alloc, nodes)?;
     for node in 0..nodes - 1 {
         graph.add(node, node + 1)?;
+    }
+    Ok(graph)
+}
+
+/// The graph of these arrows.
+fn graph_of(alloc: Global, nodes: usize, arrows: &[Arrow]) -> Result<Graph, AllocError>
+    requires { All (λ arrow. (arrow.from < nodes) × (arrow.to < nodes)) arrows.now }
+    ensures { IfOk result (λ graph. nodes_of graph ≡ nodes) }
+{
+    let mut graph = Graph::new(alloc, nodes)?;
+    for arrow in arrows {
+        graph.add(arrow.from, arrow.to)?;
     }
     Ok(graph)
 }
@@ -50,7 +62,7 @@ fn ranks_by_the_longest_way(rt: HostRuntime) -> Result<(), Fail> {
         Arrow { from: 1, to: 2 },
         Arrow { from: 2, to: 3 },
     ];
-    let graph = Graph::of(rt.alloc(), 5, &arrows)?;
+    let graph = graph_of(rt.alloc(), 5, &arrows)?;
     let rests = [true, true, true, true, false];
     let order = order_of(&graph, rt.alloc())?.ok_or("no order")?;
     let ranks = ranks_of(&graph, rt.alloc(), &order, &rests)?;
@@ -66,16 +78,11 @@ fn marks_what_leads_to_a_goal(rt: HostRuntime) -> Result<(), Fail> {
         Arrow { from: 2, to: 1 },
         Arrow { from: 3, to: 0 },
     ];
-    let graph = Graph::of(rt.alloc(), 5, &arrows)?;
+    let graph = graph_of(rt.alloc(), 5, &arrows)?;
     let marks = graph.leading(rt.alloc(), &[false, true, false, false, false])?;
     assert_eq!(rt;
         marks.as_slice(),
         [true, true, true, true, false].as_slice()
-    );
-    let marks = graph.reached(rt.alloc(), &[0])?;
-    assert_eq!(rt;
-        marks.as_slice(),
-        [true, true, true, false, false].as_slice()
     );
     Ok(())
 }
@@ -93,7 +100,7 @@ fn numbers_what_leads_to_each_other(rt: HostRuntime) -> Result<(), Fail> {
         Arrow { from: 5, to: 4 },
         Arrow { from: 6, to: 6 },
     ];
-    let graph = Graph::of(rt.alloc(), 7, &arrows)?;
+    let graph = graph_of(rt.alloc(), 7, &arrows)?;
     let components = components_of(&graph, rt.alloc())?;
     let groups: [usize; 7] = [0, 1, 2, 1, 2, 2, 3];
     for (one, group) in components.iter().zip(&groups) {

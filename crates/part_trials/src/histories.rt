@@ -1,12 +1,12 @@
-// Histories over the table.
+//! Histories over the table.
 ghost use Rattle.std.specs.Prelude.{◌<◌};
 
-use game::table::Table;
 use game::{AtBound, Game, add_history_refusal, is_stuck, replay};
 use kif::read;
 use std::alloc::Global;
 use std::io::Write;
 use std::test::Fail;
+use trial_games::table::Table;
 
 const TABLE: Table = Table {
     worth: [10, 20, 30, 40, 50, 60, 70, 80],

@@ -1,4 +1,4 @@
-// A join of which a level shares no value with those before it.
+//! A join of which a level shares no value with those before it.
 use join::{Column, Level};
 use reorder::{are_levels, reordered_rows};
 use std::alloc::{AllocError, Global};

@@ -1,14 +1,14 @@
-// Values, choices and replies over the table.
+//! Values, choices and replies over the table.
 ghost use Rattle.std.specs.Prelude.{◌<◌, ◌<ℤ◌, ◌≤ℤ◌, pos, negsuc};
 
 use game::AtBound::{Goal, Zero};
-use game::table::{Chosen, Table};
-use game::watched::Watched;
 use game::{AtBound, Game, Joint};
 use maximin::{Room, choice, choice_by_value, first_reply, reply_by_value, value_in};
 use smallvec::SmallVec;
 use std::alloc::{AllocError, Global};
 use std::sync::atomic::{AtomicUsize, Ordering};
+use trial_games::table::{Chosen, Table};
+use trial_games::watched::Watched;
 
 /// The value of the start state within a window, found through the bound alone, as in every caller.
 fn value_of<G: Game>(g: &G, alloc: Global, window: (i16, i16)) -> Result<i16, AllocError>

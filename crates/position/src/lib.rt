@@ -1,12 +1,9 @@
 //! The games of the rules: over kept instances, and over their network. What every game has comes from `game`, and stands here too.
 #![tactic(auto)]
 
-#[cfg(test)]
-mod tests;
-
 pub use game::{
-    AtBound, Game, HistoryFault, add_history_refusal, is_stuck,
-    nothing_at_the_bound_is_the_plain_value, play_stays_within_the_game, replay,
+    AtBound, Game, HistoryFault, Joint, Told, add_history_refusal, is_stuck, new_joint,
+    nothing_at_the_bound_is_the_plain_value, play_stays_within_the_game, put_move, replay,
     same_play_is_played_the_same,
 };
 pub use netgame::{NetGame, NetPos};

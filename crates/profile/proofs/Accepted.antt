@@ -7,27 +7,27 @@ use Rattle.std.specs.Cmp.Lexicographic.{slice_cmp}
 use Rattle.std.proofs.lemmas.Cmp.{ranked}
 use Rattle.std.specs.declared.cmp.Ordering.{Ordering}
 use Rattle.std.specs.declared.cmp.Ordering.TheVariants.{Less, Equal, Greater}
-use Rattle.kif.specs.Tree.{Tree}
+use Rattle.statement.specs.Tree.{Tree}
 use Rattle.kif.proofs.Facts.{both, true_and}
-use Rattle.profile.specs.Clause.{Atom, Literal, Alternative, Relation, relation_of, relation_eq, atom_of}
-use Rattle.profile.specs.Dependence.{IsAmong, is_distinct, is_moving, DependsDirectly, DependsIn, IsAcyclic, IsFixed, Edge, has_edge, heads_of}
-use Rattle.profile.specs.Dependence.{once_each, dependences, all_in_body, all_in_bodies, is_fixed_in, is_fixed}
-use Rattle.profile.specs.Items.{is_item, item_head, item_alternatives, alternatives}
-use Rattle.profile.specs.Safety.{is_safe, are_safe}
-use Rattle.profile.specs.Order.{body_rank, rank_by, rank_in, rank, then_by, fixed_place, relation_cmp, is_less, into_order, sorted}
-use Rattle.profile.specs.Order.{relations_in_order}
-use Rattle.profile.specs.Profile.{Fault, or_else, first_failing, some_literal, some_body, is_recursive, is_unsafe, HasNoFault, bad_form, bad_keyword}
-use Rattle.profile.specs.Profile.{not_safe, recursive, bad_dependence, misuses_word, first_too_many, depends_badly, none_of, roles}
+use Rattle.statement.specs.Clause.{Atom, Literal, Alternative, Relation, relation_of, relation_eq, atom_of}
+use Rattle.statement.specs.Dependence.{IsAmong, is_distinct, is_moving, DependsDirectly, DependsIn, IsAcyclic, IsFixed, Edge, has_edge, heads_of}
+use Rattle.statement.specs.Dependence.{once_each, dependences, all_in_body, all_in_bodies, is_fixed_in, is_fixed}
+use Rattle.statement.specs.Items.{is_item, item_head, item_alternatives, alternatives}
+use Rattle.statement.specs.Safety.{is_safe, are_safe}
+use Rattle.statement.specs.Order.{body_rank, rank_by, rank_in, rank, then_by, fixed_place, relation_cmp, is_less, into_order, sorted}
+use Rattle.statement.specs.Order.{relations_in_order}
+use Rattle.statement.specs.Profile.{ItemFault, or_item_fault, first_failing, some_literal, some_body, is_recursive, is_unsafe, HasNoFault, bad_form, bad_keyword}
+use Rattle.statement.specs.Profile.{not_safe, recursive, bad_dependence, misuses_word, first_too_many, depends_badly, none_of, roles}
 use Rattle.profile.proofs.Equality.{relation_eq_yes, relation_eq_self}
 use Rattle.profile.proofs.Tests.{or_left, or_right, not_true, not_false, IsAmong-append}
 use Rattle.profile.proofs.Walks.{IsHead, along_dependence}
 use Rattle.profile.proofs.Closure.{table_complete, IsAmong-once_each, heads_complete}
 
-pub or_none : (a b : Option Fault) → or_else a b ≡ None → (a ≡ None) × (b ≡ None)
+pub or_none : (a b : Option ItemFault) → or_item_fault a b ≡ None → (a ≡ None) × (b ≡ None)
 or_none None b e = (refl, e)
 or_none (Some f) b e = absurd cc
 
-pub none_fails : (fault : ℕ → Fault) (fails : Tree → Bool) (n : ℕ) (items : List Tree) → first_failing fault fails n items ≡ None → (t : Tree)
+pub none_fails : (fault : ℕ → ItemFault) (fails : Tree → Bool) (n : ℕ) (items : List Tree) → first_failing fault fails n items ≡ None → (t : Tree)
     → IsAmong t items → fails t ≡ false
 none_fails fault fails n [] e t a = absurd a
 none_fails fault fails n (u ∷ us) e t a = go (fails u) refl e a (none_fails fault fails (suc n) us)
@@ -74,18 +74,18 @@ record Passed (items : List Tree) : Type 0 where
 
 passed : (items : List Tree) → HasNoFault items → Passed items
 passed items e =
-    let form : Option Fault = first_failing bad_form (λ (t : Tree). not (is_item t)) 1 items in
-    let words : Option Fault = first_failing bad_keyword misuses_word 1 items in
-    let many : Option Fault = first_too_many 1 [] items in
-    let unsafe' : Option Fault = first_failing not_safe is_unsafe 1 items in
-    let cycles : Option Fault = first_failing recursive (is_recursive (dependences (alternatives items))) 1 items in
-    let badly : Option Fault = first_failing bad_dependence (depends_badly (dependences (alternatives items)) (alternatives items)) 1 items in
-    let last : Option Fault = none_of (roles items) in
-    let a = or_none form (or_else words (or_else many (or_else unsafe' (or_else cycles (or_else badly last))))) e in
-    let b = or_none words (or_else many (or_else unsafe' (or_else cycles (or_else badly last)))) a.1 in
-    let c = or_none many (or_else unsafe' (or_else cycles (or_else badly last))) b.1 in
-    let d = or_none unsafe' (or_else cycles (or_else badly last)) c.1 in
-    let f = or_none cycles (or_else badly last) d.1 in
+    let form : Option ItemFault = first_failing bad_form (λ (t : Tree). not (is_item t)) 1 items in
+    let words : Option ItemFault = first_failing bad_keyword misuses_word 1 items in
+    let many : Option ItemFault = first_too_many 1 [] items in
+    let unsafe' : Option ItemFault = first_failing not_safe is_unsafe 1 items in
+    let cycles : Option ItemFault = first_failing recursive (is_recursive (dependences (alternatives items))) 1 items in
+    let badly : Option ItemFault = first_failing bad_dependence (depends_badly (dependences (alternatives items)) (alternatives items)) 1 items in
+    let last : Option ItemFault = none_of (roles items) in
+    let a = or_none form (or_item_fault words (or_item_fault many (or_item_fault unsafe' (or_item_fault cycles (or_item_fault badly last))))) e in
+    let b = or_none words (or_item_fault many (or_item_fault unsafe' (or_item_fault cycles (or_item_fault badly last)))) a.1 in
+    let c = or_none many (or_item_fault unsafe' (or_item_fault cycles (or_item_fault badly last))) b.1 in
+    let d = or_none unsafe' (or_item_fault cycles (or_item_fault badly last)) c.1 in
+    let f = or_none cycles (or_item_fault badly last) d.1 in
     record { safe = d.0; straight = f.0 }
 
 -- where no item rests on its own head there is no cycle

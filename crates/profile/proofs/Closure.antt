@@ -1,9 +1,9 @@
 -- The table of dependences has exactly the pairs of `Depends`.
 use Rattle.std.proofs.Common.{ℕ, zero, suc, Bool, true, false, cond, ◌&&◌, ◌≡◌, ◌⊎◌, inl, inr, List, [], ◌∷◌, ◌++◌, refl, sym, ap, subst}
 use Rattle.kif.proofs.Facts.{both, true_and}
-use Rattle.profile.specs.Clause.{Literal, Alternative, Relation, relation_of, relation_eq, atom_of}
-use Rattle.profile.specs.Dependence.{IsAmong, is_distinct, is_among, DependsDirectly, DependsIn, Depends, Edge, has_edge, with_edge, body_edges}
-use Rattle.profile.specs.Dependence.{direct_edges, edges_on, edges_through, closure, heads_of, once_each, dependences}
+use Rattle.statement.specs.Clause.{Literal, Alternative, Relation, relation_of, relation_eq, atom_of}
+use Rattle.statement.specs.Dependence.{IsAmong, is_distinct, is_among, DependsDirectly, DependsIn, Depends, Edge, has_edge, with_edge, body_edges}
+use Rattle.statement.specs.Dependence.{direct_edges, edges_on, edges_through, closure, heads_of, once_each, dependences}
 use Rattle.profile.proofs.Equality.{relation_eq_yes, relation_eq_self}
 use Rattle.profile.proofs.Tests.{or_cases, or_left, or_right}
 use Rattle.profile.proofs.Walks.{chain_then}

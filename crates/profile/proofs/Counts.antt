@@ -4,15 +4,15 @@ use Rattle.std.proofs.Common.{inl, inr, arith, length-append}
 use Rattle.std.proofs.Math.Nat.{mul-suc, mul_comm, mul_assoc}
 use Rattle.std.proofs.lemmas.List.{length-map}
 use Rattle.std.proofs.lemmas.Bool.Decides.{nat_tests}
-use Rattle.kif.specs.Tree.{Tree, name, list, Trees, tree, trees_of}
+use Rattle.statement.specs.Tree.{Tree, name, list, Trees, tree, trees_of}
 use Rattle.kif.specs.View.{tree_of, trees_in}
 use Rattle.kif.specs.declared.expr.Expr.{Expr}
 use Rattle.kif.proofs.Facts.{parts_from}
-use Rattle.profile.specs.Clause.{Literal}
-use Rattle.profile.specs.Items.{readings, readings_in_turn, readings_of_all, behind_each, picks, item_alternatives, item_head, body_trees}
-use Rattle.profile.specs.Words.{w_or, w_and}
+use Rattle.statement.specs.Clause.{Literal}
+use Rattle.statement.specs.Items.{readings, readings_in_turn, readings_of_all, behind_each, picks, item_alternatives, item_head, body_trees}
+use Rattle.statement.specs.Words.{w_or, w_and}
 use Rattle.profile.specs.Parts.{HasNoWord}
-use Rattle.profile.specs.Limits.{most_alternatives}
+use Rattle.statement.specs.RuleLimits.{most_alternatives}
 
 length-behind_each : (a : List Literal) (bs : List (List Literal)) → length (behind_each a bs) ≡ length bs
 length-behind_each a [] = refl

@@ -1,8 +1,8 @@
 -- The tests of relations and atoms are equality.
 use Rattle.std.proofs.Common.{true, ◌≡◌, refl, eqb-true, eqb, eq-eqb}
-use Rattle.kif.specs.Tree.{name_eq, trees_eq}
+use Rattle.statement.specs.Tree.{name_eq, trees_eq}
 use Rattle.kif.proofs.Facts.{both, true_and, name_eq_yes, name_eq_self, trees_eq_yes, trees_eq_self}
-use Rattle.profile.specs.Clause.{Atom, Relation, relation_eq, atom_eq}
+use Rattle.statement.specs.Clause.{Atom, Relation, relation_eq, atom_eq}
 
 pub relation_eq_yes : (p q : Relation) → relation_eq p q ≡ true → p ≡ q
 relation_eq_yes p q h =

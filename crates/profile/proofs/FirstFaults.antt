@@ -2,21 +2,21 @@
 use Rattle.std.proofs.Common.{ℕ, zero, suc, ◌+◌, ◌<◌, ◌≤◌, Bool, true, false, not, cond, ◌&&◌, ◌||◌, ◌==◌, nat_lt, ◌≡◌, ◌⊎◌, inl, inr, List, [], ◌∷◌}
 use Rattle.std.proofs.Common.{length, take, refl, sym, ap, subst, ◌∙◌, arith, Option, Some, None, eqb-true, eq-eqb}
 use Rattle.std.proofs.lemmas.Bool.Decides.{nat_tests}
-use Rattle.kif.specs.Tree.{Tree}
+use Rattle.statement.specs.Tree.{Tree}
 use Rattle.kif.proofs.Facts.{both, true_and}
-use Rattle.profile.specs.Words.{w_base, w_input, w_init, w_legal, w_goal, w_terminal}
-use Rattle.profile.specs.Clause.{Alternative, Relation, relation_of, relation_eq, atom_of, is_word}
-use Rattle.profile.specs.Dependence.{is_distinct, IsAcyclic, IsFixed, has_edge, dependences, is_fixed}
-use Rattle.profile.specs.Items.{is_item, item_head, item_alternatives, alternatives}
-use Rattle.profile.specs.Safety.{variables, count_different}
-use Rattle.profile.specs.Profile.{Fault, Limit, rules_limit, variables_limit, alternatives_limit, roles_limit, limit_passed, too_many_at, with_new}
-use Rattle.profile.specs.Profile.{role_in, roles_from, first_failing, first_too_many, or_else, bad_form, bad_keyword, too_many, not_safe, recursive}
-use Rattle.profile.specs.Profile.{bad_dependence, no_role, misuses_word, is_unsafe, is_recursive, depends_badly, rests_on_move, some_body}
-use Rattle.profile.specs.Profile.{does_relation, none_of, roles, fault_in}
+use Rattle.statement.specs.Words.{w_base, w_input, w_init, w_legal, w_goal, w_terminal}
+use Rattle.statement.specs.Clause.{Alternative, Relation, relation_of, relation_eq, atom_of, is_word}
+use Rattle.statement.specs.Dependence.{is_distinct, IsAcyclic, IsFixed, has_edge, dependences, is_fixed}
+use Rattle.statement.specs.Items.{is_item, item_head, item_alternatives, alternatives}
+use Rattle.statement.specs.Safety.{variables, count_different}
+use Rattle.statement.specs.Profile.{ItemFault, Limit, rules_limit, variables_limit, alternatives_limit, roles_limit, limit_passed, too_many_at, with_new}
+use Rattle.statement.specs.Profile.{role_in, roles_from, first_failing, first_too_many, or_item_fault, bad_form, bad_keyword, too_many, not_safe, recursive}
+use Rattle.statement.specs.Profile.{bad_dependence, no_role, misuses_word, is_unsafe, is_recursive, depends_badly, rests_on_move, some_body}
+use Rattle.statement.specs.Profile.{does_relation, none_of, roles, item_fault_in}
 use Rattle.profile.specs.Lawful.{UsesWordsWell}
 use Rattle.profile.specs.Faults.{PassesWith, limit_place, StandsAt, IsFirst, RestsOn, HasForm, IsSafeItem, LeadsTo, RestsOnItself, IsOfTurn}
 use Rattle.profile.specs.Faults.{IsOfAllTime, RestsBadly, Each, AllKeepLimits, IsFirstOver, HasFault}
-use Rattle.profile.specs.Limits.{most_items, most_variables, most_alternatives, most_roles}
+use Rattle.statement.specs.RuleLimits.{most_items, most_variables, most_alternatives, most_roles}
 use Rattle.profile.proofs.Equality.{relation_eq_yes, relation_eq_self}
 use Rattle.profile.proofs.Tests.{or_cases, or_left, or_right, not_true}
 use Rattle.profile.proofs.Accepted.{none_fails, not_not, fixed_tested, body_found, straight_acyclic}
@@ -26,7 +26,7 @@ use Rattle.profile.proofs.Lawfulness.{all_pass, rests_said, rests_found, limits_
 
 -- The first item that fails a test.
 
-record Found (fault : ℕ → Fault) (fails : Tree → Bool) (n : ℕ) (items : List Tree) (f : Fault) : Type 0 where
+record Found (fault : ℕ → ItemFault) (fails : Tree → Bool) (n : ℕ) (items : List Tree) (f : ItemFault) : Type 0 where
   place : ℕ
   fault_is : f ≡ fault (n + place)
   item : Tree
@@ -34,7 +34,7 @@ record Found (fault : ℕ → Fault) (fails : Tree → Bool) (n : ℕ) (items : 
   failing : fails item ≡ true
   before : (k : ℕ) (t : Tree) → k < place → StandsAt items k t → fails t ≡ false
 
-first_said : (fault : ℕ → Fault) (fails : Tree → Bool) (n : ℕ) (items : List Tree) (f : Fault) → first_failing fault fails n items ≡ Some f
+first_said : (fault : ℕ → ItemFault) (fails : Tree → Bool) (n : ℕ) (items : List Tree) (f : ItemFault) → first_failing fault fails n items ≡ Some f
     → Found fault fails n items f
 first_said fault fails n [] f h = absurd cc
 first_said fault fails n (t ∷ ts) f h = go (fails t) refl h (λ k. first_said fault fails (suc n) ts f k)
@@ -65,7 +65,7 @@ first_said fault fails n (t ∷ ts) f h = go (fails t) refl h (λ k. first_said 
         earlier place b zero u lt s = ap fails s ∙ e
         earlier place b (suc j) u lt s = b j u (omega arith) s
 
-first_found : (fault : ℕ → Fault) (fails : Tree → Bool) (n : ℕ) (items : List Tree) (k : ℕ) (t : Tree) → StandsAt items k t → fails t ≡ true
+first_found : (fault : ℕ → ItemFault) (fails : Tree → Bool) (n : ℕ) (items : List Tree) (k : ℕ) (t : Tree) → StandsAt items k t → fails t ≡ true
     → ((j : ℕ) (u : Tree) → j < k → StandsAt items j u → fails u ≡ false) → first_failing fault fails n items ≡ Some (fault (n + k))
 first_found fault fails n [] k t s f b = absurd s
 first_found fault fails n (u ∷ us) zero t s f b =
@@ -76,7 +76,7 @@ first_found fault fails n (u ∷ us) (suc k) t s f b =
     ∙ ap (λ (m : ℕ). Some (fault m)) (let z : suc n + k ≡ n + suc k = omega arith in z))
 
 -- the same by a property that the test decides
-named_said : (fault : ℕ → Fault) (fails : Tree → Bool) (P : Tree → Type 0) (items : List Tree) (f : Fault) → ((t : Tree) → fails t ≡ true → P t)
+named_said : (fault : ℕ → ItemFault) (fails : Tree → Bool) (P : Tree → Type 0) (items : List Tree) (f : ItemFault) → ((t : Tree) → fails t ≡ true → P t)
     → ((t : Tree) → fails t ≡ false → P t → ⊥)
     → first_failing fault fails 1 items ≡ Some f → (n : ℕ) × (f ≡ fault n) × IsFirst P items n
 named_said fault fails P items f holds never h =
@@ -93,7 +93,7 @@ named_said fault fails P items f holds never h =
       },
     )
 
-named_found : (fault : ℕ → Fault) (fails : Tree → Bool) (P : Tree → Type 0) (items : List Tree) (n : ℕ) → ((t : Tree) → P t → fails t ≡ true)
+named_found : (fault : ℕ → ItemFault) (fails : Tree → Bool) (P : Tree → Type 0) (items : List Tree) (n : ℕ) → ((t : Tree) → P t → fails t ≡ true)
     → ((t : Tree) → (P t → ⊥) → fails t ≡ false)
     → IsFirst P items n → first_failing fault fails 1 items ≡ Some (fault n)
 named_found fault fails P items n holds never i =
@@ -359,7 +359,7 @@ over_some rs n t l p = go (limit_passed n rs t) refl
     go None e = absurd (none_under rs n t e l p.passes)
     go (Some m) e = e ∙ ap (λ (x : Limit). Some x) (same m (some_over rs n t m e))
 
-record Over (n : ℕ) (rs : List Tree) (ts : List Tree) (f : Fault) : Type 0 where
+record Over (n : ℕ) (rs : List Tree) (ts : List Tree) (f : ItemFault) : Type 0 where
   place : ℕ
   limit : Limit
   fault_is : f ≡ too_many (n + place) limit
@@ -368,14 +368,14 @@ record Over (n : ℕ) (rs : List Tree) (ts : List Tree) (f : Fault) : Type 0 whe
   passes : PassesFirst (n + place) item (roles_from rs (take (suc place) ts)) limit
   before : (k : ℕ) (t : Tree) (m : Limit) → k < place → StandsAt ts k t → PassesWith (roles_from rs (take (suc k) ts)) (n + k) t m → ⊥
 
-over_said : (n : ℕ) (rs ts : List Tree) (f : Fault) → first_too_many n rs ts ≡ Some f → Over n rs ts f
+over_said : (n : ℕ) (rs ts : List Tree) (f : ItemFault) → first_too_many n rs ts ≡ Some f → Over n rs ts f
 over_said n rs [] f h = absurd cc
 over_said n rs (t ∷ ts) f h = go (limit_passed n rs t) refl h (λ k. over_said (suc n) (with_new rs (role_in t)) ts f k)
   where
     zero_more : n ≡ n + 0
     zero_more = omega arith
 
-    go : (o : Option Limit) → limit_passed n rs t ≡ o → or_else (too_many_at n o) (first_too_many (suc n) (with_new rs (role_in t)) ts) ≡ Some f
+    go : (o : Option Limit) → limit_passed n rs t ≡ o → or_item_fault (too_many_at n o) (first_too_many (suc n) (with_new rs (role_in t)) ts) ≡ Some f
         → (first_too_many (suc n) (with_new rs (role_in t)) ts ≡ Some f → Over (suc n) (with_new rs (role_in t)) ts f) → Over n rs (t ∷ ts) f
     go (Some l) e k more = record {
       place = 0;
@@ -420,12 +420,12 @@ over_found n rs (u ∷ us) zero t l s p b =
     let z : n + 0 ≡ n = omega arith in
     let here = over_some rs n u l (subst (λ (x : Tree). PassesFirst n x (with_new rs (role_in u)) l) s
     (subst (λ (m : ℕ). PassesFirst m t (with_new rs (role_in u)) l) z p)) in
-    ap (λ (o : Option Limit). or_else (too_many_at n o) (first_too_many (suc n) (with_new rs (role_in u)) us)) here
+    ap (λ (o : Option Limit). or_item_fault (too_many_at n o) (first_too_many (suc n) (with_new rs (role_in u)) us)) here
     ∙ ap (λ (m : ℕ). Some (too_many m l)) (sym z)
 over_found n rs (u ∷ us) (suc k) t l s p b =
     let z : n + 0 ≡ n = omega arith in
     let here = under_none rs n u (λ m q. b 0 u m (omega arith) refl (subst (λ (j : ℕ). PassesWith (with_new rs (role_in u)) j u m) (sym z) q)) in
-    ap (λ (o : Option Limit). or_else (too_many_at n o) (first_too_many (suc n) (with_new rs (role_in u)) us)) here
+    ap (λ (o : Option Limit). or_item_fault (too_many_at n o) (first_too_many (suc n) (with_new rs (role_in u)) us)) here
     ∙ over_found (suc n) (with_new rs (role_in u)) us k t l s
     (subst (λ (m : ℕ). PassesFirst m t (roles_from (with_new rs (role_in u)) (take (suc k) us)) l) (sym (shift k)) p)
     (λ j v m lt c q. b (suc j) v m (omega arith) c
@@ -437,16 +437,16 @@ over_found n rs (u ∷ us) (suc k) t l s p b =
 
 -- The law.
 
-or_some : (a b : Option Fault) (f : Fault) → or_else a b ≡ Some f → (a ≡ Some f) ⊎ ((a ≡ None) × (b ≡ Some f))
+or_some : (a b : Option ItemFault) (f : ItemFault) → or_item_fault a b ≡ Some f → (a ≡ Some f) ⊎ ((a ≡ None) × (b ≡ Some f))
 or_some None b f h = inr (refl, h)
 or_some (Some g) b f h = inl h
 
-abbrev after_words : List Tree → Option Fault
+abbrev after_words : List Tree → Option ItemFault
 after_words items =
-    or_else (first_too_many 1 [] items)
-    (or_else (first_failing not_safe is_unsafe 1 items)
-    (or_else (first_failing recursive (is_recursive (dependences (alternatives items))) 1 items)
-    (or_else (first_failing bad_dependence (depends_badly (dependences (alternatives items)) (alternatives items)) 1 items)
+    or_item_fault (first_too_many 1 [] items)
+    (or_item_fault (first_failing not_safe is_unsafe 1 items)
+    (or_item_fault (first_failing recursive (is_recursive (dependences (alternatives items))) 1 items)
+    (or_item_fault (first_failing bad_dependence (depends_badly (dependences (alternatives items)) (alternatives items)) 1 items)
     (none_of (roles items)))))
 
 forms_each : (items : List Tree) → first_failing bad_form (λ (t : Tree). not (is_item t)) 1 items ≡ None → Each HasForm items
@@ -464,7 +464,7 @@ limits_all items h =
 safe_all : (items : List Tree) → first_failing not_safe is_unsafe 1 items ≡ None → Each IsSafeItem items
 safe_all items h t a = safe_item t (none_fails not_safe is_unsafe 1 items h t a)
 
-over_law : (items : List Tree) (f : Fault) → first_too_many 1 [] items ≡ Some f → (n : ℕ) × (l : Limit) × (f ≡ too_many n l) × IsFirstOver items n l
+over_law : (items : List Tree) (f : ItemFault) → first_too_many 1 [] items ≡ Some f → (n : ℕ) × (l : Limit) × (f ≡ too_many n l) × IsFirstOver items n l
 over_law items f h =
     let r = over_said 1 [] items f h in
     let shift : (k : ℕ) → 1 + k ≡ suc k = λ k. omega arith in (
@@ -496,18 +496,18 @@ law_over items n l i =
     (λ j u m lt s p. i.before j u m lt s (subst (λ (k : ℕ). PassesWith (roles (take (suc j) items)) k u m) (shift j) p))
     ∙ ap (λ (m : ℕ). Some (too_many m l)) (sym number)
 
-last_said : (rs : List Tree) (f : Fault) → none_of rs ≡ Some f → (f ≡ no_role) × (rs ≡ [])
+last_said : (rs : List Tree) (f : ItemFault) → none_of rs ≡ Some f → (f ≡ no_role) × (rs ≡ [])
 last_said [] f h = ((let s : f ≡ no_role = cc in s), refl)
 last_said (r ∷ rs) f h = absurd cc
 
-pub fault_said : (items : List Tree) (f : Fault) → fault_in items ≡ Some f → HasFault items f
+pub fault_said : (items : List Tree) (f : ItemFault) → item_fault_in items ≡ Some f → HasFault items f
 fault_said items f e =
     forms (or_some (first_failing bad_form (λ (t : Tree). not (is_item t)) 1 items)
-    (or_else (first_failing bad_keyword misuses_word 1 items) (after_words items)) f e)
+    (or_item_fault (first_failing bad_keyword misuses_word 1 items) (after_words items)) f e)
   where
     forms : (first_failing bad_form (λ (t : Tree). not (is_item t)) 1 items ≡ Some f)
         ⊎ ((first_failing bad_form (λ (t : Tree). not (is_item t)) 1 items ≡ None)
-        × (or_else (first_failing bad_keyword misuses_word 1 items) (after_words items) ≡ Some f)) → HasFault items f
+        × (or_item_fault (first_failing bad_keyword misuses_word 1 items) (after_words items) ≡ Some f)) → HasFault items f
     forms (inl h) =
         let r = named_said bad_form (λ (t : Tree). not (is_item t)) (λ (t : Tree). HasForm t → ⊥) items f form_yes form_never h in
         subst (HasFault items) (sym r.1) r.2
@@ -521,16 +521,16 @@ fault_said items f e =
         places (inr h') have = many (or_some (first_too_many 1 [] items) _ f h'.1) (words_each items h'.0)
           where
             many : (first_too_many 1 [] items ≡ Some f) ⊎ ((first_too_many 1 [] items ≡ None)
-                × (or_else (first_failing not_safe is_unsafe 1 items)
-                (or_else (first_failing recursive (is_recursive (dependences (alternatives items))) 1 items)
-                (or_else (first_failing bad_dependence (depends_badly (dependences (alternatives items)) (alternatives items)) 1 items)
+                × (or_item_fault (first_failing not_safe is_unsafe 1 items)
+                (or_item_fault (first_failing recursive (is_recursive (dependences (alternatives items))) 1 items)
+                (or_item_fault (first_failing bad_dependence (depends_badly (dependences (alternatives items)) (alternatives items)) 1 items)
                 (none_of (roles items)))) ≡ Some f)) → Each UsesWordsWell items → HasFault items f
             many (inl k) placed = let r = over_law items f k in subst (HasFault items) (sym r.2) (have, placed, r.3)
             many (inr k) placed = risks (or_some (first_failing not_safe is_unsafe 1 items) _ f k.1) (limits_all items k.0)
               where
                 risks : (first_failing not_safe is_unsafe 1 items ≡ Some f) ⊎ ((first_failing not_safe is_unsafe 1 items ≡ None)
-                    × (or_else (first_failing recursive (is_recursive (dependences (alternatives items))) 1 items)
-                    (or_else (first_failing bad_dependence (depends_badly (dependences (alternatives items)) (alternatives items)) 1 items)
+                    × (or_item_fault (first_failing recursive (is_recursive (dependences (alternatives items))) 1 items)
+                    (or_item_fault (first_failing bad_dependence (depends_badly (dependences (alternatives items)) (alternatives items)) 1 items)
                     (none_of (roles items))) ≡ Some f)) → AllKeepLimits items → HasFault items f
                 risks (inl x) keep =
                     let r = named_said not_safe is_unsafe (λ (t : Tree). IsSafeItem t → ⊥) items f unsafe_yes (λ t m d. d (safe_item t m)) x in
@@ -540,7 +540,7 @@ fault_said items f e =
                   where
                     cycles : (first_failing recursive (is_recursive (dependences (alternatives items))) 1 items ≡ Some f)
                         ⊎ ((first_failing recursive (is_recursive (dependences (alternatives items))) 1 items ≡ None)
-                        × (or_else (first_failing bad_dependence (depends_badly (dependences (alternatives items)) (alternatives items)) 1 items)
+                        × (or_item_fault (first_failing bad_dependence (depends_badly (dependences (alternatives items)) (alternatives items)) 1 items)
                         (none_of (roles items)) ≡ Some f))
                         → Each IsSafeItem items → HasFault items f
                     cycles (inl y) safe =
@@ -596,7 +596,7 @@ false_of : (b : Bool) (Q : Type 0) → (b ≡ true → Q) → (Q → ⊥) → b 
 false_of true Q h d = absurd (d (h refl))
 false_of false Q h d = refl
 
-pub fault_found : (items : List Tree) (f : Fault) → HasFault items f → fault_in items ≡ Some f
+pub fault_found : (items : List Tree) (f : ItemFault) → HasFault items f → item_fault_in items ≡ Some f
 fault_found items (bad_form n) h =
     rw (named_found bad_form (λ (t : Tree). not (is_item t)) (λ (t : Tree). HasForm t → ⊥) items n
     (λ t d. decided_no (not (is_item t)) (HasForm t) (λ e. not_not _ e) d)

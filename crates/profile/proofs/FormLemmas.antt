@@ -1,11 +1,11 @@
 -- What the form of a tree says of its parts.
 use Rattle.std.proofs.Common.{ℕ, suc, zero, ◌<◌, Bool, true, false, not, ◌&&◌, ◌≡◌, List, [], ◌∷◌, length, refl, sym, ap, ◌∙◌, arith, get_or}
-use Rattle.kif.specs.Tree.{Tree, name, list, Trees, no_trees, tree, trees_of}
+use Rattle.statement.specs.Tree.{Tree, name, list, Trees, no_trees, tree, trees_of}
 use Rattle.kif.specs.View.{tree_of, trees_in}
 use Rattle.kif.specs.declared.expr.Expr.{Expr}
 use Rattle.kif.proofs.Facts.{both}
-use Rattle.profile.specs.Clause.{is_variable}
-use Rattle.profile.specs.Items.{is_name, is_constant, is_connective, is_term, are_terms, is_atom, is_one_atom}
+use Rattle.statement.specs.Clause.{is_variable}
+use Rattle.statement.specs.Items.{is_name, is_constant, is_connective, is_term, are_terms, is_atom, is_one_atom}
 use Rattle.profile.proofs.Tests.{not_true}
 
 -- what holds of each tree of a list holds of one

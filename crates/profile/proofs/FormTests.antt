@@ -3,15 +3,15 @@ use Rattle.std.proofs.Common.{ℕ, ◌+◌, ◌<◌, ◌≤◌, Bool, true, fals
 use Rattle.std.proofs.Common.{sym, ap, ◌∙◌, arith}
 use Rattle.std.specs.List.{list_all}
 use Rattle.std.specs.Prelude.{Vec}
-use Rattle.kif.specs.Lexical.{is_lower_name_byte}
-use Rattle.kif.specs.Tree.{Tree, name, list, Trees, no_trees, tree, trees_of}
+use Rattle.statement.specs.Lexical.{is_lower_name_byte}
+use Rattle.statement.specs.Tree.{Tree, name, list, Trees, no_trees, tree, trees_of}
 use Rattle.kif.specs.View.{tree_of, trees_in}
 use Rattle.kif.specs.declared.expr.Expr.{Expr}
 use Rattle.kif.specs.declared.expr.Expr.TheVariants.{Name, List as List'}
 use Rattle.kif.proofs.Facts.{tree_of-Name, tree_of-List, parts_from, no_parts}
-use Rattle.profile.specs.Items.{are_name_bytes, is_name, is_constant, is_connective, is_term, are_terms, begins_compound, is_atom, is_one_atom}
-use Rattle.profile.specs.Items.{is_some, is_literal, are_literals, head_tree, body_trees}
-use Rattle.profile.specs.Words.{w_or, w_and, w_not}
+use Rattle.statement.specs.Items.{are_name_bytes, is_name, is_constant, is_connective, is_term, are_terms, begins_compound, is_atom, is_one_atom}
+use Rattle.statement.specs.Items.{is_some, is_literal, are_literals, head_tree, body_trees}
+use Rattle.statement.specs.Words.{w_or, w_and, w_not}
 use Rattle.profile.specs.declared.forms.Connective.{Connective}
 use Rattle.profile.specs.declared.forms.Connective.TheVariants as words
 use Rattle.profile.specs.Connectives.{IsNoConnective, IsConnectiveOf}

@@ -2,16 +2,16 @@
 use Rattle.std.proofs.Common.{ℕ, ◌≡◌, List, [], ◌∷◌, length, map, refl, None}
 use Rattle.std.specs.Prelude.{codes}
 use Rattle.kif.proofs.Facts.{items_in}
-use Rattle.profile.specs.Clause.{Relation}
-use Rattle.profile.specs.Items.{alternatives}
-use Rattle.profile.specs.Order.{relations_in_order}
-use Rattle.profile.specs.Profile.{fault_in}
+use Rattle.statement.specs.Clause.{Relation}
+use Rattle.statement.specs.Items.{alternatives}
+use Rattle.statement.specs.Order.{relations_in_order}
+use Rattle.statement.specs.Profile.{item_fault_in}
 
 unfoldable pub match_text : List ℕ
 match_text =
     codes "(role a)(role b)(base done)(base same)(input a h)(input a t)(input b h)(input b t)(<= (legal ?r ?m) (input ?r ?m) (not (true done)))(<= (next done) (does a ?m))(<= (next same) (does a ?m) (does b ?m))(<= terminal (true done))(<= (goal a 100) (true same))(<= (goal a 0) (not (true same)))(<= (goal b 0) (true same))(<= (goal b 100) (not (true same)))"
 
-match_accepted : fault_in (items_in match_text) ≡ None
+match_accepted : item_fault_in (items_in match_text) ≡ None
 unfolding items_in match_text
 match_accepted = refl
 
@@ -27,7 +27,7 @@ match_order = refl
 unfoldable pub four_text : List ℕ
 four_text = codes "(role a) (val x 40) (val y 70) (val z 70) (val zz 10) (<= (input a ?m) (val ?m ?v)) (<= (base (did ?m)) (val ?m ?v)) (<= (legal a ?m) (val ?m ?v)) (<= (next (did ?m)) (does a ?m)) (<= (goal a ?v) (true (did ?m)) (val ?m ?v)) (<= terminal (true (did ?m)))"
 
-four_accepted : fault_in (items_in four_text) ≡ None
+four_accepted : item_fault_in (items_in four_text) ≡ None
 unfolding items_in four_text
 four_accepted = refl
 
@@ -43,6 +43,6 @@ tictactoe_order : length (relations_in_order (alternatives (items_in tictactoe_t
 unfolding items_in tictactoe_text
 tictactoe_order = refl
 
-tictactoe_accepted : fault_in (items_in tictactoe_text) ≡ None
+tictactoe_accepted : item_fault_in (items_in tictactoe_text) ≡ None
 unfolding items_in tictactoe_text
 tictactoe_accepted = refl

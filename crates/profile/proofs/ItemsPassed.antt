@@ -1,11 +1,11 @@
 -- Where no item has a bad form, each tree is an item.
 use Rattle.std.proofs.Common.{ℕ, suc, zero, ◌≡◌, Bool, true, false, not, cond, List, [], ◌∷◌, refl, arith, Option, Some, None}
 use Rattle.std.specs.Prelude.{All}
-use Rattle.kif.specs.Tree.{Tree}
-use Rattle.profile.specs.Items.{is_item}
-use Rattle.profile.specs.Profile.{Fault, bad_form, first_failing}
+use Rattle.statement.specs.Tree.{Tree}
+use Rattle.statement.specs.Items.{is_item}
+use Rattle.statement.specs.Profile.{ItemFault, bad_form, first_failing}
 
-passed : (b : Bool) (f : Fault) (o : Option Fault) → cond (not b) (Some f) o ≡ None → (b ≡ true) × (o ≡ None)
+passed : (b : Bool) (f : ItemFault) (o : Option ItemFault) → cond (not b) (Some f) o ≡ None → (b ≡ true) × (o ≡ None)
 passed true f o e = (refl, e)
 passed false f o e = absurd cc
 

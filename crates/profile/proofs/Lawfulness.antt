@@ -2,20 +2,20 @@
 use Rattle.std.proofs.Common.{ℕ, zero, suc, ◌+◌, ◌≤◌, Bool, true, false, not, cond, ◌&&◌, ◌||◌, ◌==◌, nat_lt, ◌≡◌, ◌⊎◌, inl, inr, List, [], ◌∷◌, ◌++◌}
 use Rattle.std.proofs.Common.{length, refl, sym, ap, subst, ◌∙◌, arith, Option, Some, None, eqb-true, eq-eqb, length-append}
 use Rattle.std.proofs.lemmas.Bool.Decides.{nat_tests}
-use Rattle.kif.specs.Tree.{Tree, Trees, no_trees, tree, name_eq}
+use Rattle.statement.specs.Tree.{Tree, Trees, no_trees, tree, name_eq}
 use Rattle.kif.proofs.Facts.{both, true_and, name_eq_yes, name_eq_self}
-use Rattle.profile.specs.Words.{w_role, w_base, w_input, w_init, w_legal, w_goal, w_terminal}
-use Rattle.profile.specs.Clause.{Literal, Alternative, Relation, relation_of, relation_eq, atom_of, is_word}
-use Rattle.profile.specs.Dependence.{IsAmong, is_distinct, DependsDirectly, DependsIn, Depends, IsAcyclic, IsFixed, has_edge, dependences, is_fixed}
-use Rattle.profile.specs.Items.{is_item, item_head, item_alternatives, body_trees, alternatives, is_some}
-use Rattle.profile.specs.Safety.{variables, variables_in, is_binding, bound, needed, is_name_in, are_names_in, is_safe, are_safe, count_different}
-use Rattle.profile.specs.Profile.{Fault, Limit, rules_limit, variables_limit, alternatives_limit, roles_limit, limit_passed, too_many_at}
-use Rattle.profile.specs.Profile.{first_too_many, with_new, role_in, roles_from, is_tree_in, or_else, first_failing, bad_form, bad_keyword, not_safe}
-use Rattle.profile.specs.Profile.{recursive, bad_dependence, none_of, Use, uses, heads_well, stands_well, body_stands_well, bodies_stand_well}
-use Rattle.profile.specs.Profile.{is_empty, is_role_well, misuses_word, is_unsafe, is_recursive, some_body, some_literal, does_relation}
-use Rattle.profile.specs.Profile.{rests_on_move, depends_badly, roles, HasNoFault}
+use Rattle.statement.specs.Words.{w_role, w_base, w_input, w_init, w_legal, w_goal, w_terminal}
+use Rattle.statement.specs.Clause.{Literal, Alternative, Relation, relation_of, relation_eq, atom_of, is_word}
+use Rattle.statement.specs.Dependence.{IsAmong, is_distinct, DependsDirectly, DependsIn, Depends, IsAcyclic, IsFixed, has_edge, dependences, is_fixed}
+use Rattle.statement.specs.Items.{is_item, item_head, item_alternatives, body_trees, alternatives, is_some}
+use Rattle.statement.specs.Safety.{variables, variables_in, is_binding, bound, needed, is_name_in, are_names_in, is_safe, are_safe, count_different}
+use Rattle.statement.specs.Profile.{ItemFault, Limit, rules_limit, variables_limit, alternatives_limit, roles_limit, limit_passed, too_many_at}
+use Rattle.statement.specs.Profile.{first_too_many, with_new, role_in, roles_from, is_tree_in, or_item_fault, first_failing, bad_form, bad_keyword, not_safe}
+use Rattle.statement.specs.Profile.{recursive, bad_dependence, none_of, Use, uses, heads_well, stands_well, body_stands_well, bodies_stand_well}
+use Rattle.statement.specs.Profile.{is_empty, is_role_well, misuses_word, is_unsafe, is_recursive, some_body, some_literal, does_relation}
+use Rattle.statement.specs.Profile.{rests_on_move, depends_badly, roles, HasNoFault}
 use Rattle.profile.specs.Lawful.{MayStand, UsesWordsWell, IsBound, IsSafe, KeepsLimits, relation, RestsWell, IsLawful}
-use Rattle.profile.specs.Limits.{most_items, most_variables, most_alternatives, most_roles}
+use Rattle.statement.specs.RuleLimits.{most_items, most_variables, most_alternatives, most_roles}
 use Rattle.profile.proofs.Equality.{relation_eq_yes, relation_eq_self}
 use Rattle.profile.proofs.Tests.{or_cases, or_left, or_right, not_true, IsAmong-append, IsAmong-append_left, IsAmong-append_right}
 use Rattle.profile.proofs.Accepted.{or_none, none_fails, accepted_acyclic, rule_item, same_head, not_not, right_if, fixed_tested, body_found}
@@ -281,7 +281,7 @@ pub record KeepLimits (n : ℕ) (before ts : List Tree) : Type 0 where
   pub each : (t : Tree) → IsAmong t ts → KeepsLimits t
   pub few_roles : length (roles_from before ts) ≤ most_roles
 
-pub none_too_many : (n : ℕ) (o : Option Limit) (rest : Option Fault) → or_else (too_many_at n o) rest ≡ None → (o ≡ None) × (rest ≡ None)
+pub none_too_many : (n : ℕ) (o : Option Limit) (rest : Option ItemFault) → or_item_fault (too_many_at n o) rest ≡ None → (o ≡ None) × (rest ≡ None)
 none_too_many n None rest h = (refl, h)
 none_too_many n (Some l) rest h = absurd cc
 
@@ -309,7 +309,7 @@ many_found n before (t ∷ ts) k =
     let rs = k.few_roles in
     let longer = roles_from_longer (with_new before (role_in t)) ts in
     let here = limits_found n before t (λ e. omega arith) (k.each t (inl refl)) (omega arith) in
-    ap (λ (o : Option Limit). or_else (too_many_at n o) (first_too_many (suc n) (with_new before (role_in t)) ts)) here
+    ap (λ (o : Option Limit). or_item_fault (too_many_at n o) (first_too_many (suc n) (with_new before (role_in t)) ts)) here
     ∙ many_found (suc n) (with_new before (role_in t)) ts (record { few = omega arith; each = λ u a. k.each u (inr a); few_roles = k.few_roles })
 
 -- Dependence.
@@ -429,7 +429,7 @@ rests_never rules p r none q d = ((λ e. none (zero, subst (λ (x : Relation). D
 
 -- The whole.
 
-pub all_pass : (fault : ℕ → Fault) (fails : Tree → Bool) (n : ℕ) (items : List Tree) → ((t : Tree) → IsAmong t items → fails t ≡ false)
+pub all_pass : (fault : ℕ → ItemFault) (fails : Tree → Bool) (n : ℕ) (items : List Tree) → ((t : Tree) → IsAmong t items → fails t ≡ false)
     → first_failing fault fails n items ≡ None
 all_pass fault fails n [] h = refl
 all_pass fault fails n (t ∷ ts) h = rw (h t (inl refl)) (all_pass fault fails (suc n) ts (λ u a. h u (inr a)))
@@ -583,18 +583,18 @@ pub record PassesAll (items : List Tree) : Type 0 where
 
 pub parts_said : (items : List Tree) → HasNoFault items → PassesAll items
 parts_said items e =
-    let form : Option Fault = first_failing bad_form (λ (t : Tree). not (is_item t)) 1 items in
-    let words : Option Fault = first_failing bad_keyword misuses_word 1 items in
-    let many : Option Fault = first_too_many 1 [] items in
-    let unsafe' : Option Fault = first_failing not_safe is_unsafe 1 items in
-    let cycles : Option Fault = first_failing recursive (is_recursive (dependences (alternatives items))) 1 items in
-    let badly : Option Fault = first_failing bad_dependence (depends_badly (dependences (alternatives items)) (alternatives items)) 1 items in
-    let last : Option Fault = none_of (roles items) in
-    let a = or_none form (or_else words (or_else many (or_else unsafe' (or_else cycles (or_else badly last))))) e in
-    let b = or_none words (or_else many (or_else unsafe' (or_else cycles (or_else badly last)))) a.1 in
-    let c = or_none many (or_else unsafe' (or_else cycles (or_else badly last))) b.1 in
-    let d = or_none unsafe' (or_else cycles (or_else badly last)) c.1 in
-    let f = or_none cycles (or_else badly last) d.1 in
+    let form : Option ItemFault = first_failing bad_form (λ (t : Tree). not (is_item t)) 1 items in
+    let words : Option ItemFault = first_failing bad_keyword misuses_word 1 items in
+    let many : Option ItemFault = first_too_many 1 [] items in
+    let unsafe' : Option ItemFault = first_failing not_safe is_unsafe 1 items in
+    let cycles : Option ItemFault = first_failing recursive (is_recursive (dependences (alternatives items))) 1 items in
+    let badly : Option ItemFault = first_failing bad_dependence (depends_badly (dependences (alternatives items)) (alternatives items)) 1 items in
+    let last : Option ItemFault = none_of (roles items) in
+    let a = or_none form (or_item_fault words (or_item_fault many (or_item_fault unsafe' (or_item_fault cycles (or_item_fault badly last))))) e in
+    let b = or_none words (or_item_fault many (or_item_fault unsafe' (or_item_fault cycles (or_item_fault badly last)))) a.1 in
+    let c = or_none many (or_item_fault unsafe' (or_item_fault cycles (or_item_fault badly last))) b.1 in
+    let d = or_none unsafe' (or_item_fault cycles (or_item_fault badly last)) c.1 in
+    let f = or_none cycles (or_item_fault badly last) d.1 in
     let g = or_none badly last f.1 in
     record { forms = a.0; words = b.0; many = c.0; safe = d.0; straight = f.0; rests = g.0; some = g.1 }
 

@@ -3,16 +3,16 @@ use Rattle.std.proofs.Common.{ℕ, suc, Bool, true, false, not, cond, ◌&&◌, 
 use Rattle.std.proofs.Common.{◌∙◌, arith}
 use Rattle.std.specs.declared.cmp.Ordering.TheVariants.{Less, Greater}
 use Rattle.std.specs.Ordering.{ordering_reverse}
-use Rattle.kif.specs.Tree.{Tree, name, list, Trees, no_trees, tree, name_eq}
+use Rattle.statement.specs.Tree.{Tree, name, list, Trees, no_trees, tree, name_eq}
 use Rattle.kif.proofs.Facts.{both, true_and, name_eq_yes}
-use Rattle.profile.specs.Words.{w_or, w_and, w_not, w_role}
-use Rattle.profile.specs.Clause.{Atom, Literal, positive, Alternative, Relation, relation_of, atom_of, is_word}
-use Rattle.profile.specs.Dependence.{IsAmong, IsAcyclic, heads_of}
-use Rattle.profile.specs.Items.{is_constant, is_connective, is_term, are_terms, is_atom, is_one_atom, is_some, is_literal, are_literals, is_item}
-use Rattle.profile.specs.Items.{head_tree, body_trees, item_head, readings_of_all, atom_in, negated}
-use Rattle.profile.specs.Order.{rank, rank_by, relation_cmp, relations_in_order}
-use Rattle.profile.specs.Profile.{roles_from, with_new, role_in, first_of, is_tree_in, HasNoFault}
-use Rattle.profile.specs.Safety.{variables, variables_in}
+use Rattle.statement.specs.Words.{w_or, w_and, w_not, w_role}
+use Rattle.statement.specs.Clause.{Atom, Literal, positive, Alternative, Relation, relation_of, atom_of, is_word}
+use Rattle.statement.specs.Dependence.{IsAmong, IsAcyclic, heads_of}
+use Rattle.statement.specs.Items.{is_constant, is_connective, is_term, are_terms, is_atom, is_one_atom, is_some, is_literal, are_literals, is_item}
+use Rattle.statement.specs.Items.{head_tree, body_trees, item_head, readings_of_all, atom_in, negated}
+use Rattle.statement.specs.Order.{rank, rank_by, relation_cmp, relations_in_order}
+use Rattle.statement.specs.Profile.{roles_from, with_new, role_in, first_of, is_tree_in, HasNoFault}
+use Rattle.statement.specs.Safety.{variables, variables_in}
 use Rattle.profile.specs.Standing.{literals_in, literals_of_all}
 use Rattle.profile.specs.Listed.{RisesStrictly, StandOnce, HeadsSome, IsOrderOfHeads, IsLawfulAtom, IsLawfulRole, HasLawfulNames}
 use Rattle.profile.specs.Lawful.{UsesWordsWell}

@@ -5,14 +5,14 @@ use Rattle.std.proofs.lemmas.Bool.Decides.{nat_tests}
 use Rattle.std.proofs.lemmas.List.{append-nil}
 use Rattle.std.specs.Bool.{OnTrue, OnFalse}
 use Rattle.std.specs.Borrow.{Bor}
-use Rattle.profile.specs.Clause.{is_variable}
-use Rattle.kif.specs.Tree.{Tree, name, trees_of, name_eq}
+use Rattle.statement.specs.Clause.{is_variable}
+use Rattle.statement.specs.Tree.{Tree, name, trees_of, name_eq}
 use Rattle.kif.specs.View.{tree_of, trees_in}
 use Rattle.kif.specs.declared.expr.Expr.{Expr}
 use Rattle.kif.proofs.Facts.{name_eq_yes, name_eq_self, parts_from, no_parts}
 use Rattle.profile.specs.Names.{names_behind, HasSameNames, AreDifferent, Gathers}
-use Rattle.profile.specs.Safety.{is_name_in, variables, variables_in, count_different}
-use Rattle.profile.specs.Limits.{most_variables}
+use Rattle.statement.specs.Safety.{is_name_in, variables, variables_in, count_different}
+use Rattle.statement.specs.RuleLimits.{most_variables}
 use Rattle.profile.proofs.Tests.{or_left, or_right}
 
 pub is_name_in-append : (n : List ℕ) (xs ys : List (List ℕ)) → is_name_in n (xs ++ ys) ≡ (is_name_in n xs || is_name_in n ys)

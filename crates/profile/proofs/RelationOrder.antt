@@ -7,9 +7,9 @@ use Rattle.std.specs.Ordering.{nat_cmp, ordering_reverse}
 use Rattle.std.specs.declared.cmp.Ordering.{Ordering}
 use Rattle.std.specs.declared.cmp.Ordering.TheVariants.{Less, Equal, Greater}
 use Rattle.std.proofs.lemmas.Cmp.{ranked, nat_cmp_total, nat_list_cmp_total, on_total, then_total, tied_itself}
-use Rattle.profile.specs.Clause.{Alternative, Relation, relation_eq}
-use Rattle.profile.specs.Dependence.{IsAmong, is_among, heads_of, once_each}
-use Rattle.profile.specs.Order.{rank, then_by, fixed_place, relation_cmp, is_less, into_order, sorted, relations_in_order}
+use Rattle.statement.specs.Clause.{Alternative, Relation, relation_eq}
+use Rattle.statement.specs.Dependence.{IsAmong, is_among, heads_of, once_each}
+use Rattle.statement.specs.Order.{rank, then_by, fixed_place, relation_cmp, is_less, into_order, sorted, relations_in_order}
 use Rattle.profile.proofs.Equality.{relation_eq_self}
 use Rattle.profile.proofs.Tests.{or_left, or_right}
 use Rattle.profile.proofs.Closure.{IsAmong-once_each}

@@ -3,23 +3,23 @@ use Rattle.std.proofs.Common.{ℕ, zero, suc, ◌+◌, ◌<◌, ◌≤◌, Bool,
 use Rattle.std.proofs.Common.{None, length, drop, drop-cons, get_or, refl, sym, ap, subst, ◌∙◌, arith, length-append, append_assoc, not}
 use Rattle.std.proofs.lemmas.List.{length-map}
 use Rattle.std.proofs.lemmas.List.Elements.{All-append, All-cons}
-use Rattle.profile.specs.declared.fault.Excess.{Excess}
-use Rattle.profile.specs.Answer.{limit_of}
+use Rattle.statement.specs.declared.rule_fault.RuleExcess.{RuleExcess as Excess}
+use Rattle.statement.specs.RuleFaults.{limit_of}
 use Rattle.profile.proofs.Standings.{count_parts}
 use Rattle.std.specs.Prelude.{All}
 use Rattle.std.proofs.lemmas.Bool.Decides.{nat_tests}
-use Rattle.kif.specs.Tree.{Tree, name, list, Trees, no_trees, tree, tree_eq, trees_eq, trees_of, name_eq}
+use Rattle.statement.specs.Tree.{Tree, name, list, Trees, no_trees, tree, tree_eq, trees_eq, trees_of, name_eq}
 use Rattle.kif.specs.View.{tree_of, trees_in}
 use Rattle.kif.specs.declared.expr.Expr.{Expr}
 use Rattle.kif.proofs.Facts.{parts_from, no_parts}
-use Rattle.profile.specs.Words.{w_role}
-use Rattle.profile.specs.Clause.{relation_of, is_word}
-use Rattle.profile.specs.Items.{atom_in, head_tree, body_trees, item_head, is_some}
+use Rattle.statement.specs.Words.{w_role}
+use Rattle.statement.specs.Clause.{relation_of, is_word}
+use Rattle.statement.specs.Items.{atom_in, head_tree, body_trees, item_head, is_some}
 use Rattle.profile.specs.Parts.{HasNoWord}
-use Rattle.profile.specs.Profile.{Limit, roles_limit, too_many, or_else, too_many_at, first_too_many, is_tree_in, limit_passed, first_of, role_in}
-use Rattle.profile.specs.Profile.{with_new, roles_from, roles}
+use Rattle.statement.specs.Profile.{Limit, roles_limit, too_many, or_item_fault, too_many_at, first_too_many, is_tree_in, limit_passed, first_of, role_in}
+use Rattle.statement.specs.Profile.{with_new, roles_from, roles}
 use Rattle.profile.specs.Stated.{AddsRole, AreRolePlaces, role_at, roles_at, HasExcess, HasRoleLimitAlone}
-use Rattle.profile.specs.Limits.{most_roles}
+use Rattle.statement.specs.RuleLimits.{most_roles}
 
 -- Lists of trees compared part by part.
 
@@ -187,12 +187,12 @@ pub record IsListedTo {A : Type 0} (es : List (Expr A)) (i : ℕ) (places : List
 
 too_many_here : (n : ℕ) (rs : List Tree) (t : Tree) (ts : List Tree) (l : Limit) → limit_passed n rs t ≡ Some l
     → first_too_many n rs (t ∷ ts) ≡ Some (too_many n l)
-too_many_here n rs t ts l h = ap (λ (o : Option Limit). or_else (too_many_at n o) (first_too_many (suc n) (with_new rs (role_in t)) ts)) h
+too_many_here n rs t ts l h = ap (λ (o : Option Limit). or_item_fault (too_many_at n o) (first_too_many (suc n) (with_new rs (role_in t)) ts)) h
 
 too_many_later : (n m : ℕ) (rs : List Tree) (t : Tree) (ts : List Tree) → m ≡ suc n → limit_passed n rs t ≡ None
     → first_too_many n rs (t ∷ ts) ≡ first_too_many m (with_new rs (role_in t)) ts
 too_many_later n m rs t ts e h =
-    ap (λ (o : Option Limit). or_else (too_many_at n o) (first_too_many (suc n) (with_new rs (role_in t)) ts)) h
+    ap (λ (o : Option Limit). or_item_fault (too_many_at n o) (first_too_many (suc n) (with_new rs (role_in t)) ts)) h
     ∙ ap (λ (k : ℕ). first_too_many k (with_new rs (role_in t)) ts) (sym e)
 
 pub excess_here : {A : Type 0} (es : List (Expr A)) (i : ℕ) (e : Expr A) (places : List ℕ) (excess : Excess) → IsListedTo es i places → i < length es

@@ -2,19 +2,19 @@
 use Rattle.std.proofs.Common.{ℕ, suc, subst, Bool, true, false, not, ◌&&◌, ◌||◌, ◌==◌, ◌≡◌, ◌⊎◌, inl, inr, List, [], ◌∷◌, ◌++◌, length, map, refl}
 use Rattle.std.proofs.Common.{sym, ap, ◌∙◌, arith}
 use Rattle.std.proofs.lemmas.Bool.Decides.{nat_tests}
-use Rattle.kif.specs.Tree.{Tree, name, list, Trees, no_trees, tree, trees_of, name_eq}
+use Rattle.statement.specs.Tree.{Tree, name, list, Trees, no_trees, tree, trees_of, name_eq}
 use Rattle.kif.specs.View.{tree_of, trees_in}
 use Rattle.kif.specs.declared.expr.Expr.{Expr}
 use Rattle.kif.proofs.Facts.{both, name_eq_yes}
-use Rattle.profile.specs.Words.{w_or, w_and, w_not, w_role}
-use Rattle.profile.specs.Clause.{is_variable, Atom, Literal, positive, Relation, relation_of, atom_of, count_trees}
-use Rattle.profile.specs.Items.{atom_in, negated, is_literal, is_literal_list, are_literals, is_some, readings, list_readings, readings_in_turn}
-use Rattle.profile.specs.Items.{readings_of_all, behind_each, picks, item_alternatives, item_head, body_trees, head_tree, is_item, is_atom}
-use Rattle.profile.specs.Items.{is_connective, is_constant, is_name, are_terms}
+use Rattle.statement.specs.Words.{w_or, w_and, w_not, w_role}
+use Rattle.statement.specs.Clause.{is_variable, Atom, Literal, positive, Relation, relation_of, atom_of, count_trees}
+use Rattle.statement.specs.Items.{atom_in, negated, is_literal, is_literal_list, are_literals, is_some, readings, list_readings, readings_in_turn}
+use Rattle.statement.specs.Items.{readings_of_all, behind_each, picks, item_alternatives, item_head, body_trees, head_tree, is_item, is_atom}
+use Rattle.statement.specs.Items.{is_connective, is_constant, is_name, are_terms}
 use Rattle.profile.specs.Parts.{HasNoWord}
 use Rattle.profile.specs.Connectives.{IsNoConnective}
-use Rattle.profile.specs.Profile.{heads_well, stands_well, body_stands_well, bodies_stand_well, uses, is_empty, misuses_word, is_role_well}
-use Rattle.profile.specs.Safety.{variables, variables_in}
+use Rattle.statement.specs.Profile.{heads_well, stands_well, body_stands_well, bodies_stand_well, uses, is_empty, misuses_word, is_role_well}
+use Rattle.statement.specs.Safety.{variables, variables_in}
 use Rattle.profile.proofs.Tests.{not_true}
 use Rattle.profile.specs.Standing.{literals_in, literals_of_list, literals_of_all}
 

@@ -1,6 +1,6 @@
 -- Tests that compute, and what they say.
 use Rattle.std.proofs.Common.{Bool, true, false, not, ◌||◌, ◌≡◌, ◌⊎◌, inl, inr, List, [], ◌∷◌, ◌++◌, refl}
-use Rattle.profile.specs.Dependence.{IsAmong}
+use Rattle.statement.specs.Dependence.{IsAmong}
 
 pub or_cases : (a b : Bool) → (a || b) ≡ true → (a ≡ true) ⊎ (b ≡ true)
 or_cases true b h = inl refl

@@ -1,7 +1,7 @@
 -- Chains of dependence, and the induction along them.
 use Rattle.std.proofs.Common.{ℕ, zero, suc, ◌≤◌, Bool, true, false, cond, ◌≡◌, ◌⊎◌, List, [], ◌∷◌, length, map, refl, sym, ap, subst, inl, inr, arith}
-use Rattle.profile.specs.Clause.{Alternative, Relation, relation_of, relation_eq}
-use Rattle.profile.specs.Dependence.{IsAmong, DependsDirectly, DependsIn, Depends, IsAcyclic}
+use Rattle.statement.specs.Clause.{Alternative, Relation, relation_of, relation_eq}
+use Rattle.statement.specs.Dependence.{IsAmong, DependsDirectly, DependsIn, Depends, IsAcyclic}
 use Rattle.profile.proofs.Equality.{relation_eq_yes, relation_eq_self}
 
 pub chain_then : (rules : List Alternative) (n : ℕ) (p q r : Relation) → DependsIn rules n p q → Depends rules q r → Depends rules p r

@@ -1,16 +1,16 @@
 -- Further facts of an accepted list of items: its heads, their terms, and the relations that are fixed.
 use Rattle.std.proofs.Common.{ℕ, zero, suc, Bool, true, false, not, ◌&&◌, ◌||◌, ◌==◌, ◌≡◌, inl, inr, List, [], ◌∷◌, map, refl, sym, ap, subst, ◌∙◌}
 use Rattle.std.proofs.Common.{Option, None}
-use Rattle.kif.specs.Tree.{Tree, name, list, Trees, no_trees, tree, name_eq}
+use Rattle.statement.specs.Tree.{Tree, name, list, Trees, no_trees, tree, name_eq}
 use Rattle.kif.proofs.Facts.{both, name_eq_self}
-use Rattle.profile.specs.Words.{w_role, w_base, w_input, w_init, w_true, w_does, w_legal, w_goal, w_terminal, w_distinct}
-use Rattle.profile.specs.Clause.{Atom, Literal, Alternative, Relation, relation_of, is_word}
-use Rattle.profile.specs.Dependence.{IsAmong, is_distinct, is_moving, DependsDirectly, DependsIn, IsFixed, Edge, dependences, is_fixed}
-use Rattle.profile.specs.Items.{is_constant, is_connective, are_terms, is_atom, atom_in, is_item, head_tree, body_trees, are_literals, item_head}
-use Rattle.profile.specs.Items.{item_alternatives, alternatives, readings_of_all, is_some}
-use Rattle.profile.specs.Profile.{Fault, or_else, first_failing, bad_form, bad_keyword, not_safe, recursive, bad_dependence, first_too_many}
-use Rattle.profile.specs.Profile.{is_unsafe, is_recursive, depends_badly, rests_on_move, none_of, roles, misuses_word, Use, uses, use_of, heads_well}
-use Rattle.profile.specs.Profile.{bodies_stand_well, is_role_well, some_body, HasNoFault}
+use Rattle.statement.specs.Words.{w_role, w_base, w_input, w_init, w_true, w_does, w_legal, w_goal, w_terminal, w_distinct}
+use Rattle.statement.specs.Clause.{Atom, Literal, Alternative, Relation, relation_of, is_word}
+use Rattle.statement.specs.Dependence.{IsAmong, is_distinct, is_moving, DependsDirectly, DependsIn, IsFixed, Edge, dependences, is_fixed}
+use Rattle.statement.specs.Items.{is_constant, is_connective, are_terms, is_atom, atom_in, is_item, head_tree, body_trees, are_literals, item_head}
+use Rattle.statement.specs.Items.{item_alternatives, alternatives, readings_of_all, is_some}
+use Rattle.statement.specs.Profile.{ItemFault, or_item_fault, first_failing, bad_form, bad_keyword, not_safe, recursive, bad_dependence, first_too_many}
+use Rattle.statement.specs.Profile.{is_unsafe, is_recursive, depends_badly, rests_on_move, none_of, roles, misuses_word, Use, uses, use_of, heads_well}
+use Rattle.statement.specs.Profile.{bodies_stand_well, is_role_well, some_body, HasNoFault}
 use Rattle.profile.proofs.Tests.{not_false}
 use Rattle.profile.proofs.Accepted.{or_none, none_fails, rule_item, same_head, body_found, accepted_acyclic, fixed_tested, not_not, right_if}
 
@@ -21,18 +21,18 @@ record AllPassed (items : List Tree) : Type 0 where
 
 all_passed : (items : List Tree) → HasNoFault items → AllPassed items
 all_passed items e =
-    let form : Option Fault = first_failing bad_form (λ (t : Tree). not (is_item t)) 1 items in
-    let words : Option Fault = first_failing bad_keyword misuses_word 1 items in
-    let many : Option Fault = first_too_many 1 [] items in
-    let risky : Option Fault = first_failing not_safe is_unsafe 1 items in
-    let cycles : Option Fault = first_failing recursive (is_recursive (dependences (alternatives items))) 1 items in
-    let badly : Option Fault = first_failing bad_dependence (depends_badly (dependences (alternatives items)) (alternatives items)) 1 items in
-    let last : Option Fault = none_of (roles items) in
-    let a = or_none form (or_else words (or_else many (or_else risky (or_else cycles (or_else badly last))))) e in
-    let b = or_none words (or_else many (or_else risky (or_else cycles (or_else badly last)))) a.1 in
-    let c = or_none many (or_else risky (or_else cycles (or_else badly last))) b.1 in
-    let d = or_none risky (or_else cycles (or_else badly last)) c.1 in
-    let f = or_none cycles (or_else badly last) d.1 in
+    let form : Option ItemFault = first_failing bad_form (λ (t : Tree). not (is_item t)) 1 items in
+    let words : Option ItemFault = first_failing bad_keyword misuses_word 1 items in
+    let many : Option ItemFault = first_too_many 1 [] items in
+    let risky : Option ItemFault = first_failing not_safe is_unsafe 1 items in
+    let cycles : Option ItemFault = first_failing recursive (is_recursive (dependences (alternatives items))) 1 items in
+    let badly : Option ItemFault = first_failing bad_dependence (depends_badly (dependences (alternatives items)) (alternatives items)) 1 items in
+    let last : Option ItemFault = none_of (roles items) in
+    let a = or_none form (or_item_fault words (or_item_fault many (or_item_fault risky (or_item_fault cycles (or_item_fault badly last))))) e in
+    let b = or_none words (or_item_fault many (or_item_fault risky (or_item_fault cycles (or_item_fault badly last)))) a.1 in
+    let c = or_none many (or_item_fault risky (or_item_fault cycles (or_item_fault badly last))) b.1 in
+    let d = or_none risky (or_item_fault cycles (or_item_fault badly last)) c.1 in
+    let f = or_none cycles (or_item_fault badly last) d.1 in
     let g = or_none badly last f.1 in
     record { form = a.0; words = b.0; deps = g.0 }
 

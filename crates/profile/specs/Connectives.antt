@@ -1,7 +1,8 @@
+-- This crate's own: what `run` promises does not rest on it.
 -- The words that make a literal of other literals.
 use Rattle.std.specs.Prelude.{ℕ, List, false, ◌≡◌}
-use Rattle.kif.specs.Tree.{name_eq}
-use Rattle.profile.specs.Words.{w_or, w_and, w_not}
+use Rattle.statement.specs.Tree.{name_eq}
+use Rattle.statement.specs.Words.{w_or, w_and, w_not}
 use Rattle.profile.specs.declared.forms.Connective.{Connective}
 use Rattle.profile.specs.declared.forms.Connective.TheVariants as words
 

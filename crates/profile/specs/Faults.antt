@@ -1,14 +1,15 @@
+-- This crate's own: what `run` promises does not rest on it.
 -- Each fault of a list of items, by the first item that has it.
 use Rattle.std.specs.Prelude.{ℕ, zero, suc, true, false, ◌≡◌, ◌<◌, ◌≤◌, ◌⊎◌, List, [], ◌∷◌, length, take}
-use Rattle.kif.specs.Tree.{Tree}
-use Rattle.profile.specs.Words.{w_base, w_input, w_init, w_legal, w_goal, w_terminal}
-use Rattle.profile.specs.Limits.{most_items, most_variables, most_alternatives, most_roles}
-use Rattle.profile.specs.Clause.{Literal, Alternative, Relation, relation_of, atom_of}
-use Rattle.profile.specs.Dependence.{IsAmong, is_distinct, Depends, IsAcyclic, IsFixed}
-use Rattle.profile.specs.Items.{is_item, item_head, item_alternatives, alternatives}
-use Rattle.profile.specs.Safety.{variables, count_different}
-use Rattle.profile.specs.Profile.{Fault, Limit, rules_limit, variables_limit, alternatives_limit, roles_limit, bad_form, bad_keyword, too_many}
-use Rattle.profile.specs.Profile.{not_safe, recursive, bad_dependence, no_role, does_relation, roles}
+use Rattle.statement.specs.Tree.{Tree}
+use Rattle.statement.specs.Words.{w_base, w_input, w_init, w_legal, w_goal, w_terminal}
+use Rattle.statement.specs.RuleLimits.{most_items, most_variables, most_alternatives, most_roles}
+use Rattle.statement.specs.Clause.{Literal, Alternative, Relation, relation_of, atom_of}
+use Rattle.statement.specs.Dependence.{IsAmong, is_distinct, Depends, IsAcyclic, IsFixed}
+use Rattle.statement.specs.Items.{is_item, item_head, item_alternatives, alternatives}
+use Rattle.statement.specs.Safety.{variables, count_different}
+use Rattle.statement.specs.Profile.{ItemFault, Limit, rules_limit, variables_limit, alternatives_limit, roles_limit, bad_form, bad_keyword, too_many}
+use Rattle.statement.specs.Profile.{not_safe, recursive, bad_dependence, no_role, does_relation, roles}
 use Rattle.profile.specs.Lawful.{UsesWordsWell, IsSafe, KeepsLimits, relation, RestsWell}
 
 -- the item at a place, counted from 0
@@ -100,7 +101,7 @@ pub record IsFirstOver (items : List Tree) (n : ℕ) (l : Limit) : Type 0 where
   pub before : (k : ℕ) (t : Tree) (m : Limit) → k < place → StandsAt items k t → Passes items (suc k) t m → ⊥
 
 -- the fault, with no earlier one
-abbrev pub HasFault : List Tree → Fault → Type 0
+abbrev pub HasFault : List Tree → ItemFault → Type 0
 HasFault items (bad_form n) = IsFirst (λ t. HasForm t → ⊥) items n
 HasFault items (bad_keyword n) = Each HasForm items × IsFirst (λ t. UsesWordsWell t → ⊥) items n
 HasFault items (too_many n l) = Each HasForm items × Each UsesWordsWell items × IsFirstOver items n l

@@ -1,13 +1,14 @@
+-- This crate's own: what `run` promises does not rest on it.
 -- What makes a list of items a lawful description, in relations.
 use Rattle.std.specs.Prelude.{ℕ, true, false, ◌≡◌, ◌≤◌, List, [], length}
-use Rattle.kif.specs.Tree.{Tree, no_trees}
-use Rattle.profile.specs.Words.{w_role, w_base, w_input, w_init, w_legal, w_goal, w_terminal}
-use Rattle.profile.specs.Limits.{most_items, most_variables, most_alternatives, most_roles}
-use Rattle.profile.specs.Clause.{Literal, Alternative, Relation, relation_of, atom_of}
-use Rattle.profile.specs.Dependence.{IsAmong, DependsDirectly, Depends, IsAcyclic, IsFixed}
-use Rattle.profile.specs.Items.{is_item, item_head, item_alternatives, body_trees, alternatives}
-use Rattle.profile.specs.Safety.{variables, variables_in, is_binding, count_different}
-use Rattle.profile.specs.Profile.{Use, uses, does_relation, roles}
+use Rattle.statement.specs.Tree.{Tree, no_trees}
+use Rattle.statement.specs.Words.{w_role, w_base, w_input, w_init, w_legal, w_goal, w_terminal}
+use Rattle.statement.specs.RuleLimits.{most_items, most_variables, most_alternatives, most_roles}
+use Rattle.statement.specs.Clause.{Literal, Alternative, Relation, relation_of, atom_of}
+use Rattle.statement.specs.Dependence.{IsAmong, DependsDirectly, Depends, IsAcyclic, IsFixed}
+use Rattle.statement.specs.Items.{is_item, item_head, item_alternatives, body_trees, alternatives}
+use Rattle.statement.specs.Safety.{variables, variables_in, is_binding, count_different}
+use Rattle.statement.specs.Profile.{Use, uses, does_relation, roles}
 
 -- where a word of the language is the relation's name, it has the word's number of arguments and may head an item
 abbrev pub MayHead : Relation → Type 0

@@ -1,14 +1,15 @@
+-- This crate's own: what `run` promises does not rest on it.
 -- What the list of relations, the ranks, the names and the roles have.
 use Rattle.std.specs.Prelude.{true, false, ◌≡◌, ◌≤◌, List, [], ◌∷◌, length}
 use Rattle.std.specs.declared.cmp.Ordering.TheVariants.{Less}
-use Rattle.kif.specs.Tree.{Tree}
-use Rattle.profile.specs.Clause.{Atom, Literal, Alternative, Relation, relation_of, atom_of}
-use Rattle.profile.specs.Dependence.{IsAmong}
-use Rattle.profile.specs.Limits.{most_roles}
-use Rattle.profile.specs.Items.{is_constant, is_connective, is_term, are_terms, alternatives}
-use Rattle.profile.specs.Order.{relation_cmp}
-use Rattle.profile.specs.Profile.{roles}
-use Rattle.profile.specs.Safety.{variables}
+use Rattle.statement.specs.Tree.{Tree}
+use Rattle.statement.specs.Clause.{Atom, Literal, Alternative, Relation, relation_of, atom_of}
+use Rattle.statement.specs.Dependence.{IsAmong}
+use Rattle.statement.specs.RuleLimits.{most_roles}
+use Rattle.statement.specs.Items.{is_constant, is_connective, is_term, are_terms, alternatives}
+use Rattle.statement.specs.Order.{relation_cmp}
+use Rattle.statement.specs.Profile.{roles}
+use Rattle.statement.specs.Safety.{variables}
 
 -- each relation stands before all that are behind it: fixed ones first, then by rank, by the bytes
 -- of the name, and by the number of arguments

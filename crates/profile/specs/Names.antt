@@ -1,7 +1,8 @@
+-- This crate's own: what `run` promises does not rest on it.
 -- Sets of names, as lists.
 use Rattle.std.specs.Prelude.{ℕ, List, ◌≡◌, ◌++◌, length, map}
 use Rattle.std.specs.Borrow.{Bor}
-use Rattle.profile.specs.Safety.{is_name_in, count_different}
+use Rattle.statement.specs.Safety.{is_name_in, count_different}
 
 -- the names that references of a list point to
 abbrev pub names_behind : List (Bor (List ℕ)) → List (List ℕ)

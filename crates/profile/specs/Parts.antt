@@ -1,7 +1,8 @@
+-- This crate's own: what `run` promises does not rest on it.
 -- The parts of a list.
 use Rattle.std.specs.Prelude.{ℕ, ◌≡◌, List, ◌∷◌, All, true}
-use Rattle.profile.specs.Items.{is_item}
-use Rattle.kif.specs.Tree.{Tree, name}
+use Rattle.statement.specs.Items.{is_item}
+use Rattle.statement.specs.Tree.{Tree, name}
 
 -- the list does not begin with a name
 abbrev pub HasNoWord : List Tree → Type 0

@@ -1,9 +1,10 @@
+-- This crate's own: what `run` promises does not rest on it.
 -- The literals that stand in a tree, each as often as it does, however they are joined by `or` and `and`.
 use Rattle.std.specs.Prelude.{cond, ◌||◌, List, [], ◌∷◌, ◌++◌}
-use Rattle.kif.specs.Tree.{Tree, name, list, Trees, no_trees, tree, name_eq}
-use Rattle.profile.specs.Words.{w_or, w_and, w_not}
-use Rattle.profile.specs.Clause.{Literal, positive}
-use Rattle.profile.specs.Items.{atom_in, negated}
+use Rattle.statement.specs.Tree.{Tree, name, list, Trees, no_trees, tree, name_eq}
+use Rattle.statement.specs.Words.{w_or, w_and, w_not}
+use Rattle.statement.specs.Clause.{Literal, positive}
+use Rattle.statement.specs.Items.{atom_in, negated}
 
 abbrev mutual
   pub literals_in : Tree → List Literal

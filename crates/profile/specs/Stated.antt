@@ -1,12 +1,13 @@
+-- This crate's own: what `run` promises does not rest on it.
 -- The roles that items at given places state, and which limit an item passes.
 use Rattle.std.specs.Prelude.{ℕ, suc, zero, All, ◌≡◌, ◌<◌, ◌≤◌, List, [], ◌∷◌, ◌++◌, length, nat_lt, cond, Some, None}
-use Rattle.kif.specs.Tree.{Tree}
-use Rattle.profile.specs.Limits.{most_roles}
-use Rattle.profile.specs.Profile.{roles_limit, too_many, first_too_many, limit_passed, role_in, with_new}
-use Rattle.profile.specs.declared.fault.Excess.{Excess}
-use Rattle.profile.specs.declared.fault.RuleFault.{RuleFault}
-use Rattle.profile.specs.declared.fault.RuleFault.TheVariants as errors
-use Rattle.profile.specs.Answer.{limit_of}
+use Rattle.statement.specs.Tree.{Tree}
+use Rattle.statement.specs.RuleLimits.{most_roles}
+use Rattle.statement.specs.Profile.{roles_limit, too_many, first_too_many, limit_passed, role_in, with_new}
+use Rattle.statement.specs.declared.rule_fault.RuleExcess.{RuleExcess as Excess}
+use Rattle.statement.specs.declared.rule_fault.RuleFault.{RuleFault}
+use Rattle.statement.specs.declared.rule_fault.RuleFault.TheVariants as errors
+use Rattle.statement.specs.RuleFaults.{limit_of}
 
 -- the role that the item at a place states, if there is such an item and it states one
 abbrev pub role_at : List Tree → ℕ → List Tree

@@ -1,8 +1,9 @@
+-- This crate's own: what `run` promises does not rest on it.
 -- The words of the language in memory, and the rows of the table that are theirs.
 use Rattle.std.specs.Prelude.{ℕ, ◌≡◌, ◌==◌, ◌&&◌, ◌||◌, not, Bool, false, slice_index_or, []}
-use Rattle.kif.specs.Tree.{name_eq}
-use Rattle.profile.specs.Clause.{Relation}
-use Rattle.profile.specs.Profile.{Use, use_of, uses}
+use Rattle.statement.specs.Tree.{name_eq}
+use Rattle.statement.specs.Clause.{Relation}
+use Rattle.statement.specs.Profile.{Use, use_of, uses}
 use Rattle.profile.specs.declared.words.Use as memory
 use Rattle.profile.specs.declared.words.Word.{Word}
 use Rattle.profile.specs.declared.words.Word.TheVariants as words

@@ -1,14 +1,14 @@
-// Which trees are terms, atoms, literals and items.
+//! Which trees are terms, atoms, literals and items.
 ghost use Rattle.std.specs.Prelude.{◌≡◌, ◌∷◌, ◌&&◌, not, MatchOption};
 ghost use Rattle.std.specs.List.{list_all};
-ghost use Rattle.kif.specs.Tree.{name, name_eq, tree, trees_of};
-ghost use Rattle.kif.specs.Lexical.{is_lower_name_byte};
+ghost use Rattle.statement.specs.Tree.{name, name_eq, tree, trees_of};
+ghost use Rattle.statement.specs.Lexical.{is_lower_name_byte};
 ghost use Rattle.kif.specs.View.{tree_of, trees_in};
-ghost use Rattle.profile.specs.Clause.{is_variable};
-ghost use Rattle.profile.specs.Items.{is_name, is_constant, is_connective, begins_compound, is_term, are_terms, is_atom, is_one_atom, is_literal};
-ghost use Rattle.profile.specs.Items.{are_literals, is_item, head_tree, body_trees};
+ghost use Rattle.statement.specs.Clause.{is_variable};
+ghost use Rattle.statement.specs.Items.{is_name, is_constant, is_connective, begins_compound, is_term, are_terms, is_atom, is_one_atom, is_literal};
+ghost use Rattle.statement.specs.Items.{are_literals, is_item, head_tree, body_trees};
 ghost use Rattle.profile.specs.First.{IsFirstFailing};
-ghost use Rattle.profile.specs.Profile.{bad_form};
+ghost use Rattle.statement.specs.Profile.{bad_form};
 ghost use Rattle.profile.specs.Connectives.{IsConnectiveOf};
 ghost use Rattle.profile.specs.Parts.{HasNoWord};
 

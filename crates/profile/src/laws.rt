@@ -1,15 +1,15 @@
-// The laws of the definitions.
+//! The laws of the definitions.
 ghost use Rattle.std.specs.Prelude.{◌≡◌, ◌<◌, ◌↔◌, Bool, List, Some, true};
-ghost use Rattle.kif.specs.Tree.{Tree};
-ghost use Rattle.profile.specs.Clause.{Alternative, Relation, relation_of};
-ghost use Rattle.profile.specs.Dependence.{Depends, DependsDirectly, IsAcyclic, IsAmong, IsFixed, has_edge, dependences, is_fixed};
-ghost use Rattle.profile.specs.Items.{alternatives};
+ghost use Rattle.statement.specs.Tree.{Tree};
+ghost use Rattle.statement.specs.Clause.{Alternative, Relation, relation_of};
+ghost use Rattle.statement.specs.Dependence.{Depends, DependsDirectly, IsAcyclic, IsAmong, IsFixed, has_edge, dependences, is_fixed};
+ghost use Rattle.statement.specs.Items.{alternatives};
 ghost use Rattle.profile.specs.Lawful.{IsLawful};
 ghost use Rattle.profile.specs.Listed.{HasLawfulNames, IsOrderOfHeads};
-ghost use Rattle.profile.specs.Order.{rank, rank_by, relations_in_order};
-ghost use Rattle.profile.specs.Safety.{is_safe};
+ghost use Rattle.statement.specs.Order.{rank, rank_by, relations_in_order};
+ghost use Rattle.statement.specs.Safety.{is_safe};
 ghost use Rattle.profile.specs.Faults.{HasFault};
-ghost use Rattle.profile.specs.Profile.{Fault, HasNoFault, fault_in};
+ghost use Rattle.statement.specs.Profile.{ItemFault, HasNoFault, item_fault_in};
 
 /// What rests on something that rests on a third rests on that third.
 pub fn dependence_is_transitive()
@@ -55,7 +55,7 @@ pub fn lawful_items_have_no_fault()
 /// The fault of a list of items is the one that its definition names: the first item that has it,
 /// where no item has an earlier kind of fault.
 pub fn the_fault_is_the_first()
-    ensures { (items : List Tree) (f : Fault) → (fault_in items ≡ Some f) ↔ HasFault items f }
+    ensures { (items : List Tree) (f : ItemFault) → (item_fault_in items ≡ Some f) ↔ HasFault items f }
 {}
 
 /// The list of relations rises strictly by place, rank, name and number of arguments, and has each

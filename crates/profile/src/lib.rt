@@ -1,7 +1,6 @@
-// The language of descriptions: what its items, words and limits are, what each description is refused for, and the laws.
+//! The language of descriptions: what its items, words and limits are, what each description is refused for, and the laws.
 #![tactic(auto)]
 
-mod fault;
 mod first;
 mod forms;
 mod laws;
@@ -11,7 +10,6 @@ mod roles;
 mod variables;
 mod words;
 
-pub use fault::{Excess, RuleFault};
 pub use first::first_tests;
 pub use forms::{Connective, connective_of, is_variable_name, split_item, split_word};
 pub use laws::{
@@ -21,4 +19,5 @@ pub use laws::{
 };
 pub use limits::{ALTERNATIVES_LIMIT, ITEMS_LIMIT, ROLES_LIMIT, VARIABLES_LIMIT};
 pub use roles::role_of;
+pub use statement::{RuleExcess, RuleFault};
 pub use words::Word;

@@ -1,9 +1,9 @@
-// How much a description may have: the limits, and how the alternatives of an item are counted.
+//! How much a description may have: the limits, and how the alternatives of an item are counted.
 ghost use Rattle.std.specs.Prelude.{◌≡◌, ◌+◌, min, length, nat_lt};
-ghost use Rattle.kif.specs.Tree.{trees_of};
+ghost use Rattle.statement.specs.Tree.{trees_of};
 ghost use Rattle.kif.specs.View.{tree_of, trees_in};
-ghost use Rattle.profile.specs.Limits.{most_alternatives};
-ghost use Rattle.profile.specs.Items.{readings, readings_in_turn, readings_of_all, item_alternatives};
+ghost use Rattle.statement.specs.RuleLimits.{most_alternatives};
+ghost use Rattle.statement.specs.Items.{readings, readings_in_turn, readings_of_all, item_alternatives};
 
 use crate::forms::{Connective, connective_of, split_item, split_word};
 use kif::Expr;

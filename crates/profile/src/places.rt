@@ -1,17 +1,17 @@
-// Where the words of the language may stand, and with how many arguments.
+//! Where the words of the language may stand, and with how many arguments.
 ghost use Rattle.std.specs.Prelude.{◌≡◌, ◌&&◌, ◌||◌, ◌==◌, not, true};
 ghost use Rattle.std.specs.List.{list_all};
-ghost use Rattle.kif.specs.Tree.{name_eq, trees_of};
+ghost use Rattle.statement.specs.Tree.{name_eq, trees_of};
 ghost use Rattle.kif.specs.View.{tree_of, trees_in};
 ghost use Rattle.profile.specs.First.{IsFirstFailing};
-ghost use Rattle.profile.specs.Clause.{atom_of, relation_of};
-ghost use Rattle.profile.specs.Items.{atom_in, is_item, negated};
+ghost use Rattle.statement.specs.Clause.{atom_of, relation_of};
+ghost use Rattle.statement.specs.Items.{atom_in, is_item, negated};
 ghost use Rattle.profile.specs.Parts.{AreItems};
-ghost use Rattle.profile.specs.Profile.{bad_keyword, heads_well, stands_well, body_stands_well, uses, is_empty, misuses_word};
-ghost use Rattle.profile.specs.Safety.{variables, variables_in};
+ghost use Rattle.statement.specs.Profile.{bad_keyword, heads_well, stands_well, body_stands_well, uses, is_empty, misuses_word};
+ghost use Rattle.statement.specs.Safety.{variables, variables_in};
 ghost use Rattle.profile.specs.Standing.{literals_in, literals_of_all};
 ghost use Rattle.profile.specs.Uses.{keeps_body, keeps_head};
-ghost use Rattle.profile.specs.Words.{w_role};
+ghost use Rattle.statement.specs.Words.{w_role};
 
 use crate::forms::{
     Connective, connective_of, is_same_name, is_variable_name, split_item, split_word,

@@ -1,19 +1,19 @@
-// The roles that items state, and the limits of items and roles.
+//! The roles that items state, and the limits of items and roles.
 ghost use Rattle.std.specs.Prelude.{◌≡◌, ◌<◌, ◌+◌, [], ◌∷◌, All, length, MatchOption, OnOk, IfOk, IfErr, None};
-ghost use Rattle.kif.specs.Tree.{tree_eq, trees_eq, trees_of};
+ghost use Rattle.statement.specs.Tree.{tree_eq, trees_eq, trees_of};
 ghost use Rattle.kif.specs.View.{tree_of, trees_in};
 ghost use Rattle.std.specs.Bool.{OnTrue, OnFalse};
-ghost use Rattle.profile.specs.Limits.{most_roles};
-ghost use Rattle.profile.specs.Profile.{first_too_many, is_tree_in, role_in, roles, with_new};
+ghost use Rattle.statement.specs.RuleLimits.{most_roles};
+ghost use Rattle.statement.specs.Profile.{first_too_many, is_tree_in, role_in, roles, with_new};
 ghost use Rattle.profile.specs.Stated.{AddsRole, AreRolePlaces, IsSurplus, role_at, roles_at, HasExcess, HasRoleLimitAlone};
 
-use crate::fault::{Excess, RuleFault};
 use crate::forms::{is_same_name, split_item, split_word};
 use crate::limits::{ITEMS_LIMIT, ROLES_LIMIT, has_many_alternatives};
 use crate::variables::has_many_variables;
 use crate::words::Word;
 use arrayvec::ArrayVec;
 use kif::Expr;
+use statement::{RuleExcess, RuleFault};
 use std::alloc::Allocator;
 
 /// Whether two trees are the same.
@@ -90,15 +90,15 @@ fn is_stated<A: Allocator>(role: &Expr<A>, items: &[Expr<A>], places: &[usize]) 
 }
 
 /// Of what the item at this place has too much, roles aside. Places are numbered from 0.
-fn excess_of<A: Allocator>(place: usize, item: &Expr<A>) -> Option<Excess>
+fn excess_of<A: Allocator>(place: usize, item: &Expr<A>) -> Option<RuleExcess>
     ensures { MatchOption result (HasRoleLimitAlone (place + 1) (tree_of item.now)) (λ excess. HasExcess (place + 1) (tree_of item.now) excess) }
 {
     if place == ITEMS_LIMIT {
-        Some(Excess::Rules)
+        Some(RuleExcess::Rules)
     } else if has_many_variables(item) {
-        Some(Excess::Variables)
+        Some(RuleExcess::Variables)
     } else if has_many_alternatives(item) {
-        Some(Excess::Alternatives)
+        Some(RuleExcess::Alternatives)
     } else {
         None
     }
@@ -145,7 +145,7 @@ pub(crate) fn roles_within_limits<A: Allocator>(
             return Err(RuleFault::TooMany(index + 1, excess));
         }
         if !add_role(index, items, &mut places) {
-            return Err(RuleFault::TooMany(index + 1, Excess::Roles));
+            return Err(RuleFault::TooMany(index + 1, RuleExcess::Roles));
         }
     }
     Ok(places)

@@ -1,11 +1,11 @@
-// The different variables of an item.
+//! The different variables of an item.
 ghost use Rattle.std.specs.Prelude.{◌≡◌, ◌<◌, ◌≤◌, ◌++◌, length, nat_lt};
 ghost use Rattle.std.specs.Bool.{OnTrue, OnFalse};
-ghost use Rattle.kif.specs.Tree.{name, trees_of};
+ghost use Rattle.statement.specs.Tree.{name, trees_of};
 ghost use Rattle.kif.specs.View.{tree_of, trees_in};
-ghost use Rattle.profile.specs.Limits.{most_variables};
+ghost use Rattle.statement.specs.RuleLimits.{most_variables};
 ghost use Rattle.profile.specs.Names.{names_behind, AreDifferent, Gathers};
-ghost use Rattle.profile.specs.Safety.{is_name_in, variables, variables_in, count_different};
+ghost use Rattle.statement.specs.Safety.{is_name_in, variables, variables_in, count_different};
 
 use crate::forms::{is_same_name, is_variable_name};
 use crate::limits::VARIABLES_LIMIT;

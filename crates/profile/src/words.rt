@@ -1,6 +1,6 @@
-// The words that the language gives a meaning in play: their names, numbers of arguments and places.
+//! The words that the language gives a meaning in play: their names, numbers of arguments and places.
 ghost use Rattle.std.specs.Prelude.{◌≡◌};
-ghost use Rattle.kif.specs.Tree.{name_eq};
+ghost use Rattle.statement.specs.Tree.{name_eq};
 ghost use Rattle.profile.specs.Uses.{IsUseOf, use_in};
 
 use crate::forms::is_same_name;

@@ -37,15 +37,15 @@ use Rattle.std.proofs.lemmas.Bool.{cases_eq}
 use Rattle.std.proofs.lemmas.List.{length-map}
 use Rattle.std.proofs.lemmas.List.Sums.{sum_by-cons}
 use Rattle.std.proofs.lemmas.List.FromFn.{length-range_with_len}
-use Rattle.meaning.specs.declared.kind.Kind.{Kind}
+use Rattle.statement.specs.declared.kind.Kind.{Kind}
 use Rattle.ground.specs.declared.flat_ground.FlatGround.{FlatGround}
-use Rattle.ground.specs.Grounds.{Kept}
+use Rattle.statement.specs.Kept.{Kept}
 use Rattle.ground.specs.Fits.{count_all}
-use Rattle.meaning.specs.Most.{limits}
+use Rattle.statement.specs.Most.{limits}
 use Rattle.ground.specs.GroundView.{base_of, inputs_of, kinds_of, instances_of}
-use Rattle.propnet.specs.declared.node.Name.{Name}
-use Rattle.propnet.specs.declared.node.Name.TheVariants.{Base, Input, Not, And, View, Transition}
-use Rattle.propnet.specs.Names.{has_gate, gates_from, gates_of, has_view, is_negated, atom_names, base_names, role_names, input_names, node_names}
+use Rattle.statement.specs.declared.node_name.Name.{Name}
+use Rattle.statement.specs.declared.node_name.Name.TheVariants.{Base, Input, Not, And, View, Transition}
+use Rattle.statement.specs.Nodes.{has_gate, gates_from, gates_of, has_view, is_negated, atom_names, base_names, role_names, input_names, node_names}
 use Rattle.propnet.specs.Builders.{input_counts, names_below}
 use Rattle.propnet.proofs.GroundFacts.{fits}
 

@@ -36,13 +36,13 @@ use Rattle.std.proofs.lemmas.Bool.{cases_lt}
 use Rattle.std.proofs.lemmas.List.{take-take}
 use Rattle.std.proofs.lemmas.List.Sums.{sum_by-cons, sum_by-take-le, sum_by_more}
 use Rattle.smallvec.specs.SmallVec.{SmallVec}
-use Rattle.meaning.specs.declared.kind.Kind.{Kind}
-use Rattle.ground.specs.Grounds.{Kept}
-use Rattle.propnet.specs.declared.node.Name.{Name}
-use Rattle.propnet.specs.declared.node.Name.TheVariants.{Base, Input, Not, And, View, Transition}
+use Rattle.statement.specs.declared.kind.Kind.{Kind}
+use Rattle.statement.specs.Kept.{Kept}
+use Rattle.statement.specs.declared.node_name.Name.{Name}
+use Rattle.statement.specs.declared.node_name.Name.TheVariants.{Base, Input, Not, And, View, Transition}
 use Rattle.propnet.specs.Values.{lane}
 use Rattle.propnet.specs.Network.{Gate, given}
-use Rattle.propnet.specs.Names.{has_view, is_negated, gates_of, atom_names, base_names, role_names, input_names, node_names}
+use Rattle.statement.specs.Nodes.{has_view, is_negated, gates_of, atom_names, base_names, role_names, input_names, node_names}
 use Rattle.game.specs.Joints.{joint_at}
 use Rattle.propnet.specs.Building.{names_of, Stands}
 use Rattle.propnet.specs.Placing.{input_number, ArePlaced}

@@ -1,8 +1,9 @@
+-- This crate's own: what `run` promises does not rest on it.
 -- The words of the inputs for many joint moves.
 use Rattle.std.specs.Prelude.{ℕ, List, length, ◌≡◌, ◌<◌, ⊤, slice_index}
 use Rattle.smallvec.specs.SmallVec.{SmallVec}
-use Rattle.propnet.specs.declared.node.Name.{Name}
-use Rattle.propnet.specs.declared.node.Name.TheVariants.{Base, Input, Not, And, View, Transition}
+use Rattle.statement.specs.declared.node_name.Name.{Name}
+use Rattle.statement.specs.declared.node_name.Name.TheVariants.{Base, Input, Not, And, View, Transition}
 use Rattle.propnet.specs.Values.{lane}
 use Rattle.propnet.specs.Network.{given}
 use Rattle.game.specs.Joints.{joint_at}

@@ -1,11 +1,21 @@
+-- This crate's own: what `run` promises does not rest on it.
 -- The name of a node as one number: eight times the number in it, and below that a tag of its kind. An input has the number of its
 -- role times 1,048,576, and its own below it.
 use Rattle.std.specs.Prelude.{ℕ, zero, suc, ◌≡◌, ◌<◌, ◌+◌, ◌*◌, ◌/◌, ◌%◌, refl}
 use Rattle.std.proofs.Common.{ap, sym, ◌∙◌}
 use Rattle.std.proofs.lemmas.Nat.{div-add-mod'}
 use Rattle.std.proofs.Math.Nat.{add-zero, le_of_suc-le-suc, not-suc-le-zero}
-use Rattle.propnet.specs.declared.node.Name.{Name}
-use Rattle.propnet.specs.declared.node.Name.TheVariants.{Base, Input, Not, And, View, Transition}
+use Rattle.statement.specs.declared.node_name.Name.{Name}
+use Rattle.statement.specs.declared.node_name.Name.TheVariants.{Base, Input, Not, And, View, Transition}
+
+-- what labels hold: numbers below 536,870,912, and inputs of numbers below 1,048,576 of roles below 512
+abbrev pub IsLabelled : Name → Type 0
+IsLabelled (Base p) = p < 536870912
+IsLabelled (Input r m) = (r < 512) × (m < 1048576)
+IsLabelled (Not a) = a < 536870912
+IsLabelled (And i) = i < 536870912
+IsLabelled (View a) = a < 536870912
+IsLabelled (Transition p) = p < 536870912
 
 abbrev pub name_by_tag : ℕ → ℕ → Name
 name_by_tag zero number = Base number

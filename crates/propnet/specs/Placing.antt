@@ -1,6 +1,7 @@
+-- This crate's own: what `run` promises does not rest on it.
 -- Where the inputs stand.
 use Rattle.std.specs.Prelude.{ℕ, List, length, take, sum, ◌≡◌, ◌+◌, ◌<◌, ◌≤◌, slice_index}
-use Rattle.propnet.specs.declared.node.Name.TheVariants.{Input}
+use Rattle.statement.specs.declared.node_name.Name.TheVariants.{Input}
 use Rattle.propnet.specs.Network.{Gate}
 use Rattle.propnet.specs.Building.{Stands}
 

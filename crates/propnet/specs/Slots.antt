@@ -1,3 +1,4 @@
+-- This crate's own: what `run` promises does not rest on it.
 -- A number, or none, as one number: one more than it, and 0 where there is none.
 use Rattle.std.specs.Prelude.{ℕ, zero, suc, Option, None, Some, ◌≡◌, refl}
 

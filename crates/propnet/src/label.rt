@@ -1,17 +1,13 @@
 //! What a node stands for, in four bytes.
-ghost use Rattle.std.specs.Prelude.{◌≡◌, ◌<◌, IfOk};
-ghost use Rattle.propnet.specs.declared.node.Name.TheVariants.{Input};
-ghost use Rattle.propnet.specs.Labels.{name_by_tag};
+//!
+//! Three bits tell the kind, and 29 the number; those of an input hold 512 roles with 1,048,576 inputs each. No clause sees the
+//! code.
+ghost use Rattle.std.specs.Prelude.{◌≡◌, ◌<◌};
+ghost use Rattle.statement.specs.declared.node_name.Name.TheVariants.{Input};
+ghost use Rattle.propnet.specs.Labels.{name_by_tag, IsLabelled};
 
-use crate::node::Name;
-use std::alloc::AllocError;
+use statement::Name;
 use std::marker::Model;
-
-/// How many numbers of each kind labels hold.
-const NUMBERS: u32 = 536_870_912;
-
-/// How many roles labels hold.
-const ROLES: u32 = 512;
 
 /// How many inputs of each role labels hold.
 const INPUTS: u32 = 1_048_576;
@@ -26,7 +22,7 @@ pub struct Label {
 impl Model for Label {
     ghost use Rattle.std.specs.Prelude.{◌<◌, ◌%◌};
     ghost use Rattle.std.proofs.Common.{ap};
-    ghost use Rattle.propnet.specs.declared.node.Name.{Name};
+    ghost use Rattle.statement.specs.declared.node_name.Name.{Name};
     ghost use Rattle.propnet.specs.Labels.{name_of_code, code_of_name, code_of_name-back};
 
     ghost Value = { Name };
@@ -41,33 +37,31 @@ impl Model for Label {
 }
 
 impl Label {
-    /// A label of a number, by the tag of its kind. A number that no label holds is refused as want of memory is.
-    fn tagged(number: u32, tag: u32) -> Result<Label, AllocError>
-        requires { tag < 6 }
-        ensures { IfOk result (λ label. label ≡ name_by_tag tag number) }
+    /// A label of a number, by the tag of its kind.
+    fn tagged(number: u32, tag: u32) -> Label
+        requires tag { tag < 6 }
+        requires number { number < 536870912 }
+        ensures { result ≡ name_by_tag tag number }
     {
-        if number >= NUMBERS {
-            return Err(AllocError);
-        }
-        Ok(Label {
+        Label {
             code: number * 8 + tag,
-        })
+        }
     }
 
     /// A label of an input of a role.
-    fn input(role: u32, input: u32) -> Result<Label, AllocError>
-        ensures { IfOk result (λ label. label ≡ Input role input) }
+    fn input(role: u32, input: u32) -> Label
+        requires role { role < 512 }
+        requires input { input < 1048576 }
+        ensures { result ≡ Input role input }
     {
-        if role >= ROLES || input >= INPUTS {
-            return Err(AllocError);
-        }
         Label::tagged(role * INPUTS + input, 1)
     }
 
-    /// A label of a name. What no label holds is refused as want of memory is: the limits of an instantiation keep its roles, inputs,
-    /// base propositions and kept instances far below that, and so many atoms would need more memory than there is.
-    pub fn of(name: Name) -> Result<Label, AllocError>
-        ensures { IfOk result (λ label. label ≡ name) }
+    /// A label of a name that one holds. The limits of an instantiation keep its roles, inputs, base propositions, atoms and kept
+    /// instances far below what none holds.
+    pub fn of(name: Name) -> Label
+        requires { IsLabelled name }
+        ensures { result ≡ name }
     {
         match name {
             Name::Base(p) => Label::tagged(p, 0),

@@ -25,14 +25,12 @@ mod tests;
 mod wide;
 mod words;
 
-pub use bits::{get_bit, put_bit};
+pub use bits::get_bit;
 pub use fault::NetFault;
 pub use game::Joint;
 pub use label::Label;
-pub use laws::{
-    each_name_is_one_node, factoring_keeps_values, sharing_keeps_values,
-    values_solve_the_equations, views_say_what_holds,
-};
+pub use laws::{each_name_is_one_node, values_solve_the_equations, views_say_what_holds};
 pub use net::Net;
-pub use node::{Name, Node};
+pub use node::Node;
 pub use nodes::Nodes;
+pub use statement::Name;

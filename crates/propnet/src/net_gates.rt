@@ -9,7 +9,7 @@ use crate::Joint;
 use crate::eval::reads;
 use crate::inputs::write_inputs;
 use crate::net::Net;
-use crate::node::Name;
+use statement::Name;
 
 impl Net {
     /// Where what a node reads begins among the operands.

@@ -1,4 +1,6 @@
 //! The number of a node, or none.
+//!
+//! It is one more than the number, and 0 for none, which no clause sees.
 ghost use Rattle.std.specs.Prelude.{◌≡◌, ◌+◌, ◌<◌, ◌^◌, None, Some};
 
 use std::marker::Model;

@@ -1,20 +1,20 @@
 -- The lines that count what a description has.
 use Rattle.std.proofs.Common.{ℕ, ◌≡◌, inr, List, [], ◌∷◌, ◌++◌, length, map, codes, sym, ◌∙◌, ap}
 use Rattle.std.proofs.lemmas.List.{length-map}
-use Rattle.kif.specs.Tree.{Tree, text}
-use Rattle.profile.specs.Clause as said
+use Rattle.statement.specs.Tree.{Tree, text}
+use Rattle.statement.specs.Clause as said
 use Rattle.rules.specs.Drafts.{Numbered, numbered, alternative_of}
-use Rattle.profile.specs.Items.{alternatives}
-use Rattle.profile.specs.Order.{relations_in_order}
-use Rattle.profile.specs.Profile.{HasNoFault, roles}
+use Rattle.statement.specs.Items.{alternatives}
+use Rattle.statement.specs.Order.{relations_in_order}
+use Rattle.statement.specs.Profile.{HasNoFault, roles}
 use Rattle.rules.specs.RuleSets.{IsSound, rules_of}
 use Rattle.clauses.specs.Store.{Data, relation_at}
 use Rattle.clauses.specs.declared.numbered.Alternative.{Alternative}
 use Rattle.rules.specs.declared.rule_set.Keywords.{Keywords}
 use Rattle.std.specs.Prelude.{Bool}
-use Rattle.replies.specs.declared.status.Status.{Status}
-use Rattle.replies.specs.declared.status.Status.TheVariants.{Answer}
-use Rattle.replies.specs.Checking.{count_line, spaced, check_lines, IsCheckReply}
+use Rattle.statement.specs.declared.status.Status.{Status}
+use Rattle.statement.specs.declared.status.Status.TheVariants.{Answer}
+use Rattle.statement.specs.Checking.{count_line, spaced, check_lines, IsCheckReply}
 
 -- as many alternatives as stand in memory
 pub as_many_alternatives : (d : Data) (xs alternatives : List Alternative) → xs ≡ alternatives

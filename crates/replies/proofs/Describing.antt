@@ -1,32 +1,33 @@
 -- The game of a description, and the limit that it passes.
 use Rattle.std.proofs.Common.{◌≡◌, ◌≢◌, ℕ, inr, List, refl, sym, ◌∙◌, ap, subst}
 use Rattle.std.specs.Prelude.{Result, Ok, Err, IfOk}
-use Rattle.kif.specs.Tree.{Tree}
-use Rattle.kif.specs.Refusal.{refusal_line}
-use Rattle.profile.specs.Clause.{Alternative}
-use Rattle.profile.specs.Items.{alternatives}
-use Rattle.profile.specs.Profile.{HasNoFault}
-use Rattle.listing.specs.declared.fault.GroundFault.{GroundFault}
-use Rattle.listing.specs.declared.fault.GroundFault.TheVariants.{TooMany, NoMemory}
+use Rattle.statement.specs.Tree.{Tree}
+use Rattle.statement.specs.TextFaults.{refusal_line}
+use Rattle.statement.specs.Clause.{Alternative}
+use Rattle.statement.specs.Items.{alternatives}
+use Rattle.statement.specs.Profile.{HasNoFault}
+use Rattle.statement.specs.declared.ground_fault.GroundFault.{GroundFault}
+use Rattle.statement.specs.declared.ground_fault.GroundFault.TheVariants.{TooMany, NoMemory}
 use Rattle.ground.specs.declared.flat_ground.FlatGround.{FlatGround}
 use Rattle.ground.specs.GroundView.{IsGround}
-use Rattle.meaning.specs.Limits.{excess_in}
+use Rattle.statement.specs.Limits.{excess_in}
 use Rattle.listing.specs.Progress.{IsFaultOf}
-use Rattle.listing.specs.Refusal.{fault_text}
+use Rattle.statement.specs.LimitTexts.{limit_fault_words}
 use Rattle.netgame.specs.declared.net_game.NetGame.{NetGame}
 use Rattle.rulegame.specs.declared.rule_game.RuleGame.{RuleGame}
-use Rattle.game.specs.NamedRules.{NamedRules}
+use Rattle.statement.specs.NamedRules.{NamedRules}
 use Rattle.rulegame.specs.RuleState.{named_rules_of}
 use Rattle.rulegame.proofs.Facts.{game_of_ground}
-use Rattle.replies.specs.declared.status.Status.{Status}
-use Rattle.replies.specs.declared.status.Status.TheVariants.{Refused}
+use Rattle.statement.specs.declared.status.Status.{Status}
+use Rattle.statement.specs.declared.status.Status.TheVariants.{Refused}
 use Rattle.replies.specs.declared.games.Described.{Described}
 use Rattle.replies.specs.declared.games.Described.TheVariants.{Network, Rules, Refusal}
 use Rattle.replies.specs.declared.grounding.Instantiated.{Instantiated}
 use Rattle.replies.specs.declared.grounding.Instantiated.TheVariants.{Fits}
 use Rattle.replies.specs.declared.reply.Reply as shown
-use Rattle.replies.specs.Answers.{Reply, refusal}
-use Rattle.replies.specs.Games.{HasNoGame, IsItsGame, IsItsGround, IsInstantiated, Plays, IsDescribed, IsPlayReply}
+use Rattle.statement.specs.Answers.{Reply, refusal}
+use Rattle.statement.specs.Games.{HasNoGame, IsItsGame, IsPlayReply}
+use Rattle.replies.specs.Games.{IsItsGround, IsInstantiated, Plays, IsDescribed}
 
 -- the ground that was made is that of the items
 pub its_ground : (items : List Tree) (rules : List Alternative) (g : FlatGround) → HasNoFault items → rules ≡ alternatives items
@@ -54,9 +55,9 @@ plays_its_game items g i (Err e) is same h = tt
 -- a fault of the instantiation names the limit that the items pass
 pub passes_limit : (items : List Tree) (rules : List Alternative) (fault : GroundFault) (output : List ℕ) (status : Status)
     → HasNoFault items → rules ≡ alternatives items → IsFaultOf (excess_in rules) fault → fault ≢ NoMemory
-    → output ≡ refusal_line (fault_text fault) → status ≡ Refused → HasNoGame items (record { output = output; status = status })
+    → output ≡ refusal_line (limit_fault_words fault) → status ≡ Refused → HasNoGame items (record { output = output; status = status })
 passes_limit items rules (TooMany excess) output status lawful are passed other line is_status =
-    let same : record { output = output; status = status } ≡ refusal (fault_text (TooMany excess)) = cc (line, is_status) in
+    let same : record { output = output; status = status } ≡ refusal (limit_fault_words (TooMany excess)) = cc (line, is_status) in
     inr (lawful, excess, sym (ap excess_in are) ∙ passed, same)
 passes_limit items rules NoMemory output status lawful are passed other line is_status = absurd (other refl)
 

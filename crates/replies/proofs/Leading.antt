@@ -1,15 +1,15 @@
 -- What turns that were read lead to is what their text leads to.
 use Rattle.std.proofs.Common.{ℕ, ◌≡◌, ◌≢◌, List, inr, sym, ap, ◌∙◌}
 use Rattle.std.specs.Prelude.{Result, Ok, Err, IfOk, IfErr}
-use Rattle.kif.specs.Tree.{Tree, trees_of}
-use Rattle.kif.specs.Reading.{Reads}
+use Rattle.statement.specs.Tree.{Tree, trees_of}
+use Rattle.statement.specs.Reading.{Reads}
 use Rattle.kif.proofs.Facts.{list_of-trees_of}
-use Rattle.game.specs.NamedRules.{NamedRules}
-use Rattle.game.specs.Played.{played}
-use Rattle.game.specs.Rules.{State}
-use Rattle.game.specs.declared.fault.HistoryFault.{HistoryFault}
-use Rattle.game.specs.declared.fault.HistoryFault.TheVariants.{NoMemory}
-use Rattle.replies.specs.Histories.{IsHistoryOf}
+use Rattle.statement.specs.NamedRules.{NamedRules}
+use Rattle.statement.specs.Played.{played}
+use Rattle.statement.specs.Rules.{State}
+use Rattle.statement.specs.declared.history_fault.HistoryFault.{HistoryFault}
+use Rattle.statement.specs.declared.history_fault.HistoryFault.TheVariants.{NoMemory}
+use Rattle.statement.specs.Histories.{IsHistoryOf}
 
 -- the turns may be spelled as trees of values or as trees of a text
 turns_lead : (g : NamedRules) (bytes : List ℕ) (turns : List Tree) (result : Result State HistoryFault)

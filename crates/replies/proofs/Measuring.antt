@@ -1,30 +1,31 @@
 -- How large an instantiation and its network are.
 use Rattle.std.proofs.Common.{ℕ, zero, suc, ◌≡◌, ◌+◌, ◌≤◌, ◌<◌, ◌^◌, inr, List, [], ◌∷◌, length, map, take, refl, sym, ◌∙◌, ap, arith}
 use Rattle.std.proofs.lemmas.List.{length-map, take_all}
-use Rattle.kif.specs.Tree.{Tree, text}
-use Rattle.profile.specs.Clause.{Alternative}
-use Rattle.profile.specs.Items.{alternatives}
+use Rattle.statement.specs.Tree.{Tree, text}
+use Rattle.statement.specs.Clause.{Alternative}
+use Rattle.statement.specs.Items.{alternatives}
 use Rattle.ground.specs.declared.flat_ground.FlatGround.{FlatGround}
-use Rattle.meaning.specs.declared.kind.Kind.{Kind}
+use Rattle.statement.specs.declared.kind.Kind.{Kind}
 use Rattle.ground.specs.Fits.{count_all}
-use Rattle.ground.specs.Grounds.{Kept, texts_at, numbered}
+use Rattle.statement.specs.Kept.{Kept, numbered}
+use Rattle.ground.specs.Grounds.{texts_at}
 use Rattle.ground.specs.GroundView.{IsGround, roles_of, base_of, inputs_of, kinds_of, instances_of}
-use Rattle.meaning.specs.Kinds.{kind_of}
-use Rattle.meaning.specs.Limits.{count_inputs}
-use Rattle.meaning.specs.Most.{limits}
-use Rattle.meaning.specs.Listing.{listing, role_list, base_list, input_list}
-use Rattle.meaning.specs.Play.{dropped}
+use Rattle.statement.specs.Kinds.{kind_of}
+use Rattle.statement.specs.Limits.{count_inputs}
+use Rattle.statement.specs.Most.{limits}
+use Rattle.statement.specs.Listing.{listing, role_list, base_list, input_list}
+use Rattle.statement.specs.GoalsAndMoves.{dropped}
 use Rattle.rulegame.specs.GroundFacts.{fits}
 use Rattle.propnet.specs.declared.net.Net.{Net}
-use Rattle.propnet.specs.declared.node.Name.{Name}
+use Rattle.statement.specs.declared.node_name.Name.{Name}
 use Rattle.propnet.specs.Builders.{IsNetOf, input_counts}
-use Rattle.propnet.specs.Names.{node_names}
+use Rattle.statement.specs.Nodes.{node_names}
 use Rattle.propnet.specs.Network.{Gate}
 use Rattle.propnet.specs.Nets.{gates_of}
-use Rattle.replies.specs.declared.status.Status.{Status}
-use Rattle.replies.specs.declared.status.Status.TheVariants.{Answer}
+use Rattle.statement.specs.declared.status.Status.{Status}
+use Rattle.statement.specs.declared.status.Status.TheVariants.{Answer}
 use Rattle.replies.specs.Games.{IsItsGround}
-use Rattle.replies.specs.Networks.{nodes_of, net_lines, measures, IsNetReply}
+use Rattle.statement.specs.Networks.{nodes_of, net_lines, measures, IsNetReply}
 
 -- one more role
 pub count_more : (lists : List (List (List ℕ))) (r : ℕ) → r < length lists

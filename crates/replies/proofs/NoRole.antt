@@ -1,17 +1,17 @@
 -- A text that names no role is refused, and one that names a role asks for its search.
 use Rattle.std.proofs.Common.{ℕ, ◌≡◌, inl, inr, List, Some, None, codes}
 use Rattle.std.specs.Prelude.{Result, Ok, Err, IfOk}
-use Rattle.kif.specs.Refusal.{refusal_line}
-use Rattle.game.specs.declared.at_bound.AtBound.{AtBound}
-use Rattle.game.specs.declared.fault.HistoryFault.{HistoryFault}
-use Rattle.game.specs.NamedRules.{NamedRules}
-use Rattle.game.specs.Rules.{State}
-use Rattle.replies.specs.declared.status.Status.TheVariants.{Refused}
+use Rattle.statement.specs.TextFaults.{refusal_line}
+use Rattle.statement.specs.declared.at_bound.AtBound.{AtBound}
+use Rattle.statement.specs.declared.history_fault.HistoryFault.{HistoryFault}
+use Rattle.statement.specs.NamedRules.{NamedRules}
+use Rattle.statement.specs.Rules.{State}
+use Rattle.statement.specs.declared.status.Status.TheVariants.{Refused}
 use Rattle.replies.specs.declared.reply.Reply as shown
-use Rattle.replies.specs.Answers.{Reply, refusal}
-use Rattle.replies.specs.Histories.{IsHistoryOf}
-use Rattle.replies.specs.Moving.{history_reply}
-use Rattle.replies.specs.Solving.{IsRoleNamed, IsSolveReply, solve_lines}
+use Rattle.statement.specs.Answers.{Reply, refusal}
+use Rattle.statement.specs.Histories.{IsHistoryOf}
+use Rattle.statement.specs.Moving.{history_reply}
+use Rattle.statement.specs.Solving.{IsRoleNamed, IsSolveReply, solve_lines}
 
 pub no_role : {E : Type 0} (g : NamedRules) (role : List ℕ) (depth : ℕ) (at : AtBound) (after : List ℕ) (r : Result shown.Reply E)
     → IsRoleNamed g role None

@@ -1,19 +1,19 @@
 -- Each list of items has one reply of `check`.
 use Rattle.std.proofs.Common.{ℕ, ◌≡◌, ◌≢◌, ◌⊎◌, inl, inr, List, length, map, refl, sym, ◌∙◌, ap}
 use Rattle.std.specs.Prelude.{Option, Some, None}
-use Rattle.kif.specs.Tree.{Tree, text}
-use Rattle.profile.specs.Answer as rules
-use Rattle.profile.specs.Items.{alternatives}
-use Rattle.profile.specs.Order.{relations_in_order}
-use Rattle.profile.specs.Profile.{Fault, Limit, rules_limit, variables_limit, alternatives_limit, roles_limit, bad_form}
-use Rattle.profile.specs.Profile.{bad_keyword, too_many, not_safe, recursive, bad_dependence, no_role, fault_in, HasNoFault, roles}
-use Rattle.profile.specs.Refusal.{fault_text}
-use Rattle.profile.specs.declared.fault.Excess.{Excess}
-use Rattle.profile.specs.declared.fault.Excess.TheVariants as excesses
-use Rattle.profile.specs.declared.fault.RuleFault.{RuleFault}
-use Rattle.profile.specs.declared.fault.RuleFault.TheVariants as faults
-use Rattle.replies.specs.Answers.{Reply, answer, refusal}
-use Rattle.replies.specs.Checking.{check_lines, RefusesItems, IsCheckReply}
+use Rattle.statement.specs.Tree.{Tree, text}
+use Rattle.statement.specs.RuleFaults as rules
+use Rattle.statement.specs.Items.{alternatives}
+use Rattle.statement.specs.Order.{relations_in_order}
+use Rattle.statement.specs.Profile.{ItemFault, Limit, rules_limit, variables_limit, alternatives_limit, roles_limit, bad_form}
+use Rattle.statement.specs.Profile.{bad_keyword, too_many, not_safe, recursive, bad_dependence, no_role, item_fault_in, HasNoFault, roles}
+use Rattle.statement.specs.RuleFaultTexts.{rule_fault_words}
+use Rattle.statement.specs.declared.rule_fault.RuleExcess.{RuleExcess as Excess}
+use Rattle.statement.specs.declared.rule_fault.RuleExcess.TheVariants as excesses
+use Rattle.statement.specs.declared.rule_fault.RuleFault.{RuleFault}
+use Rattle.statement.specs.declared.rule_fault.RuleFault.TheVariants as faults
+use Rattle.statement.specs.Answers.{Reply, answer, refusal}
+use Rattle.statement.specs.Checking.{check_lines, RefusesItems, IsCheckReply}
 
 -- the checker's names for a limit and a fault
 abbrev excess_of : Limit → Excess
@@ -22,7 +22,7 @@ excess_of variables_limit = excesses.Variables
 excess_of alternatives_limit = excesses.Alternatives
 excess_of roles_limit = excesses.Roles
 
-abbrev named : Fault → RuleFault
+abbrev named : ItemFault → RuleFault
 named (bad_form n) = faults.BadForm n
 named (bad_keyword n) = faults.BadKeyword n
 named (too_many n l) = faults.TooMany n (excess_of l)
@@ -33,8 +33,8 @@ named no_role = faults.NoRole
 
 -- a fault by both names
 record IsNamed (items : List Tree) (e : RuleFault) : Type 0 where
-  fault : Fault
-  stands : fault_in items ≡ Some fault
+  fault : ItemFault
+  stands : item_fault_in items ≡ Some fault
   same : e ≡ named fault
 
 excess_named : (x : Excess) → (l : Limit) × (rules.limit_of x ≡ l) × (x ≡ excess_of l)
@@ -43,7 +43,7 @@ excess_named excesses.Variables = (variables_limit, refl, refl)
 excess_named excesses.Alternatives = (alternatives_limit, refl, refl)
 excess_named excesses.Roles = (roles_limit, refl, refl)
 
-named_of : (items : List Tree) (e : RuleFault) → e ≢ faults.NoMemory → rules.IsFaultOf items e → IsNamed items e
+named_of : (items : List Tree) (e : RuleFault) → e ≢ faults.NoMemory → rules.IsRuleFault items e → IsNamed items e
 named_of items (faults.BadForm n) other h = record { fault = bad_form n; stands = h; same = refl }
 named_of items (faults.BadKeyword n) other h = record { fault = bad_keyword n; stands = h; same = refl }
 named_of items (faults.Unsafe n) other h = record { fault = not_safe n; stands = h; same = refl }
@@ -65,7 +65,7 @@ limit_named variables_limit = refl
 limit_named alternatives_limit = refl
 limit_named roles_limit = refl
 
-stands_as : (items : List Tree) (f : Fault) → fault_in items ≡ Some f → RefusesItems items (refusal (fault_text (named f)))
+stands_as : (items : List Tree) (f : ItemFault) → item_fault_in items ≡ Some f → RefusesItems items (refusal (rule_fault_words (named f)))
 stands_as items (bad_form n) h = (faults.BadForm n, (λ e. cc), h, refl)
 stands_as items (bad_keyword n) h = (faults.BadKeyword n, (λ e. cc), h, refl)
 stands_as items (too_many n l) h =
@@ -80,10 +80,10 @@ lines_for items = check_lines (length items) (length (alternatives items)) (leng
 
 -- items have a fault, with the reply that names it, or they have none
 pub some_verdict : (items : List Tree) → ((reply : Reply) × RefusesItems items reply) ⊎ HasNoFault items
-some_verdict items = go (fault_in items) refl
+some_verdict items = go (item_fault_in items) refl
   where
-    go : (found : Option Fault) → fault_in items ≡ found → ((reply : Reply) × RefusesItems items reply) ⊎ HasNoFault items
-    go (Some f) e = inl (refusal (fault_text (named f)), stands_as items f e)
+    go : (found : Option ItemFault) → item_fault_in items ≡ found → ((reply : Reply) × RefusesItems items reply) ⊎ HasNoFault items
+    go (Some f) e = inl (refusal (rule_fault_words (named f)), stands_as items f e)
     go None e = inr e
 
 pub some_check : (items : List Tree) → (reply : Reply) × IsCheckReply items reply
@@ -106,7 +106,7 @@ no_fault_and_none items e p none =
 pub one_refusal : (items : List Tree) (reply other : Reply) → RefusesItems items reply → RefusesItems items other → reply ≡ other
 one_refusal items reply other p q =
     let same = one_fault items p.0 q.0 (named_of items p.0 p.1 p.2) (named_of items q.0 q.1 q.2) in
-    p.3 ∙ ap (λ e. refusal (fault_text e)) same ∙ sym q.3
+    p.3 ∙ ap (λ e. refusal (rule_fault_words e)) same ∙ sym q.3
 
 pub refused_or_lawful : (items : List Tree) (reply : Reply) → RefusesItems items reply → HasNoFault items → ⊥
 refused_or_lawful items reply p none = no_fault_and_none items p.0 (named_of items p.0 p.1 p.2) none

@@ -2,19 +2,19 @@
 use Rattle.std.proofs.Common.{ℕ, ◌≡◌, ◌++◌, ◌∷◌, inl, inr, List, refl, sym, ◌∙◌, ap, subst}
 use Rattle.std.specs.Prelude.{Result, Ok, Err, IfErr}
 use Rattle.kif.proofs.Facts.{reads_once}
-use Rattle.kif.specs.Tree.{Trees, list_of}
+use Rattle.statement.specs.Tree.{Trees, list_of}
 use Rattle.game.proofs.Facts.{role_named, played_alike}
-use Rattle.game.specs.NamedRules.{NamedRules}
-use Rattle.game.specs.Played.{played}
-use Rattle.game.specs.Refusal.{fault_text, role_part, IsRoleOf}
-use Rattle.game.specs.Rules.{State}
+use Rattle.statement.specs.NamedRules.{NamedRules}
+use Rattle.statement.specs.Played.{played}
+use Rattle.statement.specs.HistoryTexts.{history_fault_words, role_part, IsRoleOf}
+use Rattle.statement.specs.Rules.{State}
 use Rattle.game.specs.SamePlay.{SamePlay}
-use Rattle.game.specs.declared.fault.HistoryFault.{HistoryFault}
-use Rattle.game.specs.declared.fault.HistoryFault.TheVariants.{BadForm, NotLegal, Over, Stuck, NoMemory}
+use Rattle.statement.specs.declared.history_fault.HistoryFault.{HistoryFault}
+use Rattle.statement.specs.declared.history_fault.HistoryFault.TheVariants.{BadForm, NotLegal, Over, Stuck, NoMemory}
 use Rattle.replies.proofs.OneText.{fault_or_trees, not_fault_and_trees}
-use Rattle.replies.specs.Answers.{answer, refusal}
-use Rattle.replies.specs.Histories.{IsHistoryOf}
-use Rattle.replies.specs.Moving.{history_reply}
+use Rattle.statement.specs.Answers.{answer, refusal}
+use Rattle.statement.specs.Histories.{IsHistoryOf}
+use Rattle.statement.specs.Moving.{history_reply}
 
 pub some_history : (g : NamedRules) (bytes : List ℕ) → (result : Result State HistoryFault) × IsHistoryOf g bytes result
 some_history g bytes =
@@ -52,7 +52,7 @@ reply_alike : (g h : NamedRules) → SamePlay g h → (lines others : State → 
     → (result : Result State HistoryFault) → IfErr result (IsRoleOf g.rules.roles) → history_reply g lines result ≡ history_reply h others result
 reply_alike g h same lines others alike (Ok s) known = ap answer (alike s)
 reply_alike g h same lines others alike (Err fault) known =
-    ap (λ (part : List ℕ). refusal (fault_text fault ++ part)) (part_alike g h same fault known)
+    ap (λ (part : List ℕ). refusal (history_fault_words fault ++ part)) (part_alike g h same fault known)
 
 -- where the same is told of each state, there is one reply after a history
 pub one_history_reply : (g h : NamedRules) → SamePlay g h → (lines others : State → List ℕ) → ((s : State) → lines s ≡ others s)

@@ -5,12 +5,12 @@ use Rattle.std.specs.Fmt.{decimal}
 use Rattle.std.specs.List.{flat_map, list_any, range_with_len}
 use Rattle.std.proofs.lemmas.List.Elements.{All-head, All-tail}
 use Rattle.game.proofs.Facts.{all_below, any_alike}
-use Rattle.game.specs.NamedRules.{NamedRules}
-use Rattle.game.specs.Rules.{State, all_roles, is_stuck}
+use Rattle.statement.specs.NamedRules.{NamedRules}
+use Rattle.statement.specs.Rules.{State, all_roles, is_stuck}
 use Rattle.game.specs.SamePlay.{SamePlay}
 use Rattle.replies.proofs.OneHistory.{some_history, one_history_reply}
-use Rattle.replies.specs.Answers.{Reply}
-use Rattle.replies.specs.Moving.{goal_line, legal_line, goal_lines, legal_lines, moves_lines, history_reply, IsMovesReply}
+use Rattle.statement.specs.Answers.{Reply}
+use Rattle.statement.specs.Moving.{goal_line, legal_line, goal_lines, legal_lines, moves_lines, history_reply, IsMovesReply}
 
 -- what is made of a list by two functions that agree on its elements
 flat_maps_alike : (f e : ℕ → List ℕ) (xs : List ℕ) → All (λ x. f x ≡ e x) xs → flat_map f xs ≡ flat_map e xs

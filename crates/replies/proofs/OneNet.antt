@@ -1,23 +1,23 @@
 -- Each list of items has one reply to `net`.
 use Rattle.std.proofs.Common.{◌≡◌, inl, inr, List, refl, sym, ◌∙◌}
 use Rattle.std.specs.Prelude.{Option, Some, None}
-use Rattle.kif.specs.Tree.{Tree}
-use Rattle.profile.specs.Items.{alternatives}
-use Rattle.profile.specs.Profile.{HasNoFault}
-use Rattle.meaning.specs.declared.excess.Excess.{Excess}
-use Rattle.listing.specs.declared.fault.GroundFault.TheVariants.{TooMany}
-use Rattle.meaning.specs.Limits.{excess_in}
-use Rattle.listing.specs.Refusal.{fault_text}
+use Rattle.statement.specs.Tree.{Tree}
+use Rattle.statement.specs.Items.{alternatives}
+use Rattle.statement.specs.Profile.{HasNoFault}
+use Rattle.statement.specs.declared.excess.Excess.{Excess}
+use Rattle.statement.specs.declared.ground_fault.GroundFault.TheVariants.{TooMany}
+use Rattle.statement.specs.Limits.{excess_in}
+use Rattle.statement.specs.LimitTexts.{limit_fault_words}
 use Rattle.replies.proofs.OneCheck.{some_verdict, one_refusal, refused_or_lawful}
 use Rattle.replies.proofs.OnePlay.{one_limit}
-use Rattle.replies.specs.Answers.{Reply, answer, refusal}
-use Rattle.replies.specs.Games.{PassesLimit}
-use Rattle.replies.specs.Networks.{measures, MeasuresItems, IsNetReply}
+use Rattle.statement.specs.Answers.{Reply, answer, refusal}
+use Rattle.statement.specs.Games.{PassesLimit}
+use Rattle.statement.specs.Networks.{measures, MeasuresItems, IsNetReply}
 
 -- items without a fault pass a limit, or are measured
 some_net_of : (items : List Tree) → HasNoFault items → (found : Option Excess) → excess_in (alternatives items) ≡ found
     → (reply : Reply) × IsNetReply items reply
-some_net_of items lawful (Some excess) e = (refusal (fault_text (TooMany excess)), inl (inr (lawful, excess, e, refl)))
+some_net_of items lawful (Some excess) e = (refusal (limit_fault_words (TooMany excess)), inl (inr (lawful, excess, e, refl)))
 some_net_of items lawful None e = (answer (measures (alternatives items)), inr (lawful, e, refl))
 
 pub some_net : (items : List Tree) → (reply : Reply) × IsNetReply items reply

@@ -1,26 +1,26 @@
 -- Each list of items has one reply that is told of its game.
 use Rattle.std.proofs.Common.{◌≡◌, inl, inr, List, refl, sym, ◌∙◌, ap}
 use Rattle.std.specs.Prelude.{Option, Some, None}
-use Rattle.kif.specs.Tree.{Tree}
-use Rattle.profile.specs.Items.{alternatives}
-use Rattle.profile.specs.Profile.{HasNoFault}
+use Rattle.statement.specs.Tree.{Tree}
+use Rattle.statement.specs.Items.{alternatives}
+use Rattle.statement.specs.Profile.{HasNoFault}
 use Rattle.meaning.proofs.Facts.{accepted_well_formed}
-use Rattle.meaning.specs.declared.excess.Excess.{Excess}
-use Rattle.listing.specs.declared.fault.GroundFault.TheVariants.{TooMany}
-use Rattle.meaning.specs.Limits.{excess_in}
-use Rattle.listing.specs.Refusal.{fault_text}
+use Rattle.statement.specs.declared.excess.Excess.{Excess}
+use Rattle.statement.specs.declared.ground_fault.GroundFault.TheVariants.{TooMany}
+use Rattle.statement.specs.Limits.{excess_in}
+use Rattle.statement.specs.LimitTexts.{limit_fault_words}
 use Rattle.rulegame.proofs.Facts.{has_game, one_game}
-use Rattle.game.specs.NamedRules.{NamedRules}
+use Rattle.statement.specs.NamedRules.{NamedRules}
 use Rattle.game.specs.SamePlay.{SamePlay}
 use Rattle.replies.proofs.OneCheck.{some_verdict, one_refusal, refused_or_lawful}
-use Rattle.replies.specs.Answers.{Reply, refusal}
-use Rattle.replies.specs.Games.{PassesLimit, TellsGame, IsPlayReply}
+use Rattle.statement.specs.Answers.{Reply, refusal}
+use Rattle.statement.specs.Games.{PassesLimit, TellsGame, IsPlayReply}
 
 -- items without a fault pass a limit, or have a game
 some_play_of : (items : List Tree) (told : NamedRules → Reply → Type 0) → ((g : NamedRules) → (reply : Reply) × told g reply)
     → HasNoFault items → (found : Option Excess) → excess_in (alternatives items) ≡ found → (reply : Reply) × IsPlayReply items told reply
 some_play_of items told each lawful (Some excess) e =
-    (refusal (fault_text (TooMany excess)), inl (inr (lawful, excess, e, refl)))
+    (refusal (limit_fault_words (TooMany excess)), inl (inr (lawful, excess, e, refl)))
 some_play_of items told each lawful None e =
     let game = has_game (alternatives items) (accepted_well_formed items lawful) in
     let reply = each game.0 in
@@ -38,7 +38,7 @@ pub one_limit : (items : List Tree) (reply other : Reply) → PassesLimit items 
 one_limit items reply other p q =
     let same : Some p.1 ≡ Some q.1 = sym p.2 ∙ q.2 in
     let one : p.1 ≡ q.1 = cc in
-    p.3 ∙ ap (λ (excess : Excess). refusal (fault_text (TooMany excess))) one ∙ sym q.3
+    p.3 ∙ ap (λ (excess : Excess). refusal (limit_fault_words (TooMany excess))) one ∙ sym q.3
 
 limit_or_game : (items : List Tree) (told : NamedRules → Reply → Type 0) (reply other : Reply) → PassesLimit items reply → TellsGame items told other
     → ⊥

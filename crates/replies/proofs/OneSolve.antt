@@ -5,19 +5,19 @@ use Rattle.std.specs.Fmt.{decimal}
 use Rattle.std.specs.List.{range_with_len}
 use Rattle.std.proofs.lemmas.List.Elements.{All-head, All-tail}
 use Rattle.kif.proofs.Facts.{reads_once}
-use Rattle.kif.specs.Tree.{Trees, no_trees, tree, text, name_eq}
+use Rattle.statement.specs.Tree.{Trees, no_trees, tree, text, name_eq}
 use Rattle.game.proofs.Facts.{all_below, maps_alike, finds_alike, found_within, choice_within, line_within, value_alike, choice_alike, line_alike}
-use Rattle.game.specs.declared.at_bound.AtBound.{AtBound}
-use Rattle.game.specs.NamedRules.{NamedRules}
-use Rattle.game.specs.Rules.{State, Turn, IsTurn, all_roles}
+use Rattle.statement.specs.declared.at_bound.AtBound.{AtBound}
+use Rattle.statement.specs.NamedRules.{NamedRules}
+use Rattle.statement.specs.Rules.{State, Turn, IsTurn, all_roles}
 use Rattle.game.specs.SamePlay.{SamePlay}
-use Rattle.game.specs.Value.{value, choice_of, line_of}
+use Rattle.statement.specs.Value.{value, choice_of, line_of}
 use Rattle.replies.proofs.OneHistory.{some_history, one_history_reply}
 use Rattle.replies.proofs.OneText.{fault_or_trees, not_fault_and_trees}
-use Rattle.replies.specs.Answers.{Reply, refusal}
-use Rattle.replies.specs.Checking.{count_line, spaced}
-use Rattle.replies.specs.Moving.{history_reply}
-use Rattle.replies.specs.Solving.{role_in, IsRoleNamed, choice_text, move_line, move_texts, turn_line, turn_lines, solve_lines, IsSolveReply}
+use Rattle.statement.specs.Answers.{Reply, refusal}
+use Rattle.statement.specs.Checking.{count_line, spaced}
+use Rattle.statement.specs.Moving.{history_reply}
+use Rattle.statement.specs.Solving.{role_named_in, IsRoleNamed, choice_text, move_line, move_texts, turn_line, turn_lines, solve_lines, IsSolveReply}
 
 -- Roles.
 
@@ -25,10 +25,10 @@ some_role : (g : NamedRules) (bytes : List ℕ) → (found : Option ℕ) × IsRo
 some_role g bytes =
     elim (fault_or_trees bytes) [
       | inl fault ↦ (None, inl (fault.0, fault.1, fault.2, refl))
-      | inr read ↦ (role_in g read.0, inr (read.0, read.1, refl))
+      | inr read ↦ (role_named_in g read.0, inr (read.0, read.1, refl))
     ]
 
-role_alike : (g h : NamedRules) → SamePlay g h → (ts : Trees) → role_in g ts ≡ role_in h ts
+role_alike : (g h : NamedRules) → SamePlay g h → (ts : Trees) → role_named_in g ts ≡ role_named_in h ts
 role_alike g h same no_trees = refl
 role_alike g h same (tree t no_trees) =
     finds_alike (λ r. name_eq (text t) (g.role_name r)) (λ r. name_eq (text t) (h.role_name r)) (all_roles g.rules)
@@ -42,9 +42,9 @@ one_role : (g h : NamedRules) → SamePlay g h → (bytes : List ℕ) (found oth
 one_role g h same bytes found other (inl p) (inl q) = p.3 ∙ sym q.3
 one_role g h same bytes found other (inl p) (inr q) = absurd (not_fault_and_trees bytes p.0 q.0 p.1 p.2 q.1)
 one_role g h same bytes found other (inr p) (inl q) = absurd (not_fault_and_trees bytes q.0 p.0 q.1 q.2 p.1)
-one_role g h same bytes found other (inr p) (inr q) = p.2 ∙ role_alike g h same p.0 ∙ ap (role_in h) (reads_once bytes p.0 q.0 p.1 q.1) ∙ sym q.2
+one_role g h same bytes found other (inr p) (inr q) = p.2 ∙ role_alike g h same p.0 ∙ ap (role_named_in h) (reads_once bytes p.0 q.0 p.1 q.1) ∙ sym q.2
 
-role_within : (g : NamedRules) (ts : Trees) → IfSome (role_in g ts) (λ r. r < g.rules.roles)
+role_within : (g : NamedRules) (ts : Trees) → IfSome (role_named_in g ts) (λ r. r < g.rules.roles)
 role_within g no_trees = tt
 role_within g (tree t no_trees) =
     found_within (λ r. r < g.rules.roles) (λ r. name_eq (text t) (g.role_name r)) (all_roles g.rules)

@@ -1,8 +1,8 @@
 -- What a question leads to.
 use Rattle.std.proofs.Common.{◌≡◌, subst, sym}
 use Rattle.std.specs.Prelude.{Result, Ok, Err, IfOk}
-use Rattle.game.specs.NamedRules.{NamedRules}
-use Rattle.game.specs.Rules.{State}
+use Rattle.statement.specs.NamedRules.{NamedRules}
+use Rattle.statement.specs.Rules.{State}
 use Rattle.rulegame.specs.RuleState.{named_rules_of}
 use Rattle.netgame.specs.declared.net_game.NetGame.{NetGame}
 use Rattle.netgame.specs.declared.net_many.NetMany.{NetMany}
@@ -18,7 +18,7 @@ use Rattle.replies.specs.declared.question.Question.{Question}
 use Rattle.replies.specs.declared.question.Question.TheVariants.{Told, Network, Rules}
 use Rattle.replies.specs.declared.reply.Reply as made
 use Rattle.replies.specs.declared.search.Search.{Search}
-use Rattle.replies.specs.Answers.{Reply}
+use Rattle.statement.specs.Answers.{Reply}
 use Rattle.replies.specs.Questions.{reply_of, IsSearchOf, IsAskedOf, IsQuestionOf, net_fits, net_state}
 use Rattle.replies.specs.Questions.{rule_fits, rule_state, told_question, network_question, rules_question}
 

@@ -1,11 +1,11 @@
 -- The lines of the value, the move and the line of play, one behind the other.
 use Rattle.std.proofs.Common.{ℕ, ◌≡◌, List, [], ◌++◌, Option, codes, ◌∙◌, ap}
-use Rattle.game.specs.declared.at_bound.AtBound.{AtBound}
-use Rattle.game.specs.NamedRules.{NamedRules}
-use Rattle.game.specs.Rules.{State}
-use Rattle.game.specs.Value.{value, choice_of, line_of}
-use Rattle.replies.specs.Checking.{count_line}
-use Rattle.replies.specs.Solving.{move_line, choice_text, turn_lines, solve_lines}
+use Rattle.statement.specs.declared.at_bound.AtBound.{AtBound}
+use Rattle.statement.specs.NamedRules.{NamedRules}
+use Rattle.statement.specs.Rules.{State}
+use Rattle.statement.specs.Value.{value, choice_of, line_of}
+use Rattle.statement.specs.Checking.{count_line}
+use Rattle.statement.specs.Solving.{move_line, choice_text, turn_lines, solve_lines}
 
 pub lines_are : (g : NamedRules) (role depth : ℕ) (at : AtBound) (s : State) (n : ℕ) (found : Option ℕ) (o0 o1 o2 o3 : List ℕ) → o0 ≡ []
     → o1 ≡ o0 ++ count_line (codes "value") n → n ≡ value g.rules role depth at s → found ≡ choice_of g.rules role depth at s

@@ -1,7 +1,7 @@
 -- Texts with spaces before them, one more at a time.
 use Rattle.std.proofs.Common.{ℕ, ◌+◌, ◌<◌, ◌≡◌, List, [], ◌∷◌, ◌++◌, length, take, get_or, refl, sym, ◌∙◌, ap, append_assoc}
 use Rattle.std.proofs.lemmas.List.{take_more, append-nil}
-use Rattle.replies.specs.Checking.{spaced}
+use Rattle.statement.specs.Checking.{spaced}
 
 spaced-append : (xs ys : List (List ℕ)) → spaced (xs ++ ys) ≡ spaced xs ++ spaced ys
 spaced-append [] ys = refl

@@ -1,11 +1,5 @@
-pub mod Answers
-pub mod Checking
-pub mod Replies
 pub mod Histories
-pub mod Moving
-pub mod Solving
 pub mod Play
 pub mod Games
-pub mod Networks
 pub mod Questions
 pub mod Instantiators

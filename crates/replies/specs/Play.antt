@@ -1,3 +1,4 @@
+-- This crate's own: what `run` promises does not rest on it.
 -- The memory of play.
 use Rattle.std.specs.Prelude.{ℕ, ◌≤◌}
 use Rattle.maximin.specs.Room.{IsRoomOf}

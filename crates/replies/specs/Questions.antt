@@ -1,7 +1,8 @@
+-- This crate's own: what `run` promises does not rest on it.
 -- What a command comes to: its reply, or a search after which there is one.
 use Rattle.std.specs.Prelude.{◌<◌, Result, Ok, Err}
-use Rattle.game.specs.NamedRules.{NamedRules}
-use Rattle.game.specs.Rules.{State}
+use Rattle.statement.specs.NamedRules.{NamedRules}
+use Rattle.statement.specs.Rules.{State}
 use Rattle.netgame.specs.NetState.{kept_state}
 use Rattle.netgame.specs.NetLanes.{IsNetState}
 use Rattle.rulegame.specs.RulePlay.{marked}
@@ -20,8 +21,8 @@ use Rattle.replies.specs.declared.question.Question.{Question}
 use Rattle.replies.specs.declared.question.Question.TheVariants.{Told, Network, Rules}
 use Rattle.replies.specs.declared.reply.Reply as made
 use Rattle.replies.specs.declared.search.Search.{Search}
-use Rattle.replies.specs.Answers.{Reply, answer}
-use Rattle.replies.specs.Solving.{solve_lines}
+use Rattle.statement.specs.Answers.{Reply, answer}
+use Rattle.statement.specs.Solving.{solve_lines}
 
 -- a reply that was made
 abbrev pub reply_of : made.Reply → Reply

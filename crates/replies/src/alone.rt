@@ -1,15 +1,16 @@
-// The reply to a command, with its search done by the calling thread.
+//! The reply to a command, with its search done by the calling thread.
 ghost use Rattle.std.specs.Prelude.{◌≡◌, ◌<◌, pos, IfOk, IfErr};
-ghost use Rattle.ground.specs.GroundView.{IsGround, HasAtoms};
+ghost use Rattle.ground.specs.GroundView.{IsGround};
 ghost use Rattle.listing.specs.Progress.{IsFaultOf};
-ghost use Rattle.meaning.specs.Limits.{excess_in};
+ghost use Rattle.statement.specs.Limits.{excess_in};
 ghost use Rattle.rules.specs.RuleSetView.{rules_in};
-ghost use Rattle.game.specs.Value.{value, choice_of};
-ghost use Rattle.replies.specs.Answers.{answer};
+ghost use Rattle.statement.specs.Value.{value, choice_of};
+ghost use Rattle.statement.specs.Answers.{answer};
 ghost use Rattle.replies.specs.Histories.{named};
 ghost use Rattle.replies.specs.Questions.{reply_of};
-ghost use Rattle.replies.specs.Replies.{IsReply};
-ghost use Rattle.replies.specs.Solving.{solve_lines};
+ghost use Rattle.statement.specs.Replies.{IsReply};
+ghost use Rattle.words.specs.Asked.{query_of};
+ghost use Rattle.statement.specs.Solving.{solve_lines};
 
 use crate::answering::ask;
 use crate::games::Player;
@@ -17,15 +18,15 @@ use crate::means::Means;
 use crate::question::Question;
 use crate::reply::Reply;
 use crate::search::Search;
-use game::Game;
+use game::{Game, is_stuck};
 use ground::{FlatGround, GroundFault, instantiate_flat_alone};
-use maximin::{Room, choice, value_in};
+use maximin::{Room, value_and_choice, value_in};
 use rules::RuleSet;
 use share::Answer;
 use std::alloc::{AllocError, Global};
 use words::Command;
 
-/// The value and the first best move of a search.
+/// The value and the first best move of a search, which one search of the state tells.
 fn found_alone<G: Game + Drop>(alloc: Global, search: &Search<G>) -> Result<Answer, AllocError>
     requires fits { G.fits search.now.game search.now.here }
     requires role { search.now.role < (G.rules search.now.game).roles }
@@ -37,18 +38,18 @@ fn found_alone<G: Game + Drop>(alloc: Global, search: &Search<G>) -> Result<Answ
     let game = &search.game;
     let here = &search.here;
     let mut room = Room::new(alloc, game, search.depth)?;
+    let (role, depth, at) = (search.role, search.depth, search.at);
+    if depth == 0 || game.ended(here) || is_stuck(game, here) {
+        let value = value_in(game, here, role, depth, at, -1, 101, &mut room);
+        return Ok(Answer {
+            value,
+            choice: None,
+        });
+    }
+    let (value, place) = value_and_choice(game, here, role, depth, at, &mut room);
     Ok(Answer {
-        value: value_in(
-            game,
-            here,
-            search.role,
-            search.depth,
-            search.at,
-            -1,
-            101,
-            &mut room,
-        ),
-        choice: choice(game, here, search.role, search.depth, search.at, &mut room),
+        value,
+        choice: game.legal(here, role, place),
     })
 }
 
@@ -74,11 +75,10 @@ pub fn reply_alone<T: AllocGlobal>(
     command: &Command,
     bytes: &[u8],
 ) -> Result<Reply, AllocError>
-    ensures { IfOk result (λ reply. IsReply command.now bytes.now (reply_of reply)) }
+    ensures { IfOk result (λ reply. IsReply (query_of command.now) bytes.now (reply_of reply)) }
 {
     let instantiate = |rules: &RuleSet| -> Result<FlatGround, GroundFault>
         ensures ground { IfOk result (λ g. IsGround (rules_in rules.now) g) }
-        ensures atoms { IfOk result (λ g. HasAtoms (rules_in rules.now) g) }
         ensures fault { IfErr result (IsFaultOf (excess_in (rules_in rules.now))) }
     { instantiate_flat_alone(rt, rules) };
     let means = Means {

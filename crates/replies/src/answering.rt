@@ -1,13 +1,14 @@
-// The reply to a command, made whole before any of it is written.
+//! The reply to a command, made whole before any of it is written.
 ghost use Rattle.std.specs.Prelude.{◌≡◌, ◌≢◌, ◌++◌, IfOk, OnOk, length};
-ghost use Rattle.kif.specs.Tree.{trees_of};
+ghost use Rattle.statement.specs.Tree.{trees_of};
 ghost use Rattle.kif.specs.View.{trees_in};
-ghost use Rattle.profile.specs.Order.{relations_in_order};
+ghost use Rattle.statement.specs.Order.{relations_in_order};
 ghost use Rattle.rules.specs.RuleSetView.{rules_in, roles_in};
-ghost use Rattle.replies.specs.Checking.{spaced, check_lines, IsCheckReply};
+ghost use Rattle.statement.specs.Checking.{spaced, check_lines, IsCheckReply};
 ghost use Rattle.replies.specs.Instantiators.{MayInstantiate, GivesGround};
 ghost use Rattle.replies.specs.Questions.{IsQuestionOf, told_question};
-ghost use Rattle.replies.specs.Replies.{IsReply, IsReplyTo, lines_of};
+ghost use Rattle.statement.specs.Replies.{IsReply, IsReplyTo, lines_of};
+ghost use Rattle.words.specs.Asked.{query_of};
 
 use crate::games::{Player, ask_solve, reply_to_moves};
 use crate::grounding::reply_to_net;
@@ -91,7 +92,7 @@ fn ask_trees<I: Fn(&RuleSet) -> Result<FlatGround, GroundFault>, A: Allocator>(
 ) -> Result<Question, AllocError>
     requires may { MayInstantiate (I.pre means.now.instantiate.now) }
     requires gives { GivesGround (I.post means.now.instantiate.now) }
-    ensures { IfOk result (IsQuestionOf (IsReplyTo command.now (trees_of (trees_in trees.now)))) }
+    ensures { IfOk result (IsQuestionOf (IsReplyTo (query_of command.now) (trees_of (trees_in trees.now)))) }
 {
     match command {
         Command::Show => told(Ok(answered(shown(means.alloc, trees)?))),
@@ -119,7 +120,7 @@ pub fn ask<I: Fn(&RuleSet) -> Result<FlatGround, GroundFault>>(
 ) -> Result<Question, AllocError>
     requires may { MayInstantiate (I.pre means.now.instantiate.now) }
     requires gives { GivesGround (I.post means.now.instantiate.now) }
-    ensures { IfOk result (IsQuestionOf (IsReply command.now bytes.now)) }
+    ensures { IfOk result (IsQuestionOf (IsReply (query_of command.now) bytes.now)) }
 {
     let arena = Bump::new(means.alloc);
     match read(&arena, bytes) {

@@ -1,11 +1,12 @@
-// From a game, a role and a history to the search that is asked for.
+//! From a game, a role and a history to the search that is asked for.
 ghost use Rattle.std.specs.Prelude.{◌≡◌, ◌<◌, IfOk, Result};
-ghost use Rattle.game.specs.Rules.{State};
-ghost use Rattle.game.specs.declared.fault.HistoryFault.{HistoryFault};
-ghost use Rattle.replies.specs.Histories.{named, IsHistoryOf};
-ghost use Rattle.replies.specs.Moving.{history_reply};
+ghost use Rattle.statement.specs.Rules.{State};
+ghost use Rattle.statement.specs.declared.history_fault.HistoryFault.{HistoryFault};
+ghost use Rattle.replies.specs.Histories.{named};
+ghost use Rattle.statement.specs.Histories.{IsHistoryOf};
+ghost use Rattle.statement.specs.Moving.{history_reply};
 ghost use Rattle.replies.specs.Questions.{IsAskedOf};
-ghost use Rattle.replies.specs.Solving.{solve_lines, IsSolveReply};
+ghost use Rattle.statement.specs.Solving.{solve_lines, IsSolveReply};
 
 use crate::history::{position_after, refused_history};
 use crate::reply::{Reply, refused};

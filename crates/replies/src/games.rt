@@ -1,11 +1,12 @@
-// From an instantiation to the game that it is, and to what is told of it.
+//! From an instantiation to the game that it is, and to what is told of it.
 ghost use Rattle.std.specs.Prelude.{◌≡◌, IfOk};
 ghost use Rattle.kif.specs.View.{trees_in};
-ghost use Rattle.replies.specs.Moving.{IsMovesReply};
-ghost use Rattle.replies.specs.Games.{IsDescribed, IsPlayReply, Plays};
+ghost use Rattle.statement.specs.Moving.{IsMovesReply};
+ghost use Rattle.replies.specs.Games.{IsDescribed, Plays};
+ghost use Rattle.statement.specs.Games.{IsPlayReply};
 ghost use Rattle.replies.specs.Instantiators.{MayInstantiate, GivesGround};
 ghost use Rattle.replies.specs.Questions.{IsQuestionOf, network_question, rules_question};
-ghost use Rattle.replies.specs.Solving.{IsSolveReply};
+ghost use Rattle.statement.specs.Solving.{IsSolveReply};
 
 use crate::asking::{Asked, ask_best};
 use crate::grounding::{Instantiated, ground_of};

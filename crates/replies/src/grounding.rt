@@ -1,18 +1,16 @@
-// From a description to its instantiation, and to how large it is.
-ghost use Rattle.std.specs.Prelude.{◌≡◌, ◌++◌, ◌≤◌, IfOk, IfErr, OnOk, length};
+//! From a description to its instantiation, and to how large it is.
+ghost use Rattle.std.specs.Prelude.{◌≡◌, IfOk, IfErr, length};
 ghost use Rattle.kif.specs.View.{trees_in};
 ghost use Rattle.ground.specs.Fits.{count_all};
 ghost use Rattle.ground.specs.GroundView.{base_of, inputs_of, instances_of};
-ghost use Rattle.propnet.specs.Builders.{IsNetOf};
 ghost use Rattle.propnet.specs.Nets.{gates_of};
-ghost use Rattle.replies.specs.Checking.{count_line};
 ghost use Rattle.replies.specs.Games.{IsInstantiated};
 ghost use Rattle.replies.specs.Instantiators.{MayInstantiate, GivesGround};
-ghost use Rattle.ground.specs.GroundView.{IsGround, HasAtoms};
+ghost use Rattle.ground.specs.GroundView.{IsGround};
 ghost use Rattle.listing.specs.Progress.{IsFaultOf};
-ghost use Rattle.meaning.specs.Limits.{excess_in};
+ghost use Rattle.statement.specs.Limits.{excess_in};
 ghost use Rattle.rules.specs.RuleSetView.{rules_in};
-ghost use Rattle.replies.specs.Networks.{IsNetReply, net_lines};
+ghost use Rattle.statement.specs.Networks.{IsNetReply, net_lines};
 
 use crate::means::Means;
 use crate::reply::{Reply, add_count, answered, refused};
@@ -39,7 +37,6 @@ fn instantiate<I: Fn(&RuleSet) -> Result<FlatGround, GroundFault>>(
     requires may { MayInstantiate (I.pre means.now.instantiate.now) }
     requires gives { GivesGround (I.post means.now.instantiate.now) }
     ensures ground { IfOk result (λ g. IsGround (rules_in rules.now) g) }
-    ensures atoms { IfOk result (λ g. HasAtoms (rules_in rules.now) g) }
     ensures fault { IfErr result (IsFaultOf (excess_in (rules_in rules.now))) }
 {
     (means.instantiate)(rules)

@@ -1,16 +1,17 @@
-// From the text of a history to the state after it.
+//! From the text of a history to the state after it.
 ghost use Rattle.std.specs.Prelude.{◌≡◌, ◌≢◌, ◌++◌, Ok, Err, IfOk, IfErr};
 ghost use Rattle.kif.specs.View.{trees_in};
-ghost use Rattle.kif.specs.Refusal.{refusal_line};
-ghost use Rattle.game.specs.Played.{played};
-ghost use Rattle.game.specs.Refusal.{fault_text, role_part, IsRoleOf};
-ghost use Rattle.replies.specs.Histories.{named, IsHistoryOf};
+ghost use Rattle.statement.specs.TextFaults.{refusal_line};
+ghost use Rattle.statement.specs.Played.{played};
+ghost use Rattle.statement.specs.HistoryTexts.{history_fault_words, role_part, IsRoleOf};
+ghost use Rattle.replies.specs.Histories.{named};
+ghost use Rattle.statement.specs.Histories.{IsHistoryOf};
 
 use crate::reply::Reply;
-use crate::status::Status;
 use bumpalo::Bump;
 use game::{Game, HistoryFault, add_history_refusal, replay};
 use kif::{Expr, KifFault, read};
+use statement::Status;
 use std::alloc::{AllocError, Allocator, Global};
 
 /// The state after these turns.
@@ -58,7 +59,7 @@ pub(crate) fn refused_history<G: Game>(
     fault: HistoryFault,
 ) -> Result<Reply, AllocError>
     requires { IsRoleOf (G.rules g.now).roles fault }
-    ensures line { IfOk result (λ reply. reply.output.items ≡ refusal_line (fault_text fault ++ role_part (G.role_name g.now) fault)) }
+    ensures line { IfOk result (λ reply. reply.output.items ≡ refusal_line (history_fault_words fault ++ role_part (G.role_name g.now) fault)) }
     ensures status { IfOk result (λ reply. reply.status ≡ Status.Refused) }
 {
     let mut output = Vec::new(alloc);

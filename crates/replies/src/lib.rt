@@ -16,7 +16,6 @@ mod reply;
 mod roles;
 mod search;
 mod solving;
-mod status;
 #[cfg(test)]
 mod tests;
 
@@ -28,5 +27,5 @@ pub use means::Means;
 pub use question::Question;
 pub use reply::Reply;
 pub use search::Search;
-pub use status::Status;
+pub use statement::Status;
 pub use words::{Command, Request, request_of};

@@ -1,4 +1,4 @@
-// What a reply is made with.
+//! What a reply is made with.
 use std::alloc::Global;
 
 /// Where the memory of a reply comes from, and what instantiates rules for it.

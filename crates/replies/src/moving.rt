@@ -1,8 +1,8 @@
-// The reply to `moves`.
+//! The reply to `moves`.
 ghost use Rattle.std.specs.Prelude.{◌≡◌, ◌<◌, ◌++◌, IfOk, OnOk};
 ghost use Rattle.std.specs.List.{flat_map};
 ghost use Rattle.replies.specs.Histories.{named};
-ghost use Rattle.replies.specs.Moving.{goal_line, legal_line, goal_lines, legal_lines, moves_lines, IsMovesReply};
+ghost use Rattle.statement.specs.Moving.{goal_line, legal_line, goal_lines, legal_lines, moves_lines, IsMovesReply};
 
 use crate::history::{position_after, refused_history};
 use crate::reply::{Reply, answered};

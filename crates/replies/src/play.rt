@@ -1,8 +1,8 @@
-// The memory of a search, and of the line of play that it finds.
+//! The memory of a search, and of the line of play that it finds.
 ghost use Rattle.std.specs.Prelude.{◌≡◌, ◌<◌, ◌≤◌, ◌-◌, pos, IfOk, Some};
 ghost use Rattle.smallvec.specs.SmallVec.{small_vec_len};
-ghost use Rattle.game.specs.Rules.{IsTurn};
-ghost use Rattle.game.specs.Value.{value, choice_of, reply_of};
+ghost use Rattle.statement.specs.Rules.{IsTurn};
+ghost use Rattle.statement.specs.Value.{value, choice_of, reply_of};
 ghost use Rattle.maximin.specs.Room.{room_depth};
 ghost use Rattle.replies.specs.Play.{IsPlayOf};
 

@@ -1,4 +1,4 @@
-// What a command over rules comes to.
+//! What a command over rules comes to.
 use crate::reply::Reply;
 use crate::search::Search;
 use position::{NetGame, RuleGame};

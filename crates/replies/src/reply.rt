@@ -1,10 +1,10 @@
-// All the bytes of a reply, and its status.
+//! All the bytes of a reply, and its status.
 ghost use Rattle.std.specs.Prelude.{◌≡◌, ◌++◌, IfOk, OnOk, IfSome};
-ghost use Rattle.kif.specs.Refusal.{refusal_line};
-ghost use Rattle.replies.specs.Checking.{count_line};
+ghost use Rattle.statement.specs.TextFaults.{refusal_line};
+ghost use Rattle.statement.specs.Checking.{count_line};
 
-use crate::status::Status;
 use kif::add_refusal;
+use statement::Status;
 use std::alloc::{AllocError, Global};
 use std::fmt::Display;
 use std::io::Write;

@@ -1,10 +1,10 @@
-// From the text of a role to the role.
+//! From the text of a role to the role.
 ghost use Rattle.std.specs.Prelude.{◌≡◌, ◌<◌, IfOk, IfSome, find};
-ghost use Rattle.kif.specs.Tree.{text, name_eq, trees_of};
+ghost use Rattle.statement.specs.Tree.{text, name_eq, trees_of};
 ghost use Rattle.kif.specs.View.{tree_of, trees_in};
-ghost use Rattle.game.specs.Rules.{all_roles};
+ghost use Rattle.statement.specs.Rules.{all_roles};
 ghost use Rattle.replies.specs.Histories.{named};
-ghost use Rattle.replies.specs.Solving.{role_in, IsRoleNamed};
+ghost use Rattle.statement.specs.Solving.{role_named_in, IsRoleNamed};
 
 use bumpalo::Bump;
 use game::Game;
@@ -27,7 +27,7 @@ fn find_role<G: Game, A: Allocator>(g: &G, tree: &Expr<A>) -> Option<usize>
 /// The role that exactly one tree names.
 fn role_of<G: Game, A: Allocator>(g: &G, trees: &[Expr<A>]) -> Option<usize>
     ensures known { IfSome result (λ r. r < (G.rules g.now).roles) }
-    ensures found { result ≡ role_in (named (G.rules g.now) (G.role_name g.now) (G.move_name g.now))
+    ensures found { result ≡ role_named_in (named (G.rules g.now) (G.role_name g.now) (G.move_name g.now))
         (trees_of (trees_in trees.now)) }
 {
     if trees.len() != 1 {

@@ -1,10 +1,10 @@
-// A search that is left to do.
+//! A search that is left to do.
 ghost use Rattle.std.specs.Prelude.{◌≡◌, ◌<◌, pos, IfOk};
-ghost use Rattle.game.specs.Value.{value, choice_of};
-ghost use Rattle.replies.specs.Answers.{answer};
+ghost use Rattle.statement.specs.Value.{value, choice_of};
+ghost use Rattle.statement.specs.Answers.{answer};
 ghost use Rattle.replies.specs.Histories.{named};
 ghost use Rattle.replies.specs.Questions.{reply_of};
-ghost use Rattle.replies.specs.Solving.{solve_lines};
+ghost use Rattle.statement.specs.Solving.{solve_lines};
 
 use crate::reply::{Reply, answered};
 use crate::solving::value_lines;

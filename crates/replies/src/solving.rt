@@ -1,12 +1,12 @@
-// The value of a state, the move that makes sure of it, and the line of play, as lines.
+//! The value of a state, the move that makes sure of it, and the line of play, as lines.
 ghost use Rattle.std.specs.Prelude.{◌≡◌, ◌≤◌, ◌<◌, ◌++◌, nat_abs, pos, IfOk, IfSome, OnOk};
-ghost use Rattle.game.specs.Rules.{IsTurn};
-ghost use Rattle.game.specs.Value.{value, choice_of, line_of};
+ghost use Rattle.statement.specs.Rules.{IsTurn};
+ghost use Rattle.statement.specs.Value.{value, choice_of, line_of};
 ghost use Rattle.maximin.specs.Room.{room_depth};
-ghost use Rattle.replies.specs.Checking.{spaced};
+ghost use Rattle.statement.specs.Checking.{spaced};
 ghost use Rattle.replies.specs.Histories.{named};
 ghost use Rattle.replies.specs.Play.{IsPlayOf};
-ghost use Rattle.replies.specs.Solving.{move_line, choice_text, move_texts, turn_line, turn_lines, solve_lines};
+ghost use Rattle.statement.specs.Solving.{move_line, choice_text, move_texts, turn_line, turn_lines, solve_lines};
 
 use crate::play::Play;
 use crate::reply::add_count;

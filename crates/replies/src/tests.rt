@@ -1,37 +1,60 @@
-// What `solve` answers over a game of one turn, by hand.
-use crate::alone::told_alone;
-use crate::asking::{Asked, ask_best};
-use crate::reply::Reply;
-use crate::status::Status;
+//! What `solve` answers over a game of one turn, by hand.
+use crate::alone::reply_alone;
+use crate::games::Player;
 use game::AtBound;
-use game::table::Table;
 use share::Cut;
-use std::alloc::{AllocError, Global};
+use statement::Status;
+use std::alloc::{AllocError, AllocGlobal};
+use words::Command;
 
 /// A role, a depth, a history, what is written, and whether it is an answer.
 type Row<'a> = (&'a str, u32, &'a str, &'a [u8], bool);
 
-/// The reply to `solve` over a game, by one thread.
-fn solved(
-    alloc: Global,
-    game: Table,
-    role: &str,
-    depth: u32,
-    after: &str,
-) -> Result<Reply, AllocError> {
-    let Some(cut) = Cut::parse(b"2x2") else {
-        return Err(AllocError);
-    };
-    match ask_best(alloc, game, role, depth, AtBound::Zero, cut, after)? {
-        Asked::Told(reply) => Ok(reply),
-        Asked::Open(search) => told_alone(alloc, search),
-    }
-}
+/// Three roles choose a side of a cube at once, and so one of its eight cells. The row gets what the cell is worth, the other two what
+/// is left of 100. Behind a side of the row that does not end the game the layer has no move.
+const CUBE: &[u8] = b"(role row)(role column)(role layer)(side one)(side two)
+    (<= (base (at ?x ?y ?z)) (side ?x) (side ?y) (side ?z))(<= (input ?r ?s) (role ?r) (side ?s))
+    (<= (next (at ?x ?y ?z)) (does row ?x) (does column ?y) (does layer ?z))(<= chosen (true (at ?x ?y ?z)))
+    (<= (legal ?r ?s) (role ?r) (distinct ?r layer) (side ?s))(<= (legal layer ?s) (side ?s) (not chosen))
+    (<= terminal (true (at ?x ?y ?z)) (ends ?x))(<= (goal row ?v) (true (at ?x ?y ?z)) (worth ?x ?y ?z ?v ?w))
+    (<= (goal ?r ?w) (role ?r) (distinct ?r row) (true (at ?x ?y ?z)) (worth ?x ?y ?z ?v ?w))";
 
-/// Whether `solve` writes what the row says.
-fn solves(alloc: Global, game: Table, row: Row) -> Result<bool, AllocError> {
-    let (role, depth, after, want, answers) = row;
-    let reply = solved(alloc, game, role, depth, after)?;
+/// The row can be sure of 10 by its first side, and of 30 by its second.
+const LEVEL: &[u8] = b"(ends one)(ends two)
+    (worth one one one 50 50)(worth one one two 10 90)(worth one two one 10 90)(worth one two two 50 50)
+    (worth two one one 40 60)(worth two one two 30 70)(worth two two one 90 10)(worth two two two 95 5)";
+
+/// Where the row plays `one`, two joint replies leave it 10, and by its other side it gets 5.
+const FIRST_SIDE: &[u8] = b"(ends one)(ends two)
+    (worth one one one 50 50)(worth one one two 10 90)(worth one two one 10 90)(worth one two two 50 50)
+    (worth two one one 5 95)(worth two one two 5 95)(worth two two one 5 95)(worth two two two 5 95)";
+
+/// The second side of the row does not end the game, and leaves the layer no move.
+const DEAD_END: &[u8] = b"(ends one)
+    (worth one one one 20 80)(worth one one two 20 80)(worth one two one 20 80)(worth one two two 20 80)
+    (worth two one one 90 10)(worth two one two 90 10)(worth two two one 90 10)(worth two two two 90 10)";
+
+/// Whether `solve` over a cube, played by one thread, writes what the row says.
+fn solves_by<T: AllocGlobal>(
+    rt: &T,
+    player: Player,
+    cells: &[u8],
+    row: &Row,
+) -> Result<bool, AllocError> {
+    let (role, depth, after, want, answers) = *row;
+    let Some(cut) = Cut::parse(b"2x2") else {
+        return Ok(false);
+    };
+    let mut rules = Vec::from_slice(rt.alloc(), CUBE)?;
+    rules.extend_from_slice(cells)?;
+    let command = Command::Solve {
+        role,
+        depth,
+        at_bound: AtBound::Zero,
+        cut,
+        after,
+    };
+    let reply = reply_alone(rt, player, &command, &rules)?;
     let wanted = if answers {
         Status::Answer
     } else {
@@ -40,12 +63,9 @@ fn solves(alloc: Global, game: Table, row: Row) -> Result<bool, AllocError> {
     Ok(reply.output.as_slice() == want && reply.status == wanted)
 }
 
-/// The row can be sure of 10 by its first side, and of 30 by its second.
-fn level() -> Table {
-    Table {
-        worth: [50, 10, 10, 50, 40, 30, 90, 95],
-        ends: [true; 8],
-    }
+/// Whether both players write what the row says.
+fn solves<T: AllocGlobal>(rt: &T, cells: &[u8], row: &Row) -> Result<bool, AllocError> {
+    Ok(solves_by(rt, Player::Network, cells, row)? && solves_by(rt, Player::Rules, cells, row)?)
 }
 
 const SOLVED: [Row; 9] = [
@@ -93,7 +113,7 @@ const SOLVED: [Row; 9] = [
 #[test]
 fn value_move_and_line_are_told(rt: HostRuntime) -> Result<(), AllocError> {
     for row in SOLVED {
-        assert!(rt; solves(rt.alloc(), level(), row)?, "at {row:?}");
+        assert!(rt; solves(&rt, LEVEL, &row)?, "at {row:?}");
     }
     Ok(())
 }
@@ -128,19 +148,15 @@ const REFUSED: [Row; 12] = [
 #[test]
 fn faults_of_the_role_stand_before_those_of_the_history(rt: HostRuntime) -> Result<(), AllocError> {
     for row in REFUSED {
-        assert!(rt; solves(rt.alloc(), level(), row)?, "at {row:?}");
+        assert!(rt; solves(&rt, LEVEL, &row)?, "at {row:?}");
     }
     Ok(())
 }
 
-// Where the row plays `one`, two joint replies leave it 10: the layer's `two`, and the column's `two`. The column stands before the
-// layer, so the reply in which it plays `one` is the first.
+// The layer's `two` leaves the row 10, and so does the column's `two`. The column stands before the layer, so the reply in which it
+// plays `one` is the first.
 #[test]
 fn first_least_reply_is_told(rt: HostRuntime) -> Result<(), AllocError> {
-    let table = Table {
-        worth: [50, 10, 10, 50, 5, 5, 5, 5],
-        ends: [true; 8],
-    };
     let line = (
         "row",
         1,
@@ -148,16 +164,8 @@ fn first_least_reply_is_told(rt: HostRuntime) -> Result<(), AllocError> {
         b"value 10\nmove one\nline 1 one one two\n".as_slice(),
         true,
     );
-    assert!(rt; solves(rt.alloc(), table, line)?);
+    assert!(rt; solves(&rt, FIRST_SIDE, &line)?);
     Ok(())
-}
-
-/// The second side of the row does not end the game, and leaves the layer no move.
-fn dead_end() -> Table {
-    Table {
-        worth: [20, 20, 20, 20, 90, 90, 90, 90],
-        ends: [true, true, true, true, false, false, false, false],
-    }
 }
 
 #[test]
@@ -169,7 +177,7 @@ fn stuck_state_is_worth_nothing(rt: HostRuntime) -> Result<(), AllocError> {
         b"value 20\nmove one\nline 1 one one one\n".as_slice(),
         true,
     );
-    assert!(rt; solves(rt.alloc(), dead_end(), start)?);
+    assert!(rt; solves(&rt, DEAD_END, &start)?);
     let stuck = (
         "row",
         3,
@@ -177,7 +185,7 @@ fn stuck_state_is_worth_nothing(rt: HostRuntime) -> Result<(), AllocError> {
         b"value 0\nmove none\n".as_slice(),
         true,
     );
-    assert!(rt; solves(rt.alloc(), dead_end(), stuck)?);
+    assert!(rt; solves(&rt, DEAD_END, &stuck)?);
     let further = (
         "row",
         3,
@@ -185,6 +193,6 @@ fn stuck_state_is_worth_nothing(rt: HostRuntime) -> Result<(), AllocError> {
         b"refused H4 Stuck 2\n".as_slice(),
         false,
     );
-    assert!(rt; solves(rt.alloc(), dead_end(), further)?);
+    assert!(rt; solves(&rt, DEAD_END, &further)?);
     Ok(())
 }

@@ -31,21 +31,21 @@ use Rattle.std.proofs.Common.{
 }
 use Rattle.std.specs.Prelude.{IsTrue, nat_lt, slice_index, ◌==◌}
 use Rattle.std.specs.Option.{option_map}
-use Rattle.kif.specs.Tree.{Tree, tree_eq}
+use Rattle.statement.specs.Tree.{Tree, tree_eq}
 use Rattle.kif.proofs.Facts.{both, true_and}
-use Rattle.profile.specs.Words.{w_next}
-use Rattle.profile.specs.Clause.{Atom, Alternative, relation_of}
-use Rattle.profile.specs.Dependence.{IsAmong}
+use Rattle.statement.specs.Words.{w_next}
+use Rattle.statement.specs.Clause.{Atom, Alternative, relation_of}
+use Rattle.statement.specs.Dependence.{IsAmong}
 use Rattle.profile.proofs.Facts.{fixed_tested}
-use Rattle.meaning.specs.declared.kind.Kind.{Kind}
-use Rattle.meaning.specs.declared.kind.Kind.TheVariants.{Fixed, Now, Does, Next, Legal, Goal, Terminal, Other}
-use Rattle.meaning.specs.Meaning.{Source, now, does, distinct, ordinary, source_of, RightAs, Holds, IsRole, IsInput, IsWithinInput, atom1}
-use Rattle.meaning.specs.Listing.{listing, is_atom_in, role_list, base_list, input_list}
+use Rattle.statement.specs.declared.kind.Kind.{Kind}
+use Rattle.statement.specs.declared.kind.Kind.TheVariants.{Fixed, Now, Does, Next, Legal, Goal, Terminal, Other}
+use Rattle.statement.specs.Meaning.{Source, now, does, distinct, ordinary, source_of, RightAs, Holds, IsRole, IsInput, IsWithinInput, atom1}
+use Rattle.statement.specs.Listing.{listing, is_atom_in, role_list, base_list, input_list}
 use Rattle.meaning.specs.Listed.{IsWellFormed}
 use Rattle.meaning.specs.Evaluation.{holding, after_list}
-use Rattle.meaning.specs.Kinds.{place_in, kind_of}
-use Rattle.ground.specs.Grounds.{numbered}
-use Rattle.meaning.specs.Play.{AreAfter}
+use Rattle.statement.specs.Kinds.{place_in, kind_of}
+use Rattle.statement.specs.Kept.{numbered}
+use Rattle.statement.specs.GoalsAndMoves.{AreAfter}
 use Rattle.meaning.proofs.Facts.{kind_sound, kind_complete}
 use Rattle.meaning.proofs.Facts.{bases_in_order, inputs_in_order}
 use Rattle.meaning.proofs.Facts.{holding_exact, after_listed}
@@ -54,10 +54,11 @@ use Rattle.meaning.proofs.Facts.{distinct_fixed}
 use Rattle.meaning.proofs.Facts.{is_atom_yes, is_atom_in_yes}
 use Rattle.meaning.proofs.Facts.{now_is, does_is}
 use Rattle.rulegame.specs.declared.naming.Naming.TheVariants.{ByNext}
-use Rattle.game.specs.Played.{tree_at}
-use Rattle.game.specs.Rules.{Turn}
+use Rattle.statement.specs.Played.{nth_tree}
+use Rattle.statement.specs.Rules.{Turn}
 use Rattle.rulegame.specs.RulePlay.{is_given, holds, names, is_named, named_below}
-use Rattle.rulegame.specs.RuleMeaning.{Agree, stands_at, state_of, chosen_at, joint_of, trees_at}
+use Rattle.rulegame.specs.RuleMeaning.{Agree}
+use Rattle.statement.specs.GameNumbers.{stands_at, state_of, chosen_at, joint_of, trees_at}
 use Rattle.rulegame.proofs.Trees.{trees_picked, picked_filter, placed, place_at, among_tree}
 use Rattle.rulegame.proofs.ByRules.{place_among, kind_holds, within_base}
 use Rattle.rulegame.proofs.LegalRules.{same_answer, in_order_once}
@@ -83,7 +84,7 @@ next_only k Terminal e = absurd cc
 next_only k Other e = absurd cc
 
 module _ (rules : List Alternative) (w : IsWellFormed rules) (s : List ℕ) (j : Turn) (many : length j ≡ length (role_list rules))
-    (below : (q : ℕ) → q < length (role_list rules) → slice_index j q < length (input_list rules (tree_at (role_list rules) q))) where
+    (below : (q : ℕ) → q < length (role_list rules) → slice_index j q < length (input_list rules (nth_tree (role_list rules) q))) where
   -- the number that a role moves is one of its inputs
   move_within : (r : Tree) (q : ℕ) → place_in r (role_list rules) ≡ Some q → slice_index j q < length (input_list rules r)
   move_within r q e =
@@ -99,7 +100,7 @@ module _ (rules : List Alternative) (w : IsWellFormed rules) (s : List ℕ) (j :
       go : (o : Option ℕ) → place_in r (role_list rules) ≡ o → chosen_at (input_list rules r) j o ≡ Some m → IsInput rules r m
       go None f k = absurd cc
       go (Some q) f k =
-          let same : tree_at (input_list rules r) (slice_index j q) ≡ m = cc in
+          let same : nth_tree (input_list rules r) (slice_index j q) ≡ m = cc in
           (inputs_exact rules w r m (is_role r q f)).0
           (subst (λ (t : Tree). IsAmong t (input_list rules r)) same (among_tree (input_list rules r) (slice_index j q) (move_within r q f)))
 
@@ -116,7 +117,7 @@ module _ (rules : List Alternative) (w : IsWellFormed rules) (s : List ℕ) (j :
           let b = both (nat_lt q (length j)) (slice_index j q == n) e in
           subst (λ (y : Atom). RightAs (state_of rules s) (joint_of rules j) ⊥ (source_of y)) (sym m.2)
           (ap (chosen_at (input_list rules m.0) j) m.3
-          ∙ ap (λ (i : ℕ). Some (tree_at (input_list rules m.0) i)) (eqb-true (slice_index j q) n b.1)
+          ∙ ap (λ (i : ℕ). Some (nth_tree (input_list rules m.0) i)) (eqb-true (slice_index j q) n b.1)
           ∙ ap Some (placed m.1 (input_list rules m.0) n m.4))
       there (Next p) h e = absurd cc
       there (Legal r m) h e = absurd cc
@@ -135,7 +136,7 @@ module _ (rules : List Alternative) (w : IsWellFormed rules) (s : List ℕ) (j :
           go : (o : Option ℕ) → place_in r (role_list rules) ≡ o → chosen_at (input_list rules r) j o ≡ Some m → is_given s j (kind_of rules x) ≡ true
           go None f k = absurd cc
           go (Some q) f k =
-              let same : tree_at (input_list rules r) (slice_index j q) ≡ m = cc in
+              let same : nth_tree (input_list rules r) (slice_index j q) ≡ m = cc in
               let once = in_order_once (input_list rules r) (inputs_in_order rules w r (is_role r q f)) in
               let place = subst (λ (t : Tree). place_in t (input_list rules r) ≡ Some (slice_index j q)) same
               (place_at (input_list rules r) once (slice_index j q) (move_within r q f)) in
@@ -148,11 +149,11 @@ module _ (rules : List Alternative) (w : IsWellFormed rules) (s : List ℕ) (j :
   pub next_holds : (k : ℕ) → k < length (base_list rules)
       → (is_named (map (kind_of rules) (listing rules).atoms)
       (holds (map (kind_of rules) (listing rules).atoms) (map (numbered rules) (listing rules).kept) s j) ByNext k ≡ true)
-      ↔ Holds rules (state_of rules s) (joint_of rules j) (atom1 w_next (tree_at (base_list rules) k))
+      ↔ Holds rules (state_of rules s) (joint_of rules j) (atom1 w_next (nth_tree (base_list rules) k))
   next_holds k lt =
       kind_holds rules w (state_of rules s) (joint_of rules j) (within_base rules w s) within_input s j agree_move (λ c. names ByNext c k) (Next k)
-      (atom1 w_next (tree_at (base_list rules) k)) (next_only k) (eq-eqb k k refl) (λ e. absurd cc) (λ e. absurd cc)
-      (tree_at (base_list rules) k, refl, place_at (base_list rules) (in_order_once (base_list rules) (bases_in_order rules w)) k lt)
+      (atom1 w_next (nth_tree (base_list rules) k)) (next_only k) (eq-eqb k k refl) (λ e. absurd cc) (λ e. absurd cc)
+      (nth_tree (base_list rules) k, refl, place_at (base_list rules) (in_order_once (base_list rules) (bases_in_order rules w)) k lt)
       (λ z m. m.1 ∙ ap (λ (t : Tree). atom1 w_next t) (sym (placed m.0 (base_list rules) k m.2))) refl
 
   after_same : trees_at (base_list rules) (named_below (map (kind_of rules) (listing rules).atoms)
@@ -164,8 +165,8 @@ module _ (rules : List Alternative) (w : IsWellFormed rules) (s : List ℕ) (j :
       trees_picked f (base_list rules)
       ∙ picked_filter f (λ p. is_atom_in (atom1 w_next p) (holding rules (state_of rules s) (joint_of rules j))) 0 (base_list rules)
       (λ k lt. let z : 0 + k ≡ k = omega arith in
-      ap f z ∙ same_answer (f k) _ (Holds rules (state_of rules s) (joint_of rules j) (atom1 w_next (tree_at (base_list rules) k)))
-      (next_holds k lt) (found (tree_at (base_list rules) k)))
+      ap f z ∙ same_answer (f k) _ (Holds rules (state_of rules s) (joint_of rules j) (atom1 w_next (nth_tree (base_list rules) k)))
+      (next_holds k lt) (found (nth_tree (base_list rules) k)))
     where
       found : (p : Tree) → (is_atom_in (atom1 w_next p) (holding rules (state_of rules s) (joint_of rules j)) ≡ true) ↔ Holds rules (state_of rules s)
           (joint_of rules j) (atom1 w_next p)

@@ -34,32 +34,19 @@ use Rattle.std.proofs.Common.{
 }
 use Rattle.std.specs.Prelude.{filter, ◌==◌}
 use Rattle.kif.proofs.Facts.{both, true_and}
-use Rattle.profile.specs.Clause.{Atom, Literal, positive, negative, Alternative, relation_of, atom_eq, atom_of}
-use Rattle.profile.specs.Dependence.{IsAmong, is_fixed}
+use Rattle.statement.specs.Clause.{Atom, Literal, positive, negative, Alternative, relation_of, atom_eq, atom_of}
+use Rattle.statement.specs.Dependence.{IsAmong, is_fixed}
 use Rattle.profile.proofs.Facts.{not_true, not_false, IsAmong-append, IsAmong-append_right, or_cases, or_left, or_right}
-use Rattle.meaning.specs.declared.kind.Kind.{Kind}
-use Rattle.meaning.specs.Meaning.{
-  State,
-  Joint,
-  Source,
-  now,
-  does,
-  distinct,
-  ordinary,
-  source_of,
-  RightAs,
-  IsRight,
-  Holds,
-  IsWithinBase,
-  IsWithinInput,
-}
-use Rattle.meaning.specs.Numbers.{number_of}
-use Rattle.meaning.specs.InOrder.{first_place}
-use Rattle.meaning.specs.Listing.{Instance, is_atom_in, listing}
+use Rattle.statement.specs.declared.kind.Kind.{Kind}
+use Rattle.statement.specs.Meaning.{StateOfTerms, Joint, Source, now, does, distinct, ordinary, source_of, RightAs, IsRight, Holds, IsWithinBase, IsWithinInput}
+use Rattle.statement.specs.Kept.{number_of}
+use Rattle.statement.specs.Printed.{first_place}
+use Rattle.statement.specs.Listing.{Instance, is_atom_in, listing}
 use Rattle.meaning.specs.Listed.{IsWellFormed, HasRightListed}
-use Rattle.meaning.specs.Gates.{is_read, reading, gate, atom_at, literal_at, IsBodyRight}
-use Rattle.meaning.specs.Kinds.{kind_of}
-use Rattle.ground.specs.Grounds.{numbered}
+use Rattle.statement.specs.Kept.{is_read, reading, gate}
+use Rattle.meaning.specs.Gates.{atom_at, literal_at, IsBodyRight}
+use Rattle.statement.specs.Kinds.{kind_of}
+use Rattle.statement.specs.Kept.{numbered}
 use Rattle.meaning.proofs.Facts.{
   before,
   listed_suffice,
@@ -74,9 +61,10 @@ use Rattle.meaning.proofs.Facts.{
   among_filter,
   atom_test,
 }
-use Rattle.game.specs.Rules.{Turn}
+use Rattle.statement.specs.Rules.{Turn}
 use Rattle.rulegame.specs.RuleMeaning.{Agree}
-use Rattle.rulegame.specs.RulePlay.{stands_in, kind_at, is_given, is_right, all_right, found_by, holds}
+use Rattle.statement.specs.GameNumbers.{stands_in}
+use Rattle.rulegame.specs.RulePlay.{kind_at, is_given, is_right, all_right, found_by, holds}
 
 -- an atom whose number is below their count is one of the atoms
 listed_below : (x : Atom) (atoms : List Atom) → number_of x atoms < length atoms → IsAmong x atoms
@@ -99,13 +87,13 @@ kind_listed f x (y ∷ ys) a = go (atom_eq x y) refl a (kind_listed f x ys)
     go false e (inr k) more = more k
 
 -- what the sources other than rules say does not depend on the rules
-other_source : (S : State) (J : Joint) (H : Type 0) (s : Source) → (s ≡ ordinary → ⊥) → RightAs S J ⊥ s ↔ RightAs S J H s
+other_source : (S : StateOfTerms) (J : Joint) (H : Type 0) (s : Source) → (s ≡ ordinary → ⊥) → RightAs S J ⊥ s ↔ RightAs S J H s
 other_source S J H (now p) no_rule = ((λ h. h), (λ h. h))
 other_source S J H (does r m) no_rule = ((λ h. h), (λ h. h))
 other_source S J H (distinct s t) no_rule = ((λ h. h), (λ h. h))
 other_source S J H ordinary no_rule = absurd (no_rule refl)
 
-pub right_there : (S : State) (J : Joint) (H : Type 0) (s : Source) → s ≡ ordinary → H ↔ RightAs S J H s
+pub right_there : (S : StateOfTerms) (J : Joint) (H : Type 0) (s : Source) → s ≡ ordinary → H ↔ RightAs S J H s
 right_there S J H (now p) e = absurd cc
 right_there S J H (does r m) e = absurd cc
 right_there S J H (distinct s t) e = absurd cc
@@ -117,7 +105,7 @@ is_ordinary (does r m) = inr (λ e. absurd cc)
 is_ordinary (distinct s t) = inr (λ e. absurd cc)
 is_ordinary ordinary = inl refl
 
-literal_told : (S : State) (J : Joint) (H : Atom → Type 0) (x : Atom) (b negated : Bool) → (b ≡ true) ↔ RightAs S J (H x) (source_of x)
+literal_told : (S : StateOfTerms) (J : Joint) (H : Atom → Type 0) (x : Atom) (b negated : Bool) → (b ≡ true) ↔ RightAs S J (H x) (source_of x)
     → (cond negated (not b) b ≡ true) ↔ IsRight S J H (cond negated (negative x) (positive x))
 literal_told S J H x b false h = h
 literal_told S J H x b true h =
@@ -127,7 +115,7 @@ literal_told S J H x b true h =
     go true e n = absurd (n e)
     go false e n = not_false b e
 
-all_told : (S : State) (J : Joint) (H : Atom → Type 0) (atoms : List Atom) (right : ℕ → Bool) (rs : List (ℕ × Bool))
+all_told : (S : StateOfTerms) (J : Joint) (H : Atom → Type 0) (atoms : List Atom) (right : ℕ → Bool) (rs : List (ℕ × Bool))
     → ((r : ℕ × Bool) → IsAmong r rs → (right r.0 ≡ true) ↔ RightAs S J (H (atom_at atoms r.0)) (source_of (atom_at atoms r.0)))
     → (all_right right rs ≡ true) ↔ ((r : ℕ × Bool) → IsAmong r rs → IsRight S J H (literal_at atoms r))
 all_told S J H atoms right [] h = ((λ e r a. absurd a), (λ k. refl))
@@ -161,7 +149,7 @@ module _ (rules : List Alternative) (w : IsWellFormed rules) where
       subst (λ (j : Instance). source_of j.head ≡ ordinary) k.same
       (source_under k.map k.rule.head.word k.rule.head.terms (w.heads k.rule k.kept.is_rule))
 
-  module _ (S : State) (J : Joint) (base : IsWithinBase rules S) (input : IsWithinInput rules J) (s : List ℕ) (j : Turn)
+  module _ (S : StateOfTerms) (J : Joint) (base : IsWithinBase rules S) (input : IsWithinInput rules J) (s : List ℕ) (j : Turn)
       (given : Agree rules S J s j) where
     abbrev number : Atom → ℕ
     number x = number_of x (listing rules).atoms

@@ -35,41 +35,24 @@ use Rattle.std.proofs.Common.{
 use Rattle.std.specs.Prelude.{filter, IsTrue, nat_lt, slice_index, ◌==◌}
 use Rattle.std.specs.Option.{option_map}
 use Rattle.std.proofs.lemmas.List.{length-map}
-use Rattle.kif.specs.Tree.{Tree, Trees, no_trees, tree, name_eq, tree_eq}
+use Rattle.statement.specs.Tree.{Tree, Trees, no_trees, tree, name_eq, tree_eq}
 use Rattle.kif.proofs.Facts.{both, true_and, name_eq_yes, tree_eq_yes}
-use Rattle.profile.specs.Words.{w_true, w_does, w_distinct, w_terminal}
-use Rattle.profile.specs.Clause.{Atom, Alternative, relation_of, atom_eq}
-use Rattle.profile.specs.Dependence.{IsAmong, is_fixed}
+use Rattle.statement.specs.Words.{w_true, w_does, w_distinct, w_terminal}
+use Rattle.statement.specs.Clause.{Atom, Alternative, relation_of, atom_eq}
+use Rattle.statement.specs.Dependence.{IsAmong, is_fixed}
 use Rattle.profile.proofs.Facts.{fixed_tested, or_cases, or_left, or_right}
-use Rattle.meaning.specs.declared.kind.Kind.{Kind}
-use Rattle.meaning.specs.declared.kind.Kind.TheVariants.{Fixed, Now, Does, Next, Legal, Goal, Terminal, Other}
-use Rattle.meaning.specs.Meaning.{
-  State,
-  Joint,
-  Source,
-  now,
-  does,
-  distinct,
-  ordinary,
-  source_at,
-  source_of,
-  RightAs,
-  Holds,
-  nobody,
-  IsEnded,
-  IsBase,
-  IsWithinBase,
-  IsWithinInput,
-  atom0,
-  atom1,
-}
-use Rattle.meaning.specs.InOrder.{AreDistinct, first_place}
-use Rattle.meaning.specs.Numbers.{number_of}
-use Rattle.meaning.specs.Listing.{listing, base_list}
+use Rattle.statement.specs.declared.kind.Kind.{Kind}
+use Rattle.statement.specs.declared.kind.Kind.TheVariants.{Fixed, Now, Does, Next, Legal, Goal, Terminal, Other}
+use Rattle.statement.specs.Meaning.{StateOfTerms, Joint, Source, now, does, distinct, ordinary, source_at, source_of, RightAs, Holds, nobody, IsEnded, IsBase, IsWithinBase, IsWithinInput, atom0, atom1}
+use Rattle.meaning.specs.InOrder.{AreDistinct}
+use Rattle.statement.specs.Printed.{first_place}
+use Rattle.statement.specs.Kept.{number_of}
+use Rattle.statement.specs.Listing.{listing, base_list}
 use Rattle.meaning.specs.Listed.{IsWellFormed}
 use Rattle.meaning.specs.Gates.{atom_at}
-use Rattle.meaning.specs.Kinds.{place_in, kind_of, MeansKind}
-use Rattle.ground.specs.Grounds.{Kept, numbered}
+use Rattle.statement.specs.Kinds.{place_in, kind_of}
+use Rattle.meaning.specs.Kinds.{MeansKind}
+use Rattle.statement.specs.Kept.{Kept, numbered}
 use Rattle.meaning.proofs.Facts.{
   kind_sound,
   kind_complete,
@@ -81,13 +64,14 @@ use Rattle.meaning.proofs.Facts.{
   atom_test,
   start_listed,
 }
-use Rattle.game.specs.Rules.{Turn}
+use Rattle.statement.specs.Rules.{Turn}
 use Rattle.rulegame.specs.RulePlay.{marked, no_turn, kind_at, is_given, holds, some_below, is_terminal, ends}
-use Rattle.rulegame.specs.RuleMeaning.{Agree, stands_at, state_of, trees_at}
-use Rattle.game.specs.Played.{tree_at}
+use Rattle.rulegame.specs.RuleMeaning.{Agree}
+use Rattle.statement.specs.GameNumbers.{stands_at, state_of, trees_at}
+use Rattle.statement.specs.Played.{nth_tree}
 use Rattle.rulegame.proofs.Trees.{trees_picked, picked_filter}
-use Rattle.meaning.specs.Play as play
-use Rattle.meaning.specs.Play.{AreStart}
+use Rattle.statement.specs.GoalsAndMoves as play
+use Rattle.statement.specs.GoalsAndMoves.{AreStart}
 use Rattle.meaning.proofs.Facts.{start_listed}
 use Rattle.std.specs.List.{range_with_len}
 use Rattle.rulegame.proofs.ByNumbers.{numbers_exact, kind_listed, head_listed, right_there}
@@ -227,7 +211,7 @@ module _ (rules : List Alternative) (w : IsWellFormed rules) where
         back (distinct t u) e h = let f = (fixed_tested rules w.acyclic (relation_of x)).1 (distinct_fixed rules w x t u e) in absurd cc
         back ordinary e h = absurd h
 
-  module _ (S : State) (J : Joint) (base : IsWithinBase rules S) (input : IsWithinInput rules J) (s : List ℕ) (j : Turn) (given : Agree rules S J s j)
+  module _ (S : StateOfTerms) (J : Joint) (base : IsWithinBase rules S) (input : IsWithinInput rules J) (s : List ℕ) (j : Turn) (given : Agree rules S J s j)
     where
       -- some number that holds has the kind exactly where the one atom of the kind holds
       pub kind_holds : (test : Kind → Bool) (k : Kind) (y : Atom) → ((c : Kind) → test c ≡ true → c ≡ k) → test k ≡ true → (k ≡ Other → ⊥)
@@ -270,7 +254,7 @@ module _ (rules : List Alternative) (w : IsWellFormed rules) where
       kind_holds (state_of rules s) nobody (within_base s) (no_move s) s no_turn (agree_now s) is_terminal Terminal (atom0 w_terminal) terminal_only
       refl (λ e. absurd cc) (λ e. absurd cc) refl (λ z m. m) refl
 
-start_mark : (F : Tree → Bool) (ts : List Tree) (k : ℕ) → k < length ts → get_or (map F ts) k false ≡ F (tree_at ts k)
+start_mark : (F : Tree → Bool) (ts : List Tree) (k : ℕ) → k < length ts → get_or (map F ts) k false ≡ F (nth_tree ts k)
 start_mark F [] k lt = absurd (omega arith)
 start_mark F (t ∷ ts) zero lt = refl
 start_mark F (t ∷ ts) (suc k) lt = start_mark F ts k (omega arith)

@@ -4,25 +4,26 @@ use Rattle.std.specs.Prelude.{All, filter, slice_index, slice_index_or, false}
 use Rattle.std.specs.List.{range_with_len}
 use Rattle.std.proofs.lemmas.List.{length-map, get_or-map}
 use Rattle.std.proofs.lemmas.List.Elements.{All-filter}
-use Rattle.kif.specs.Tree.{Tree, text}
-use Rattle.profile.specs.Clause.{Alternative}
-use Rattle.meaning.specs.declared.kind.Kind.{Kind}
+use Rattle.statement.specs.Tree.{Tree, text}
+use Rattle.statement.specs.Clause.{Alternative}
+use Rattle.statement.specs.declared.kind.Kind.{Kind}
 use Rattle.ground.specs.declared.flat_ground.FlatGround.{FlatGround}
-use Rattle.meaning.specs.Meaning.{IsInAfter, IsLegal, IsEnded}
-use Rattle.meaning.specs.Listing.{listing, role_list, base_list, input_list}
+use Rattle.statement.specs.Meaning.{IsInAfter, IsLegal, IsEnded}
+use Rattle.statement.specs.Listing.{listing, role_list, base_list, input_list}
 use Rattle.meaning.specs.Listed.{IsWellFormed}
-use Rattle.meaning.specs.Kinds.{kind_of}
-use Rattle.ground.specs.Grounds.{Kept, numbered, text_at, texts_at, IsGroundOf}
+use Rattle.statement.specs.Kinds.{kind_of}
+use Rattle.statement.specs.Kept.{Kept, numbered}
+use Rattle.ground.specs.Grounds.{text_at, texts_at, IsGroundOf}
 use Rattle.ground.specs.GroundView.{roles_of, base_of, inputs_of, kinds_of, instances_of, IsGround}
-use Rattle.meaning.specs.Play as play
-use Rattle.meaning.specs.Play.{AreStart, AreAfter, AreLegal, IsGoal}
+use Rattle.statement.specs.GoalsAndMoves as play
+use Rattle.statement.specs.GoalsAndMoves.{AreStart, AreAfter, AreLegal, IsGoal}
 use Rattle.rulegame.specs.declared.naming.Naming.TheVariants.{ByNext, ByLegal}
-use Rattle.game.specs.NamedRules.{NamedRules}
-use Rattle.game.specs.Played.{tree_at}
-use Rattle.game.specs.Rules.{Turn, IsTurn}
+use Rattle.statement.specs.NamedRules.{NamedRules}
+use Rattle.statement.specs.Played.{nth_tree}
+use Rattle.statement.specs.Rules.{Turn, IsTurn}
 use Rattle.rulegame.specs.RulePlay.{no_turn, marked, holds, is_named, rules_by}
-use Rattle.rulegame.specs.RuleMeaning.{state_of, joint_of, trees_at}
-use Rattle.rulegame.specs.RulesGame.{role_at, inputs_at, AreNumbersOf, IsGameOf}
+use Rattle.statement.specs.GameNumbers.{state_of, joint_of, trees_at}
+use Rattle.statement.specs.GameOfRules.{role_at, inputs_at, AreNumbersOf, IsGameOf}
 use Rattle.rulegame.specs.RuleState.{rules_of, named_rules_of}
 use Rattle.rulegame.specs.RuleLaws.{below_range}
 use Rattle.game.proofs.Facts.{get_or_any}
@@ -40,8 +41,8 @@ game_by roles inputs starts kinds kept = record {
 }
 
 -- the text of a tree at a place
-text_there : (ts : List Tree) (k : ℕ) → k < length ts → text_at (map text ts) k ≡ text (tree_at ts k)
-text_there ts k lt = get_or-map text ts k (tree_at ts k) [] lt ∙ ap text (get_or_any ts k (tree_at ts k) _ lt)
+text_there : (ts : List Tree) (k : ℕ) → k < length ts → text_at (map text ts) k ≡ text (nth_tree ts k)
+text_there ts k lt = get_or-map text ts k (nth_tree ts k) [] lt ∙ ap text (get_or_any ts k (nth_tree ts k) _ lt)
 
 module _ (rules : List Alternative) (w : IsWellFormed rules) where
   abbrev inputs : List (List (List ℕ))
@@ -76,7 +77,7 @@ module _ (rules : List Alternative) (w : IsWellFormed rules) where
   moves_counted : (r : ℕ) → r < length inputs → length (texts_at inputs r) ≡ length (inputs_at rules r)
   moves_counted r lt = ap (λ (ts : List (List ℕ)). length ts) (texts_there r lt) ∙ length-map (inputs_at rules r) text
 
-  move_named : (r m : ℕ) → r < length inputs → m < length (texts_at inputs r) → text_at (texts_at inputs r) m ≡ text (tree_at (inputs_at rules r) m)
+  move_named : (r m : ℕ) → r < length inputs → m < length (texts_at inputs r) → text_at (texts_at inputs r) m ≡ text (nth_tree (inputs_at rules r) m)
   move_named r m lt below =
       ap (λ (ts : List (List ℕ)). text_at ts m) (texts_there r lt)
       ∙ text_there (inputs_at rules r) m (subst (λ (n : ℕ). m < n) (moves_counted r lt) below)
@@ -85,9 +86,6 @@ module _ (rules : List Alternative) (w : IsWellFormed rules) where
   marked_below =
       subst (λ (n : ℕ). All (λ k. k < n) (marked starts)) starts_counted
       (All-filter (λ n. slice_index_or starts n false) (λ n. n < length starts) (range_with_len 0 (length starts)) (below_range (length starts)))
-
-  right : List ℕ → Turn → ℕ → Bool
-  right s j = holds kinds kept s j
 
   legal_numbers : (s : List ℕ) (r : ℕ) → r < length inputs
       → AreNumbersOf (inputs_at rules r) (IsLegal rules (state_of rules s) (role_at rules r)) (game.rules.legal s r)
@@ -163,8 +161,8 @@ within_roles rules g is r lt = subst (λ (n : ℕ). r < n) (sym (game_of_ground 
 
 -- the legal moves are those of the rules
 pub legal_by_rules : (rules : List Alternative) (g : FlatGround) → IsGround rules g → (s : List ℕ) (r : ℕ) → r < length (role_list rules)
-    → AreLegal rules (state_of rules s) (tree_at (role_list rules) r)
-    (trees_at (input_list rules (tree_at (role_list rules) r)) ((rules_of g).legal s r))
+    → AreLegal rules (state_of rules s) (nth_tree (role_list rules) r)
+    (trees_at (input_list rules (nth_tree (role_list rules) r)) ((rules_of g).legal s r))
 legal_by_rules rules g is s r lt = ((game_of_ground rules g is).legals s r (within_roles rules g is r lt)).are
 
 -- the state after a turn is that of the rules
@@ -174,5 +172,5 @@ after_by_rules rules g is s j turn = ((game_of_ground rules g is).follows s j tu
 
 -- the goals are those of the rules
 pub goals_by_rules : (rules : List Alternative) (g : FlatGround) → IsGround rules g → (s : List ℕ) (r : ℕ) → r < length (role_list rules)
-    → IsGoal rules (state_of rules s) (tree_at (role_list rules) r) ((rules_of g).goal s r)
+    → IsGoal rules (state_of rules s) (nth_tree (role_list rules) r) ((rules_of g).goal s r)
 goals_by_rules rules g is s r lt = (game_of_ground rules g is).goals s r (within_roles rules g is r lt)

@@ -31,23 +31,24 @@ use Rattle.std.specs.Prelude.{◌==◌, max, decimal}
 use Rattle.std.proofs.Math.Nat.{le-max_left, le-max_right, max-eq_left, max-eq_right}
 use Rattle.std.proofs.lemmas.Bool.{cases_lt}
 use Rattle.std.proofs.lemmas.List.{length-map}
-use Rattle.kif.specs.Tree.{Tree, name}
+use Rattle.statement.specs.Tree.{Tree, name}
 use Rattle.kif.proofs.Facts.{both, true_and}
-use Rattle.profile.specs.Words.{w_goal}
-use Rattle.profile.specs.Clause.{Atom, Alternative}
-use Rattle.meaning.specs.declared.kind.Kind.{Kind}
-use Rattle.meaning.specs.declared.kind.Kind.TheVariants.{Fixed, Now, Does, Next, Legal, Goal, Terminal, Other}
-use Rattle.meaning.specs.Meaning.{nobody, atom2}
-use Rattle.meaning.specs.Listing.{listing, role_list}
+use Rattle.statement.specs.Words.{w_goal}
+use Rattle.statement.specs.Clause.{Atom, Alternative}
+use Rattle.statement.specs.declared.kind.Kind.{Kind}
+use Rattle.statement.specs.declared.kind.Kind.TheVariants.{Fixed, Now, Does, Next, Legal, Goal, Terminal, Other}
+use Rattle.statement.specs.Meaning.{nobody, atom2}
+use Rattle.statement.specs.Listing.{listing, role_list}
 use Rattle.meaning.specs.Listed.{IsWellFormed}
 use Rattle.meaning.specs.Gates.{atom_at}
-use Rattle.meaning.specs.Kinds.{kind_of, MeansKind}
-use Rattle.ground.specs.Grounds.{numbered}
-use Rattle.meaning.specs.Play.{HasGoal, IsGoal}
+use Rattle.statement.specs.Kinds.{kind_of}
+use Rattle.meaning.specs.Kinds.{MeansKind}
+use Rattle.statement.specs.Kept.{numbered}
+use Rattle.statement.specs.GoalsAndMoves.{HasGoal, IsGoal}
 use Rattle.meaning.proofs.Facts.{kind_sound, roles_once}
-use Rattle.game.specs.Played.{tree_at}
+use Rattle.statement.specs.Played.{nth_tree}
 use Rattle.rulegame.specs.RulePlay.{no_turn, kind_at, holds, some_below, greatest_below, goal_value, best_goal}
-use Rattle.rulegame.specs.RuleMeaning.{state_of}
+use Rattle.statement.specs.GameNumbers.{state_of}
 use Rattle.rulegame.proofs.Trees.{placed, place_at}
 use Rattle.rulegame.proofs.ByRules.{kind_at_number, some_found, found_some, kind_holds, within_base, no_move, agree_now}
 
@@ -126,7 +127,7 @@ valued_only r v Other e = absurd cc
 
 module _ (rules : List Alternative) (w : IsWellFormed rules) (s : List ℕ) (r : ℕ) (inside : r < length (role_list rules)) where
   abbrev role : Tree
-  role = tree_at (role_list rules) r
+  role = nth_tree (role_list rules) r
 
   abbrev kinds : List Kind
   kinds = map (kind_of rules) (listing rules).atoms

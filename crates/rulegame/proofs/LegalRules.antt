@@ -25,19 +25,20 @@ use Rattle.std.proofs.Common.{
 }
 use Rattle.std.specs.Prelude.{◌==◌}
 use Rattle.std.specs.declared.cmp.Ordering.TheVariants.{Less}
-use Rattle.kif.specs.Tree.{Tree, printed_cmp}
-use Rattle.profile.specs.Words.{w_legal}
-use Rattle.profile.specs.Clause.{Atom, Alternative}
-use Rattle.meaning.specs.declared.kind.Kind.{Kind}
-use Rattle.meaning.specs.declared.kind.Kind.TheVariants.{Fixed, Now, Does, Next, Legal, Goal, Terminal, Other}
-use Rattle.meaning.specs.Meaning.{Holds, nobody, atom2, IsRole}
+use Rattle.statement.specs.Tree.{Tree, printed_cmp}
+use Rattle.statement.specs.Words.{w_legal}
+use Rattle.statement.specs.Clause.{Atom, Alternative}
+use Rattle.statement.specs.declared.kind.Kind.{Kind}
+use Rattle.statement.specs.declared.kind.Kind.TheVariants.{Fixed, Now, Does, Next, Legal, Goal, Terminal, Other}
+use Rattle.statement.specs.Meaning.{Holds, nobody, atom2, IsRole}
 use Rattle.meaning.specs.InOrder.{AreDistinct}
-use Rattle.meaning.specs.Listing.{listing, is_atom_in, role_list, input_list}
+use Rattle.statement.specs.Listing.{listing, is_atom_in, role_list, input_list}
 use Rattle.meaning.specs.Listed.{IsWellFormed}
 use Rattle.meaning.specs.Evaluation.{holding, legal_list}
-use Rattle.meaning.specs.Kinds.{kind_of, MeansKind}
-use Rattle.ground.specs.Grounds.{numbered}
-use Rattle.meaning.specs.Play.{AreInPrintedOrder, AreLegal}
+use Rattle.statement.specs.Kinds.{kind_of}
+use Rattle.meaning.specs.Kinds.{MeansKind}
+use Rattle.statement.specs.Kept.{numbered}
+use Rattle.statement.specs.GoalsAndMoves.{AreInPrintedOrder, AreLegal}
 use Rattle.meaning.proofs.Facts.{roles_once, inputs_in_order}
 use Rattle.meaning.proofs.Facts.{holding_exact, legal_listed}
 use Rattle.meaning.proofs.Facts.{roles_exact}
@@ -45,9 +46,9 @@ use Rattle.meaning.proofs.Facts.{is_atom_yes, is_atom_in_yes}
 use Rattle.meaning.proofs.Facts.{order_other}
 use Rattle.meaning.proofs.Facts.{printed_never}
 use Rattle.rulegame.specs.declared.naming.Naming.TheVariants.{ByLegal}
-use Rattle.game.specs.Played.{tree_at}
+use Rattle.statement.specs.Played.{nth_tree}
 use Rattle.rulegame.specs.RulePlay.{no_turn, holds, names, is_number, is_named, named_below}
-use Rattle.rulegame.specs.RuleMeaning.{state_of, trees_at}
+use Rattle.statement.specs.GameNumbers.{state_of, trees_at}
 use Rattle.rulegame.proofs.Trees.{trees_picked, picked_filter, placed, place_at, among_tree}
 use Rattle.rulegame.proofs.ByRules.{kind_holds, within_base, no_move, agree_now}
 
@@ -80,7 +81,7 @@ legal_is r k = let h = eq-eqb r r refl in let f = eq-eqb k k refl in rw h f
 
 module _ (rules : List Alternative) (w : IsWellFormed rules) (s : List ℕ) (r : ℕ) (inside : r < length (role_list rules)) where
   abbrev role : Tree
-  role = tree_at (role_list rules) r
+  role = nth_tree (role_list rules) r
 
   is_role : IsRole rules role
   is_role = (roles_exact rules w role).0 (among_tree (role_list rules) r inside)
@@ -88,23 +89,23 @@ module _ (rules : List Alternative) (w : IsWellFormed rules) (s : List ℕ) (r :
   legal_holds : (k : ℕ) → k < length (input_list rules role)
       → (is_named (map (kind_of rules) (listing rules).atoms)
       (holds (map (kind_of rules) (listing rules).atoms) (map (numbered rules) (listing rules).kept) s no_turn) (ByLegal r) k ≡ true)
-      ↔ Holds rules (state_of rules s) nobody (atom2 w_legal role (tree_at (input_list rules role) k))
+      ↔ Holds rules (state_of rules s) nobody (atom2 w_legal role (nth_tree (input_list rules role) k))
   legal_holds k lt =
       kind_holds rules w (state_of rules s) nobody (within_base rules w s) (no_move rules w s) s no_turn (agree_now rules w s)
       (λ c. names (ByLegal r) c k) (Legal r k)
-      (atom2 w_legal role (tree_at (input_list rules role) k)) (legal_only r k) (legal_is r k) (λ e. absurd cc) (λ e. absurd cc) (
+      (atom2 w_legal role (nth_tree (input_list rules role) k)) (legal_only r k) (legal_is r k) (λ e. absurd cc) (λ e. absurd cc) (
         role,
-        tree_at (input_list rules role) k,
+        nth_tree (input_list rules role) k,
         refl,
         place_at (role_list rules) (roles_once rules w) r inside,
         place_at (input_list rules role) (in_order_once (input_list rules role) (inputs_in_order rules w role is_role)) k lt,
       )
       once refl
     where
-      once : (z : Atom) → MeansKind rules z (Legal r k) → z ≡ atom2 w_legal role (tree_at (input_list rules role) k)
+      once : (z : Atom) → MeansKind rules z (Legal r k) → z ≡ atom2 w_legal role (nth_tree (input_list rules role) k)
       once z m =
           m.2 ∙ ap (λ (t : Tree). atom2 w_legal m.0 t) (sym (placed m.1 (input_list rules m.0) k m.4))
-          ∙ ap (λ (q : Tree). atom2 w_legal q (tree_at (input_list rules q) k)) (sym (placed m.0 (role_list rules) r m.3))
+          ∙ ap (λ (q : Tree). atom2 w_legal q (nth_tree (input_list rules q) k)) (sym (placed m.0 (role_list rules) r m.3))
 
   legal_same : trees_at (input_list rules role)
       (named_below (map (kind_of rules) (listing rules).atoms)
@@ -117,8 +118,8 @@ module _ (rules : List Alternative) (w : IsWellFormed rules) (s : List ℕ) (r :
       trees_picked f (input_list rules role)
       ∙ picked_filter f (λ m. is_atom_in (atom2 w_legal role m) (holding rules (state_of rules s) nobody)) 0 (input_list rules role)
       (λ k lt. let z : 0 + k ≡ k = omega arith in
-      ap f z ∙ same_answer (f k) _ (Holds rules (state_of rules s) nobody (atom2 w_legal role (tree_at (input_list rules role) k)))
-      (legal_holds k lt) (found (tree_at (input_list rules role) k)))
+      ap f z ∙ same_answer (f k) _ (Holds rules (state_of rules s) nobody (atom2 w_legal role (nth_tree (input_list rules role) k)))
+      (legal_holds k lt) (found (nth_tree (input_list rules role) k)))
     where
       found : (m : Tree) → (is_atom_in (atom2 w_legal role m) (holding rules (state_of rules s) nobody) ≡ true) ↔ Holds rules (state_of rules s)
           nobody (atom2 w_legal role m)

@@ -44,24 +44,13 @@ use Rattle.std.proofs.Math.ListN.{set, length-set}
 use Rattle.std.proofs.Math.Seq.{drop-cons}
 use Rattle.std.proofs.lemmas.Bool.{cases_eq, cases_lt}
 use Rattle.std.proofs.lemmas.List.{get_or_past, get_or-map, length-map}
-use Rattle.meaning.specs.declared.kind.Kind.{Kind}
+use Rattle.statement.specs.declared.kind.Kind.{Kind}
 use Rattle.std.proofs.Math.Bool.{or-false}
-use Rattle.ground.specs.Grounds.{Kept}
+use Rattle.statement.specs.Kept.{Kept}
 use Rattle.ground.specs.Fits.{IsKeptWithin}
-use Rattle.game.specs.Rules.{State, Turn}
-use Rattle.rulegame.specs.RulePlay.{
-  stands_in,
-  marked,
-  kind_at,
-  is_given,
-  is_right,
-  all_right,
-  found_by,
-  AreMarks,
-  with_heads,
-  some_below,
-  greatest_below,
-}
+use Rattle.statement.specs.Rules.{State, Turn}
+use Rattle.statement.specs.GameNumbers.{stands_in}
+use Rattle.rulegame.specs.RulePlay.{marked, kind_at, is_given, is_right, all_right, found_by, AreMarks, with_heads, some_below, greatest_below}
 
 other_than : (a p : ℕ) → (p < a) ⊎ (a + 1 ≤ p) → (a == p) ≡ false
 other_than a p (inl l) = ne_eqb a p (λ e. absurd (omega arith))
@@ -205,28 +194,7 @@ past_marks bs p l = get_or_past bs p false l ∙ sym (le-ltb p (length bs) l)
 
 -- The loop over a body.
 
-pub drop_at : {A : Type 0} (xs : List A) (k : ℕ) (x : A) → k < length xs → x ≡ get_or xs k x → drop k xs ≡ x ∷ drop (k + 1) xs
-drop_at {A} xs k x below same =
-    let at : drop k xs ≡ get_or xs k x ∷ drop (suc k) xs = drop-cons xs k x below in
-    let more : k + 1 ≡ suc k = omega arith in
-    at ∙ ap (λ (y : A). y ∷ drop (suc k) xs) (sym same) ∙ ap (λ (n : ℕ). x ∷ drop n xs) (sym more)
-
-pub body_at : (f : ℕ → Bool) (ls : List (ℕ × Bool)) (k : ℕ) (l : ℕ × Bool) → k < length ls → l ≡ get_or ls k l
-    → all_right f ls ≡ all_right f (drop k ls)
-    → all_right f ls ≡ (cond l.1 (not (f l.0)) (f l.0) && all_right f (drop (k + 1) ls))
-body_at f ls k l below same left = left ∙ ap (all_right f) (drop_at ls k l below same)
-
 -- The loop over the instances.
-
-pub heads_at : (start marks new : List Bool) (ks : List Kept) (p : ℕ) (k : Kept) → p < length ks → k ≡ get_or ks p k → new ≡ with_heads marks (k ∷ [])
-    → with_heads start ks ≡ with_heads marks (drop p ks) → with_heads start ks ≡ with_heads new (drop (p + 1) ks)
-heads_at start marks new ks p k below same written left =
-    left ∙ ap (with_heads marks) (drop_at ks p k below same)
-    ∙ ap (λ (ms : List Bool). with_heads ms (drop (p + 1) ks)) (sym written)
-
-pub right_at_first : (kinds : List Kind) (s : State) (j : Turn) (marks : List Bool) (n : ℕ) → AreMarks marks n (λ k. is_given s j (kind_at kinds k))
-    → AreMarks marks n (is_right kinds s j [])
-right_at_first kinds s j marks n m = record { size = m.size; each = λ k lt. m.each k lt ∙ sym (or-false (is_given s j (kind_at kinds k))) }
 
 -- Loops over atoms.
 
@@ -261,19 +229,6 @@ filter_range_suc f a (suc n) k e =
 pub filter_range_more : (f : ℕ → Bool) (n : ℕ) → filter f (range_with_len 0 (n + 1)) ≡ filter f (range_with_len 0 n) ++ cond (f n) (n ∷ []) []
 filter_range_more f n = let more : n + 1 ≡ suc n = omega arith in ap (λ (k : ℕ). filter f (range_with_len 0 k)) more
     ∙ filter_range_suc f 0 n n (omega arith)
-
--- a list of which as many are read as were written
-pub slice_get_front : (xs : List ℕ) (c k : ℕ) → c ≤ length xs → k < c → Some (get_or xs k 0) ≡ slice_get (take c xs) k
-slice_get_front xs zero k few below = absurd (omega arith)
-slice_get_front [] (suc c) k few below = absurd (omega arith)
-slice_get_front (x ∷ xs) (suc c) zero few below = refl
-slice_get_front (x ∷ xs) (suc c) (suc k) few below = slice_get_front xs c k (omega arith) (omega arith)
-
-pub slice_get_past : (xs : List ℕ) (c k : ℕ) → c ≤ k → None ≡ slice_get (take c xs) k
-slice_get_past xs zero k past = refl
-slice_get_past [] (suc c) k past = refl
-slice_get_past (x ∷ xs) (suc c) zero past = absurd (omega arith)
-slice_get_past (x ∷ xs) (suc c) (suc k) past = slice_get_past xs c k (omega arith)
 
 pub flat_map-set : {A : Type 0} (f : A → List ℕ) (xs : List A) (i : ℕ) (y d : A) → f y ≡ f (get_or xs i d) → flat_map f (set xs i y) ≡ flat_map f xs
 flat_map-set f [] i y d same = refl

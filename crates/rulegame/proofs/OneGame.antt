@@ -2,25 +2,25 @@
 use Rattle.std.proofs.Common.{ℕ, ◌<◌, ◌≡◌, List, [], ◌∷◌, length, refl, sym, ap, subst, ◌∙◌, Some}
 use Rattle.std.specs.Prelude.{All, slice_index}
 use Rattle.std.proofs.lemmas.List.Elements.{All-head, All-tail}
-use Rattle.kif.specs.Tree.{Tree}
-use Rattle.profile.specs.Clause.{Alternative}
+use Rattle.statement.specs.Tree.{Tree}
+use Rattle.statement.specs.Clause.{Alternative}
 use Rattle.meaning.specs.InOrder.{AreDistinct}
-use Rattle.meaning.specs.Kinds.{place_in}
-use Rattle.meaning.specs.Listing.{role_list, base_list}
+use Rattle.statement.specs.Kinds.{place_in}
+use Rattle.statement.specs.Listing.{role_list, base_list}
 use Rattle.meaning.specs.Listed.{IsWellFormed}
-use Rattle.meaning.specs.Meaning.{IsEnded, IsRole}
+use Rattle.statement.specs.Meaning.{IsEnded, IsRole}
 use Rattle.meaning.proofs.Facts.{bases_in_order, inputs_in_order, one_list_of, one_goal, roles_exact}
-use Rattle.game.specs.NamedRules.{NamedRules}
-use Rattle.game.specs.Played.{tree_at}
-use Rattle.game.specs.Rules.{Turn, IsTurn}
-use Rattle.rulegame.specs.RuleMeaning.{state_of, trees_at}
-use Rattle.rulegame.specs.RulesGame.{role_at, inputs_at, AreNumbersOf, IsGameOf}
+use Rattle.statement.specs.NamedRules.{NamedRules}
+use Rattle.statement.specs.Played.{nth_tree}
+use Rattle.statement.specs.Rules.{Turn, IsTurn}
+use Rattle.statement.specs.GameNumbers.{state_of, trees_at}
+use Rattle.statement.specs.GameOfRules.{role_at, inputs_at, AreNumbersOf, IsGameOf}
 use Rattle.game.specs.SamePlay.{SamePlay}
 use Rattle.rulegame.proofs.LegalRules.{same_answer, in_order_once}
 use Rattle.rulegame.proofs.Trees.{place_at, among_tree}
 
 -- numbers are known by the trees at their places, where no tree stands twice
-one_place : (ts : List Tree) → AreDistinct ts → (m n : ℕ) → m < length ts → n < length ts → tree_at ts m ≡ tree_at ts n → m ≡ n
+one_place : (ts : List Tree) → AreDistinct ts → (m n : ℕ) → m < length ts → n < length ts → nth_tree ts m ≡ nth_tree ts n → m ≡ n
 one_place ts once m n here there same =
     let e : Some m ≡ Some n = sym (place_at ts once m here) ∙ ap (λ (t : Tree). place_in t ts) same ∙ place_at ts once n there in cc
 
@@ -30,7 +30,7 @@ one_list ts once [] [] below within same = refl
 one_list ts once [] (n ∷ ns) below within same = absurd cc
 one_list ts once (m ∷ ms) [] below within same = absurd cc
 one_list ts once (m ∷ ms) (n ∷ ns) below within same =
-    let first : tree_at ts m ≡ tree_at ts n = cc in
+    let first : nth_tree ts m ≡ nth_tree ts n = cc in
     let others : trees_at ts ms ≡ trees_at ts ns = cc in
     let P = λ (k : ℕ). k < length ts in
     let here = one_place ts once m n (All-head P m ms below) (All-head P n ns within) first in

@@ -39,34 +39,17 @@ use Rattle.std.proofs.lemmas.Bool.{cases_eq, cases_lt}
 use Rattle.std.proofs.lemmas.List.{append-nil, map-append, take_more}
 use Rattle.std.proofs.lemmas.List.Elements.{All-map, All-filter}
 use Rattle.std.proofs.lemmas.List.Folds.{list_any-append}
-use Rattle.meaning.specs.declared.kind.Kind.{Kind}
-use Rattle.meaning.specs.declared.kind.Kind.TheVariants.{Fixed, Now, Does, Next, Legal, Goal, Terminal, Other}
+use Rattle.statement.specs.declared.kind.Kind.{Kind}
+use Rattle.statement.specs.declared.kind.Kind.TheVariants.{Fixed, Now, Does, Next, Legal, Goal, Terminal, Other}
 use Rattle.rulegame.specs.declared.naming.Naming.{Naming}
 use Rattle.rulegame.specs.declared.plan.Sought.{Sought}
 use Rattle.rulegame.specs.declared.plan.Sought.TheVariants.{Given, Named, Goals, Ends}
 use Rattle.rulegame.specs.declared.plan.Standing.{Standing}
-use Rattle.game.specs.Rules.{State, Turn}
+use Rattle.statement.specs.Rules.{State, Turn}
 use Rattle.rulegame.specs.RuleLaws.{below_range}
-use Rattle.rulegame.specs.RulePlay.{
-  AreMarks,
-  marked,
-  named_below,
-  stands_in,
-  is_right,
-  kind_at,
-  is_given,
-  is_number,
-  number_named,
-  names,
-  is_named,
-  is_terminal,
-  ends,
-  goal_value,
-  best_goal,
-  some_below,
-  greatest_below,
-}
-use Rattle.game.specs.Value.{greatest}
+use Rattle.rulegame.specs.RulePlay.{AreMarks, marked, named_below, is_right, kind_at, is_given, is_number, number_named, names, is_named, is_terminal, ends, goal_value, best_goal, some_below, greatest_below}
+use Rattle.statement.specs.GameNumbers.{stands_in}
+use Rattle.statement.specs.Value.{greatest}
 use Rattle.rulegame.specs.Plans.{is_told, is_goal_of, seeks, standing_at, standing_below, all_standing, gives, names_among, ends_among, goal_among}
 use Rattle.rulegame.proofs.Marks.{filter_range_more, filters_agree, marked_are}
 
@@ -142,11 +125,6 @@ greatest_standing f test kinds (suc n) h =
 pub standing_within : (test : Kind → Bool) (kinds : List Kind) (n : ℕ) → All (λ (p : Standing). p.atom < n) (standing_below test kinds n)
 standing_within test kinds n = All-map (λ (p : Standing). p.atom < n) (standing_at kinds) _
     (All-filter (λ a. test (kind_at kinds a)) (λ a. a < n) _ (below_range n))
-
--- one step of a loop that marks
-pub or_step : (new before first rest here : Bool) → new ≡ (before || here) → before ≡ (first || rest) → new ≡ (first || (rest || here))
-or_step new before true rest here n b = n ∙ ap (λ (c : Bool). c || here) b
-or_step new before false rest here n b = n ∙ ap (λ (c : Bool). c || here) b
 
 -- What is told of each kind of list.
 

@@ -23,7 +23,7 @@ use Rattle.std.proofs.Common.{
 }
 use Rattle.std.proofs.Math.ListN.{set, length-set}
 use Rattle.std.proofs.lemmas.Bool.{cases_eq}
-use Rattle.meaning.specs.declared.kind.Kind.{Kind}
+use Rattle.statement.specs.declared.kind.Kind.{Kind}
 use Rattle.ground.specs.Grounds.{texts_at}
 use Rattle.rulegame.specs.declared.naming.Naming.{Naming}
 use Rattle.rulegame.specs.declared.naming.Naming.TheVariants.{ByLegal}

@@ -29,18 +29,18 @@ use Rattle.std.proofs.Common.{
 use Rattle.std.specs.Prelude.{◌==◌}
 use Rattle.std.specs.List.{list_any, range_with_len}
 use Rattle.std.proofs.lemmas.List.{length-map}
-use Rattle.kif.specs.Tree.{Tree, text}
-use Rattle.profile.specs.Clause.{Alternative}
-use Rattle.profile.specs.Dependence.{IsAmong}
+use Rattle.statement.specs.Tree.{Tree, text}
+use Rattle.statement.specs.Clause.{Alternative}
+use Rattle.statement.specs.Dependence.{IsAmong}
 use Rattle.profile.proofs.Facts.{or_cases}
 use Rattle.ground.specs.declared.flat_ground.FlatGround.{FlatGround}
-use Rattle.meaning.specs.Meaning.{IsLegal, IsEnded, IsStuck}
-use Rattle.meaning.specs.Listing.{role_list, input_list}
+use Rattle.statement.specs.Meaning.{IsLegal, IsEnded, IsStuck}
+use Rattle.statement.specs.Listing.{role_list, input_list}
 use Rattle.ground.specs.GroundView.{inputs_of, IsGround}
 use Rattle.meaning.proofs.Facts.{roles_exact}
-use Rattle.game.specs.Played.{tree_at}
-use Rattle.game.specs.Rules.{is_stuck}
-use Rattle.rulegame.specs.RuleMeaning.{state_of, trees_at}
+use Rattle.statement.specs.Played.{nth_tree}
+use Rattle.statement.specs.Rules.{is_stuck}
+use Rattle.statement.specs.GameNumbers.{state_of, trees_at}
 use Rattle.rulegame.specs.RuleState.{rules_of}
 use Rattle.game.proofs.Facts.{list_any_range}
 use Rattle.rulegame.proofs.Trees.{among_tree}
@@ -61,14 +61,14 @@ no_numbers (x ∷ xs) e = let z = eqb-true (length (x ∷ xs)) 0 e in absurd (om
 
 no_trees_at : (ts : List Tree) (ns : List ℕ) → ((m : Tree) → IsAmong m (trees_at ts ns) → ⊥) → (length ns == 0) ≡ true
 no_trees_at ts [] h = refl
-no_trees_at ts (n ∷ ns) h = absurd (h (tree_at ts n) (inl refl))
+no_trees_at ts (n ∷ ns) h = absurd (h (nth_tree ts n) (inl refl))
 
-place_of_tree : (t : Tree) (ts : List Tree) → IsAmong t ts → (k : ℕ) × (k < length ts) × (tree_at ts k ≡ t)
+place_of_tree : (t : Tree) (ts : List Tree) → IsAmong t ts → (k : ℕ) × (k < length ts) × (nth_tree ts k ≡ t)
 place_of_tree t [] a = absurd a
 place_of_tree t (u ∷ us) a = go a (place_of_tree t us)
   where
-    go : (t ≡ u) ⊎ IsAmong t us → (IsAmong t us → (k : ℕ) × (k < length us) × (tree_at us k ≡ t)) → (k : ℕ) × (k < suc (length us))
-        × (tree_at (u ∷ us) k ≡ t)
+    go : (t ≡ u) ⊎ IsAmong t us → (IsAmong t us → (k : ℕ) × (k < length us) × (nth_tree us k ≡ t)) → (k : ℕ) × (k < suc (length us))
+        × (nth_tree (u ∷ us) k ≡ t)
     go (inl e) more = (zero, omega arith, sym e)
     go (inr h) more = let r = more h in let lt = r.1 in (suc r.0, omega arith, r.2)
 
@@ -86,9 +86,9 @@ module _ (rules : List Alternative) (g : FlatGround) (is : IsGround rules g) (s 
       let none = no_numbers ((rules_of g).legal s q) r.2 in (
         (λ h. let e = (ended_by_rules rules g is s).1 h in let f = p.0 in absurd cc),
         (
-          tree_at (role_list rules) q,
-          (roles_exact rules is.well_formed (tree_at (role_list rules) q)).0 (among_tree (role_list rules) q inside),
-          (λ m h. subst (λ (ns : List ℕ). IsAmong m (trees_at (input_list rules (tree_at (role_list rules) q)) ns)) none
+          nth_tree (role_list rules) q,
+          (roles_exact rules is.well_formed (nth_tree (role_list rules) q)).0 (among_tree (role_list rules) q inside),
+          (λ m h. subst (λ (ns : List ℕ). IsAmong m (trees_at (input_list rules (nth_tree (role_list rules) q)) ns)) none
               (((legal_by_rules rules g is s q inside).members m).1 h)),
         ),
       )
@@ -104,7 +104,7 @@ module _ (rules : List Alternative) (g : FlatGround) (is : IsGround rules g) (s 
       let q = at.0 in
       let inside = at.1 in
       let size = many in
-      let role = tree_at (role_list rules) q in
+      let role = nth_tree (role_list rules) q in
       let none = no_trees_at (input_list rules role) ((rules_of g).legal s q)
       (λ m a. r.2 m (subst (λ (t : Tree). IsLegal rules (state_of rules s) t m) at.2 (((legal_by_rules rules g is s q inside).members m).0 a))) in (
         still_open ((rules_of g).ended s) refl h.0,

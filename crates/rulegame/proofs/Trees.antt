@@ -32,20 +32,20 @@ use Rattle.std.proofs.Common.{
 use Rattle.std.specs.Prelude.{filter}
 use Rattle.std.specs.List.{range_with_len}
 use Rattle.std.specs.Option.{option_map}
-use Rattle.kif.specs.Tree.{Tree, tree_eq}
+use Rattle.statement.specs.Tree.{Tree, tree_eq}
 use Rattle.kif.proofs.Facts.{tree_eq_yes, tree_eq_self}
-use Rattle.profile.specs.Dependence.{IsAmong}
+use Rattle.statement.specs.Dependence.{IsAmong}
 use Rattle.meaning.specs.InOrder.{AreDistinct}
-use Rattle.meaning.specs.Kinds.{place_in}
-use Rattle.game.specs.Played.{tree_at}
-use Rattle.rulegame.specs.RuleMeaning.{trees_at}
+use Rattle.statement.specs.Kinds.{place_in}
+use Rattle.statement.specs.Played.{nth_tree}
+use Rattle.statement.specs.GameNumbers.{trees_at}
 
 -- the trees whose places, counted from a on, pass
 abbrev pub picked : (ℕ → Bool) → ℕ → List Tree → List Tree
 picked f a [] = []
 picked f a (t ∷ ts) = cond (f a) (t ∷ picked f (a + 1) ts) (picked f (a + 1) ts)
 
-at_end : (pre ts : List Tree) (t : Tree) (a : ℕ) → length pre ≡ a → tree_at (pre ++ t ∷ ts) a ≡ t
+at_end : (pre ts : List Tree) (t : Tree) (a : ℕ) → length pre ≡ a → nth_tree (pre ++ t ∷ ts) a ≡ t
 at_end [] ts t zero e = refl
 at_end [] ts t (suc a) e = absurd (omega arith)
 at_end (u ∷ pre) ts t zero e = absurd (omega arith)
@@ -63,7 +63,7 @@ picked_range f pre (t ∷ ts) a e =
     ∙ picked_range f (pre ++ t ∷ []) ts (a + 1) (one_longer pre t a e) in
     step (f a) rest (at_end pre ts t a e)
   where
-    step : (b : Bool) → trees_at (pre ++ t ∷ ts) (filter f (range_with_len (a + 1) (length ts))) ≡ picked f (a + 1) ts → tree_at (pre ++ t ∷ ts) a ≡ t
+    step : (b : Bool) → trees_at (pre ++ t ∷ ts) (filter f (range_with_len (a + 1) (length ts))) ≡ picked f (a + 1) ts → nth_tree (pre ++ t ∷ ts) a ≡ t
         → trees_at (pre ++ t ∷ ts) (cond b (a ∷ filter f (range_with_len (a + 1) (length ts))) (filter f (range_with_len (a + 1) (length ts)))) ≡ cond
         b (t ∷ picked f (a + 1) ts) (picked f (a + 1) ts)
     step true rest here = ap (λ (u : Tree). u ∷ trees_at (pre ++ t ∷ ts) (filter f (range_with_len (a + 1) (length ts)))) here
@@ -74,7 +74,7 @@ pub trees_picked : (f : ℕ → Bool) (ts : List Tree) → trees_at ts (filter f
 trees_picked f ts = picked_range f [] ts 0 refl
 
 -- what is picked by a test of the trees
-pub picked_filter : (f : ℕ → Bool) (F : Tree → Bool) (a : ℕ) (ts : List Tree) → ((k : ℕ) → k < length ts → f (a + k) ≡ F (tree_at ts k))
+pub picked_filter : (f : ℕ → Bool) (F : Tree → Bool) (a : ℕ) (ts : List Tree) → ((k : ℕ) → k < length ts → f (a + k) ≡ F (nth_tree ts k))
     → picked f a ts ≡ filter F ts
 picked_filter f F a [] h = refl
 picked_filter f F a (t ∷ ts) h =
@@ -84,27 +84,27 @@ picked_filter f F a (t ∷ ts) h =
 
 -- places
 
-pub placed : (t : Tree) (ts : List Tree) (n : ℕ) → place_in t ts ≡ Some n → tree_at ts n ≡ t
+pub placed : (t : Tree) (ts : List Tree) (n : ℕ) → place_in t ts ≡ Some n → nth_tree ts n ≡ t
 placed t [] n e = absurd cc
 placed t (u ∷ us) n e = go (tree_eq t u) refl (place_in t us) refl e (λ m k. placed t us m k)
   where
     go : (b : Bool) → tree_eq t u ≡ b → (o : Option ℕ) → place_in t us ≡ o → cond b (Some zero) (option_map suc o) ≡ Some n
-        → ((m : ℕ) → place_in t us ≡ Some m → tree_at us m ≡ t) → tree_at (u ∷ us) n ≡ t
-    go true h o k f more = let z : zero ≡ n = cc in subst (λ (i : ℕ). tree_at (u ∷ us) i ≡ t) z (sym (tree_eq_yes t u h))
+        → ((m : ℕ) → place_in t us ≡ Some m → nth_tree us m ≡ t) → nth_tree (u ∷ us) n ≡ t
+    go true h o k f more = let z : zero ≡ n = cc in subst (λ (i : ℕ). nth_tree (u ∷ us) i ≡ t) z (sym (tree_eq_yes t u h))
     go false h None k f more = absurd cc
-    go false h (Some m) k f more = let z : suc m ≡ n = cc in subst (λ (i : ℕ). tree_at (u ∷ us) i ≡ t) z (more m k)
+    go false h (Some m) k f more = let z : suc m ≡ n = cc in subst (λ (i : ℕ). nth_tree (u ∷ us) i ≡ t) z (more m k)
 
-pub among_tree : (ts : List Tree) (k : ℕ) → k < length ts → IsAmong (tree_at ts k) ts
+pub among_tree : (ts : List Tree) (k : ℕ) → k < length ts → IsAmong (nth_tree ts k) ts
 among_tree [] k lt = absurd (omega arith)
 among_tree (t ∷ ts) zero lt = inl refl
 among_tree (t ∷ ts) (suc k) lt = inr (among_tree ts k (omega arith))
 
-pub place_at : (ts : List Tree) → AreDistinct ts → (k : ℕ) → k < length ts → place_in (tree_at ts k) ts ≡ Some k
+pub place_at : (ts : List Tree) → AreDistinct ts → (k : ℕ) → k < length ts → place_in (nth_tree ts k) ts ≡ Some k
 place_at [] d k lt = absurd (omega arith)
 place_at (t ∷ ts) d zero lt = let e = tree_eq_self t in rw e refl
-place_at (t ∷ ts) d (suc k) lt = go (tree_eq (tree_at ts k) t) refl (place_at ts d.1 k (omega arith))
+place_at (t ∷ ts) d (suc k) lt = go (tree_eq (nth_tree ts k) t) refl (place_at ts d.1 k (omega arith))
   where
-    go : (b : Bool) → tree_eq (tree_at ts k) t ≡ b → place_in (tree_at ts k) ts ≡ Some k
-        → cond b (Some zero) (option_map suc (place_in (tree_at ts k) ts)) ≡ Some (suc k)
-    go true e more = absurd (d.0 (tree_at ts k) (among_tree ts k (omega arith)) (sym (tree_eq_yes (tree_at ts k) t e)))
+    go : (b : Bool) → tree_eq (nth_tree ts k) t ≡ b → place_in (nth_tree ts k) ts ≡ Some k
+        → cond b (Some zero) (option_map suc (place_in (nth_tree ts k) ts)) ≡ Some (suc k)
+    go true e more = absurd (d.0 (nth_tree ts k) (among_tree ts k (omega arith)) (sym (tree_eq_yes (nth_tree ts k) t e)))
     go false e more = ap (option_map suc) more

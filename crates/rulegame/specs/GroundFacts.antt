@@ -1,10 +1,12 @@
+-- This crate's own: what `run` promises does not rest on it.
 -- What each ground has.
 use Rattle.std.proofs.Common.{ℕ, ◌≡◌, ◌+◌, ◌<◌, ◌≤◌, ◌^◌, Bool, List, [], ◌∷◌, All, length, get_or, zero, suc, sym, ap, subst, arith}
 use Rattle.std.proofs.lemmas.List.{get_or_past}
 use Rattle.ground.specs.declared.flat_ground.FlatGround.{FlatGround}
-use Rattle.ground.specs.Grounds.{Kept, texts_at}
+use Rattle.statement.specs.Kept.{Kept}
+use Rattle.ground.specs.Grounds.{texts_at}
 use Rattle.ground.specs.Fits.{FitTogether, count_all}
-use Rattle.meaning.specs.Most.{limits}
+use Rattle.statement.specs.Most.{limits}
 use Rattle.ground.specs.GroundView.{roles_of, base_of, inputs_of, kinds_of, instances_of}
 use Rattle.ground.proofs.Facts.{fit_together}
 

@@ -3,7 +3,6 @@ pub mod RuleState
 pub mod GroundFacts
 pub mod RuleLaws
 pub mod RuleMeaning
-pub mod RulesGame
 pub mod Flats
 pub mod Plans
 pub mod RuleMany

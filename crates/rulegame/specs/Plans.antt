@@ -1,8 +1,9 @@
+-- This crate's own: what `run` promises does not rest on it.
 -- What a plan of play keeps of an instantiation: its instances in flat lists, and the atoms that are asked for in play by kind.
 use Rattle.std.specs.Prelude.{ℕ, ◌≡◌, ◌<◌, Bool, true, false, ◌==◌, ◌&&◌, List, [], ◌∷◌, length, map, filter, get_or, is_some, if◌then◌else◌}
 use Rattle.std.specs.List.{list_any, range_with_len}
-use Rattle.meaning.specs.declared.kind.Kind.{Kind}
-use Rattle.meaning.specs.declared.kind.Kind.TheVariants.{Fixed, Now, Does, Next, Legal, Goal, Terminal, Other}
+use Rattle.statement.specs.declared.kind.Kind.{Kind}
+use Rattle.statement.specs.declared.kind.Kind.TheVariants.{Fixed, Now, Does, Next, Legal, Goal, Terminal, Other}
 use Rattle.ground.specs.declared.flat_ground.FlatGround.{FlatGround}
 use Rattle.ground.specs.GroundView.{inputs_of, instances_of, kinds_of}
 use Rattle.rulegame.specs.declared.naming.Naming.{Naming}
@@ -12,8 +13,8 @@ use Rattle.rulegame.specs.declared.plan.Sought.TheVariants.{Given, Named, Goals,
 use Rattle.rulegame.specs.declared.plan.Standing.{Standing}
 use Rattle.rulegame.specs.declared.plan.RolePlan.{RolePlan}
 use Rattle.rulegame.specs.declared.plan.Plan.{Plan}
-use Rattle.game.specs.Rules.{State, Turn}
-use Rattle.game.specs.Value.{greatest}
+use Rattle.statement.specs.Rules.{State, Turn}
+use Rattle.statement.specs.Value.{greatest}
 use Rattle.rulegame.specs.Flats.{IsFlatOf}
 use Rattle.rulegame.specs.RulePlay.{kind_at, is_given, number_named, names, is_terminal, goal_value}
 

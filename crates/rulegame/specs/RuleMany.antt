@@ -1,3 +1,4 @@
+-- This crate's own: what `run` promises does not rest on it.
 -- Up to 64 states of a game of rules.
 use Rattle.std.specs.Prelude.{ℕ, ◌≡◌, ◌<◌, ◌≤◌, List, [], ◌∷◌, length, map, take, get_or, flat_map, vec_capacity}
 use Rattle.ground.specs.declared.flat_ground.FlatGround.{FlatGround}

@@ -1,47 +1,20 @@
+-- This crate's own: what `run` promises does not rest on it.
 -- Play over kept instances, in numbers: going through them once finds what holds, and the kinds of
 -- what holds tell the rest.
-use Rattle.std.specs.Prelude.{
-  ℕ,
-  zero,
-  suc,
-  Bool,
-  true,
-  false,
-  not,
-  nat_lt,
-  max,
-  ◌≡◌,
-  ◌<◌,
-  slice_set,
-  ◌==◌,
-  ◌&&◌,
-  ◌||◌,
-  List,
-  [],
-  ◌∷◌,
-  length,
-  filter,
-  slice_index,
-  slice_index_or,
-  Option,
-  Some,
-  None,
-  if◌then◌else◌,
-}
-use Rattle.std.specs.List.{list_any, range_with_len}
-use Rattle.meaning.specs.declared.kind.Kind.{Kind}
-use Rattle.meaning.specs.declared.kind.Kind.TheVariants.{Fixed, Now, Does, Next, Legal, Goal, Terminal, Other}
-use Rattle.ground.specs.Grounds.{Kept, texts_at}
+use Rattle.std.specs.Prelude.{ℕ, zero, suc, Bool, true, false, not, nat_lt, max, ◌≡◌, ◌<◌, slice_set, ◌==◌, ◌&&◌, ◌||◌, List, [], ◌∷◌, length, filter, slice_index, slice_index_or, Option, Some, None, if◌then◌else◌}
+use Rattle.std.specs.List.{range_with_len}
+use Rattle.statement.specs.declared.kind.Kind.{Kind}
+use Rattle.statement.specs.declared.kind.Kind.TheVariants.{Fixed, Now, Does, Next, Legal, Goal, Terminal, Other}
+use Rattle.statement.specs.Kept.{Kept}
+use Rattle.ground.specs.Grounds.{texts_at}
 use Rattle.rulegame.specs.declared.naming.Naming.{Naming}
 use Rattle.rulegame.specs.declared.naming.Naming.TheVariants.{ByNext, ByLegal}
-use Rattle.game.specs.Rules.{Rules, State, Turn}
+use Rattle.statement.specs.Rules.{Rules, State, Turn}
+use Rattle.statement.specs.GameNumbers.{stands_in}
 
 -- where no role moves
 abbrev pub no_turn : Turn
 no_turn = []
-
-abbrev pub stands_in : ℕ → List ℕ → Bool
-stands_in n ns = list_any (λ m. m == n) ns
 
 -- the numbers that are marked, ascending
 abbrev pub marked : List Bool → List ℕ

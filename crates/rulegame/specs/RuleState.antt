@@ -1,14 +1,15 @@
+-- This crate's own: what `run` promises does not rest on it.
 -- What a state of a game of rules keeps.
 use Rattle.std.specs.Prelude.{ℕ, ◌≡◌, ◌<◌, ◌≤◌, Bool, List, [], ◌∷◌, length, take, get_or, flat_map, vec_capacity}
-use Rattle.meaning.specs.declared.kind.Kind.{Kind}
+use Rattle.statement.specs.declared.kind.Kind.{Kind}
 use Rattle.ground.specs.declared.flat_ground.FlatGround.{FlatGround}
 use Rattle.ground.specs.Grounds.{text_at, texts_at}
 use Rattle.ground.specs.GroundView.{roles_of, inputs_of, kinds_of, instances_of}
 use Rattle.rulegame.specs.declared.naming.Naming.TheVariants.{ByLegal}
 use Rattle.rulegame.specs.declared.rule_pos.RoleState.{RoleState}
 use Rattle.rulegame.specs.declared.rule_pos.RulePos.{RulePos}
-use Rattle.game.specs.NamedRules.{NamedRules}
-use Rattle.game.specs.Rules.{Rules, State}
+use Rattle.statement.specs.NamedRules.{NamedRules}
+use Rattle.statement.specs.Rules.{Rules, State}
 use Rattle.rulegame.specs.RulePlay.{no_turn, marked, holds, ends, best_goal, named_below, rules_by}
 
 -- the rules of a game, by its instantiation

@@ -1,4 +1,4 @@
-// Which atoms name what is marked.
+//! Which atoms name what is marked.
 
 /// Which atoms name a number.
 #[derive(Clone, Copy)]

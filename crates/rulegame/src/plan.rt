@@ -1,4 +1,4 @@
-// What is kept of an instantiation to play it fast.
+//! What is kept of an instantiation to play it fast.
 
 use crate::naming::Naming;
 use ground::Kind;

@@ -1,4 +1,4 @@
-// Lists the atoms that are asked for in play.
+//! Lists the atoms that are asked for in play.
 ghost use Rattle.std.specs.Prelude.{◌≡◌, ◌<◌, ◌++◌, ℕ, [], ◌∷◌, length, get_or, OnOk, IfOk, if◌then◌else◌};
 ghost use Rattle.ground.specs.GroundView.{kinds_of, inputs_of};
 ghost use Rattle.rulegame.specs.RulePlay.{kind_at};

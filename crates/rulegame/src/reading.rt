@@ -1,4 +1,4 @@
-// What is told of a state by the kinds of the atoms that hold.
+//! What is told of a state by the kinds of the atoms that hold.
 ghost use Rattle.std.specs.Prelude.{
   ◌≡◌,
   ◌<◌,

@@ -1,4 +1,4 @@
-// The game of an instantiation.
+//! The game of an instantiation.
 ghost use Rattle.std.specs.Prelude.{◌≡◌, IfOk, []};
 ghost use Rattle.ground.specs.GroundView.{flat_of};
 ghost use Rattle.rulegame.specs.Plans.{IsPlanOf};

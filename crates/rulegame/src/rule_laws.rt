@@ -1,30 +1,31 @@
-// The game of an instantiation plays by the rules.
+//! The game of an instantiation plays by the rules.
 ghost use Rattle.std.specs.Prelude.{ℕ, Bool, true, false, ◌≡◌, ◌↔◌, ◌<◌, List, length, map};
-ghost use Rattle.profile.specs.Clause.{Atom, Alternative, relation_of};
-ghost use Rattle.profile.specs.Dependence.{IsAmong, is_fixed};
-ghost use Rattle.meaning.specs.Meaning.{State, Joint, Holds, IsEnded, IsStuck, RightAs, source_of, IsWithinBase, IsWithinInput};
-ghost use Rattle.meaning.specs.Listing.{listing, base_list, role_list, input_list};
+ghost use Rattle.statement.specs.Clause.{Atom, Alternative, relation_of};
+ghost use Rattle.statement.specs.Dependence.{IsAmong, is_fixed};
+ghost use Rattle.statement.specs.Meaning.{StateOfTerms, Joint, Holds, IsEnded, IsStuck, RightAs, source_of, IsWithinBase, IsWithinInput};
+ghost use Rattle.statement.specs.Listing.{listing, base_list, role_list, input_list};
 ghost use Rattle.meaning.specs.Listed.{IsWellFormed};
-ghost use Rattle.meaning.specs.Numbers.{number_of};
-ghost use Rattle.meaning.specs.Kinds.{kind_of};
-ghost use Rattle.ground.specs.Grounds.{numbered};
-ghost use Rattle.game.specs.Rules.{Turn, IsTurn, is_stuck};
-ghost use Rattle.game.specs.Played.{tree_at};
+ghost use Rattle.statement.specs.Kept.{number_of};
+ghost use Rattle.statement.specs.Kinds.{kind_of};
+ghost use Rattle.statement.specs.Kept.{numbered};
+ghost use Rattle.statement.specs.Rules.{Turn, IsTurn, is_stuck};
+ghost use Rattle.statement.specs.Played.{nth_tree};
 ghost use Rattle.rulegame.specs.RulePlay.{holds};
 ghost use Rattle.ground.specs.declared.flat_ground.FlatGround.{FlatGround};
 ghost use Rattle.ground.specs.GroundView.{IsGround};
 ghost use Rattle.rulegame.specs.RuleState.{rules_of, named_rules_of};
-ghost use Rattle.game.specs.NamedRules.{NamedRules};
-ghost use Rattle.rulegame.specs.RulesGame.{IsGameOf};
+ghost use Rattle.statement.specs.NamedRules.{NamedRules};
+ghost use Rattle.statement.specs.GameOfRules.{IsGameOf};
 ghost use Rattle.game.specs.SamePlay.{SamePlay};
-ghost use Rattle.rulegame.specs.RuleMeaning.{Agree, state_of, joint_of, trees_at};
-ghost use Rattle.meaning.specs.Play.{AreStart, AreAfter, AreLegal, IsGoal};
+ghost use Rattle.rulegame.specs.RuleMeaning.{Agree};
+ghost use Rattle.statement.specs.GameNumbers.{state_of, joint_of, trees_at};
+ghost use Rattle.statement.specs.GoalsAndMoves.{AreStart, AreAfter, AreLegal, IsGoal};
 
 /// Going through the kept instances by numbers finds exactly the numbers of what holds, for a state within `Base` and a joint
 /// move within `Input`, where the numbers of the state and the moves make right what these make right. It says nothing of
 /// atoms of fixed relations, which no gate reads.
 pub fn numbers_find_what_holds()
-    ensures { (rules : List Alternative) → IsWellFormed rules → (S : State) (J : Joint)
+    ensures { (rules : List Alternative) → IsWellFormed rules → (S : StateOfTerms) (J : Joint)
         → IsWithinBase rules S → IsWithinInput rules J → (s : List ℕ) (j : Turn) → Agree rules S J s j
         → (x : Atom) → IsAmong x (listing rules).atoms → is_fixed rules (relation_of x) ≡ false
         → (holds (map (kind_of rules) (listing rules).atoms) (map (numbered rules) (listing rules).kept) s j (number_of x (listing rules).atoms) ≡
@@ -46,8 +47,8 @@ pub fn the_rules_start_the_game()
 /// The legal moves that the game of an instantiation lists for a role are those of the rules.
 pub fn the_rules_give_the_moves()
     ensures { (rules : List Alternative) (g : FlatGround) → IsGround rules g → (s : List ℕ) (r : ℕ) → r < length (role_list rules)
-        → AreLegal rules (state_of rules s) (tree_at (role_list rules) r)
-        (trees_at (input_list rules (tree_at (role_list rules) r)) ((rules_of g).legal s r)) }
+        → AreLegal rules (state_of rules s) (nth_tree (role_list rules) r)
+        (trees_at (input_list rules (nth_tree (role_list rules) r)) ((rules_of g).legal s r)) }
 {}
 
 /// A state of the game of an instantiation that has not ended has a role with no legal move exactly where it is stuck by the rules.
@@ -66,7 +67,7 @@ pub fn the_rules_give_the_next_state()
 /// The goal that the game of an instantiation gives a role in a state is that of the rules.
 pub fn the_rules_give_the_goals()
     ensures { (rules : List Alternative) (g : FlatGround) → IsGround rules g → (s : List ℕ) (r : ℕ) → r < length (role_list rules)
-        → IsGoal rules (state_of rules s) (tree_at (role_list rules) r) ((rules_of g).goal s r) }
+        → IsGoal rules (state_of rules s) (nth_tree (role_list rules) r) ((rules_of g).goal s r) }
 {}
 
 /// The game of an instantiation is that of the rules.

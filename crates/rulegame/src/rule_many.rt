@@ -1,4 +1,4 @@
-// Up to 64 states of a game of rules.
+//! Up to 64 states of a game of rules.
 ghost use Rattle.std.specs.Prelude.{◌≡◌, ◌<◌, ◌≤◌, ℕ, length, get_or, vec_capacity, IfOk};
 ghost use Rattle.ground.specs.GroundView.{kinds_of};
 ghost use Rattle.game.specs.Joints.{joint_at};

@@ -1,4 +1,4 @@
-// A state of a game of rules, with what is told of it.
+//! A state of a game of rules, with what is told of it.
 ghost use Rattle.std.specs.Prelude.{◌≡◌, ◌<◌, ◌≤◌, ℕ, false, length, take, get_or, slice_get, slice_index_or, vec_capacity, IfOk};
 ghost use Rattle.ground.specs.Grounds.{texts_at};
 ghost use Rattle.ground.specs.GroundView.{inputs_of, kinds_of};

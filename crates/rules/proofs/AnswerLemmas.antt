@@ -1,20 +1,20 @@
 -- The fault that is found first, and the rule set where none is found.
 use Rattle.std.proofs.Common.{ℕ, ◌≡◌, ◌==◌, Bool, false, List, [], ◌∷◌, length, map, refl, sym, ◌∙◌, ap, Option}
 use Rattle.std.proofs.Common.{Some, None}
-use Rattle.kif.specs.Tree.{Tree, text}
-use Rattle.profile.specs.declared.fault.RuleFault.{RuleFault}
-use Rattle.profile.specs.declared.fault.RuleFault.TheVariants as errors
+use Rattle.statement.specs.Tree.{Tree, text}
+use Rattle.statement.specs.declared.rule_fault.RuleFault.{RuleFault}
+use Rattle.statement.specs.declared.rule_fault.RuleFault.TheVariants as errors
 use Rattle.rules.specs.declared.rule_set.Keywords.{Keywords}
-use Rattle.profile.specs.Answer.{PassesFirstTests, IsFaultOf}
-use Rattle.profile.specs.Clause as said
+use Rattle.statement.specs.RuleFaults.{PassesFirstTests, IsRuleFault}
+use Rattle.statement.specs.Clause as said
 use Rattle.clauses.specs.Adding.{AreDifferentSignatures, HaveNames, StandForEach}
-use Rattle.profile.specs.Dependence.{dependences, is_fixed}
+use Rattle.statement.specs.Dependence.{dependences, is_fixed}
 use Rattle.rules.specs.Drafts.{Numbered, alternative_of, AlternativeStandsFor, StandForAlternatives}
-use Rattle.profile.specs.Items.{alternatives}
+use Rattle.statement.specs.Items.{alternatives}
 use Rattle.rules.specs.Layout.{IsLayoutOf, IsDependenceFault}
-use Rattle.profile.specs.Order.{relations_in_order}
-use Rattle.profile.specs.Profile.{Fault, bad_keyword, not_safe, recursive, bad_dependence, or_else, first_failing, first_too_many}
-use Rattle.profile.specs.Profile.{misuses_word, is_unsafe, is_recursive, depends_badly, none_of, roles, fault_in}
+use Rattle.statement.specs.Order.{relations_in_order}
+use Rattle.statement.specs.Profile.{ItemFault, bad_keyword, not_safe, recursive, bad_dependence, or_item_fault, first_failing, first_too_many}
+use Rattle.statement.specs.Profile.{misuses_word, is_unsafe, is_recursive, depends_badly, none_of, roles, item_fault_in}
 use Rattle.rules.specs.RuleSets.{rules_of, AreWhole, AreKeywords, HasItems, IsSound}
 use Rattle.profile.specs.Stated.{AreRolePlaces, roles_at}
 use Rattle.clauses.specs.Numbers.{AreDifferent}
@@ -23,38 +23,38 @@ use Rattle.clauses.proofs.Facts.{is_inside, are_inside}
 
 -- The tests, each with those behind it.
 
-abbrev from_bad : List Tree → Option Fault
+abbrev from_bad : List Tree → Option ItemFault
 from_bad items =
-    or_else (first_failing bad_dependence (depends_badly (dependences (alternatives items)) (alternatives items)) 1 items) (none_of (roles items))
+    or_item_fault (first_failing bad_dependence (depends_badly (dependences (alternatives items)) (alternatives items)) 1 items) (none_of (roles items))
 
-abbrev from_recursive : List Tree → Option Fault
-from_recursive items = or_else (first_failing recursive (is_recursive (dependences (alternatives items))) 1 items) (from_bad items)
+abbrev from_recursive : List Tree → Option ItemFault
+from_recursive items = or_item_fault (first_failing recursive (is_recursive (dependences (alternatives items))) 1 items) (from_bad items)
 
-abbrev from_safety : List Tree → Option Fault
-from_safety items = or_else (first_failing not_safe is_unsafe 1 items) (from_recursive items)
+abbrev from_safety : List Tree → Option ItemFault
+from_safety items = or_item_fault (first_failing not_safe is_unsafe 1 items) (from_recursive items)
 
-abbrev from_limits : List Tree → Option Fault
-from_limits items = or_else (first_too_many 1 [] items) (from_safety items)
+abbrev from_limits : List Tree → Option ItemFault
+from_limits items = or_item_fault (first_too_many 1 [] items) (from_safety items)
 
-abbrev from_words : List Tree → Option Fault
-from_words items = or_else (first_failing bad_keyword misuses_word 1 items) (from_limits items)
+abbrev from_words : List Tree → Option ItemFault
+from_words items = or_item_fault (first_failing bad_keyword misuses_word 1 items) (from_limits items)
 
-past : (a b : Option Fault) → a ≡ None → or_else a b ≡ b
-past a b e = ap (λ (o : Option Fault). or_else o b) e
+past : (a b : Option ItemFault) → a ≡ None → or_item_fault a b ≡ b
+past a b e = ap (λ (o : Option ItemFault). or_item_fault o b) e
 
-here : (a b : Option Fault) (f : Fault) → a ≡ Some f → or_else a b ≡ Some f
-here a b f e = ap (λ (o : Option Fault). or_else o b) e
+here : (a b : Option ItemFault) (f : ItemFault) → a ≡ Some f → or_item_fault a b ≡ Some f
+here a b f e = ap (λ (o : Option ItemFault). or_item_fault o b) e
 
-past_first : (items : List Tree) → PassesFirstTests items → fault_in items ≡ from_safety items
+past_first : (items : List Tree) → PassesFirstTests items → item_fault_in items ≡ from_safety items
 past_first items p = past _ (from_words items) p.forms ∙ past _ (from_limits items) p.words ∙ past _ (from_safety items) p.limits
 
-past_safety : (items : List Tree) → PassesFirstTests items → first_failing not_safe is_unsafe 1 items ≡ None → fault_in items ≡ from_recursive items
+past_safety : (items : List Tree) → PassesFirstTests items → first_failing not_safe is_unsafe 1 items ≡ None → item_fault_in items ≡ from_recursive items
 past_safety items p e = past_first items p ∙ past _ (from_recursive items) e
 
 -- Faults.
 
 pub dependence_fault : (items : List Tree) (fault : RuleFault) → PassesFirstTests items → first_failing not_safe is_unsafe 1 items ≡ None
-    → IsDependenceFault items fault → IsFaultOf items fault
+    → IsDependenceFault items fault → IsRuleFault items fault
 dependence_fault items (errors.Recursive n) p e s = past_safety items p e ∙ here _ (from_bad items) (recursive n) s
 dependence_fault items (errors.BadDependence n) p e s = past_safety items p e ∙ past _ (from_bad items) s.0
     ∙ here _ (none_of (roles items)) (bad_dependence n) s.1
@@ -68,7 +68,7 @@ dependence_fault items (errors.TooMany n excess) p e s = absurd s
 -- only the roles are left to look at
 roles_left : (items : List Tree) (d : Data) (fixed : List Bool) (order : List ℕ) → PassesFirstTests items
     → first_failing not_safe is_unsafe 1 items ≡ None → IsLayoutOf d items fixed order
-    → fault_in items ≡ none_of (roles items)
+    → item_fault_in items ≡ none_of (roles items)
 roles_left items d fixed order p e l = past_safety items p e ∙ past _ (from_bad items) l.not_recursive ∙ past _ (none_of (roles items)) l.not_bad
 
 -- Alternatives.
@@ -111,7 +111,7 @@ role_there (r ∷ rs) e = refl
 pub no_fault : (items : List Tree) (places : List ℕ) (d : Data) (fixed : List Bool) (order : List ℕ) → PassesFirstTests items
     → first_failing not_safe is_unsafe 1 items ≡ None
     → IsLayoutOf d items fixed order → roles_at items places ≡ roles items → AreRolePlaces items places → (length places == 0) ≡ false
-    → fault_in items ≡ None
+    → item_fault_in items ≡ None
 no_fault items places d fixed order p e l same are some =
     roles_left items d fixed order p e l
     ∙ role_there (roles items) (ap (λ (n : ℕ). n == 0) (sym (ap (λ (rs : List Tree). length rs) same) ∙ are.each_one) ∙ some)
@@ -123,7 +123,7 @@ pub texts_are : (items : List Tree) (places read : List ℕ) (texts : List (List
 texts_are items places read texts same there e = e ∙ ap (λ (ks : List ℕ). map text (roles_at items ks)) there
     ∙ ap (λ (rs : List Tree). map text rs) same
 
-pub has_items : (items : List Tree) (d : Data) (ns : List Numbered) (texts : List (List ℕ)) → fault_in items ≡ None
+pub has_items : (items : List Tree) (d : Data) (ns : List Numbered) (texts : List (List ℕ)) → item_fault_in items ≡ None
     → StandForAlternatives d ns (alternatives items) → texts ≡ map text (roles items)
     → HasItems (rules_of d ns) texts
 has_items items d ns texts none s e = record { items = items; accepted = none; same = sym (rules_stand d ns (alternatives items) s); roles_are = e }

@@ -1,11 +1,11 @@
 -- The graph of what items join is the graph of dependence.
 use Rattle.std.proofs.Common.{ℕ, suc, zero, ◌≡◌, ◌<◌, ◌⊎◌, inl, inr, List, [], ◌∷◌, ◌++◌, length, refl, sym, ◌∙◌, ap, subst, arith, get_or}
 use Rattle.std.specs.Prelude.{slice_index_or}
-use Rattle.kif.specs.Tree.{Tree}
-use Rattle.profile.specs.Clause as said
-use Rattle.profile.specs.Clause.{relation_of}
-use Rattle.profile.specs.Dependence.{IsAmong}
-use Rattle.profile.specs.Items.{item_head, item_alternatives, alternatives}
+use Rattle.statement.specs.Tree.{Tree}
+use Rattle.statement.specs.Clause as said
+use Rattle.statement.specs.Clause.{relation_of}
+use Rattle.statement.specs.Dependence.{IsAmong}
+use Rattle.statement.specs.Items.{item_head, item_alternatives, alternatives}
 use Rattle.digraph.specs.declared.graph.Arrow.{Arrow}
 use Rattle.digraph.specs.GraphView.{arrows_of, nodes_of}
 use Rattle.digraph.specs.declared.graph.Graph.{Graph}
@@ -207,22 +207,6 @@ no_link_reached arrows links e acyclic k l h r =
     (subst (λ (as' : List Arrow). IsAmong {A = Arrow} (record { from = m.head; to = r.start }) as') (sym e)
     (link_arrows links l k h (record { from = m.head; to = r.start }) (to_each m.head m.body.items r.start there))) in
     acyclic (m.head, round arrows m.head r.start a r.leads)
-
-from_in_links : (n : ℕ) (links : List Links) → ((k : ℕ) (l : Links) → k < length links → IsWithin n (get_or links k l)) → (a : Arrow)
-    → IsAmong a (arrows_in links) → a.from < n
-from_in_links n [] w a h = absurd h
-from_in_links n (l ∷ links) w a h = go (IsAmong-append a (arrows_from l.head l.body.items) (arrows_in links) h)
-    (λ k. from_in_links n links (λ j m less. w (suc j) m (omega (arith, less))) a k)
-  where
-    go : IsAmong a (arrows_from l.head l.body.items) ⊎ IsAmong a (arrows_in links) → (IsAmong a (arrows_in links) → a.from < n) → a.from < n
-    go (inl k) next = subst (λ (x : ℕ). x < n) (sym (from_head l.head l.body.items a k).from) (w 0 l (omega arith)).head
-    go (inr k) next = next k
-
-pub arrows_inside : (n : ℕ) (arrows : List Arrow) (links : List Links) → arrows ≡ arrows_in links
-    → ((k : ℕ) (l : Links) → k < length links → IsWithin n (get_or links k l))
-    → (k : ℕ) → k < length arrows → (arrow_at arrows k).from < n
-arrows_inside n arrows links e w k h =
-    from_in_links n links w (arrow_at arrows k) (subst (λ (as' : List Arrow). IsAmong (arrow_at arrows k) as') e (arrow_among arrows k h))
 
 -- In a cycle some body rests on its head.
 

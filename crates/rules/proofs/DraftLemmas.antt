@@ -3,17 +3,17 @@ use Rattle.std.proofs.Common.{ℕ, ◌≡◌, ◌+◌, ◌-◌, ◌<◌, ◌≤�
 use Rattle.std.proofs.Common.{subst, arith, append_assoc, get_or, Some}
 use Rattle.std.specs.Prelude.{Vec}
 use Rattle.std.proofs.lemmas.List.{map-append, append-nil}
-use Rattle.kif.specs.Tree.{Tree}
-use Rattle.profile.specs.Clause as said
+use Rattle.statement.specs.Tree.{Tree}
+use Rattle.statement.specs.Clause as said
 use Rattle.clauses.specs.declared.numbered.Alternative.{Alternative}
 use Rattle.clauses.specs.declared.numbered.Atom.{Atom}
 use Rattle.clauses.specs.declared.numbered.Span.{Span}
 use Rattle.clauses.specs.declared.items.Item.{Item}
 use Rattle.clauses.specs.declared.numbered.Literal.{Literal}
-use Rattle.profile.specs.Dependence.{is_distinct}
-use Rattle.profile.specs.Items.{item_head, item_alternatives, alternatives, body_trees, readings_of_all}
-use Rattle.profile.specs.Profile.{first_failing, not_safe, is_unsafe}
-use Rattle.profile.specs.Safety.{are_safe}
+use Rattle.statement.specs.Dependence.{is_distinct}
+use Rattle.statement.specs.Items.{item_head, item_alternatives, alternatives, body_trees, readings_of_all}
+use Rattle.statement.specs.Profile.{first_failing, not_safe, is_unsafe}
+use Rattle.statement.specs.Safety.{are_safe}
 use Rattle.clauses.specs.Numbers.{AreDifferent}
 use Rattle.clauses.specs.Spread.{lists_of}
 use Rattle.clauses.specs.Store.{Data, relation_at, no_literal}

@@ -3,11 +3,11 @@ use Rattle.std.proofs.Common.{ℕ, suc, zero, ◌≡◌, ◌<◌, ◌⊎◌, inl
 use Rattle.std.proofs.Common.{subst, arith, get_or}
 use Rattle.std.specs.Prelude.{slice_set, All}
 use Rattle.std.proofs.lemmas.List.{length-set, get_or-replicate}
-use Rattle.kif.specs.Tree.{Tree}
-use Rattle.profile.specs.Clause as said
-use Rattle.profile.specs.Clause.{Relation, relation_of}
-use Rattle.profile.specs.Dependence.{IsAmong, heads_of}
-use Rattle.profile.specs.Items.{item_head, item_alternatives, alternatives, body_trees, readings_of_all}
+use Rattle.statement.specs.Tree.{Tree}
+use Rattle.statement.specs.Clause as said
+use Rattle.statement.specs.Clause.{Relation, relation_of}
+use Rattle.statement.specs.Dependence.{IsAmong, heads_of}
+use Rattle.statement.specs.Items.{item_head, item_alternatives, alternatives, body_trees, readings_of_all}
 use Rattle.clauses.specs.declared.numbered.Alternative.{Alternative}
 use Rattle.rules.specs.declared.item_links.Links.{Links}
 use Rattle.clauses.specs.Store.{Data, relation_at}

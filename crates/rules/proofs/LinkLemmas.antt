@@ -2,11 +2,11 @@
 use Rattle.std.proofs.Common.{ℕ, suc, zero, ◌≡◌, ◌<◌, ◌⊎◌, inl, inr, Bool, true, false, cond, List, [], ◌∷◌, length, map, refl, sym, ◌∙◌, ap, subst}
 use Rattle.std.proofs.Common.{arith}
 use Rattle.std.specs.Prelude.{slice_index_or}
-use Rattle.kif.specs.Tree.{Tree}
-use Rattle.profile.specs.Clause as said
-use Rattle.profile.specs.Clause.{relation_of}
-use Rattle.profile.specs.Dependence.{IsAmong, is_distinct}
-use Rattle.profile.specs.Items.{item_head, item_alternatives, body_trees, readings_of_all}
+use Rattle.statement.specs.Tree.{Tree}
+use Rattle.statement.specs.Clause as said
+use Rattle.statement.specs.Clause.{relation_of}
+use Rattle.statement.specs.Dependence.{IsAmong, is_distinct}
+use Rattle.statement.specs.Items.{item_head, item_alternatives, body_trees, readings_of_all}
 use Rattle.clauses.specs.declared.items.Item.{Item}
 use Rattle.clauses.specs.Spread.{lists_of}
 use Rattle.clauses.specs.Store.{Data, relation_at}

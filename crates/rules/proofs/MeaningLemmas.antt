@@ -1,7 +1,7 @@
 -- What relations mean, by number.
 use Rattle.std.proofs.Common.{ℕ, ◌≡◌, ◌+◌, ◌<◌, ◌⊎◌, inl, inr, Bool, false, List, [], ◌∷◌, ◌++◌, length, sym, ◌∙◌, ap, arith, get_or, length-append}
 use Rattle.std.specs.Prelude.{slice_index_or}
-use Rattle.profile.specs.Clause as said
+use Rattle.statement.specs.Clause as said
 use Rattle.rules.specs.declared.item_links.Bound.{Bound}
 use Rattle.rules.specs.declared.item_links.Bound.TheVariants.{Free}
 use Rattle.rules.specs.ItemLinks.{bound_of}

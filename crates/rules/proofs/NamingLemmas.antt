@@ -3,8 +3,8 @@ use Rattle.std.proofs.Common.{ℕ, ◌≡◌, ◌<◌, List, [], length, ◌∙�
 use Rattle.rules.specs.declared.rule_set.Keywords.{Keywords}
 use Rattle.rules.specs.declared.draft.Draft.{Draft}
 use Rattle.clauses.specs.declared.store.Store.{Store}
-use Rattle.kif.specs.Tree.{Tree}
-use Rattle.profile.specs.Words.{w_role, w_base, w_input, w_init, w_true, w_does, w_next, w_legal, w_goal, w_terminal, w_distinct}
+use Rattle.statement.specs.Tree.{Tree}
+use Rattle.statement.specs.Words.{w_role, w_base, w_input, w_init, w_true, w_does, w_next, w_legal, w_goal, w_terminal, w_distinct}
 use Rattle.clauses.specs.Adding.{Grows}
 use Rattle.rules.specs.Drafts.{IsDraftOf}
 use Rattle.rules.specs.Naming.{NumbersName, NumbersKeywords}

@@ -12,9 +12,9 @@ use Rattle.std.proofs.lemmas.List.Sorted.{sorted_far, ranks_by, All-permutation,
 use Rattle.std.proofs.lemmas.List.Sums.{sum_by-cons}
 use Rattle.std.proofs.lemmas.List.Elements.{All-head, All-tail}
 use Rattle.rules.specs.declared.order_of_relations.Entry.{Entry}
-use Rattle.profile.specs.Clause.{Alternative, Relation}
-use Rattle.profile.specs.Dependence.{IsAmong, is_fixed}
-use Rattle.profile.specs.Order.{rank, then_by, fixed_place, relation_cmp, sorted, relations_in_order}
+use Rattle.statement.specs.Clause.{Alternative, Relation}
+use Rattle.statement.specs.Dependence.{IsAmong, is_fixed}
+use Rattle.statement.specs.Order.{rank, then_by, fixed_place, relation_cmp, sorted, relations_in_order}
 use Rattle.rules.specs.Placing.{entry_cmp, AreInOrder, IsEntry, AreEntries}
 use Rattle.profile.proofs.Facts.{Rising, relation_total}
 use Rattle.profile.proofs.Facts.{tied_equal, rising_same, relations_rising, relations_are_heads, heads_are_relations}

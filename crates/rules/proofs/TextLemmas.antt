@@ -5,10 +5,10 @@ use Rattle.std.specs.Prelude.{All, Vec}
 use Rattle.std.proofs.lemmas.List.{append-nil, map-append, length-map}
 use Rattle.std.proofs.lemmas.List.Elements.{All-get_or}
 use Rattle.std.proofs.Math.ListN.{drop_of_length-le}
-use Rattle.kif.specs.Tree.{Tree, text}
+use Rattle.statement.specs.Tree.{Tree, text}
 use Rattle.kif.specs.View.{tree_of, trees_in}
 use Rattle.kif.specs.declared.expr.Expr.{Expr}
-use Rattle.profile.specs.Profile.{role_in}
+use Rattle.statement.specs.Profile.{role_in}
 use Rattle.rules.specs.RuleSets.{texts_of}
 use Rattle.profile.specs.Stated.{roles_at}
 use Rattle.profile.proofs.Facts.{role_at-here}

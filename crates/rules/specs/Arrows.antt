@@ -1,3 +1,4 @@
+-- This crate's own: what `run` promises does not rest on it.
 -- The arrows of what items join.
 use Rattle.std.specs.Prelude.{ℕ, List, [], ◌∷◌, ◌++◌}
 use Rattle.digraph.specs.declared.graph.Arrow.{Arrow}

@@ -1,6 +1,7 @@
+-- This crate's own: what `run` promises does not rest on it.
 -- The relations that bodies name, by number.
 use Rattle.std.specs.Prelude.{ℕ, ◌↔◌, Bool, true, false, cond, List, [], ◌∷◌, ◌++◌}
-use Rattle.profile.specs.Dependence.{IsAmong, is_distinct}
+use Rattle.statement.specs.Dependence.{IsAmong, is_distinct}
 use Rattle.clauses.specs.Store.{Data, relation_at}
 use Rattle.clauses.specs.Marks.{literal_in}
 

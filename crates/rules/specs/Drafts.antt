@@ -1,18 +1,19 @@
+-- This crate's own: what `run` promises does not rest on it.
 -- What a draft of a rule set holds.
 use Rattle.std.specs.Prelude.{ℕ, ◌≡◌, ◌<◌, Bool, true, false, List, [], ◌∷◌, ◌++◌, map, length, Some}
-use Rattle.kif.specs.Tree.{Tree}
+use Rattle.statement.specs.Tree.{Tree}
 use Rattle.clauses.specs.declared.numbered.Alternative.{Alternative}
 use Rattle.clauses.specs.declared.numbered.Atom.{Atom}
 use Rattle.clauses.specs.declared.numbered.Span.{Span}
 use Rattle.rules.specs.declared.draft.Draft.{Draft}
 use Rattle.clauses.specs.declared.items.Item.{Item}
 use Rattle.rules.specs.declared.item_links.Links.{Links}
-use Rattle.profile.specs.Clause as said
-use Rattle.profile.specs.Items.{item_head, item_alternatives, alternatives, body_trees, readings_of_all}
-use Rattle.profile.specs.declared.fault.RuleFault.{RuleFault}
-use Rattle.profile.specs.declared.fault.RuleFault.TheVariants as errors
+use Rattle.statement.specs.Clause as said
+use Rattle.statement.specs.Items.{item_head, item_alternatives, alternatives, body_trees, readings_of_all}
+use Rattle.statement.specs.declared.rule_fault.RuleFault.{RuleFault}
+use Rattle.statement.specs.declared.rule_fault.RuleFault.TheVariants as errors
 use Rattle.rules.specs.Numbering.{AreBodyNumbers}
-use Rattle.profile.specs.Profile.{first_failing, not_safe, is_unsafe}
+use Rattle.statement.specs.Profile.{first_failing, not_safe, is_unsafe}
 use Rattle.clauses.specs.Numbers.{AreDifferent}
 use Rattle.clauses.specs.Spread.{lists_of}
 use Rattle.clauses.specs.Store.{Data, relation_at, atom_of, literal_at}

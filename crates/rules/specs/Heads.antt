@@ -1,3 +1,4 @@
+-- This crate's own: what `run` promises does not rest on it.
 -- Which relations head alternatives, by number.
 use Rattle.std.specs.Prelude.{Bool, true, cond, List, [], ◌∷◌, slice_set}
 use Rattle.clauses.specs.declared.numbered.Alternative.{Alternative}

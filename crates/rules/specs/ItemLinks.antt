@@ -1,17 +1,18 @@
+-- This crate's own: what `run` promises does not rest on it.
 -- What the alternatives of items join, by the numbers of relations.
 use Rattle.std.specs.Prelude.{ℕ, ◌-◌, ◌<◌, ◌≤◌, ◌≡◌, Bool, false, cond, ◌==◌, List, length, slice_index, slice_index_or, All, Option, MatchOption}
 use Rattle.std.specs.List.{list_any, AllWithin, HoldsAt}
-use Rattle.kif.specs.Tree.{Tree}
+use Rattle.statement.specs.Tree.{Tree}
 use Rattle.rules.specs.declared.item_links.Links.{Links}
 use Rattle.rules.specs.declared.item_links.Bound.{Bound}
 use Rattle.rules.specs.declared.item_links.Bound.TheVariants.{NoMove, FixedOnly, Free}
 use Rattle.digraph.specs.declared.graph.Arrow.{Arrow}
-use Rattle.profile.specs.declared.fault.RuleFault.{RuleFault}
-use Rattle.profile.specs.declared.fault.RuleFault.TheVariants as errors
+use Rattle.statement.specs.declared.rule_fault.RuleFault.{RuleFault}
+use Rattle.statement.specs.declared.rule_fault.RuleFault.TheVariants as errors
 use Rattle.digraph.specs.Graph.{IsReachedFrom}
-use Rattle.profile.specs.Words.{w_base, w_input, w_init, w_legal, w_goal, w_terminal}
-use Rattle.profile.specs.Clause.{Relation, relation_of, is_word}
-use Rattle.profile.specs.Items.{item_head, item_alternatives}
+use Rattle.statement.specs.Words.{w_base, w_input, w_init, w_legal, w_goal, w_terminal}
+use Rattle.statement.specs.Clause.{Relation, relation_of, is_word}
+use Rattle.statement.specs.Items.{item_head, item_alternatives}
 use Rattle.rules.specs.Numbering.{AreBodyNumbers}
 
 -- the numbers are below n

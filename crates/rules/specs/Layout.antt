@@ -1,17 +1,18 @@
+-- This crate's own: what `run` promises does not rest on it.
 -- Which relations are fixed, and the order of relations, in the items of a draft.
 use Rattle.std.specs.Prelude.{ℕ, ◌≡◌, ◌<◌, Bool, false, not, List, length, map, All, Some, None, slice_index, slice_index_or}
-use Rattle.kif.specs.Tree.{Tree}
+use Rattle.statement.specs.Tree.{Tree}
 use Rattle.rules.specs.declared.draft.Draft.{Draft}
-use Rattle.profile.specs.declared.fault.RuleFault.{RuleFault}
-use Rattle.profile.specs.declared.fault.RuleFault.TheVariants as errors
+use Rattle.statement.specs.declared.rule_fault.RuleFault.{RuleFault}
+use Rattle.statement.specs.declared.rule_fault.RuleFault.TheVariants as errors
 use Rattle.digraph.specs.declared.graph.Graph.{Graph}
 use Rattle.digraph.specs.GraphView.{arrows_of, nodes_of}
 use Rattle.rules.specs.Arrows.{arrows_in}
-use Rattle.profile.specs.Dependence.{IsAcyclic, dependences, is_fixed}
+use Rattle.statement.specs.Dependence.{IsAcyclic, dependences, is_fixed}
 use Rattle.rules.specs.Drafts.{IsDraftOf}
-use Rattle.profile.specs.Items.{alternatives}
-use Rattle.profile.specs.Order.{rank, relations_in_order}
-use Rattle.profile.specs.Profile.{first_failing, recursive, bad_dependence, is_recursive, depends_badly}
+use Rattle.statement.specs.Items.{alternatives}
+use Rattle.statement.specs.Order.{rank, relations_in_order}
+use Rattle.statement.specs.Profile.{first_failing, recursive, bad_dependence, is_recursive, depends_badly}
 use Rattle.clauses.specs.Store.{Data, relation_at}
 use Rattle.clauses.specs.StoreView.{data_of}
 

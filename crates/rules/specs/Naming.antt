@@ -1,3 +1,4 @@
+-- This crate's own: what `run` promises does not rest on it.
 -- Names that were given numbers.
 use Rattle.std.specs.Prelude.{ℕ, List}
 use Rattle.rules.specs.declared.rule_set.Keywords.{Keywords}

@@ -1,3 +1,4 @@
+-- This crate's own: what `run` promises does not rest on it.
 -- Relations by what they are compared by, in order.
 use Rattle.std.specs.Prelude.{ℕ, ◌<◌, ◌≤◌, ◌≡◌, ◌==◌, not, List, map, All, count_by}
 use Rattle.std.specs.List.Sorted.{IsPermutation, IsSorted}
@@ -5,9 +6,9 @@ use Rattle.std.specs.Ordering.{nat_cmp, bool_cmp}
 use Rattle.std.specs.Cmp.Lexicographic.{slice_cmp}
 use Rattle.std.specs.declared.cmp.Ordering.{Ordering}
 use Rattle.rules.specs.declared.order_of_relations.Entry.{Entry}
-use Rattle.profile.specs.Clause.{Alternative, Relation}
-use Rattle.profile.specs.Dependence.{IsAmong, heads_of, is_fixed}
-use Rattle.profile.specs.Order.{then_by, rank}
+use Rattle.statement.specs.Clause.{Alternative, Relation}
+use Rattle.statement.specs.Dependence.{IsAmong, heads_of, is_fixed}
+use Rattle.statement.specs.Order.{then_by, rank}
 
 -- fixed ones first, then by rank, by the bytes of the name, by the number of arguments, by the number
 abbrev pub entry_cmp : Entry → Entry → Ordering

@@ -1,3 +1,4 @@
+-- This crate's own: what `run` promises does not rest on it.
 -- What a rule set says of its numbers is a proposition, so it may be a ghost field.
 use Rattle.std.specs.Prelude.{ℕ, Bool, List, [], ◌∷◌}
 use denote.Struct.Props as logic
@@ -6,7 +7,7 @@ use Rattle.clauses.specs.declared.numbered.Part.TheVariants as parts
 use Rattle.clauses.specs.declared.numbered.Atom.{Atom}
 use Rattle.clauses.specs.declared.numbered.Span.{Span}
 use Rattle.rules.specs.declared.rule_set.Keywords.{Keywords}
-use Rattle.profile.specs.Clause as said
+use Rattle.statement.specs.Clause as said
 use Rattle.clauses.specs.Store.{Data, AreFull}
 use Rattle.clauses.specs.Adding.{HasVariables, IsSorted, AreSorted}
 use Rattle.clauses.specs.Marks.{IsInside, AreInside}

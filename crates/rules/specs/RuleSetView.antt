@@ -1,9 +1,10 @@
+-- This crate's own: what `run` promises does not rest on it.
 -- What a rule set holds.
 use Rattle.std.specs.Prelude.{ℕ, Bool, List, map}
 use Rattle.clauses.specs.declared.numbered.Alternative as memory
 use Rattle.rules.specs.declared.rule_set.Keywords.{Keywords}
 use Rattle.rules.specs.declared.rule_set.RuleSet.{RuleSet}
-use Rattle.profile.specs.Clause as said
+use Rattle.statement.specs.Clause as said
 use Rattle.rules.specs.Drafts.{numbered}
 use Rattle.rules.specs.RuleSets.{rules_of, texts_of}
 use Rattle.clauses.specs.Store.{Data}

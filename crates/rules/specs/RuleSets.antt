@@ -1,17 +1,18 @@
+-- This crate's own: what `run` promises does not rest on it.
 -- A description that was accepted, in numbers, and what it stands for.
 use Rattle.std.specs.Prelude.{ℕ, ◌≡◌, ◌<◌, Bool, false, List, [], ◌∷◌, All, Vec, length, map, slice_index_or}
-use Rattle.kif.specs.Tree.{Tree, text}
+use Rattle.statement.specs.Tree.{Tree, text}
 use Rattle.rules.specs.declared.rule_set.Keywords.{Keywords}
-use Rattle.profile.specs.Words.{w_role, w_base, w_input, w_init, w_true, w_does, w_next, w_legal, w_goal, w_terminal, w_distinct}
-use Rattle.profile.specs.Dependence.{is_fixed}
-use Rattle.profile.specs.Items.{alternatives}
+use Rattle.statement.specs.Words.{w_role, w_base, w_input, w_init, w_true, w_does, w_next, w_legal, w_goal, w_terminal, w_distinct}
+use Rattle.statement.specs.Dependence.{is_fixed}
+use Rattle.statement.specs.Items.{alternatives}
 use Rattle.clauses.specs.Numbers.{word_at, AreDifferent}
-use Rattle.profile.specs.Order.{relations_in_order}
-use Rattle.profile.specs.Profile as profile
-use Rattle.profile.specs.Profile.{HasNoFault}
+use Rattle.statement.specs.Order.{relations_in_order}
+use Rattle.statement.specs.Profile as profile
+use Rattle.statement.specs.Profile.{HasNoFault}
 use Rattle.clauses.specs.Store.{Data, relation_at}
 use Rattle.clauses.specs.Adding.{AreDifferentSignatures, HasVariables, HaveNames}
-use Rattle.profile.specs.Clause as said
+use Rattle.statement.specs.Clause as said
 use Rattle.clauses.specs.Marks.{IsInside, AreInside}
 use Rattle.rules.specs.Drafts.{Numbered, alternative_of}
 

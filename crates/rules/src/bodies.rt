@@ -1,8 +1,10 @@
-// The relations that the bodies of an item name.
+//! The relations that the bodies of an item name.
+//!
+//! Each stands once and by rising number, so the graph has no more arrows from an item than there are relations in it.
 ghost use Rattle.std.specs.Prelude.{◌≡◌, ◌<◌, ◌++◌, ◌∷◌, [], length, IfOk, OnOk, if◌then◌else◌};
 ghost use Rattle.std.specs.List.Sorted.{IsStrictlyIncreasing};
 ghost use Rattle.rules.specs.Bodies.{named_relations, all_named_relations, HaveSame, has_literal};
-ghost use Rattle.profile.specs.Dependence.{is_distinct};
+ghost use Rattle.statement.specs.Dependence.{is_distinct};
 ghost use Rattle.clauses.specs.Marks.{literal_in, IsInside, AreInside, AreAllInside};
 ghost use Rattle.clauses.specs.Spread.{lists_of};
 ghost use Rattle.clauses.specs.Store.{relation_at};

@@ -1,11 +1,11 @@
-// Whether a list of trees is a set of rules.
+//! Whether a list of trees is a set of rules.
 ghost use Rattle.std.specs.Prelude.{◌≡◌, map, IfOk, IfErr, OnOk, None};
-ghost use Rattle.kif.specs.Tree.{text};
+ghost use Rattle.statement.specs.Tree.{text};
 ghost use Rattle.kif.specs.View.{trees_in};
-ghost use Rattle.profile.specs.Answer.{PassesFirstTests, IsFaultOf};
+ghost use Rattle.statement.specs.RuleFaults.{PassesFirstTests, IsRuleFault};
 ghost use Rattle.rules.specs.Drafts.{IsDraftOf};
-ghost use Rattle.profile.specs.Items.{alternatives};
-ghost use Rattle.profile.specs.Profile.{HasNoFault, first_failing, not_safe, is_unsafe, roles};
+ghost use Rattle.statement.specs.Items.{alternatives};
+ghost use Rattle.statement.specs.Profile.{HasNoFault, first_failing, not_safe, is_unsafe, roles};
 ghost use Rattle.rules.specs.RuleSets.{AreKeywords};
 ghost use Rattle.rules.specs.RuleSetView.{rules_in, roles_in};
 ghost use Rattle.clauses.specs.StoreView.{data_of};
@@ -25,7 +25,7 @@ fn read_all<A: Allocator>(alloc: Global, items: &[Expr<A>]) -> Result<(Draft, Ke
     ensures read { IfOk result (λ both. IsDraftOf both.0 (trees_in items.now)) }
     ensures keywords { IfOk result (λ both. AreKeywords (data_of both.0.store).words both.1) }
     ensures safe { OnOk result (first_failing not_safe is_unsafe 1 (trees_in items.now) ≡ None) }
-    ensures faults { IfErr result (λ fault. IsFaultOf (trees_in items.now) fault) }
+    ensures faults { IfErr result (λ fault. IsRuleFault (trees_in items.now) fault) }
 {
     let mut draft = read_items(alloc, items)?;
     let keywords = number_keywords(&mut draft.store)?;
@@ -39,7 +39,7 @@ impl RuleSet {
         ensures accepted { IfOk result (λ set. HasNoFault (trees_in items.now)
             × (rules_in set ≡ alternatives (trees_in items.now))
             × (roles_in set ≡ map text (roles (trees_in items.now)))) }
-        ensures refused { IfErr result (λ fault. IsFaultOf (trees_in items.now) fault) }
+        ensures refused { IfErr result (λ fault. IsRuleFault (trees_in items.now) fault) }
     {
         let places = first_tests(items)?;
         let (draft, keywords) = read_all(alloc, items)?;

@@ -1,11 +1,11 @@
-// A rule set that is read item by item.
+//! A rule set that is read item by item.
 ghost use Rattle.std.specs.Prelude.{◌≡◌, ◌++◌, true, map, IfOk, IfErr, OnOk, None};
 ghost use Rattle.kif.specs.View.{tree_of, trees_in};
 ghost use Rattle.rules.specs.Drafts.{numbered, numbered_of, AddsItem, IsDraftOf, IsSafetyFault};
-ghost use Rattle.profile.specs.Items.{is_item};
+ghost use Rattle.statement.specs.Items.{is_item};
 ghost use Rattle.clauses.specs.Numbers.{AreDifferent};
 ghost use Rattle.profile.specs.Parts.{AreItems};
-ghost use Rattle.profile.specs.Profile.{first_failing, not_safe, is_unsafe};
+ghost use Rattle.statement.specs.Profile.{first_failing, not_safe, is_unsafe};
 ghost use Rattle.clauses.specs.StoreView.{data_of};
 
 use crate::bodies::{is_resting, relations_of};

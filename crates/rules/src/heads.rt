@@ -1,4 +1,4 @@
-// Which relations head an alternative, and which of those rest on anything, by number.
+//! Which relations head an alternative, and which of those rest on anything, by number.
 ghost use Rattle.std.specs.Prelude.{◌≡◌, ◌<◌, All, IfOk, length, replicate, vec_len, false, true, slice_set, if◌then◌else◌};
 ghost use Rattle.rules.specs.Heads.{with_heads, with_passing};
 ghost use Rattle.rules.specs.ItemLinks.{IsWithin};

@@ -1,4 +1,4 @@
-// The names that the language gives a meaning in play, by number.
+//! The names that the language gives a meaning in play, by number.
 ghost use Rattle.std.specs.Prelude.{IfOk};
 ghost use Rattle.profile.specs.Uses.{use_in};
 ghost use Rattle.rules.specs.Naming.{NumbersName, NumbersKeywords};

@@ -1,11 +1,11 @@
-// What the relations of a description mean to the language.
+//! What the relations of a description mean to the language.
 ghost use Rattle.std.specs.Prelude.{◌≡◌, ◌<◌, length, IfOk};
 ghost use Rattle.clauses.specs.Adding.{HaveNames};
-ghost use Rattle.profile.specs.Dependence.{is_moving};
-ghost use Rattle.profile.specs.Clause.{relation_eq};
+ghost use Rattle.statement.specs.Dependence.{is_moving};
+ghost use Rattle.statement.specs.Clause.{relation_eq};
 ghost use Rattle.rules.specs.ItemLinks.{bound_of, AreBounds};
 ghost use Rattle.rules.specs.Numbering.{AreTests};
-ghost use Rattle.profile.specs.Profile.{does_relation};
+ghost use Rattle.statement.specs.Profile.{does_relation};
 ghost use Rattle.clauses.specs.Store.{relation_at};
 ghost use Rattle.clauses.specs.StoreView.{data_of};
 

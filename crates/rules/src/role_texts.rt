@@ -1,8 +1,8 @@
-// The canonical texts of the roles.
+//! The canonical texts of the roles.
 ghost use Rattle.std.specs.Prelude.{◌≡◌, ◌<◌, ◌++◌, All, length, map, IfOk, OnOk};
-ghost use Rattle.kif.specs.Tree.{text};
+ghost use Rattle.statement.specs.Tree.{text};
 ghost use Rattle.kif.specs.View.{tree_of, trees_in};
-ghost use Rattle.profile.specs.Profile.{role_in};
+ghost use Rattle.statement.specs.Profile.{role_in};
 ghost use Rattle.rules.specs.RuleSets.{texts_of};
 ghost use Rattle.profile.specs.Stated.{roles_at};
 

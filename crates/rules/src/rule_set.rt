@@ -1,4 +1,4 @@
-// A description that was accepted, in numbers.
+//! A description that was accepted, in numbers.
 ghost use Rattle.std.specs.Prelude.{map};
 ghost use Rattle.rules.specs.Drafts.{numbered};
 ghost use Rattle.rules.specs.Props.{rule_props};

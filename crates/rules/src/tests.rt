@@ -1,4 +1,4 @@
-// Links and entries that are worked out by hand.
+//! Links and entries that are worked out by hand.
 use crate::dependences::graph_of;
 use crate::item_links::{Bound, Links, first_bad_dependence, first_recursive};
 use crate::order_of_relations::{Entry, numbers_in_order};

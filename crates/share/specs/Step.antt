@@ -1,3 +1,4 @@
+-- This crate's own: what `run` promises does not rest on it.
 use Rattle.std.specs.Prelude.{◌≡◌, ℕ}
 use Rattle.smallvec.specs.SmallVec.{small_vec_len}
 use Rattle.share.specs.declared.step.Step.{Step}

@@ -1,6 +1,6 @@
-// The search of a state by one worker, who needs no board.
+//! The search of a state by one worker, who needs no board.
 ghost use Rattle.std.specs.Prelude.{◌≡◌, pos, slice_get};
-ghost use Rattle.game.specs.Value.{value, choice_of};
+ghost use Rattle.statement.specs.Value.{value, choice_of};
 ghost use Rattle.share.specs.Desk.{HasRoom};
 
 use crate::desk::Desk;

@@ -1,3 +1,4 @@
+//! A joint move and the state after it.
 ghost use Rattle.std.specs.Prelude.{◌≡◌, IfOk};
 ghost use Rattle.smallvec.specs.SmallVec.{small_vec_len};
 ghost use Rattle.share.specs.Step.{IsStepOf};

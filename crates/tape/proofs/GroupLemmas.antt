@@ -1,20 +1,20 @@
 -- The groups of the bits of roles.
-use Rattle.std.proofs.Common.{◌≡◌, ◌≢◌, ℕ, suc, zero, ◌+◌, ◌-◌, ◌<◌, ◌≤◌, ◌==◌, Bool, true, false, ◌&&◌, List, [], ◌∷◌, ◌++◌, length, take, get_or, refl, sym, ◌∙◌, ap, subst, arith, All, inl, inr, ne_eqb}
+use Rattle.std.proofs.Common.{◌≡◌, ◌≢◌, ℕ, ◌+◌, ◌-◌, ◌<◌, ◌≤◌, ◌==◌, Bool, true, false, ◌&&◌, List, [], ◌∷◌, ◌++◌, length, take, get_or, refl, sym, ◌∙◌, ap, arith, inl, inr, ne_eqb}
 use Rattle.std.proofs.lemmas.Bool.{cases_eq}
 use Rattle.std.proofs.lemmas.Bool.Decides.{nat_tests}
 use Rattle.gates.specs.Building.{IsOneOf}
 use Rattle.tape.specs.Grouping.{IsGivenInput, IsGroupOf, AreGroups}
 use Rattle.std.specs.Prelude.{nat_lt, sum, Some, slice_get}
 use Rattle.std.proofs.Common.{cond, ◌/◌, ◌%◌}
-use Rattle.std.proofs.lemmas.List.Elements.{All-nil, All-push}
-use Rattle.std.proofs.lemmas.List.Sums.{sum_by_more, sum_by_more_le}
+use Rattle.std.proofs.lemmas.List.Elements.{All-push}
+use Rattle.std.proofs.lemmas.List.Sums.{sum_by_more}
 use Rattle.propnet.specs.declared.net.Net.{Net}
-use Rattle.propnet.specs.declared.node.Name.{Name}
+use Rattle.statement.specs.declared.node_name.Name.{Name}
 use Rattle.propnet.specs.Network.{Gate, given}
 use Rattle.propnet.specs.NetView.{gate_with}
 use Rattle.propnet.specs.Placing.{input_number}
 use Rattle.gates.specs.declared.builder.Group.{Group}
-use Rattle.tape.specs.Marks.{is_marked, AllMarked}
+use Rattle.tape.specs.Marks.{is_marked}
 use Rattle.tape.specs.Sources.{source_word, AreSourcesOf}
 use Rattle.gates.proofs.Facts.{same_self}
 
@@ -72,9 +72,6 @@ group_is net words role first count from to inside are some begins given_at ends
       };
 }
 
-pub no_groups : (net : Net) (words : List ℕ) (groups : List Group) → groups ≡ [] → AreGroups net words groups
-no_groups net words groups e = rw e record { within = All-nil _; one = λ state joint w turn s. All-nil _ }
-
 pub groups_more : (net : Net) (words : List ℕ) (groups next : List Group) (g : Group) → AreGroups net words groups → IsGroupOf net words g
     → next ≡ groups ++ (g ∷ []) → AreGroups net words next
 groups_more net words groups next g h k e = rw e record {
@@ -86,18 +83,4 @@ groups_more net words groups next g h k e = rw e record {
 pub sum_more : (xs : List ℕ) (k : ℕ) → k < length xs → sum (take (k + 1) xs) ≡ sum (take k xs) + get_or xs k 0
 sum_more xs k h = sum_by_more (λ x. x) xs k 0 h
 
-pub sum_within : (xs : List ℕ) (k : ℕ) → k < length xs → sum (take k xs) + get_or xs k 0 ≤ sum xs
-sum_within xs k h = sum_by_more_le (λ x. x) xs k 0 h
-
 -- One node behind others.
-
-pub within_behind : (n m : ℕ) (xs next : List ℕ) → All (λ k. k < m) xs → n < m → next ≡ xs ++ (n ∷ []) → All (λ k. k < m) next
-within_behind n m xs next h lt e = rw e (All-push (λ k. k < m) xs n h lt)
-
-pub marked_front : (marks : List Bool) (xs next : List ℕ) (n : ℕ) → next ≡ xs ++ (n ∷ []) → AllMarked marks next → AllMarked marks xs
-marked_front marks xs next n e h = front xs n (subst (λ (ys : List ℕ). AllMarked marks ys) e h)
-  where
-    front : (xs : List ℕ) (n : ℕ) → AllMarked marks (xs ++ (n ∷ [])) → AllMarked marks xs
-    front [] n h k d l = absurd (omega arith)
-    front (x ∷ xs) n h zero d l = h 0 d (omega arith)
-    front (x ∷ xs) n h (suc k) d l = front xs n (λ j f g. h (suc j) f (omega arith)) k d (omega arith)

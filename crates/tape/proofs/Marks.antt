@@ -37,7 +37,7 @@ use Rattle.std.proofs.lemmas.Bool.{cases_eq}
 use Rattle.std.proofs.lemmas.List.{get_or_default}
 use Rattle.propnet.specs.Network.{Gate, IsInOrder}
 use Rattle.propnet.specs.NetView.{gate_with}
-use Rattle.propnet.specs.declared.node.Name.{Name}
+use Rattle.statement.specs.declared.node_name.Name.{Name}
 use Rattle.tape.specs.Marks.{is_and_gate, is_or_gate, is_marked, term_nodes, AllMarked, TermMarked, TermsMarked, IsCovered, IsClosedFrom}
 
 marked_stays : (marks : List Bool) (x m : ℕ) → x < length marks → is_marked marks m ≡ true → (m ≡ x) ⊎ (m ≢ x) → is_marked (set marks x true) m ≡ true

@@ -38,8 +38,8 @@ use Rattle.std.specs.Prelude.{◌==◌, None, ◌-◌, Result, Ok, Err, OnOk}
 use Rattle.std.proofs.lemmas.List.{get_or_append_left, get_or_default}
 use Rattle.std.proofs.Math.Seq.{get_or-append_seam}
 use Rattle.propnet.specs.declared.net.Net.{Net}
-use Rattle.propnet.specs.declared.node.Name.{Name}
-use Rattle.propnet.specs.declared.node.Name.TheVariants.{Base, Input, Not, And, View, Transition}
+use Rattle.statement.specs.declared.node_name.Name.{Name}
+use Rattle.statement.specs.declared.node_name.Name.TheVariants.{Base, Input, Not, And, View, Transition}
 use Rattle.propnet.specs.Values as net
 use Rattle.propnet.specs.Network.{Gate, value_by, value_of as value_at, base_needed, given, value as node_value}
 use Rattle.propnet.specs.Nets.{gates_of}
@@ -322,6 +322,7 @@ pub sources_skip : (gates : List Gate) (marks : List Bool) (n : ℕ) (words lite
     → AreSourcesOf gates marks (n + 1) words next
 sources_skip gates marks n words literals next h e none = rw e (record {
   count = simp length-append (omega (arith, h.count));
+  few = (let few = h.few in omega arith);
   each = below_more _ _ before (λ gate word g m s. absurd (none gate word g m s));
 })
   where
@@ -339,6 +340,7 @@ pub sources_more : (gates : List Gate) (marks : List Bool) (n : ℕ) (name : Nam
     → AreSourcesOf gates marks (n + 1) more next
 sources_more gates marks n name reads words more literals next word literal h e f p slot q = rw (p, q) (record {
   count = simp length-append (omega (arith, h.count));
+  few = simp length-append (omega (arith, h.few));
   each = below_more _ _ before here;
 })
   where

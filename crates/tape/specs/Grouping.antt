@@ -1,3 +1,4 @@
+-- This crate's own: what `run` promises does not rest on it.
 -- Groups of given bits of which exactly one is 1.
 use Rattle.std.specs.Prelude.{ℕ, Bool, ◌≡◌, ◌<◌, ◌≤◌, All, List, length, slice_index}
 use Rattle.propnet.specs.declared.net.Net.{Net}

@@ -1,7 +1,8 @@
+-- This crate's own: what `run` promises does not rest on it.
 -- Marks on the nodes of a network that need a literal.
 use Rattle.std.specs.Prelude.{ℕ, Bool, true, false, List, [], ◌∷◌, length, Some, ◌≡◌, ◌≤◌, slice_get, slice_index_or, All}
-use Rattle.propnet.specs.declared.node.Name.{Name}
-use Rattle.propnet.specs.declared.node.Name.TheVariants.{Base, Input, Not, And, View, Transition}
+use Rattle.statement.specs.declared.node_name.Name.{Name}
+use Rattle.statement.specs.declared.node_name.Name.TheVariants.{Base, Input, Not, And, View, Transition}
 use Rattle.propnet.specs.Network.{Gate}
 
 abbrev pub is_and_gate : Name → Bool

@@ -1,7 +1,8 @@
+-- This crate's own: what `run` promises does not rest on it.
 -- The given words of a tape.
-use Rattle.std.specs.Prelude.{ℕ, Bool, true, false, List, length, Option, Some, None, ◌≡◌, ◌+◌, ◌*◌, ◌<◌, slice_get, slice_index}
-use Rattle.propnet.specs.declared.node.Name.{Name}
-use Rattle.propnet.specs.declared.node.Name.TheVariants.{Base, Input, Not, And, View, Transition}
+use Rattle.std.specs.Prelude.{ℕ, Bool, true, false, List, length, Option, Some, None, ◌≡◌, ◌+◌, ◌*◌, ◌<◌, ◌≤◌, slice_get, slice_index}
+use Rattle.statement.specs.declared.node_name.Name.{Name}
+use Rattle.statement.specs.declared.node_name.Name.TheVariants.{Base, Input, Not, And, View, Transition}
 use Rattle.propnet.specs.Network.{Gate}
 use Rattle.tape.specs.Marks.{is_marked}
 
@@ -29,9 +30,10 @@ pub record IsGivenAt (words : List ℕ) (l word : ℕ) : Type 0 where
   pub within : place < length words
   pub is : slice_index words place ≡ word
 
--- each marked node below n that is given has the literal of its word
+-- each marked node below n that is given has the literal of its word, and there are no more words than nodes
 pub record AreSourcesOf (gates : List Gate) (marks : List Bool) (n : ℕ) (words literals : List ℕ) : Type 0 where
   pub count : length literals ≡ n
+  pub few : length words ≤ n
   pub each : (m : ℕ) → m < n → (gate : Gate) (word : ℕ) → slice_get gates m ≡ Some gate → is_marked marks m ≡ true
       → source_word gate.name m ≡ Some word
       → IsGivenAt words (slice_index literals m) word

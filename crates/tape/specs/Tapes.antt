@@ -1,3 +1,4 @@
+-- This crate's own: what `run` promises does not rest on it.
 -- What a tape tells of the network that it was made of.
 use Rattle.std.specs.Prelude.{ℕ, Bool, List, length, ◌≡◌, ◌<◌, ◌==◌, slice_index}
 use Rattle.std.specs.Int.{bit_at}

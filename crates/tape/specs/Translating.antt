@@ -1,3 +1,4 @@
+-- This crate's own: what `run` promises does not rest on it.
 -- From the nodes of a network to literals.
 use Rattle.std.specs.Prelude.{ℕ, Bool, true, List, [], ◌∷◌, ◌++◌, map, length, Some, slice_get, slice_index_or, ◌≡◌, ◌+◌, ◌*◌, ◌<◌, ◌==◌, slice_index, All}
 use Rattle.propnet.specs.declared.net.Net.{Net}

@@ -1,42 +1,38 @@
 //! The groups of given bits that the inputs of the roles are.
-ghost use Rattle.std.specs.Prelude.{ℕ, Bool, List, ◌≡◌, ◌+◌, ◌*◌, ◌<◌, ◌≤◌, true, length, sum, take, All, IfOk, IfSome, slice_index};
+//!
+//! Which bits these are is looked up and tested when the groups are made, so no law says where they stand.
+ghost use Rattle.std.specs.Prelude.{ℕ, Bool, List, ◌≡◌, ◌+◌, ◌<◌, ◌≤◌, true, length, sum, take, All, IfOk, IfSome, slice_index};
 ghost use Rattle.propnet.specs.Nets.{gates_of};
 ghost use Rattle.tape.specs.Grouping.{IsGivenInput, IsGroupOf, AreGroups};
 ghost use Rattle.tape.specs.Marks.{AllMarked};
 ghost use Rattle.tape.specs.Sources.{AreSourcesOf};
 
-use crate::sourcing::{Sources, few, word_of};
+use crate::sourcing::{Sources, word_of};
 use gates::Group;
 use propnet::Net;
 use std::alloc::{AllocError, Global};
 
 /// Whether a node is an input that is given in the bit of this number.
-fn is_given_at(
-    net: &Net,
-    marks: &[bool],
-    sources: &Sources,
-    n: usize,
-    bit: usize,
-) -> Result<bool, AllocError>
+fn is_given_at(net: &Net, marks: &[bool], sources: &Sources, n: usize, bit: usize) -> bool
     requires sources { AreSourcesOf (gates_of net.now) marks.now (length (gates_of net.now)) sources.now.words.items sources.now.literals.items }
     requires marks { length marks.now ≡ length (gates_of net.now) }
-    ensures { IfOk result (λ is. is ≡ true → IsGivenInput sources.now.words.items bit n) }
+    ensures { result ≡ true → IsGivenInput sources.now.words.items bit n }
 {
     if n >= marks.len() || !marks[n] {
-        return Ok(false);
+        return false;
     }
     let (name, _reads) = net.gate(n);
-    let Some(word) = word_of(name, n)? else {
-        return Ok(false);
+    let Some(word) = word_of(name, n) else {
+        return false;
     };
     if word as usize != n {
-        return Ok(false);
+        return false;
     }
     let literal = sources.literals[n] as usize;
     if literal % 2 == 1 || literal < 2 {
-        return Ok(false);
+        return false;
     }
-    Ok(literal / 2 - 1 == bit)
+    literal / 2 - 1 == bit
 }
 
 /// Whether so many nodes from one on are inputs that are given in the bits from this number on.
@@ -47,21 +43,21 @@ fn are_given_from(
     first: usize,
     count: usize,
     from: usize,
-) -> Result<bool, AllocError>
+) -> bool
     requires sources { AreSourcesOf (gates_of net.now) marks.now (length (gates_of net.now)) sources.now.words.items sources.now.literals.items }
     requires marks { length marks.now ≡ length (gates_of net.now) }
     requires within { first + count ≤ length (gates_of net.now) }
-    ensures { IfOk result (λ are. are ≡ true → (m : ℕ) → m < count → IsGivenInput sources.now.words.items (from + m) (first + m)) }
+    ensures { result ≡ true → (m : ℕ) → m < count → IsGivenInput sources.now.words.items (from + m) (first + m) }
 {
     for m in 0..count {
         let Some(bit) = from.checked_add(m) else {
-            return Ok(false);
+            return false;
         };
-        if !is_given_at(net, marks, sources, first + m, bit)? {
-            return Ok(false);
+        if !is_given_at(net, marks, sources, first + m, bit) {
+            return false;
         }
     }
-    Ok(true)
+    true
 }
 
 /// The group of a role's inputs, whose nodes begin here, if all of them are given.
@@ -71,31 +67,28 @@ fn group_of(
     sources: &Sources,
     role: usize,
     first: usize,
-) -> Result<Option<Group>, AllocError>
+) -> Option<Group>
     requires sources { AreSourcesOf (gates_of net.now) marks.now (length (gates_of net.now)) sources.now.words.items sources.now.literals.items }
     requires marks { length marks.now ≡ length (gates_of net.now) }
     requires role { role < length net.now.inputs.items }
     requires first { first ≡ net.now.base + sum (take role net.now.inputs.items) }
     requires within { first + slice_index net.now.inputs.items role ≤ length (gates_of net.now) }
-    ensures { IfOk result (λ found. IfSome found (IsGroupOf net.now sources.now.words.items)) }
+    ensures { IfSome result (IsGroupOf net.now sources.now.words.items) }
 {
     let count = net.inputs()[role];
     if count == 0 {
-        return Ok(None);
+        return None;
     }
     let literal = sources.literals[first];
     if literal < 2 {
-        return Ok(None);
+        return None;
     }
     let from = literal / 2 - 1;
-    if !are_given_from(net, marks, sources, first, count, from as usize)? {
-        return Ok(None);
+    if !are_given_from(net, marks, sources, first, count, from as usize) {
+        return None;
     }
-    let Some(end) = (from as usize).checked_add(count) else {
-        return Ok(None);
-    };
-    let to = few(end)?;
-    Ok(Some(Group { from, to }))
+    let to = from + count as u32;
+    Some(Group { from, to })
 }
 
 /// The groups of the inputs of the roles.
@@ -112,7 +105,7 @@ pub(crate) fn groups_of(
     let mut groups = Vec::new(alloc);
     let mut first = net.base();
     for role in 0..net.inputs().len() {
-        if let Some(group) = group_of(net, marks, sources, role, first)? {
+        if let Some(group) = group_of(net, marks, sources, role, first) {
             groups.push(group)?;
         }
         first += net.inputs()[role];
@@ -128,10 +121,7 @@ pub(crate) fn with_inputs(alloc: Global, net: &Net, kept: &[u32]) -> Result<Vec<
 {
     let mut nodes = Vec::from_slice(alloc, kept)?;
     for n in net.base()..net.sources() {
-        let Ok(number) = u32::try_from(n) else {
-            return Err(AllocError);
-        };
-        nodes.push(number)?;
+        nodes.push(n as u32)?;
     }
     Ok(nodes)
 }

@@ -29,33 +29,18 @@ pub(crate) fn is_source(name: Name) -> bool
 }
 
 /// The number of the word that a node is given, if it is.
-pub(crate) fn word_of(name: Name, n: usize) -> Result<Option<u32>, AllocError>
-    ensures { IfOk result (λ word. word ≡ source_word name n) }
+pub(crate) fn word_of(name: Name, n: usize) -> Option<u32>
+    requires { n < 2 ^ 30 }
+    ensures { result ≡ source_word name n }
 {
     match name {
-        Name::Base(p) => Ok(Some(p)),
-        Name::Input(_, _) => {
-            let Ok(word) = u32::try_from(n) else {
-                return Err(AllocError);
-            };
-            Ok(Some(word))
-        }
-        Name::Not(_) => Ok(None),
-        Name::And(_) => Ok(None),
-        Name::View(_) => Ok(None),
-        Name::Transition(_) => Ok(None),
+        Name::Base(p) => Some(p),
+        Name::Input(_, _) => Some(n as u32),
+        Name::Not(_) => None,
+        Name::And(_) => None,
+        Name::View(_) => None,
+        Name::Transition(_) => None,
     }
-}
-
-/// A count, if its literals can be numbered.
-pub(crate) fn few(count: usize) -> Result<u32, AllocError>
-    ensures same { IfOk result (λ n. n ≡ count) }
-    ensures small { IfOk result (λ n. n < 2 ^ 30) }
-{
-    if count >= 1 << 30 {
-        return Err(AllocError);
-    }
-    Ok(count as u32)
 }
 
 impl Sources {
@@ -71,11 +56,11 @@ impl Sources {
             return Ok(());
         }
         let (name, _reads) = net.gate(n);
-        let Some(word) = word_of(name, n)? else {
+        let Some(word) = word_of(name, n) else {
             self.literals.push(0)?;
             return Ok(());
         };
-        let index = few(self.words.len())?;
+        let index = self.words.len() as u32;
         self.words.push(word)?;
         self.literals.push(given(index))?;
         Ok(())

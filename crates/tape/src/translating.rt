@@ -1,5 +1,5 @@
 //! From the kept nodes of a network to a tape.
-ghost use Rattle.std.specs.Prelude.{true, ◌≡◌, ◌+◌, ◌*◌, ◌<◌, ◌≤◌, length, [], All, IfOk, OnOk};
+ghost use Rattle.std.specs.Prelude.{true, ◌≡◌, ◌+◌, ◌*◌, ◌<◌, ◌≤◌, length, All, IfOk, OnOk};
 ghost use Rattle.propnet.specs.Nets.{gates_of};
 ghost use Rattle.gates.specs.Building.{IsBuilt, IsStep};
 ghost use Rattle.tape.specs.Marks.{is_marked, AllMarked, IsClosedFrom};
@@ -10,7 +10,7 @@ ghost use Rattle.tape.specs.Translating.{AreKept, IsGroupTapeOf, IsMeant, IsTran
 use crate::cones::{cones, is_and, is_or};
 use crate::gathering::{add_terms, gather};
 use crate::groups::{groups_of, with_inputs};
-use crate::sourcing::{Sources, above, few, is_source, sources_of};
+use crate::sourcing::{Sources, above, is_source, sources_of};
 use crate::tape::Tape;
 use gates::{Builder, Group, Literal, Terms, negation};
 use propnet::Net;
@@ -111,7 +111,7 @@ fn made(
     requires groups { All (λ g. g.to ≤ length sources.words.items) groups.items }
     ensures { IfOk result (λ t. IsGroupTapeOf net.now kept.now sources.words.items groups.items t) }
 {
-    let mut builder = Builder::new(alloc, few(sources.words.len())?, groups)?;
+    let mut builder = Builder::new(alloc, sources.words.len() as u32, groups)?;
     let literals = translate(alloc, net, kept, marks, &sources, &mut builder)?;
     let mut slots = Vec::with_capacity(alloc, kept.len())?;
     gather(&mut slots, kept, &literals)?;

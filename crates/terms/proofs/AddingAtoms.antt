@@ -27,16 +27,16 @@ use Rattle.std.proofs.Common.{
   arith,
 }
 use Rattle.std.proofs.lemmas.List.{length-map}
-use Rattle.kif.specs.Tree.{Tree, trees_of}
-use Rattle.profile.specs.Clause.{Atom, tree_at, tree_of}
-use Rattle.profile.specs.Safety.{is_name_in}
+use Rattle.statement.specs.Tree.{Tree, trees_of}
+use Rattle.statement.specs.Clause.{Atom, tree_at, tree_of}
+use Rattle.statement.specs.Safety.{is_name_in}
 use Rattle.terms.specs.Arena.{Held, AreNumbered, cut}
 use Rattle.clauses.specs.Numbers.{Begins, word_at}
 use Rattle.terms.specs.Atoms.{with_number, with_numbers, AreTermsOf, AddsAtoms}
 use Rattle.clauses.specs.Marks.{AreBelow}
 use Rattle.terms.specs.Keys.{IsKey, with_key, word_of, parts_of, term_at, tree_of_key, trees}
 use Rattle.keys.specs.KeyLists.{key_at}
-use Rattle.meaning.specs.Meaning.{atom1, atom2}
+use Rattle.statement.specs.Meaning.{atom1, atom2}
 use Rattle.terms.proofs.AtomLemmas.{
   front_itself,
   front_trans,

@@ -32,7 +32,7 @@ use Rattle.std.proofs.Common.{
 }
 use Rattle.std.specs.Prelude.{decimal}
 use Rattle.std.proofs.lemmas.Fmt.{decimal_digit, decimal_step, decimal_nonempty}
-use Rattle.kif.specs.Tree.{name_eq}
+use Rattle.statement.specs.Tree.{name_eq}
 
 and_no : (b : Bool) → (b && false) ≡ false
 and_no true = refl

@@ -31,21 +31,21 @@ use Rattle.std.proofs.Common.{
 use Rattle.std.specs.Prelude.{not, filter, slice_index_or}
 use Rattle.std.specs.List.{list_any}
 use Rattle.rules.specs.declared.rule_set.Keywords.{Keywords}
-use Rattle.kif.specs.Tree.{Tree, trees_of, name_eq, tree_eq}
+use Rattle.statement.specs.Tree.{Tree, trees_of, name_eq, tree_eq}
 use Rattle.kif.proofs.Facts.{name_eq_yes, name_eq_self, tree_eq_yes, tree_eq_self}
-use Rattle.profile.specs.Clause.{Atom, Alternative, tree_of}
+use Rattle.statement.specs.Clause.{Atom, Alternative, tree_of}
 use Rattle.rules.specs.RuleSets.{IsNumberOf, AreKeywords}
-use Rattle.profile.specs.Words.{w_init, w_next, w_legal}
+use Rattle.statement.specs.Words.{w_init, w_next, w_legal}
 use Rattle.terms.specs.Dropping.{is_input_in, is_dropped_in, dropped_in, AreListsBelow, AreShown}
 use Rattle.terms.specs.Atoms.{AreAtoms}
-use Rattle.meaning.specs.InOrder.{first_place}
+use Rattle.statement.specs.Printed.{first_place}
 use Rattle.clauses.specs.Marks.{AreBelow}
 use Rattle.clauses.specs.Numbers.{word_at, AreDifferent}
 use Rattle.terms.specs.Keys.{word_of, parts_of, term_at, trees, IsKey, AreKeys}
 use Rattle.keys.specs.KeyLists.{key_at}
-use Rattle.meaning.specs.Listing.{role_list, base_list, input_list}
-use Rattle.profile.specs.Profile.{is_tree_in}
-use Rattle.meaning.specs.Play.{is_dropped}
+use Rattle.statement.specs.Listing.{role_list, base_list, input_list}
+use Rattle.statement.specs.Profile.{is_tree_in}
+use Rattle.statement.specs.GoalsAndMoves.{is_dropped}
 use Rattle.terms.proofs.AtomLemmas.{same_test, nat_eq_self}
 use Rattle.terms.proofs.KeyTrees.{parts_of_tree, tree_of_number, different, length_trees}
 

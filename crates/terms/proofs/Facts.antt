@@ -3,7 +3,6 @@
 -- Different keys are different trees.
 pub use Rattle.terms.proofs.KeyTrees.{length_trees, tree_of_number, different}
 -- Lengths of texts beside the keys of ground terms.
-pub use Rattle.terms.proofs.Lengths.{here_below}
 -- The terms that atoms state are those of the definition.
 pub use Rattle.terms.proofs.StatedTerms.{terms_same, atom_key, only_terms, second_terms}
 -- Further atoms are numbered one after the other.

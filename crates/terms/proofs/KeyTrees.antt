@@ -27,9 +27,9 @@ use Rattle.std.proofs.Common.{
   arith,
   map,
 }
-use Rattle.kif.specs.Tree.{Tree, Trees, no_trees, tree, trees_of}
-use Rattle.profile.specs.Clause.{tree_at}
-use Rattle.profile.specs.Safety.{is_name_in}
+use Rattle.statement.specs.Tree.{Tree, Trees, no_trees, tree, trees_of}
+use Rattle.statement.specs.Clause.{tree_at}
+use Rattle.statement.specs.Safety.{is_name_in}
 use Rattle.clauses.specs.Marks.{AreBelow}
 use Rattle.clauses.specs.Numbers.{word_at, AreDifferent}
 use Rattle.terms.specs.Keys.{with_key, word_of, parts_of, term_at, tree_of_key, trees_behind, trees, IsKey, AreKeys, AreDifferentTerms}

@@ -34,22 +34,22 @@ use Rattle.std.specs.List.{position_from}
 use Rattle.std.specs.Option.{option_map}
 use Rattle.std.proofs.lemmas.Iterator.Adapters.{position_from-zero}
 use Rattle.std.proofs.lemmas.List.Quantifiers.{position-Some}
-use Rattle.kif.specs.Tree.{Tree, Trees, name, no_trees, tree, trees_of, name_eq, tree_eq}
+use Rattle.statement.specs.Tree.{Tree, Trees, name, no_trees, tree, trees_of, name_eq, tree_eq}
 use Rattle.kif.proofs.Facts.{name_eq_yes, name_eq_self, tree_eq_yes, tree_eq_self}
-use Rattle.profile.specs.Clause.{Atom, Alternative, relation_of, tree_of, tree_at}
-use Rattle.profile.specs.Dependence.{is_fixed}
+use Rattle.statement.specs.Clause.{Atom, Alternative, relation_of, tree_of, tree_at}
+use Rattle.statement.specs.Dependence.{is_fixed}
 use Rattle.rules.specs.RuleSets.{IsNumberOf, AreKeywords}
-use Rattle.profile.specs.Words.{w_true, w_does, w_next, w_legal, w_goal, w_terminal}
+use Rattle.statement.specs.Words.{w_true, w_does, w_next, w_legal, w_goal, w_terminal}
 use Rattle.rules.specs.declared.rule_set.Keywords.{Keywords}
-use Rattle.meaning.specs.declared.kind.Kind.{Kind}
-use Rattle.meaning.specs.declared.kind.Kind.TheVariants.{Fixed, Now, Does, Next, Legal, Goal, Terminal, Other}
+use Rattle.statement.specs.declared.kind.Kind.{Kind}
+use Rattle.statement.specs.declared.kind.Kind.TheVariants.{Fixed, Now, Does, Next, Legal, Goal, Terminal, Other}
 use Rattle.clauses.specs.Marks.{AreBelow}
 use Rattle.clauses.specs.Numbers.{word_at, AreDifferent}
 use Rattle.terms.specs.Keys.{term_at, tree_of_key, trees, AreDifferentTerms, IsKey}
 use Rattle.keys.specs.KeyLists.{key_at}
 use Rattle.terms.specs.Arena.{AreNumbered}
-use Rattle.meaning.specs.Kinds.{place_in, value_of, one_number, two_numbers, kind_at, kind_of}
-use Rattle.meaning.specs.Listing.{role_list, base_list, input_list}
+use Rattle.statement.specs.Kinds.{place_in, value_of, one_number, two_numbers, kind_at, kind_of}
+use Rattle.statement.specs.Listing.{role_list, base_list, input_list}
 use Rattle.terms.specs.Tables.{AreTables, inputs_at, place_of, input_place, kind_without, kind_with_one, kind_with_two}
 use Rattle.terms.proofs.KeyTrees.{different, length_trees, tree_of_number, parts_of_tree}
 
@@ -113,14 +113,6 @@ pub place_is : (terms : List Tree) → AreDifferentTerms terms → (n : ℕ) →
 place_is terms d n h ms b =
     sym (position_from-zero (λ (m : ℕ). n == m) ms ∙ places_from terms d n h 0 ms b ∙ none_up (place_in (term_at terms n) (map (term_at terms) ms)))
 
-pub place_below : (n : ℕ) (ms : List ℕ) (most : ℕ) (o : Option ℕ) → o ≡ place_of n ms → length ms < most → IfSome o (λ k. k < most)
-place_below n ms most None e h = tt
-place_below n ms most (Some k) e h = let f = position-Some (λ (m : ℕ). n == m) ms k 0 (sym e) in let l = f.0 in omega (arith, l, h)
-
-pub place_within : (n : ℕ) (ms : List ℕ) (o : Option ℕ) (most : ℕ) → o ≡ place_of n ms → length ms ≡ most → IfSome o (λ k. k < most)
-place_within n ms None most e h = tt
-place_within n ms (Some k) most e h = let f = position-Some (λ (m : ℕ). n == m) ms k 0 (sym e) in let l = f.0 in omega (arith, l, h)
-
 -- Values.
 
 pub no_value : (words : List (List ℕ)) (many : ℕ) (keys : List (List ℕ)) (number : ℕ) (key : List ℕ) (b : Bool) → AreNumbered many keys
@@ -152,9 +144,6 @@ a_value words many keys number key b o word a h e one f w g =
     go (w ∷ (p ∷ ps)) l r = absurd (let bad : ⊥ = omega (arith, l) in bad)
 
 -- Kinds.
-
-pub fixed_kind : (rules : List Alternative) (x : Atom) (b : Bool) → is_fixed rules (relation_of x) ≡ b → b ≡ true → Fixed ≡ kind_of rules x
-fixed_kind rules x b e f = ap (λ (t : Bool). cond t Fixed (kind_at rules x.word x.terms)) (sym (e ∙ f))
 
 atom_kind : (rules : List Alternative) (x : Atom) (w : List ℕ) (ts : Trees) (b : Bool) → is_fixed rules (relation_of x) ≡ b → b ≡ false
     → tree_of x ≡ tree_at w ts → kind_of rules x ≡ kind_at rules w ts

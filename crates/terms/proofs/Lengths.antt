@@ -36,25 +36,19 @@ use Rattle.std.proofs.Math.Seq.{drop-cons, take-suc}
 use Rattle.std.proofs.Math.ListN.{get_or-map}
 use Rattle.std.proofs.lemmas.List.{map-append, length-map, take-append-le, length-take-le}
 use Rattle.std.proofs.lemmas.Grind.{same_number_lists}
-use Rattle.kif.specs.Tree.{Tree, name, text, further_text, trees_of}
-use Rattle.profile.specs.Clause.{tree_at}
-use Rattle.profile.specs.Safety.{is_name_in}
+use Rattle.statement.specs.Tree.{Tree, name, text, further_text, trees_of}
+use Rattle.statement.specs.Clause.{tree_at}
+use Rattle.statement.specs.Safety.{is_name_in}
 use Rattle.clauses.specs.Marks.{AreBelow}
 use Rattle.clauses.specs.Numbers.{word_at}
 use Rattle.terms.specs.Keys.{with_key, word_of, term_at, tree_of_key, trees_behind, trees, IsKey, AreKeys}
 use Rattle.keys.specs.KeyLists.{key_at}
 use Rattle.terms.specs.Arena.{Held, cut, sizes_of, lengths_of, with_parts, key_length, AreNumbered, IsHeld}
-use Rattle.meaning.specs.Most.{limits}
+use Rattle.statement.specs.Most.{limits}
 use Rattle.terms.proofs.KeyNumbers.{not_in, last_or_before, with_known}
 use Rattle.terms.proofs.KeyTrees.{keys_kept, length_trees, tree_of_number}
 
 -- Going through the parts of a key.
-
-pub here_below : (n i : ℕ) (xs : List ℕ) → i < length xs → AreBelow n (drop i xs) → get_or xs i 0 < n
-here_below n i xs h b = (subst (λ (ys : List ℕ). AreBelow n ys) (drop-cons xs i 0 h) b).0
-
-pub next_below : (n i : ℕ) (xs : List ℕ) → i < length xs → AreBelow n (drop i xs) → AreBelow n (drop (suc i) xs)
-next_below n i xs h b = (subst (λ (ys : List ℕ). AreBelow n ys) (drop-cons xs i 0 h) b).1
 
 -- what is left to add is the same
 pub record Adding (lengths : List ℕ) (before : ℕ) (parts : List ℕ) (i total : ℕ) : Type 0 where
@@ -62,20 +56,7 @@ pub record Adding (lengths : List ℕ) (before : ℕ) (parts : List ℕ) (i tota
   pub rest : AreBelow (length lengths) (drop i parts)
   pub small : total ≤ suc limits.text
 
-pub add_one : (lengths : List ℕ) (before : ℕ) (parts : List ℕ) (i total next : ℕ) → i < length parts → Adding lengths before parts i total
-    → next ≡ cut (total + 1 + get_or lengths (get_or parts i 0) 0) → next ≤ suc limits.text → Adding lengths before parts (suc i) next
-add_one lengths before parts i total next h a e s = record {
-  same =
-      a.same ∙ ap (λ (ps : List ℕ). with_parts lengths total ps) (drop-cons parts i 0 h)
-      ∙ ap (λ (n : ℕ). with_parts lengths n (drop (suc i) parts)) (sym e);
-  rest = next_below (length lengths) i parts h a.rest;
-  small = s;
-}
-
 -- The lengths of a list of trees.
-
-cut_cut : (m n : ℕ) → cut (cut m + n) ≡ cut (m + n)
-cut_cut m n = omega arith
 
 length_at : (terms : List Tree) (p : ℕ) → get_or (lengths_of terms) p 0 ≡ cut (length (text (term_at terms p)))
 length_at terms p = get_or-map (λ (t : Tree). cut (length (text t))) terms p (name [])
@@ -136,10 +117,6 @@ key_word : (many n : ℕ) (key : List ℕ) → IsKey many n key → word_of key 
 key_word many n [] h = absurd h
 key_word many n (w ∷ ps) h = h.0
 
-pub key_below : (many n : ℕ) (key : List ℕ) → many ≤ n → IsKey many n key → AreBelow n key
-key_below many n [] h k = absurd k
-key_below many n (w ∷ ps) h k = (let less = k.0 in omega (arith, h, less), k.1)
-
 short_more : (lengths : List ℕ) (n : ℕ) → ((i : ℕ) → get_or lengths i 0 ≤ suc limits.text) → n ≤ suc limits.text → (i : ℕ)
     → get_or (lengths ++ n ∷ []) i 0 ≤ suc limits.text
 short_more [] n s h zero = h
@@ -174,11 +151,6 @@ numbered_more many keys key a k = go (is_name_in key keys) (keys_kept many keys 
             ⊎ ((s ≡ length keys) × (key_at (keys ++ key ∷ []) s ≡ key)) → key_at (keys ++ key ∷ []) s ≡ s ∷ []
         pick s h (inl e) = e.1 ∙ a.symbols s h
         pick s h (inr e) = absurd (let w = a.within in let f = e.0 in let bad : ⊥ = omega (arith, h, w, f) in bad)
-
-trees_same : (words : List (List ℕ)) (many : ℕ) (keys : List (List ℕ)) (k : List ℕ)
-    → length (trees words (keys ++ k ∷ [])) ≡ suc (length (trees words keys))
-trees_same words many keys k = ap length (trees_with words keys k) ∙ length-append (trees words keys) (tree_of_key words (trees words keys) k ∷ [])
-    ∙ omega arith
 
 held_new : (many : ℕ) (lengths : List ℕ) (keys : List (List ℕ)) (key : List ℕ) (n : ℕ) → IsHeld many lengths keys → IsKey many (length keys) key
     → n ≡ key_length lengths key → n ≤ suc limits.text → AreNumbered many (keys ++ key ∷ []) → IsHeld many (lengths ++ n ∷ []) (keys ++ key ∷ [])
@@ -306,13 +278,6 @@ begun_all words n lengths keys e b = record {
 pub begun_held : (words : List (List ℕ)) (m n : ℕ) (lengths : List ℕ) (keys : List (List ℕ)) → n ≡ length words → m ≡ n → Begun words m lengths keys
     → IsHeld n lengths keys
 begun_held words m n lengths keys e f b = begun_all words n lengths keys e (subst (λ (k : ℕ). Begun words k lengths keys) f b)
-
-pub begun_sizes : (words : List (List ℕ)) (m n : ℕ) (lengths : List ℕ) (keys : List (List ℕ)) → n ≡ length words → m ≡ n → Begun words m lengths keys
-    → take n lengths ≡ sizes_of words
-begun_sizes words m n lengths keys e f b =
-    let l = length-map words (λ (w : List ℕ). cut (length w)) in
-    let whole : lengths ≡ sizes_of words = b.sizes ∙ take_whole m (sizes_of words) (omega (arith, l, e, f)) in
-    ap (λ (ls : List ℕ). take n ls) whole ∙ take_whole n (sizes_of words) (omega (arith, l, e))
 
 -- What the fields say of the value.
 

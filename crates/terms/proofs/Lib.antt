@@ -12,7 +12,6 @@ mod AddingAtoms
 mod StartLemmas
 mod DropLemmas
 mod Shortened
-mod TextBytes
 mod AtPlaces
 mod NumberSets
 mod AtomLemmas

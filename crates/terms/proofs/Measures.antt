@@ -2,12 +2,12 @@
 use Rattle.std.proofs.Common.{ℕ, suc, zero, ◌≡◌, ◌+◌, ◌-◌, ◌<◌, ◌≤◌, true, List, [], ◌∷◌, length, length-append, take, drop, get_or, nat_lt, refl, ◌∙◌, ap, arith}
 use Rattle.std.proofs.Math.Seq.{drop-cons}
 use Rattle.std.proofs.lemmas.Bool.Decides.{nat_tests}
-use Rattle.kif.specs.Tree.{Tree, name, list, tree, text, further_text, trees_of}
-use Rattle.profile.specs.Clause.{tree_at}
+use Rattle.statement.specs.Tree.{Tree, name, list, tree, text, further_text, trees_of}
+use Rattle.statement.specs.Clause.{tree_at}
 use Rattle.clauses.specs.declared.numbered.Part.{Part}
 use Rattle.clauses.specs.declared.numbered.Part.TheVariants as parts
 use Rattle.clauses.specs.Numbers.{word_at}
-use Rattle.meaning.specs.Most.{limits}
+use Rattle.statement.specs.Most.{limits}
 use Rattle.terms.specs.Arena.{Held, AreNumbered, cut, sizes_of}
 use Rattle.terms.specs.Building.{ArePlaced, value_in, ground_terms}
 use Rattle.terms.specs.Keys.{term_at, trees}

@@ -31,7 +31,7 @@ use Rattle.std.specs.List.{list_any, IsDistinct}
 use Rattle.std.proofs.lemmas.Map.Keys.{IsDistinct-push}
 use Rattle.std.specs.Cmp.{nat_eq_equiv}
 use Rattle.std.proofs.lemmas.List.{get_or-set_same, get_or-set_other}
-use Rattle.meaning.specs.InOrder.{first_place}
+use Rattle.statement.specs.Printed.{first_place}
 use Rattle.terms.specs.NumberSets.{ticket_of, AreTickets, IsNumberSet}
 use Rattle.terms.proofs.AtPlaces.{none_place}
 

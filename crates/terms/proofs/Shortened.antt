@@ -2,7 +2,7 @@
 use Rattle.std.proofs.Common.{ℕ, zero, suc, ◌≡◌, ◌<◌, ◌≤◌, List, [], ◌∷◌, ◌++◌, length, map, take, drop, get_or, sym, ◌∙◌, ap, subst, arith}
 use Rattle.std.proofs.Math.Seq.{take-append_seam}
 use Rattle.std.proofs.lemmas.List.{get_or-take, take-map, take-take, take-append-drop}
-use Rattle.kif.specs.Tree.{Tree, text}
+use Rattle.statement.specs.Tree.{Tree, text}
 use Rattle.terms.specs.Arena.{Held, IsHeld, AreNumbered, cut}
 use Rattle.clauses.specs.Numbers.{Begins}
 use Rattle.terms.specs.Atoms.{AreTermsOf, HasGrown}

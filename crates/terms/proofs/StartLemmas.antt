@@ -2,12 +2,12 @@
 use Rattle.std.proofs.Common.{ℕ, ◌<◌, true, false, ◌≡◌, List, [], ◌∷◌, length, map, nat_eq, eqb-true, refl, sym, ap, subst, ◌∙◌, arith}
 use Rattle.std.specs.Prelude.{filter, not}
 use Rattle.std.specs.List.{list_any}
-use Rattle.kif.specs.Tree.{Tree, name_eq, trees_of}
+use Rattle.statement.specs.Tree.{Tree, name_eq, trees_of}
 use Rattle.kif.proofs.Facts.{name_eq_yes, name_eq_self}
-use Rattle.profile.specs.Clause.{Atom, Alternative, tree_of, atom_eq}
-use Rattle.profile.specs.Dependence.{IsAmong, is_fixed}
-use Rattle.profile.specs.Order.{relations_in_order}
-use Rattle.profile.specs.Words.{w_init}
+use Rattle.statement.specs.Clause.{Atom, Alternative, tree_of, atom_eq}
+use Rattle.statement.specs.Dependence.{IsAmong, is_fixed}
+use Rattle.statement.specs.Order.{relations_in_order}
+use Rattle.statement.specs.Words.{w_init}
 use Rattle.profile.proofs.Facts.{atom_eq_yes, atom_eq_self, IsAmong-append_left}
 use Rattle.terms.specs.Arena.{AreNumbered}
 use Rattle.terms.specs.Atoms.{AreAtoms}
@@ -16,9 +16,9 @@ use Rattle.clauses.specs.Numbers.{word_at, AreDifferent}
 use Rattle.terms.specs.Keys.{term_at, trees, tree_of_key, IsKey, AreKeys}
 use Rattle.keys.specs.KeyLists.{key_at}
 use Rattle.meaning.specs.Listed.{IsWellFormed}
-use Rattle.meaning.specs.Listing.{is_atom_in, with_atoms, context_atoms, fixed_listing, listing, Listing}
-use Rattle.meaning.specs.Meaning.{atom1}
-use Rattle.meaning.specs.Play as play
+use Rattle.statement.specs.Listing.{is_atom_in, with_atoms, context_atoms, fixed_listing, listing, Listing}
+use Rattle.statement.specs.Meaning.{atom1}
+use Rattle.statement.specs.GoalsAndMoves as play
 use Rattle.terms.specs.Starting.{has_key, starts_in}
 use Rattle.meaning.proofs.Facts.{numbered_exact, with_left, always_listed, is_atom_yes, is_atom_in_yes, kept_always, steps_front, possible_plain}
 use Rattle.terms.proofs.AtomLemmas.{tree_once, same_test, nat_eq_self}

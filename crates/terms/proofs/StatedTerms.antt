@@ -25,15 +25,15 @@ use Rattle.std.proofs.Common.{
   arith,
 }
 use Rattle.std.proofs.lemmas.List.{map-append}
-use Rattle.kif.specs.Tree.{Tree, Trees, trees_of, name_eq, tree_eq}
+use Rattle.statement.specs.Tree.{Tree, Trees, trees_of, name_eq, tree_eq}
 use Rattle.kif.proofs.Facts.{name_eq_yes, name_eq_self, tree_eq_yes, tree_eq_self}
-use Rattle.profile.specs.Clause.{Atom, relation_of, is_word, tree_of, count_trees}
+use Rattle.statement.specs.Clause.{Atom, relation_of, is_word, tree_of, count_trees}
 use Rattle.clauses.specs.Numbers.{word_at, AreDifferent}
 use Rattle.terms.specs.Keys.{word_of, parts_of, term_at, trees, IsKey, AreKeys}
 use Rattle.keys.specs.KeyLists.{key_at}
 use Rattle.terms.specs.Atoms.{AreAtoms}
-use Rattle.meaning.specs.Listing.{one_term, terms_of, terms_with}
-use Rattle.meaning.specs.Listing as listing
+use Rattle.statement.specs.Listing.{one_term, terms_of, terms_with}
+use Rattle.statement.specs.Listing as listing
 use Rattle.terms.specs.Stated.{one_of, second_of, one_part, second_part, only_parts, second_parts}
 use Rattle.terms.proofs.AtomLemmas.{first_atom, same_test, nat_eq_self}
 use Rattle.terms.proofs.KeyTrees.{Same, parts_of_tree, tree_of_number, different, length_trees}
@@ -41,10 +41,6 @@ use Rattle.terms.proofs.KeyTrees.{Same, parts_of_tree, tree_of_number, different
 if_none : {A : Type 0} (b : Bool) → ◌≡◌ {A = List A} (cond b [] []) []
 if_none true = refl
 if_none false = refl
-
-and_true : (b : Bool) → (b && true) ≡ b
-and_true true = refl
-and_true false = refl
 
 module _ (words : List (List ℕ)) (differ : AreDifferent words) where
   -- names are the same exactly where their numbers are

@@ -23,7 +23,7 @@ use Rattle.std.proofs.Common.{
   append_assoc,
 }
 use Rattle.std.proofs.lemmas.List.{append-nil, reverse-append, reverse-reverse}
-use Rattle.kif.specs.Tree.{Tree, text, further_text, trees_of}
+use Rattle.statement.specs.Tree.{Tree, text, further_text, trees_of}
 use Rattle.terms.specs.declared.writing.Pending.{Pending}
 use Rattle.terms.specs.declared.writing.Pending.TheVariants.{Term, Closing}
 use Rattle.clauses.specs.Marks.{AreBelow}
@@ -138,10 +138,6 @@ spaced n terms k out between wrote before after e w = record {
   text_is = ap (λ (bs : List ℕ). 32 ∷ bs) (w.text_is ∙ sym (append-nil (text (term_at terms k))));
   known = w.known;
 }
-
-pub longer : (n : ℕ) (terms : List Tree) (whole out wrote : List ℕ) (before after : List Pending) → Writes n terms whole out wrote before after
-    → length out ≤ length wrote
-longer n terms whole out wrote before after w = let l = ap length w.out_is ∙ length-append out w.written in omega (arith, l)
 
 -- What is left.
 

@@ -1,9 +1,10 @@
+-- This crate's own: what `run` promises does not rest on it.
 -- Ground terms with the lengths of their texts.
 use Rattle.std.specs.Prelude.{ℕ, suc, ◌+◌, ◌<◌, ◌≤◌, ◌≡◌, min, List, [], ◌∷◌, length, map, take, slice_index}
-use Rattle.kif.specs.Tree.{Tree, text}
+use Rattle.statement.specs.Tree.{Tree, text}
 use Rattle.terms.specs.Keys.{trees, AreKeys}
 use Rattle.keys.specs.KeyLists.{key_at}
-use Rattle.meaning.specs.Most.{limits}
+use Rattle.statement.specs.Most.{limits}
 
 -- the lengths of the names of the symbols, and the keys
 pub record Held : Type 0 where

@@ -1,14 +1,15 @@
+-- This crate's own: what `run` promises does not rest on it.
 -- How many atoms have no effect on play, by the numbers of terms.
 use Rattle.std.specs.Prelude.{ℕ, Bool, false, not, ◌&&◌, ◌||◌, ◌==◌, nat_eq, List, [], ◌∷◌, ◌≡◌, length, map, filter, slice_index_or, ⊤}
 use Rattle.std.specs.List.{list_any}
-use Rattle.kif.specs.Tree.{Tree}
-use Rattle.profile.specs.Clause.{Alternative}
+use Rattle.statement.specs.Tree.{Tree}
+use Rattle.statement.specs.Clause.{Alternative}
 use Rattle.rules.specs.declared.rule_set.Keywords.{Keywords}
-use Rattle.meaning.specs.InOrder.{first_place}
+use Rattle.statement.specs.Printed.{first_place}
 use Rattle.clauses.specs.Marks.{AreBelow}
 use Rattle.terms.specs.Keys.{term_at}
 use Rattle.keys.specs.KeyLists.{key_at}
-use Rattle.meaning.specs.Listing.{role_list, base_list, input_list}
+use Rattle.statement.specs.Listing.{role_list, base_list, input_list}
 
 -- m is an input of the role r, where the lists of inputs stand in the order of the roles
 abbrev pub is_input_in : List ℕ → List (List ℕ) → ℕ → ℕ → Bool

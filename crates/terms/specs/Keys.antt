@@ -1,11 +1,12 @@
+-- This crate's own: what `run` promises does not rest on it.
 -- Ground terms and atoms as a list of keys: the number of a word, and then the numbers of the parts
 -- among the terms before it.
 use Rattle.std.specs.Prelude.{ℕ, zero, ◌≡◌, ◌<◌, cond, List, [], ◌∷◌, ◌++◌, length, map, slice_index_or}
-use Rattle.kif.specs.Tree.{Tree, name, trees_of}
-use Rattle.profile.specs.Clause.{tree_at}
+use Rattle.statement.specs.Tree.{Tree, name, trees_of}
+use Rattle.statement.specs.Clause.{tree_at}
 use Rattle.clauses.specs.Numbers.{word_at}
 use Rattle.clauses.specs.Marks.{AreBelow}
-use Rattle.profile.specs.Safety.{is_name_in}
+use Rattle.statement.specs.Safety.{is_name_in}
 use Rattle.keys.specs.KeyLists.{key_at}
 
 -- the keys once one more is numbered: as they are if it is there, and else with it behind them

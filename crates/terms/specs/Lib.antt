@@ -8,7 +8,6 @@ pub mod Tables
 pub mod Stated
 pub mod Starting
 pub mod Dropping
-pub mod AtomTexts
 pub mod Atoms
 pub mod Vectors
 pub mod NumberSets

@@ -1,6 +1,7 @@
+-- This crate's own: what `run` promises does not rest on it.
 -- How many bytes placed parts add to a text.
 use Rattle.std.specs.Prelude.{ℕ, ◌+◌, List, length}
-use Rattle.kif.specs.Tree.{Tree, text}
+use Rattle.statement.specs.Tree.{Tree, text}
 use Rattle.clauses.specs.declared.numbered.Part.{Part}
 use Rattle.clauses.specs.declared.numbered.Part.TheVariants as parts
 use Rattle.clauses.specs.Numbers.{word_at}

@@ -1,7 +1,8 @@
+-- This crate's own: what `run` promises does not rest on it.
 -- Numbers in the order in which they were added, each once.
 use Rattle.std.specs.Prelude.{ℕ, zero, suc, cond, nat_eq, ◌≡◌, List, slice_index}
 use Rattle.std.specs.List.{list_any, IsDistinct}
-use Rattle.meaning.specs.InOrder.{first_place}
+use Rattle.statement.specs.Printed.{first_place}
 
 -- the numbers, in order
 pub record Members : Type 0 where

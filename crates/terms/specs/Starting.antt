@@ -1,7 +1,8 @@
+-- This crate's own: what `run` promises does not rest on it.
 -- Which base propositions hold at the start, by the numbers of terms.
 use Rattle.std.specs.Prelude.{ℕ, Bool, List, [], ◌∷◌}
 use Rattle.std.specs.List.{list_any}
-use Rattle.kif.specs.Tree.{name_eq}
+use Rattle.statement.specs.Tree.{name_eq}
 use Rattle.keys.specs.KeyLists.{key_at}
 
 -- one of the atoms has the key

@@ -1,3 +1,4 @@
+-- This crate's own: what `run` promises does not rest on it.
 -- The terms that atoms of a word state, by number.
 use Rattle.std.specs.Prelude.{ℕ, ◌==◌, cond, List, [], ◌∷◌, ◌++◌}
 use Rattle.keys.specs.KeyLists.{key_at}

@@ -1,14 +1,15 @@
+-- This crate's own: what `run` promises does not rest on it.
 -- The numbers of roles, base propositions and inputs, as places in lists of terms.
 use Rattle.std.specs.Prelude.{ℕ, ◌<◌, ◌≡◌, ◌^◌, ◌==◌, cond, List, [], length, map, position, slice_index, slice_index_or, Option, Some, None}
-use Rattle.kif.specs.Tree.{Tree}
-use Rattle.profile.specs.Clause.{Alternative}
+use Rattle.statement.specs.Tree.{Tree}
+use Rattle.statement.specs.Clause.{Alternative}
 use Rattle.rules.specs.declared.rule_set.Keywords.{Keywords}
-use Rattle.meaning.specs.declared.kind.Kind.{Kind}
-use Rattle.meaning.specs.declared.kind.Kind.TheVariants.{Now, Does, Next, Legal, Goal, Terminal, Other}
+use Rattle.statement.specs.declared.kind.Kind.{Kind}
+use Rattle.statement.specs.declared.kind.Kind.TheVariants.{Now, Does, Next, Legal, Goal, Terminal, Other}
 use Rattle.clauses.specs.Marks.{AreBelow}
 use Rattle.terms.specs.Keys.{term_at}
-use Rattle.meaning.specs.Kinds.{one_number, two_numbers}
-use Rattle.meaning.specs.Listing.{role_list, base_list, input_list}
+use Rattle.statement.specs.Kinds.{one_number, two_numbers}
+use Rattle.statement.specs.Listing.{role_list, base_list, input_list}
 
 abbrev pub inputs_at : List (List ℕ) → ℕ → List ℕ
 inputs_at inputs k = slice_index_or inputs k []

@@ -1,3 +1,4 @@
+-- This crate's own: what `run` promises does not rest on it.
 -- What vectors of vectors hold.
 use Rattle.std.specs.Prelude.{List, Vec, map}
 

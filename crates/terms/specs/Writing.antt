@@ -1,6 +1,7 @@
+-- This crate's own: what `run` promises does not rest on it.
 -- Writing the text of a term, with a stack of what is still to be written.
 use Rattle.std.specs.Prelude.{ℕ, ◌<◌, ◌≡◌, List, [], ◌∷◌, ◌++◌, reverse, ⊤}
-use Rattle.kif.specs.Tree.{Tree, text}
+use Rattle.statement.specs.Tree.{Tree, text}
 use Rattle.terms.specs.declared.writing.Pending.{Pending}
 use Rattle.terms.specs.declared.writing.Pending.TheVariants.{Term, Closing}
 use Rattle.terms.specs.Keys.{term_at}

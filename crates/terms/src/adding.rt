@@ -1,11 +1,11 @@
-// Further atoms by number.
+//! Further atoms by number.
 ghost use Rattle.std.specs.Prelude.{ℕ, List, [], ◌∷◌, ◌≡◌, ◌<◌, length, map, IfOk, OnOk};
-ghost use Rattle.profile.specs.Clause.{Atom, tree_of};
+ghost use Rattle.statement.specs.Clause.{Atom, tree_of};
 ghost use Rattle.clauses.specs.Numbers.{Begins, word_at};
 ghost use Rattle.terms.specs.Atoms.{AreTermsOf, AddsAtoms};
 ghost use Rattle.clauses.specs.Marks.{AreBelow};
 ghost use Rattle.terms.specs.Keys.{IsKey, term_at, tree_of_key, trees};
-ghost use Rattle.meaning.specs.Meaning.{atom1, atom2};
+ghost use Rattle.statement.specs.Meaning.{atom1, atom2};
 
 use crate::arena::Arena;
 use crate::number_set::NumberSet;

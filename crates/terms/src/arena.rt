@@ -1,4 +1,4 @@
-// Ground terms by number, with the lengths of their texts.
+//! Ground terms by number, with the lengths of their texts.
 ghost use Rattle.std.specs.Prelude.{
   ℕ,
   List,
@@ -20,13 +20,13 @@ ghost use Rattle.std.specs.Prelude.{
   MatchOption,
   ◌≢◌,
 };
-ghost use Rattle.kif.specs.Tree.{text};
+ghost use Rattle.statement.specs.Tree.{text};
 ghost use Rattle.rules.specs.RuleSetView.{lists_of_set};
 ghost use Rattle.clauses.specs.Marks.{AreBelow};
 ghost use Rattle.terms.specs.Keys.{term_at, trees, with_key, IsKey, parts_of, word_of};
 ghost use Rattle.keys.specs.KeyLists.{key_at};
 ghost use Rattle.terms.specs.Arena.{cut, sizes_of, with_parts, key_length, AreNumbered};
-ghost use Rattle.meaning.specs.Most.{limits};
+ghost use Rattle.statement.specs.Most.{limits};
 
 use crate::keyed::Terms;
 use keys::{hash_of, in_32_bits, with_room};

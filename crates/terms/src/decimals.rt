@@ -1,7 +1,7 @@
-// Small numbers as names.
+//! Small numbers as names.
 ghost use Rattle.std.specs.Prelude.{◌≡◌, decimal};
-ghost use Rattle.kif.specs.Tree.{name_eq};
-ghost use Rattle.meaning.specs.Kinds.{value_up_to};
+ghost use Rattle.statement.specs.Tree.{name_eq};
+ghost use Rattle.statement.specs.Kinds.{value_up_to};
 
 /// Whether a name is a number in decimal, without a leading zero.
 fn is_decimal(name: &[u8], number: u8) -> bool

@@ -1,4 +1,4 @@
-// How many atoms have no effect on play.
+//! How many atoms have no effect on play.
 ghost use Rattle.std.specs.Prelude.{◌≡◌, length, map};
 ghost use Rattle.terms.specs.Dropping.{is_input_in, misses_base_in, misses_input_in, is_dropped_in, dropped_in};
 ghost use Rattle.clauses.specs.Marks.{AreBelow};

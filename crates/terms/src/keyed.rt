@@ -1,4 +1,4 @@
-// Ground terms by number: each different one has one.
+//! Ground terms by number: each different one has one.
 ghost use Rattle.std.specs.Prelude.{ℕ, ◌≡◌, ◌<◌, ◌≢◌, List, length, take, IfOk, OnOk, OnErr, MatchOption};
 ghost use Rattle.keys.specs.Chains.{key_hash};
 ghost use Rattle.clauses.specs.Numbers.{AreDifferent};
@@ -30,20 +30,6 @@ impl Model for Terms {
 }
 
 impl Terms {
-    /// No terms yet.
-    pub fn new(alloc: Global) -> Self
-        ensures { length result ≡ 0 }
-    {
-        Terms {
-            alloc,
-            keys: KeyList::new(alloc),
-            chains: Chains {
-                last: Vec::new(alloc),
-                before: Vec::new(alloc),
-            },
-        }
-    }
-
     /// No terms yet, with room for so many, and for so many numbers in their keys, where it can be had.
     pub fn with_room(alloc: Global, terms: usize, numbers: usize) -> Self
         ensures { length result ≡ 0 }
@@ -104,17 +90,6 @@ impl Terms {
             return Ok(number);
         }
         self.add_by(key, hash)
-    }
-
-    /// The number of a key that has none yet, which is the next one. After an error the terms are those
-    /// before.
-    pub fn add(&mut self, key: &[u32]) -> Result<usize, AllocError>
-        requires { (k : ℕ) → k < length self.old → key_at self.old k ≢ key.now }
-        ensures found { IfOk result (λ k. (k < length self.new) × (key_at self.new k ≡ key.now)) }
-        ensures kept { OnOk result (self.new ≡ with_key self.old key.now) }
-        ensures failed { OnErr result (self.new ≡ self.old) }
-    {
-        self.add_by(key, hash_of(key))
     }
 
     /// The number of a key with this hash that has none yet, which is the next one. After an error the

@@ -1,10 +1,10 @@
-// Where ground atoms stand in play.
+//! Where ground atoms stand in play.
 ghost use Rattle.std.specs.Prelude.{Some, None, ◌≡◌, ◌<◌, ◌^◌, length, map, if◌then◌else◌, IfSome};
-ghost use Rattle.profile.specs.Clause.{Atom, relation_of, tree_of};
-ghost use Rattle.profile.specs.Dependence.{is_fixed};
+ghost use Rattle.statement.specs.Clause.{Atom, relation_of, tree_of};
+ghost use Rattle.statement.specs.Dependence.{is_fixed};
 ghost use Rattle.rules.specs.RuleSetView.{lists_of_set, rules_in};
 ghost use Rattle.terms.specs.Keys.{term_at, trees};
-ghost use Rattle.meaning.specs.Kinds.{kind_of, value_of, two_numbers};
+ghost use Rattle.statement.specs.Kinds.{kind_of, value_of, two_numbers};
 ghost use Rattle.terms.specs.Tables.{AreTables, place_of, input_place, inputs_at, kind_without, kind_with_one, kind_with_two};
 
 use crate::arena::Arena;

@@ -1,5 +1,5 @@
-// Ground terms and atoms by number: their keys, the lengths and bytes of their texts, their printed order, and what they say
-// as atoms of play.
+//! Ground terms and atoms by number: their keys, the lengths and bytes of their texts, their printed order, and what they say
+//! as atoms of play.
 #![tactic(auto)]
 
 mod adding;
@@ -16,7 +16,6 @@ mod number_set;
 mod starting;
 mod stating;
 mod stating_laws;
-mod text_bytes;
 mod writing;
 
 pub use adding::{add_pairs, add_singles};
@@ -29,5 +28,4 @@ pub use number_set::NumberSet;
 pub use starting::starts_of;
 pub use stating::{add_only_parts, add_second_parts};
 pub use stating_laws::stated_terms_are_listed;
-pub use text_bytes::byte_at;
 pub use writing::Pending;

@@ -1,13 +1,13 @@
-// How long a text becomes, before its term is built.
+//! How long a text becomes, before its term is built.
 ghost use Rattle.std.specs.Prelude.{ℕ, List, [], ◌∷◌, ◌≡◌, ◌<◌, ◌≤◌, length, nat_lt, true};
-ghost use Rattle.kif.specs.Tree.{text, trees_of};
-ghost use Rattle.profile.specs.Clause.{tree_at};
+ghost use Rattle.statement.specs.Tree.{text, trees_of};
+ghost use Rattle.statement.specs.Clause.{tree_at};
 ghost use Rattle.clauses.specs.Marks.{AreBelow};
 ghost use Rattle.terms.specs.Arena.{sizes_of, AreNumbered};
 ghost use Rattle.terms.specs.Building.{ArePlaced, value_in, ground_terms};
 ghost use Rattle.terms.specs.Keys.{trees};
 ghost use Rattle.terms.specs.Measuring.{bytes_of};
-ghost use Rattle.meaning.specs.Most.{limits};
+ghost use Rattle.statement.specs.Most.{limits};
 
 use crate::arena::{Arena, TEXT_LIMIT};
 use rules::Part;

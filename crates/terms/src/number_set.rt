@@ -1,7 +1,7 @@
-// Numbers in the order in which they were added, each once.
+//! Numbers in the order in which they were added, each once.
 ghost use Rattle.std.specs.Prelude.{ℕ, ◌≡◌, ◌<◌, [], nat_eq, length, slice_index, OnOk, OnErr};
 ghost use Rattle.std.specs.List.{list_any, IsDistinct};
-ghost use Rattle.meaning.specs.InOrder.{first_place};
+ghost use Rattle.statement.specs.Printed.{first_place};
 ghost use Rattle.terms.specs.Atoms.{with_number};
 ghost use Rattle.terms.specs.NumberSets.{Members, ticket_of, AreTickets};
 

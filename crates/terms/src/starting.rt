@@ -1,4 +1,4 @@
-// Which base propositions hold at the start.
+//! Which base propositions hold at the start.
 ghost use Rattle.std.specs.Prelude.{◌≡◌, length, map, IfOk};
 ghost use Rattle.terms.specs.Arena.{AreNumbered};
 ghost use Rattle.clauses.specs.Marks.{AreBelow};

@@ -1,4 +1,4 @@
-// The terms that the fixed relations state: roles, base propositions and inputs.
+//! The terms that the fixed relations state: roles, base propositions and inputs.
 ghost use Rattle.std.specs.Prelude.{◌≡◌, ◌<◌, ◌++◌, length, OnOk};
 ghost use Rattle.clauses.specs.Marks.{AreBelow};
 ghost use Rattle.terms.specs.Stated.{one_part, second_part, only_parts, second_parts};

@@ -1,10 +1,10 @@
-// The laws of what atoms state.
+//! The laws of what atoms state.
 ghost use Rattle.std.specs.Prelude.{ℕ, ◌<◌, ◌≡◌, List, length, map};
-ghost use Rattle.profile.specs.Clause.{Atom};
+ghost use Rattle.statement.specs.Clause.{Atom};
 ghost use Rattle.terms.specs.Atoms.{AreAtoms};
 ghost use Rattle.clauses.specs.Numbers.{word_at, AreDifferent};
 ghost use Rattle.terms.specs.Keys.{AreKeys, term_at, trees};
-ghost use Rattle.meaning.specs.Listing.{terms_of, terms_with};
+ghost use Rattle.statement.specs.Listing.{terms_of, terms_with};
 ghost use Rattle.terms.specs.Stated.{only_parts, second_parts};
 
 /// The numbers that atoms state are the terms that the listing reads off them.

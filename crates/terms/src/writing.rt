@@ -1,6 +1,6 @@
-// The texts of ground terms.
+//! The texts of ground terms.
 ghost use Rattle.std.specs.Prelude.{[], ◌∷◌, ◌≡◌, ◌<◌, ◌++◌, length, map, reverse, drop, OnOk};
-ghost use Rattle.kif.specs.Tree.{text};
+ghost use Rattle.statement.specs.Tree.{text};
 ghost use Rattle.rules.specs.RuleSetView.{lists_of_set};
 ghost use Rattle.terms.specs.Keys.{term_at, trees};
 ghost use Rattle.terms.specs.Writing.{pending_text, AreKnown, Writes};

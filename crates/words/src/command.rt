@@ -1,4 +1,4 @@
-// What is asked of rules.
+//! What is asked of rules.
 use game::AtBound;
 use share::Cut;
 

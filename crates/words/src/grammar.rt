@@ -1,4 +1,4 @@
-// The words of the command line: the commands and their options, and the texts of their help.
+//! The words of the command line: the commands and their options, and the texts of their help.
 use crate::command::Command;
 use clap::error::ErrorKind;
 use game::AtBound;
@@ -38,11 +38,9 @@ pub enum Request<'a> {
     /// A command to run.
     Run(Command<'a>),
     /// A text for the output: help, or the version.
-    Help(clap::Error),
-    /// A text for the errors, since the words are no command.
-    Misuse(clap::Error),
-    /// A line for the errors, since the text of an option is none of those that it takes.
-    Misread(&'static str),
+    Help(String),
+    /// A text for the errors, since the words are no command: what is wrong with them.
+    Misuse(String),
 }
 
 /// The option for the text of a history.
@@ -155,15 +153,15 @@ fn grammar<'a>(alloc: Global) -> Result<clap::Command<'a>, AllocError> {
         .subcommand(solve(alloc)?)
 }
 
-/// The request that the options of `solve` make.
-fn solve_request<'a>(options: &clap::ArgMatches<'a>) -> Option<Request<'a>> {
+/// The command that the options of `solve` make, or which of them has a text that it does not take.
+fn solve_command<'a>(options: &clap::ArgMatches<'a>) -> Option<Result<Command<'a>, &'static str>> {
     let Some(cut) = Cut::parse(options.get_str("cut")?.as_bytes()) else {
-        return Some(Request::Misread("bad cut"));
+        return Some(Err("bad cut"));
     };
     let Some(at_bound) = AtBound::parse(options.get_str("at-bound")?.as_bytes()) else {
-        return Some(Request::Misread("bad bound"));
+        return Some(Err("bad bound"));
     };
-    Some(Request::Run(Command::Solve {
+    Some(Ok(Command::Solve {
         role: options.get_str("role")?,
         depth: options.get_one("depth")?,
         at_bound,
@@ -172,32 +170,38 @@ fn solve_request<'a>(options: &clap::ArgMatches<'a>) -> Option<Request<'a>> {
     }))
 }
 
-/// The request that was matched.
-fn matched<'a>(matches: &clap::ArgMatches<'a>) -> Option<Request<'a>> {
+/// The command that was matched, or why there is none.
+fn matched<'a>(matches: &clap::ArgMatches<'a>) -> Option<Result<Command<'a>, &'static str>> {
     match matches.subcommand()? {
-        ("show", _) => Some(Request::Run(Command::Show)),
-        ("check", _) => Some(Request::Run(Command::Check)),
-        ("net", _) => Some(Request::Run(Command::Net)),
-        ("moves", options) => Some(Request::Run(Command::Moves {
+        ("show", _) => Some(Ok(Command::Show)),
+        ("check", _) => Some(Ok(Command::Check)),
+        ("net", _) => Some(Ok(Command::Net)),
+        ("moves", options) => Some(Ok(Command::Moves {
             after: options.get_str("after").unwrap_or(""),
         })),
-        ("solve", options) => solve_request(options),
+        ("solve", options) => solve_command(options),
         _ => None,
     }
 }
 
-/// The request that the words make.
-pub fn request_of<'a>(alloc: Global, words: &'a [&'a str]) -> Result<Request<'a>, clap::Error> {
+/// The request that the words make. It fails only for want of memory.
+pub fn request_of<'a>(alloc: Global, words: &'a [&'a str]) -> Result<Request<'a>, AllocError> {
     let mut grammar = grammar(alloc)?;
     match grammar.try_get_matches_from_mut(words) {
         Ok(matches) => match matched(&matches) {
-            Some(request) => Ok(request),
-            None => Ok(Request::Misuse(grammar.error(ErrorKind::MissingSubcommand, "no command")?)),
+            Some(Ok(command)) => Ok(Request::Run(command)),
+            Some(Err(line)) => Ok(Request::Misuse(format!(in alloc; "{line}\n")?)),
+            None => {
+                let error = grammar.error(ErrorKind::MissingSubcommand, "no command")?;
+                Ok(Request::Misuse(error.to_string(alloc)?))
+            }
         },
         Err(error) => match error.kind() {
-            ErrorKind::OutOfMemory => Err(error),
-            ErrorKind::DisplayHelp | ErrorKind::DisplayVersion => Ok(Request::Help(error)),
-            _ => Ok(Request::Misuse(error)),
+            ErrorKind::OutOfMemory => Err(AllocError),
+            ErrorKind::DisplayHelp | ErrorKind::DisplayVersion => {
+                Ok(Request::Help(error.to_string(alloc)?))
+            }
+            _ => Ok(Request::Misuse(error.to_string(alloc)?)),
         },
     }
 }

@@ -1,4 +1,4 @@
-// Games cut after each byte. Each beginning is answered, through a run and through the command line.
+//! Games cut after each byte. Each beginning is answered, through a run and through the command line.
 use super::games::{FOUR, MARKS, MATCH};
 use super::told;
 use crate::{Command, Status, run};

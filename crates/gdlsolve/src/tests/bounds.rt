@@ -1,4 +1,4 @@
-// What `solve` answers where the turns to look ahead are over and play goes on.
+//! What `solve` answers where the turns to look ahead are over and play goes on.
 use super::games::MATCH;
 use super::lines::OPEN;
 use super::{replies, told};

@@ -1,4 +1,4 @@
-// Each command over readers and writers that fail, or go on slowly.
+//! Each command over readers and writers that fail, or go on slowly.
 use super::devices::{Full, Silent, Slow, Torn};
 use super::games::MATCH;
 use super::told;

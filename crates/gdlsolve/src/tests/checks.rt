@@ -1,8 +1,9 @@
-// Descriptions and what `check` answers, through a run and through the command line.
+//! Descriptions and what `check` answers, through a run and through the command line.
 use super::games::{MARKS, MATCH};
 use super::{nested, replies};
 use crate::Command;
 use std::alloc::{AllocError, Global};
+use std::io::Write;
 use std::test::Fail;
 
 /// A description, what `check` writes for it, and the exit status.
@@ -313,32 +314,40 @@ fn an_item_has_at_most_64_alternatives(rt: HostRuntime) -> Result<(), Fail> {
 #[test]
 fn an_item_has_at_most_32_variables(rt: HostRuntime) -> Result<(), Fail> {
     let counts = b"items 2\nalternatives 2\nrelations 2\nroles a\n";
-    let most = with_variables(rt.alloc(), 32)?;
-    assert!(rt; replies(&rt, &Command::Check, &["check"], &most, counts, 0));
     let refusal = b"refused G7 TooMany 2 variables\n";
-    let more = with_variables(rt.alloc(), 33)?;
-    assert!(rt; replies(&rt, &Command::Check, &["check"], &more, refusal, 2));
+    for in_head in [16, 32] {
+        let most = with_variables(rt.alloc(), in_head, 32)?;
+        assert!(rt;
+            replies(&rt, &Command::Check, &["check"], &most, counts, 0),
+            "at {in_head}"
+        );
+    }
+    for in_head in [16, 33] {
+        let more = with_variables(rt.alloc(), in_head, 33)?;
+        assert!(rt;
+            replies(&rt, &Command::Check, &["check"], &more, refusal, 2),
+            "at {in_head}"
+        );
+    }
     Ok(())
 }
 
-/// An item with so many variables, half of them in the head and all in the body.
-fn with_variables(alloc: Global, count: usize) -> Result<Vec<u8>, AllocError> {
+/// An item with so many variables in the head, and so many in the body.
+fn with_variables(alloc: Global, in_head: usize, in_body: usize) -> Result<Vec<u8>, AllocError> {
     let mut text = Vec::from_slice(alloc, b"(role a)(<= (p")?;
-    for number in 0..count / 2 {
-        add_variable(number, &mut text)?;
-    }
+    add_variables(in_head, &mut text)?;
     text.extend_from_slice(b") (q")?;
-    for number in 0..count {
-        add_variable(number, &mut text)?;
-    }
+    add_variables(in_body, &mut text)?;
     text.extend_from_slice(b"))")?;
     Ok(text)
 }
 
-fn add_variable(number: usize, text: &mut Vec<u8>) -> Result<(), AllocError> {
-    text.extend_from_slice(b" ?v")?;
-    text.push(b'a' + (number / 26 % 26) as u8)?;
-    text.push(b'a' + (number % 26) as u8)?;
+/// Adds the variables ?v1, ?v2 and so on, each with a space before it.
+fn add_variables(count: usize, text: &mut Vec<u8>) -> Result<(), AllocError> {
+    for before in 0..count {
+        let number = before + 1;
+        write!(text, " ?v{number}").map_err(|_| AllocError)?;
+    }
     Ok(())
 }
 

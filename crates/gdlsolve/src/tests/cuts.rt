@@ -1,4 +1,4 @@
-// What `solve` answers with several threads, through runs and through the command line: the bytes of one thread.
+//! What `solve` answers with several threads, through runs and through the command line: the bytes of one thread.
 use super::games::{FOUR, LIVE, MARKS, SIXTEEN};
 use super::lines::{MARKED, OPEN};
 use super::{replies, told};

@@ -1,4 +1,4 @@
-// Readers and writers that fail, or go on slowly.
+//! Readers and writers that fail, or go on slowly.
 use std::alloc::Global;
 use std::io::{Error, ErrorKind, Read, Result, Write};
 

@@ -1,4 +1,4 @@
-// Games of the tests.
+//! Games of the tests.
 
 /// Two roles choose at once. The first wins where they choose the same, and the second where they do not.
 pub(crate) const MATCH: &[u8] = b"(role a)

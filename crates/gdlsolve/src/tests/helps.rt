@@ -1,4 +1,4 @@
-// The texts of help, whole.
+//! The texts of help, whole.
 use super::told;
 
 /// Words, and what is written for them.

@@ -1,4 +1,4 @@
-// Games and what `solve` answers, through a run and through the command line.
+//! Games and what `solve` answers, through a run and through the command line.
 use super::games::{FOUR, LIVE, MARKS, MATCH, SIXTEEN};
 use super::{replies, told};
 use crate::Command;

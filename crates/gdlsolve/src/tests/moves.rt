@@ -1,4 +1,4 @@
-// Histories and what `moves` answers, through a run and through the command line.
+//! Histories and what `moves` answers, through a run and through the command line.
 use super::games::{MARKS, MATCH, SIXTEEN};
 use super::{replies, told};
 use crate::Command;

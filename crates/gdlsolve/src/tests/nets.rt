@@ -1,4 +1,4 @@
-// Descriptions and what `net` answers, through runs and through the command line.
+//! Descriptions and what `net` answers, through runs and through the command line.
 use super::games::{MARKS, MATCH, SIXTEEN};
 use super::moves::UNBASED;
 use super::replies;

@@ -1,4 +1,4 @@
-// Each command where all memory is taken, and with more and more of it to take.
+//! Each command where all memory is taken, and with more and more of it to take.
 use super::games::{MATCH, SIXTEEN};
 use super::told;
 use crate::main_with;

@@ -1,4 +1,4 @@
-// Worked descriptions.
+//! Worked descriptions.
 ghost use Rattle.std.specs.Prelude.{◌<◌, length};
 ghost use Rattle.rules.specs.RuleSetView.{lists_of_set};
 

@@ -1,7 +1,7 @@
 use Rattle.std.proofs.Common.{ap, sym, ◌∙◌, arith, refl}
-use Rattle.kif.specs.Tree.{trees_of}
+use Rattle.statement.specs.Tree.{trees_of}
 use Rattle.kif.specs.View.{tree_of, trees_in}
-use Rattle.profile.specs.Items.{is_literal, are_literals}
+use Rattle.statement.specs.Items.{is_literal, are_literals}
 use Rattle.clauses.specs.Spread.{lists_of, number_picks}
 use Rattle.profile.proofs.Facts.{part_smaller, tree_is_slice, tree_is_word, no_word_no_literal, literal_of_not, one_of_all}
 use Rattle.clauses.proofs.NumberLemmas.{true_or_false}

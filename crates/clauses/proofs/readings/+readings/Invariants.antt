@@ -1,7 +1,7 @@
 use Rattle.std.proofs.Common.{drop}
-use Rattle.kif.specs.Tree.{trees_of}
+use Rattle.statement.specs.Tree.{trees_of}
 use Rattle.kif.specs.View.{tree_of, trees_in}
-use Rattle.profile.specs.Items.{readings_in_turn, readings_of_all}
+use Rattle.statement.specs.Items.{readings_in_turn, readings_of_all}
 use Rattle.clauses.specs.Spread.{lists_of}
 use Rattle.clauses.specs.StoreView.{data_of}
 use Rattle.profile.proofs.Facts.{tree_size, trees_size}

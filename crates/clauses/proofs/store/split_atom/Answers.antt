@@ -1,6 +1,6 @@
 use Rattle.std.proofs.Common.{ap, ◌∙◌}
 use Rattle.kif.specs.View.{tree_of}
-use Rattle.profile.specs.Items.{is_atom}
+use Rattle.statement.specs.Items.{is_atom}
 use Rattle.profile.proofs.Facts.{tree_is_slice, no_word_no_atom}
 use Rattle.clauses.proofs.NumberLemmas.{true_or_false}
 use Rattle.clauses.proofs.store.split_atom.Goals as goal

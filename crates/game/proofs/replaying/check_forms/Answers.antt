@@ -2,7 +2,7 @@ use Rattle.std.proofs.Common.{◌≡◌, false, true, length, sym, ap, ◌∙◌
 use Rattle.std.specs.Prelude.{not}
 use Rattle.std.proofs.lemmas.List.{length-map}
 use Rattle.kif.specs.View.{tree_of, trees_in}
-use Rattle.game.specs.Played.{is_turn_list}
+use Rattle.statement.specs.Played.{is_turn_list}
 use Rattle.game.proofs.FirstFaults.{tree_at_place, form_refused, forms_right, are_formed}
 use Rattle.game.proofs.replaying.check_forms.Goals as goal
 

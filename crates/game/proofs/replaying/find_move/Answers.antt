@@ -1,5 +1,5 @@
 use Rattle.std.proofs.Common.{◌≡◌, ℕ, ◌<◌, length, true, false, refl, arith}
-use Rattle.kif.specs.Tree.{text, name_eq}
+use Rattle.statement.specs.Tree.{text, name_eq}
 use Rattle.kif.specs.View.{tree_of}
 use Rattle.game.proofs.LegalMoves.{legal_known, legal_place, legal_count, find_here, find_more, find_past, is_named, is_not_named}
 use Rattle.game.proofs.replaying.find_move.Goals as goal

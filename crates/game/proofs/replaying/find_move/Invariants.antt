@@ -1,6 +1,6 @@
 use Rattle.std.proofs.Common.{◌≡◌, ℕ, ◌≤◌, ◌-◌, drop, length}
 use Rattle.std.specs.Prelude.{find}
-use Rattle.kif.specs.Tree.{text, name_eq}
+use Rattle.statement.specs.Tree.{text, name_eq}
 use Rattle.kif.specs.View.{tree_of}
 use Rattle.game.proofs.replaying.find_move.Given as goal
 

@@ -1,5 +1,6 @@
 use Rattle.std.proofs.Common.{sym, ap, ◌∙◌}
-use Rattle.kif.specs.View.{tree_of, trees_in, parts_of}
+use Rattle.kif.specs.View.{tree_of, trees_in}
+use Rattle.statement.specs.Tree.{parts_of}
 use Rattle.kif.proofs.Facts.{tree_of-List, list_of-trees_of}
 use Rattle.game.proofs.replaying.parts.Goals as goal
 

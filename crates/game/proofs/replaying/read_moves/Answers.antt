@@ -2,7 +2,7 @@ use Rattle.std.proofs.Common.{◌≡◌, ℕ, length, ap, ◌∙◌, arith, belo
 use Rattle.std.specs.Prelude.{is_none, unwrap_or}
 use Rattle.std.proofs.Math.ListN.{length-set}
 use Rattle.kif.specs.View.{trees_in}
-use Rattle.game.specs.Played.{named_move}
+use Rattle.statement.specs.Played.{named_move}
 use Rattle.game.proofs.FirstFaults.{named_at, role_refused, roles_right, list_by_index, one_written, one_known}
 use Rattle.game.proofs.replaying.read_moves.Goals as goal
 

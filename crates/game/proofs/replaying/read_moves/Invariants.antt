@@ -2,7 +2,7 @@ use Rattle.std.proofs.Common.{◌≡◌, ℕ, ◌<◌, false, get_or}
 use Rattle.std.specs.Prelude.{is_none, unwrap_or}
 use Rattle.smallvec.specs.SmallVec.{small_vec_len}
 use Rattle.kif.specs.View.{trees_in}
-use Rattle.game.specs.Played.{named_move}
+use Rattle.statement.specs.Played.{named_move}
 use Rattle.game.proofs.replaying.read_moves.Given as goal
 
 -- every role before this one has a legal move, which is written

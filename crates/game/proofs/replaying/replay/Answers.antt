@@ -1,9 +1,10 @@
 use Rattle.std.proofs.Common.{◌≡◌, ℕ, List, [], length, sym, ap, ◌∙◌, arith, below_more, take, Ok, Err}
 use Rattle.std.proofs.lemmas.List.{length-map}
-use Rattle.kif.specs.Tree.{Tree}
-use Rattle.kif.specs.View.{tree_of, trees_in, parts_of}
-use Rattle.game.specs.Rules.{State}
-use Rattle.game.specs.Played.{state_after, tree_at, named_turn, form_faults, played}
+use Rattle.statement.specs.Tree.{Tree}
+use Rattle.kif.specs.View.{tree_of, trees_in}
+use Rattle.statement.specs.Tree.{parts_of}
+use Rattle.statement.specs.Rules.{State}
+use Rattle.statement.specs.Played.{state_after, nth_tree, named_turn, form_faults, played}
 use Rattle.game.proofs.FirstFaults.{tree_at_place, length-parts, no_fault, state_more, turn_refused, all_played, err_given}
 use Rattle.game.proofs.replaying.replay.Goals as goal
 
@@ -13,7 +14,7 @@ read_turn-requires-clause-parts g c κs within =
     let size : length ts ≡ length c.args.turns.now = length-map c.args.turns.now tree_of in
     let at = tree_at_place c.args.turns.now c.loop-place.place c.index-turns-place.result (omega arith) c.index-turns-place.is in
     let formed = c.in_ok-check_forms.ensures.formed c.loop-place.place (omega arith) in
-    let count = length-parts c.roles.result (tree_at ts c.loop-place.place) formed in
+    let count = length-parts c.roles.result (nth_tree ts c.loop-place.place) formed in
     sym (length-map c.parts.result.now tree_of) ∙ ap length (c.parts.ensures ∙ ap parts_of (sym at)) ∙ count ∙ c.roles.ensures
 
 pub returns-in_err-read_turn-clause-refused : goal.returns-in_err-read_turn-clause-refused
@@ -44,7 +45,7 @@ loop-place-preserved g c =
     let names = g.G.Game.move_name c.args.g.now in
     let size : length ts ≡ length c.args.turns.now = length-map c.args.turns.now tree_of in
     let at = tree_at_place c.args.turns.now place c.index-turns-place.result (omega arith) c.index-turns-place.is in
-    let parts : trees_in c.parts.result.now ≡ parts_of (tree_at ts place) = c.parts.ensures ∙ ap parts_of (sym at) in
+    let parts : trees_in c.parts.result.now ≡ parts_of (nth_tree ts place) = c.parts.ensures ∙ ap parts_of (sym at) in
     let known : g.G.Game.state c.args.g.now c.loop-place.here ≡ state_after game names (take place ts) = c.loop-place.invariant.state in
     let here = no_fault _ _ _ (sym c.in_ok-read_turn.ensures.faults) in
     record {

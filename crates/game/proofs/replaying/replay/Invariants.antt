@@ -1,7 +1,8 @@
 use Rattle.std.proofs.Common.{◌≡◌, ℕ, ◌<◌, [], take, ◌+◌}
 use Rattle.smallvec.specs.SmallVec.{small_vec_len}
-use Rattle.kif.specs.View.{trees_in, parts_of}
-use Rattle.game.specs.Played.{turn_faults, state_after, tree_at}
+use Rattle.kif.specs.View.{trees_in}
+use Rattle.statement.specs.Tree.{parts_of}
+use Rattle.statement.specs.Played.{turn_faults, state_after, nth_tree}
 use Rattle.game.proofs.replaying.replay.Given as goal
 
 -- the turns before this one have no fault, and the state is the one after them
@@ -15,5 +16,5 @@ invariant-loop-place g l =
       next : g.G.Game.fits l.g l.next;
       size : small_vec_len l.joint ≡ rules.roles;
       state : g.G.Game.state l.g l.here ≡ state_after rules names (take l.place turns);
-      clear : (k : ℕ) → k < l.place → turn_faults rules names (state_after rules names (take k turns)) (parts_of (tree_at turns k)) (k + 1) ≡ [];
+      clear : (k : ℕ) → k < l.place → turn_faults rules names (state_after rules names (take k turns)) (parts_of (nth_tree turns k)) (k + 1) ≡ [];
     }

@@ -1,6 +1,6 @@
 use Rattle.std.proofs.Common.{◌≡◌, rules}
 use Rattle.std.specs.Prelude.{Result, Ok, Err, IfErr}
-use Rattle.replies.specs.Answers.{Reply}
+use Rattle.statement.specs.Answers.{Reply}
 use Rattle.gdlsolve.proofs.WholeInput.{replies_to}
 use Rattle.gdlsolve.proofs.running.run_with.Goals as goal
 

@@ -2,7 +2,7 @@ use Rattle.std.proofs.Common.{ℕ, ◌≡◌, ◌<◌, ◌∙◌, length, get_or
 use Rattle.std.proofs.lemmas.List.Edits.{map_over_more}
 use Rattle.kept.specs.declared.entry.Entry.{Entry}
 use Rattle.ground.specs.Finishing.{headed_in}
-use Rattle.meaning.specs.InOrder.{first_place}
+use Rattle.statement.specs.Printed.{first_place}
 use Rattle.ground.proofs.FinishLemmas.{same_entry}
 use Rattle.ground.proofs.finishing.renumber_heads.Goals as goal
 

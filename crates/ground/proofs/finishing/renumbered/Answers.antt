@@ -1,6 +1,6 @@
 use Rattle.std.proofs.Common.{◌∙◌, length, ap}
 use Rattle.std.proofs.lemmas.List.{length-map}
-use Rattle.listing.specs.Founds.{numbers_of_list}
+use Rattle.kept.specs.Lists.{numbers_of_list}
 use Rattle.ground.specs.Finishing.{reading_in}
 use Rattle.ground.proofs.FinishLemmas.{both_numbered, laid_stay}
 use Rattle.ground.proofs.finishing.renumbered.Goals as goal

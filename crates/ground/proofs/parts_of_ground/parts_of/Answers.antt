@@ -4,7 +4,7 @@ use Rattle.rules.specs.RuleSets.{AreKeywords}
 use Rattle.rules.specs.declared.rule_set.Keywords.{Keywords}
 use Rattle.rules.specs.RuleSetView.{rules_in}
 use Rattle.terms.specs.Vectors.{items_of}
-use Rattle.listing.specs.Founds.{numbers_of_list}
+use Rattle.kept.specs.Lists.{numbers_of_list}
 use Rattle.listing.specs.SetWords.{words_of}
 use Rattle.listing.proofs.Facts.{below_is}
 use Rattle.ground.proofs.GroundParts.{numbered_here, sizes_here, atoms_here, are_tables, each_role, parts_are}

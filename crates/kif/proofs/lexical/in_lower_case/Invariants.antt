@@ -1,5 +1,5 @@
 use Rattle.std.proofs.Common.{◌≡◌, map, take}
-use Rattle.kif.specs.Lexical.{lower}
+use Rattle.statement.specs.Lexical.{lower}
 use Rattle.kif.proofs.lexical.in_lower_case.Given as goal
 
 abbrev pub invariant-loop-byte : goal.invariant-loop-byte

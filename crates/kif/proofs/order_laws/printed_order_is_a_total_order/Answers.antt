@@ -1,7 +1,7 @@
 use Rattle.std.specs.Cmp.Lexicographic.{on_texts}
 use Rattle.std.proofs.lemmas.Cmp.{tied_itself}
 use Rattle.std.proofs.lemmas.Map.Lookups.{exact_bytes}
-use Rattle.kif.specs.Tree.{text}
+use Rattle.statement.specs.Tree.{text}
 use Rattle.kif.proofs.Texts.{text_once}
 use Rattle.kif.proofs.order_laws.printed_order_is_a_total_order.Goals as goal
 

@@ -1,5 +1,5 @@
 use Rattle.std.proofs.Common.{length, drop, ◌<◌}
-use Rattle.kif.specs.Tree.{list, trees_of}
+use Rattle.statement.specs.Tree.{list, trees_of}
 use Rattle.kif.specs.View.{trees_in}
 use Rattle.kif.specs.Marks.{marks}
 use Rattle.kif.proofs.Ordered.{Left, left_marks}

@@ -1,5 +1,5 @@
 use Rattle.std.proofs.Common.{take}
-use Rattle.game.specs.Rules.{IsTurn}
+use Rattle.statement.specs.Rules.{IsTurn}
 use Rattle.maximin.proofs.Runs.{known_each}
 use Rattle.maximin.proofs.ahead.judge_pack.Goals as goal
 

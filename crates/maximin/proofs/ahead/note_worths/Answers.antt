@@ -1,7 +1,7 @@
 use Rattle.std.proofs.Common.{◌-◌, ◌<◌, ◌≤◌, ℕ, List, [], None, length, get_or, refl, ap, subst, sym, arith, rules as facts}
 use Rattle.std.specs.Prelude.{IfSome}
-use Rattle.game.specs.Rules.{State}
-use Rattle.game.specs.Value.{value}
+use Rattle.statement.specs.Rules.{State}
+use Rattle.statement.specs.Value.{value}
 use Rattle.maximin.specs.Pack.{IsPartOf}
 use Rattle.maximin.proofs.Packs.{packed_count, note_more}
 use Rattle.maximin.proofs.ahead.note_worths.Goals as goal

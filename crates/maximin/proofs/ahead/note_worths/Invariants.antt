@@ -1,4 +1,4 @@
-use Rattle.game.specs.Value.{value}
+use Rattle.statement.specs.Value.{value}
 use Rattle.maximin.specs.Ahead.{IsAheadOf}
 use Rattle.maximin.proofs.ahead.note_worths.Given as goal
 

@@ -1,5 +1,5 @@
 use Rattle.std.proofs.Common.{◌≡◌, ◌-◌, ◌≤◌}
-use Rattle.game.specs.Value.{value}
+use Rattle.statement.specs.Value.{value}
 use Rattle.maximin.specs.Level.{IsLevelOf, level_capacities}
 use Rattle.maximin.specs.Pack.{IsPackOf}
 use Rattle.maximin.proofs.ahead.pack_states.Given as goal

@@ -2,7 +2,7 @@ use Rattle.std.proofs.Common.{◌+◌, ◌∷◌, [], ◌∙◌, arith}
 use Rattle.std.proofs.Math.ListN.{set}
 use Rattle.std.proofs.lemmas.List.Elements.{All-nil, All-cons, All-append}
 use Rattle.game.proofs.Facts.{legal_known, legal_place, legal_count, none_past}
-use Rattle.game.specs.Rules.{IsTurn}
+use Rattle.statement.specs.Rules.{IsTurn}
 use Rattle.maximin.specs.Run.{turns_in}
 use Rattle.maximin.proofs.OwnTurns.{own_turn, own_more}
 use Rattle.maximin.proofs.alone.gather_own.Goals as goal

@@ -1,6 +1,6 @@
 use Rattle.std.proofs.Common.{◌≡◌, ◌+◌, ◌-◌, ◌≤◌, length}
 use Rattle.std.specs.Prelude.{All}
-use Rattle.game.specs.Rules.{IsTurn}
+use Rattle.statement.specs.Rules.{IsTurn}
 use Rattle.maximin.specs.Alone.{turns_from}
 use Rattle.maximin.specs.Run.{IsRunOf, turns_in, run_capacities}
 use Rattle.maximin.proofs.alone.gather_own.Given as goal

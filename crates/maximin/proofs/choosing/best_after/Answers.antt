@@ -1,7 +1,7 @@
 use Rattle.std.proofs.Common.{◌≡◌, ◌∙◌, ap, ℕ, [], List, take, arith}
 use Rattle.std.specs.Prelude.{map}
 use Rattle.smallvec.specs.SmallVec.{SmallVec}
-use Rattle.game.specs.Rules.{IsTurn}
+use Rattle.statement.specs.Rules.{IsTurn}
 use Rattle.maximin.specs.Best.{own_worth}
 use Rattle.maximin.specs.Run.{turns_in}
 use Rattle.std.proofs.lemmas.List.{get_or-map}

@@ -2,8 +2,8 @@ use Rattle.std.proofs.Common.{◌≡◌, ◌+◌, ◌∙◌, ap, ℕ, List, [], 
 use Rattle.std.proofs.Math.ListN.{set}
 use Rattle.std.proofs.lemmas.List.{get_or-drop, get_or-take, get_or-map, length-drop, length-take-le}
 use Rattle.game.proofs.Facts.{legal_count}
-use Rattle.game.specs.Rules.{Turn}
-use Rattle.game.specs.Value.{value}
+use Rattle.statement.specs.Rules.{Turn}
+use Rattle.statement.specs.Value.{value}
 use Rattle.maximin.specs.declared.level.Level.{Level}
 use Rattle.maximin.specs.Best.{own_worth}
 use Rattle.maximin.specs.Cursor.{cursor_capacities}

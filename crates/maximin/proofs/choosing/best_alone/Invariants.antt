@@ -1,5 +1,5 @@
 use Rattle.std.proofs.Common.{◌≡◌, ◌-◌, ◌≤◌, length, All}
-use Rattle.game.specs.Rules.{choices}
+use Rattle.statement.specs.Rules.{choices}
 use Rattle.maximin.specs.Best.{IsBest, own_worth}
 use Rattle.maximin.specs.Level.{IsLevelOf, level_capacities, all_capacities}
 use Rattle.maximin.specs.Tools.{tools_capacities}

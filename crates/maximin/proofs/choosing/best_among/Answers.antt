@@ -3,7 +3,8 @@ use Rattle.std.proofs.lemmas.Int.{ints, clamps, to_z-of_z}
 use mir.Val.{SFits}
 use Rattle.std.specs.Prelude.{pos}
 use Rattle.std.specs.Int.{int_max}
-use Rattle.game.specs.Value.{Answers, value}
+use Rattle.game.specs.Value.{Answers}
+use Rattle.statement.specs.Value.{value}
 use Rattle.maximin.proofs.Bounds.{value_at_most}
 use Rattle.maximin.proofs.choosing.best_among.Goals as goal
 

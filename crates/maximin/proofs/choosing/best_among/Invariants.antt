@@ -1,5 +1,5 @@
 use Rattle.std.proofs.Common.{◌≡◌, ◌+◌, ◌<◌, ◌<ℤ◌, ◌≤ℤ◌, ℕ, pos, negsuc, [], All, length, get_or}
-use Rattle.game.specs.Value.{value}
+use Rattle.statement.specs.Value.{value}
 use Rattle.maximin.specs.Ahead.{IsAheadOf}
 use Rattle.maximin.specs.Best.{IsBest}
 use Rattle.maximin.specs.Level.{IsLevelOf, all_capacities}

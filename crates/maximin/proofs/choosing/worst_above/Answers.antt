@@ -3,7 +3,7 @@ use Rattle.std.proofs.lemmas.Int.{to_z-of_z, ints, clamps}
 use mir.Val.{SFits, of_z, to_z}
 use Rattle.std.specs.Prelude.{pos}
 use Rattle.std.specs.Int.{int_max}
-use Rattle.game.specs.Value.{worst}
+use Rattle.statement.specs.Value.{worst}
 use Rattle.maximin.proofs.Bounds.{worst_at_most}
 use Rattle.maximin.proofs.Beside.{within_goals}
 use Rattle.maximin.proofs.Windows.{le_z_true}

@@ -1,7 +1,7 @@
 use Rattle.std.proofs.Common.{ℕ, List, ◌≡◌, ◌<◌, ◌≤◌, ◌^◌, ◌+◌, ◌-◌, [], length, sym, ◌∙◌, ap, arith, get_or}
 use Rattle.std.proofs.Math.ListN.{set, length-set}
 use Rattle.game.proofs.Facts.{legal_count, none_past}
-use Rattle.game.specs.Rules.{choices}
+use Rattle.statement.specs.Rules.{choices}
 use Rattle.maximin.proofs.Choices.{length-choices, choices_some, choices_count}
 use Rattle.maximin.proofs.CursorSteps.{wrapped_more, wrapped_all, up_stands, up_later}
 use Rattle.maximin.proofs.cursor.next_turn.Goals as goal

@@ -1,6 +1,6 @@
 use Rattle.std.proofs.Common.{◌≡◌, ◌<◌, ◌≤◌, [], length, sym, ◌∙◌, ap, arith, get_or}
 use Rattle.std.proofs.Math.ListN.{length-set}
-use Rattle.game.specs.Rules.{choices}
+use Rattle.statement.specs.Rules.{choices}
 use Rattle.game.proofs.Facts.{none_past}
 use Rattle.maximin.proofs.Choices.{length-choices, choices_some}
 use Rattle.maximin.proofs.CursorSteps.{first_more, first_stands, first_picks}

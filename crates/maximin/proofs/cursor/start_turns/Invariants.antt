@@ -1,5 +1,5 @@
 use Rattle.std.proofs.Common.{◌≡◌}
-use Rattle.game.specs.Rules.{choices}
+use Rattle.statement.specs.Rules.{choices}
 use Rattle.maximin.specs.Cursor.{IsCursorOf, cursor_capacities}
 use Rattle.maximin.proofs.CursorSteps.{IsFirstBelow}
 use Rattle.maximin.proofs.cursor.start_turns.Given as goal

@@ -3,7 +3,8 @@ use Rattle.std.proofs.lemmas.Int.{to_z-of_z}
 use mir.Val.{SFits, of_z, to_z}
 use Rattle.std.specs.Prelude.{pos, ◌≤ℤ◌, map}
 use Rattle.std.specs.Int.{int_max}
-use Rattle.game.specs.Value.{Answers, value, greatest}
+use Rattle.game.specs.Value.{Answers}
+use Rattle.statement.specs.Value.{value, greatest}
 use Rattle.maximin.proofs.Windows.{exact, raised_most, raised_seen, raised_now, raised_above, cut_above, le_z_true}
 use Rattle.maximin.proofs.OwnTurns.{greatest_worth_above, greatest_worth_reached}
 use Rattle.maximin.proofs.end.greatest_judged.Goals as goal

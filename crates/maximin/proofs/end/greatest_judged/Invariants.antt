@@ -1,7 +1,7 @@
 use Rattle.std.proofs.Common.{ℕ, ◌<◌, [], get_or}
 use Rattle.std.specs.Prelude.{map, pos, ◌≤ℤ◌}
 use Rattle.std.specs.Int.{int_min, int_max}
-use Rattle.game.specs.Value.{value, greatest}
+use Rattle.statement.specs.Value.{value, greatest}
 use Rattle.maximin.proofs.end.greatest_judged.Given as goal
 
 -- lower is a lower bound of the answer that every state so far keeps to, and it is no more than the greatest value or a

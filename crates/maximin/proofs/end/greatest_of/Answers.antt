@@ -1,5 +1,5 @@
 use Rattle.std.proofs.Common.{ℕ, List, arith}
-use Rattle.game.specs.Value.{value}
+use Rattle.statement.specs.Value.{value}
 use Rattle.maximin.proofs.Packs.{greatest_next}
 use Rattle.maximin.proofs.end.greatest_of.Goals as goal
 

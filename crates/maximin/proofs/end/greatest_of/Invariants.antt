@@ -1,5 +1,5 @@
 use Rattle.std.proofs.Common.{◌≡◌, take, drop, map}
-use Rattle.game.specs.Value.{value, greatest}
+use Rattle.statement.specs.Value.{value, greatest}
 use Rattle.maximin.proofs.end.greatest_of.Given as goal
 
 -- the greatest value of the states so far

@@ -3,7 +3,8 @@ use Rattle.std.proofs.lemmas.Int.{to_z-of_z}
 use mir.Val.{SFits, of_z, to_z}
 use Rattle.std.specs.Prelude.{pos, ◌≤ℤ◌, map}
 use Rattle.std.specs.Int.{int_min}
-use Rattle.game.specs.Value.{Answers, value, least}
+use Rattle.game.specs.Value.{Answers}
+use Rattle.statement.specs.Value.{value, least}
 use Rattle.maximin.proofs.Windows.{exact, lowered_least, lowered_seen, lowered_now, lowered_below, cut_below, le_z_true}
 use Rattle.maximin.proofs.Runs.{least_worth_below, least_worth_reached}
 use Rattle.maximin.proofs.end.least_judged.Goals as goal

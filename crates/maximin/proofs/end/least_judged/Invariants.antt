@@ -1,7 +1,7 @@
 use Rattle.std.proofs.Common.{ℕ, ◌<◌, [], get_or}
 use Rattle.std.specs.Prelude.{map, pos, ◌≤ℤ◌}
 use Rattle.std.specs.Int.{int_min, int_max}
-use Rattle.game.specs.Value.{value, least}
+use Rattle.statement.specs.Value.{value, least}
 use Rattle.maximin.proofs.end.least_judged.Given as goal
 
 -- upper is an upper bound of the answer, and no state so far is worth less, unless it is a or less

@@ -1,5 +1,5 @@
 use Rattle.std.proofs.Common.{◌≡◌, take, drop, map}
-use Rattle.game.specs.Value.{value, least}
+use Rattle.statement.specs.Value.{value, least}
 use Rattle.maximin.proofs.end.least_of.Given as goal
 
 -- the least value of the states so far

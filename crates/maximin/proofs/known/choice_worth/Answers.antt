@@ -3,7 +3,7 @@ use Rattle.std.proofs.lemmas.Int.{ints, to_z-of_z}
 use Rattle.std.proofs.lemmas.Option.{slice_get-get_or}
 use mir.Val.{SFits, of_z, to_z}
 use Rattle.std.specs.Prelude.{pos, ◌<ℤ◌, ◌≤ℤ◌, Some}
-use Rattle.game.specs.Value.{value, worst}
+use Rattle.statement.specs.Value.{value, worst}
 use Rattle.maximin.proofs.Windows.{le_z_true, le_z_false}
 use Rattle.maximin.proofs.Bounds.{value_at_most}
 use Rattle.maximin.proofs.Best.{choice_here, choice_last}

@@ -1,6 +1,6 @@
 use Rattle.std.proofs.Common.{◌≡◌, ℕ, ◌<◌, ◌-◌, length, get_or}
 use Rattle.std.specs.Prelude.{All}
-use Rattle.game.specs.Value.{value}
+use Rattle.statement.specs.Value.{value}
 use Rattle.maximin.specs.Tools.{tools_capacities}
 use Rattle.maximin.specs.Level.{IsLevelOf, all_capacities}
 use Rattle.maximin.proofs.Best.{worst_at_place}

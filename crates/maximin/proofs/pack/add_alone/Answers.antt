@@ -1,7 +1,7 @@
 use Rattle.std.proofs.Common.{◌≡◌, ◌+◌, ℕ, List, length, length-append, map, drop, ap, ◌∙◌, arith}
 use Rattle.std.proofs.Math.ListN.{set}
 use Rattle.std.proofs.lemmas.List.{length-map}
-use Rattle.game.specs.Rules.{Turn}
+use Rattle.statement.specs.Rules.{Turn}
 use Rattle.maximin.specs.Run.{turns_in}
 use Rattle.maximin.proofs.Choices.{legal_some}
 use Rattle.maximin.proofs.Packs.{alone_picked, rest_list, turns_count}

@@ -1,6 +1,6 @@
 use Rattle.std.proofs.Common.{◌≡◌, ◌+◌, ℕ, List, [], ◌∷◌, length, length-append, drop, sym, ap, ◌∙◌, arith}
 use Rattle.game.proofs.Facts.{legal_known, legal_place, none_past}
-use Rattle.game.specs.Rules.{Turn, choices}
+use Rattle.statement.specs.Rules.{Turn, choices}
 use Rattle.maximin.specs.Run.{turns_in}
 use Rattle.maximin.specs.Turns.{later}
 use Rattle.maximin.proofs.OwnTurns.{one_element}

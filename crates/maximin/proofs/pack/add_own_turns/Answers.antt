@@ -3,7 +3,7 @@ use Rattle.std.proofs.Math.ListN.{set}
 use Rattle.std.proofs.lemmas.List.{map_more, take_all}
 use Rattle.std.proofs.lemmas.List.Elements.{All-nil, All-cons, All-append}
 use Rattle.game.proofs.Facts.{legal_known, legal_place, none_past}
-use Rattle.game.specs.Rules.{Turn, IsTurn}
+use Rattle.statement.specs.Rules.{Turn, IsTurn}
 use Rattle.maximin.specs.Run.{turns_in}
 use Rattle.maximin.proofs.OwnTurns.{own_turn}
 use Rattle.maximin.proofs.pack.add_own_turns.Goals as goal

@@ -1,7 +1,7 @@
 use Rattle.std.proofs.Common.{◌≡◌, ◌-◌, ◌≤◌, ◌++◌, length, take, map}
 use Rattle.std.proofs.Math.ListN.{set}
 use Rattle.std.specs.Prelude.{All}
-use Rattle.game.specs.Rules.{IsTurn}
+use Rattle.statement.specs.Rules.{IsTurn}
 use Rattle.maximin.specs.Run.{IsRunOf, turns_in, run_capacities}
 use Rattle.maximin.proofs.pack.add_own_turns.Given as goal
 

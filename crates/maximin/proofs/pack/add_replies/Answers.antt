@@ -1,6 +1,6 @@
 use Rattle.std.proofs.Common.{◌≡◌, ◌++◌, ◌∷◌, List, [], length, take, sym, ap, ◌∙◌, arith, append_assoc}
 use Rattle.std.proofs.lemmas.List.Elements.{All-nil, All-cons, All-append}
-use Rattle.game.specs.Rules.{Turn, IsTurn, choices}
+use Rattle.statement.specs.Rules.{Turn, IsTurn, choices}
 use Rattle.maximin.specs.Turns.{later}
 use Rattle.maximin.specs.Run.{turns_in}
 use Rattle.maximin.proofs.Packs.{front_more, turns_count}

@@ -1,6 +1,6 @@
 use Rattle.std.proofs.Common.{◌≡◌, ◌≤◌, ◌-◌, ◌++◌, ◌∷◌, take}
 use Rattle.std.specs.Prelude.{All}
-use Rattle.game.specs.Rules.{choices, IsTurn}
+use Rattle.statement.specs.Rules.{choices, IsTurn}
 use Rattle.maximin.specs.Turns.{StandsAt, later}
 use Rattle.maximin.specs.Cursor.{IsCursorOf, cursor_capacities}
 use Rattle.maximin.specs.Run.{IsRunOf, turns_in, run_capacities}

@@ -1,6 +1,6 @@
 use Rattle.std.proofs.Common.{◌≡◌, ◌-◌, ◌<◌, ◌≤◌, ℕ, length, map, drop, refl, subst, rules as facts}
-use Rattle.game.specs.Rules.{State, Turn}
-use Rattle.game.specs.Value.{value}
+use Rattle.statement.specs.Rules.{State, Turn}
+use Rattle.statement.specs.Value.{value}
 use Rattle.maximin.specs.declared.pack.Pick.{Pick}
 use Rattle.maximin.specs.Pack.{picked}
 use Rattle.maximin.specs.Run.{turns_in}

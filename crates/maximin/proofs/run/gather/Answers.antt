@@ -1,10 +1,10 @@
 use Rattle.std.proofs.Common.{◌++◌, ◌∷◌, List, [], ℕ, sym, ap, ◌∙◌, arith, append_assoc}
 use Rattle.std.proofs.lemmas.List.Elements.{All-nil, All-cons, All-append}
-use Rattle.game.specs.Rules.{IsTurn}
+use Rattle.statement.specs.Rules.{IsTurn}
 use Rattle.maximin.specs.Turns.{later}
 use Rattle.maximin.specs.Run.{turns_in}
 use Rattle.maximin.proofs.Values.{turn_known}
-use Rattle.game.specs.Rules.{choices}
+use Rattle.statement.specs.Rules.{choices}
 use Rattle.maximin.proofs.run.gather.Goals as goal
 
 pub returns-then-not-next_turn-clause-known : goal.returns-then-not-next_turn-clause-known

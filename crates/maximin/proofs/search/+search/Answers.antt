@@ -30,8 +30,9 @@ use mir.Val.{SFits, of_z, to_z}
 use Rattle.std.specs.Prelude.{pos, ◌≤ℤ◌, map}
 use Rattle.std.specs.Int.{int_min, int_max}
 use Rattle.smallvec.specs.SmallVec.{SmallVec}
-use Rattle.game.specs.Rules.{Turn, choices, IsTurn}
-use Rattle.game.specs.Value.{Answers, value, worst, least, greatest}
+use Rattle.statement.specs.Rules.{Turn, choices, IsTurn}
+use Rattle.game.specs.Value.{Answers}
+use Rattle.statement.specs.Value.{value, worst, least, greatest}
 use Rattle.maximin.specs.declared.level.Level.{Level}
 use Rattle.maximin.specs.Turns.{later}
 use Rattle.maximin.specs.Cursor.{cursor_capacities}

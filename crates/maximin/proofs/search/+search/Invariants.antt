@@ -1,8 +1,8 @@
 use Rattle.std.proofs.Common.{◌≡◌, ℕ, ◌+◌, ◌*◌, ◌-◌, ◌<◌, ◌≤◌, length, [], ◌∷◌, get_or}
 use Rattle.std.specs.Prelude.{pos, ◌<ℤ◌, ◌≤ℤ◌, All, map}
 use Rattle.std.specs.Int.{int_min, int_max}
-use Rattle.game.specs.Rules.{choices}
-use Rattle.game.specs.Value.{value, worst, least, greatest}
+use Rattle.statement.specs.Rules.{choices}
+use Rattle.statement.specs.Value.{value, worst, least, greatest}
 use Rattle.maximin.specs.Turns.{StandsAt, later}
 use Rattle.maximin.specs.Ahead.{IsAheadOf}
 use Rattle.maximin.specs.Tools.{tools_capacities}

@@ -2,8 +2,9 @@ use Rattle.std.proofs.Common.{◌≡◌, ℕ, ◌+◌, ◌∷◌, List, get_or, 
 use Rattle.std.proofs.lemmas.Int.{to_z-of_z}
 use mir.Val.{SFits, to_z}
 use Rattle.std.specs.Prelude.{negsuc}
-use Rattle.game.specs.Rules.{choices, turns_with}
-use Rattle.game.specs.Value.{Answers, value, worst}
+use Rattle.statement.specs.Rules.{choices, turns_with}
+use Rattle.game.specs.Value.{Answers}
+use Rattle.statement.specs.Value.{value, worst}
 use Rattle.maximin.specs.declared.level.Level.{Level}
 use Rattle.maximin.specs.Turns.{later}
 use Rattle.maximin.specs.Cursor.{cursor_capacities}

@@ -1,7 +1,7 @@
 use Rattle.std.proofs.Common.{◌≡◌, ℕ, ◌≤◌, ◌∷◌, length}
 use Rattle.std.specs.Prelude.{All}
-use Rattle.game.specs.Rules.{choices, turns_with, Turn}
-use Rattle.game.specs.Value.{value, worst}
+use Rattle.statement.specs.Rules.{choices, turns_with, Turn}
+use Rattle.statement.specs.Value.{value, worst}
 use Rattle.maximin.specs.Turns.{StandsAt, later}
 use Rattle.maximin.specs.Tools.{tools_capacities}
 use Rattle.maximin.specs.Level.{IsLevelOf, level_capacities, all_capacities}

@@ -3,7 +3,7 @@ use Rattle.std.proofs.lemmas.Int.{to_z-of_z}
 use mir.Val.{SFits, of_z, to_z}
 use Rattle.std.specs.Prelude.{map}
 use Rattle.std.specs.Int.{int_max}
-use Rattle.game.specs.Value.{value, greatest}
+use Rattle.statement.specs.Value.{value, greatest}
 use Rattle.maximin.proofs.Windows.{told_high, raised_above}
 use Rattle.maximin.proofs.OwnTurns.{greatest_worth_above}
 use Rattle.maximin.proofs.told.greatest_told.Goals as goal

@@ -1,6 +1,6 @@
 use Rattle.std.specs.Prelude.{map, pos, ◌≤ℤ◌}
 use Rattle.std.specs.Int.{int_max}
-use Rattle.game.specs.Value.{value, greatest}
+use Rattle.statement.specs.Value.{value, greatest}
 use Rattle.maximin.proofs.told.greatest_told.Given as goal
 
 -- lower is no less than the bound, and no more than the greatest value where that is more than the bound

@@ -3,7 +3,7 @@ use Rattle.std.proofs.lemmas.Int.{to_z-of_z}
 use mir.Val.{SFits, of_z, to_z}
 use Rattle.std.specs.Prelude.{map}
 use Rattle.std.specs.Int.{int_min}
-use Rattle.game.specs.Value.{value, least}
+use Rattle.statement.specs.Value.{value, least}
 use Rattle.maximin.proofs.Windows.{told_low, lowered_below}
 use Rattle.maximin.proofs.Runs.{least_worth_below}
 use Rattle.maximin.proofs.told.least_told.Goals as goal

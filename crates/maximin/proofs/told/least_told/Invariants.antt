@@ -1,6 +1,6 @@
 use Rattle.std.specs.Prelude.{map, pos, ◌≤ℤ◌}
 use Rattle.std.specs.Int.{int_min}
-use Rattle.game.specs.Value.{value, least}
+use Rattle.statement.specs.Value.{value, least}
 use Rattle.maximin.proofs.told.least_told.Given as goal
 
 -- upper is no more than the bound, and no less than the least value where that is less than the bound

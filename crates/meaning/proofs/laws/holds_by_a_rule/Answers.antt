@@ -1,4 +1,4 @@
-use Rattle.meaning.specs.Meaning.{IsRight}
+use Rattle.statement.specs.Meaning.{IsRight}
 use Rattle.meaning.proofs.Derivations.{derived_by_a_rule, IsRight-local}
 use Rattle.meaning.proofs.laws.holds_by_a_rule.Goals as goal
 

@@ -1,4 +1,4 @@
-use Rattle.meaning.specs.Meaning.{IsInStart, IsInAfter, IsLegal}
+use Rattle.statement.specs.Meaning.{IsInStart, IsInAfter, IsLegal}
 use Rattle.meaning.proofs.Printed.{one_printed}
 use Rattle.meaning.proofs.Context.{one_list_of, one_goal}
 use Rattle.meaning.proofs.play_laws.play_is_determined.Goals as goal

@@ -1,5 +1,5 @@
 use Rattle.std.proofs.Common.{◌≡◌, ◌+◌, ℕ, suc, cond, length, get_or, ap, ◌∙◌, arith, Option, Some, None}
-use Rattle.meaning.specs.declared.kind.Kind.{Kind}
+use Rattle.statement.specs.declared.kind.Kind.{Kind}
 use Rattle.ground.specs.GroundView.{kinds_of}
 use Rattle.rulegame.specs.declared.naming.Naming.TheVariants.{ByLegal}
 use Rattle.rulegame.specs.GroundFacts.{few_atoms}

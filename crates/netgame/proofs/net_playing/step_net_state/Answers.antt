@@ -1,7 +1,7 @@
 use Rattle.std.proofs.Common.{◌≡◌, ℕ, List, [], ◌∷◌, length, get_or, ap, sym, ◌∙◌, arith}
 use Rattle.std.specs.Prelude.{map}
 use Rattle.smallvec.specs.SmallVec.{SmallVec}
-use Rattle.game.specs.Rules.{State}
+use Rattle.statement.specs.Rules.{State}
 use Rattle.rulegame.specs.RuleState.{rules_of}
 use Rattle.netgame.specs.NetState.{lane_state, kept_state}
 use Rattle.netgame.specs.NetLanes.{lane_states}

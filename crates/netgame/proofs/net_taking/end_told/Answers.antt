@@ -2,7 +2,7 @@ use Rattle.std.proofs.Common.{◌≡◌, ◌<◌, ℕ, true, false, [], length, 
 use Rattle.std.proofs.lemmas.Bool.{ne_eqb}
 use Rattle.std.specs.Prelude.{◌==◌}
 use Rattle.ground.specs.GroundView.{kinds_of}
-use Rattle.game.specs.Rules.{State}
+use Rattle.statement.specs.Rules.{State}
 use Rattle.game.specs.Told.{end_worth}
 use Rattle.rulegame.specs.RulePlay.{ends, best_goal}
 use Rattle.rulegame.specs.RuleState.{rules_of, holds_in}

@@ -1,7 +1,7 @@
 use Rattle.std.proofs.Common.{◌≡◌, ◌<◌, ℕ, List, length, ap, subst, sym, ◌∙◌, arith}
 use Rattle.std.specs.Prelude.{◌==◌}
 use Rattle.ground.specs.GroundView.{inputs_of, kinds_of}
-use Rattle.game.specs.Rules.{State}
+use Rattle.statement.specs.Rules.{State}
 use Rattle.rulegame.specs.RulePlay.{ends}
 use Rattle.rulegame.specs.RuleState.{holds_in, AreRead}
 use Rattle.netgame.specs.NetState.{lane_state}

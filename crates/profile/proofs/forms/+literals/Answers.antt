@@ -1,7 +1,7 @@
 use Rattle.std.proofs.Common.{Bool, not, ◌&&◌, refl, sym, ap, ◌∙◌, arith}
-use Rattle.kif.specs.Tree.{trees_of}
+use Rattle.statement.specs.Tree.{trees_of}
 use Rattle.kif.specs.View.{trees_in}
-use Rattle.profile.specs.Items.{is_literal, are_literals}
+use Rattle.statement.specs.Items.{is_literal, are_literals}
 use Rattle.profile.proofs.FormTests.{some_trees, no_trees_there, gathers, literal_of_literals, one_failed, each_passed, tree_is_slice, tree_is_word}
 use Rattle.profile.proofs.FormTests.{no_word_no_literal}
 use Rattle.profile.proofs.Sizes.{rest_smaller, part_smaller}

@@ -1,7 +1,7 @@
 use Rattle.std.proofs.Common.{sym, ap, ◌∙◌, arith}
-use Rattle.kif.specs.Tree.{trees_of}
+use Rattle.statement.specs.Tree.{trees_of}
 use Rattle.kif.specs.View.{trees_in}
-use Rattle.profile.specs.Items.{is_term}
+use Rattle.statement.specs.Items.{is_term}
 use Rattle.profile.proofs.FormTests.{tree_is_slice, tree_is_word, no_word_no_term, term_of_terms, term_of_none}
 use Rattle.profile.proofs.Sizes.{rest_smaller, part_smaller}
 use Rattle.profile.proofs.forms.+terms.Goals as goal

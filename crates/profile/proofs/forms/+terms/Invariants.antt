@@ -1,7 +1,7 @@
 use Rattle.std.proofs.Common.{◌≡◌, drop}
-use Rattle.kif.specs.Tree.{trees_of}
+use Rattle.statement.specs.Tree.{trees_of}
 use Rattle.kif.specs.View.{tree_of, trees_in}
-use Rattle.profile.specs.Items.{are_terms}
+use Rattle.statement.specs.Items.{are_terms}
 use Rattle.profile.proofs.Sizes.{tree_size, trees_size}
 use Rattle.profile.proofs.forms.+terms.Given as goal
 

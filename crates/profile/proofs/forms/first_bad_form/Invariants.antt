@@ -1,6 +1,6 @@
 use Rattle.std.proofs.Common.{not}
-use Rattle.profile.specs.Items.{is_item}
-use Rattle.profile.specs.Profile.{bad_form}
+use Rattle.statement.specs.Items.{is_item}
+use Rattle.statement.specs.Profile.{bad_form}
 use Rattle.profile.proofs.Firsts.{IsBehind}
 use Rattle.profile.proofs.forms.first_bad_form.Given as goal
 

@@ -1,5 +1,5 @@
 use Rattle.std.proofs.Common.{◌∙◌, sym, ap}
-use Rattle.profile.specs.Items.{is_atom}
+use Rattle.statement.specs.Items.{is_atom}
 use Rattle.profile.proofs.FormTests.{tree_is_slice, no_word_no_atom}
 use Rattle.profile.proofs.forms.is_atom_tree.Goals as goal
 

@@ -1,4 +1,4 @@
-use Rattle.kif.specs.Tree.{trees_of}
+use Rattle.statement.specs.Tree.{trees_of}
 use Rattle.kif.specs.View.{trees_in}
 use Rattle.profile.proofs.FormTests.{tree_is_slice, tree_is_word, no_word_alone, word_alone, alone_along, nothing_there}
 use Rattle.profile.proofs.forms.split_item.Goals as goal

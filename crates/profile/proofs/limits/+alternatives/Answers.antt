@@ -1,7 +1,7 @@
 use Rattle.std.proofs.Common.{suc, min, length, List, sym, ap, ◌∙◌, arith}
-use Rattle.profile.specs.Clause.{Literal}
-use Rattle.profile.specs.Items.{readings}
-use Rattle.profile.specs.Limits.{most_alternatives}
+use Rattle.statement.specs.Clause.{Literal}
+use Rattle.statement.specs.Items.{readings}
+use Rattle.statement.specs.RuleLimits.{most_alternatives}
 use Rattle.profile.proofs.FormTests.{tree_is_slice}
 use Rattle.profile.proofs.Sizes.{part_smaller}
 use Rattle.profile.proofs.Counts.{no_word_no_reading, readings_in_turn-more, readings_of_all-more, sum_more, product_more}

@@ -1,8 +1,8 @@
 use Rattle.std.proofs.Common.{suc, ◌≡◌, ◌≤◌, ◌+◌, ◌*◌, min, length, drop}
-use Rattle.kif.specs.Tree.{trees_of}
+use Rattle.statement.specs.Tree.{trees_of}
 use Rattle.kif.specs.View.{tree_of, trees_in}
-use Rattle.profile.specs.Items.{readings_in_turn, readings_of_all}
-use Rattle.profile.specs.Limits.{most_alternatives}
+use Rattle.statement.specs.Items.{readings_in_turn, readings_of_all}
+use Rattle.statement.specs.RuleLimits.{most_alternatives}
 use Rattle.profile.proofs.Sizes.{tree_size, trees_size}
 use Rattle.profile.proofs.limits.+alternatives.Given as goal
 

@@ -1,7 +1,7 @@
 use Rattle.std.proofs.Common.{sym, ap, ◌∙◌, arith}
-use Rattle.kif.specs.Tree.{Trees}
-use Rattle.profile.specs.Profile.{is_empty}
-use Rattle.profile.specs.Safety.{variables, variables_in}
+use Rattle.statement.specs.Tree.{Trees}
+use Rattle.statement.specs.Profile.{is_empty}
+use Rattle.statement.specs.Safety.{variables, variables_in}
 use Rattle.profile.proofs.FormTests.{tree_is_slice, each_passed, one_failed}
 use Rattle.profile.proofs.Sizes.{list_smaller, part_smaller}
 use Rattle.profile.proofs.Standings.{no_variables}

@@ -1,8 +1,8 @@
 use Rattle.std.proofs.Common.{◌≡◌, drop}
-use Rattle.kif.specs.Tree.{trees_of}
+use Rattle.statement.specs.Tree.{trees_of}
 use Rattle.kif.specs.View.{tree_of, trees_in}
-use Rattle.profile.specs.Profile.{is_empty}
-use Rattle.profile.specs.Safety.{variables_in}
+use Rattle.statement.specs.Profile.{is_empty}
+use Rattle.statement.specs.Safety.{variables_in}
 use Rattle.profile.proofs.Sizes.{tree_size, trees_size}
 use Rattle.profile.proofs.places.+ground_trees.Given as goal
 

@@ -1,7 +1,7 @@
 use Rattle.std.proofs.Common.{subst, sym, ap, ◌∙◌, arith}
-use Rattle.kif.specs.Tree.{Trees, trees_of}
+use Rattle.statement.specs.Tree.{Trees, trees_of}
 use Rattle.kif.specs.View.{trees_in}
-use Rattle.profile.specs.Profile.{body_stands_well}
+use Rattle.statement.specs.Profile.{body_stands_well}
 use Rattle.profile.specs.Connectives.{IsConnectiveOf}
 use Rattle.profile.specs.Standing.{literals_in, literals_of_all}
 use Rattle.profile.proofs.FormTests.{tree_is_slice, tree_is_word, gathers, each_passed, one_failed}

@@ -1,6 +1,6 @@
 use Rattle.std.proofs.Common.{◌≡◌, true, sym}
-use Rattle.profile.specs.Items.{is_item}
-use Rattle.profile.specs.Profile.{bad_keyword, misuses_word}
+use Rattle.statement.specs.Items.{is_item}
+use Rattle.statement.specs.Profile.{bad_keyword, misuses_word}
 use Rattle.profile.proofs.Firsts.{held_at, found_here, found_later}
 use Rattle.profile.proofs.places.first_misused_word.Goals as goal
 

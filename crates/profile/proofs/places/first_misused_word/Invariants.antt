@@ -1,4 +1,4 @@
-use Rattle.profile.specs.Profile.{bad_keyword, misuses_word}
+use Rattle.statement.specs.Profile.{bad_keyword, misuses_word}
 use Rattle.profile.proofs.Firsts.{IsBehind}
 use Rattle.profile.proofs.places.first_misused_word.Given as goal
 

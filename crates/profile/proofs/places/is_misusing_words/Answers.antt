@@ -1,8 +1,8 @@
 use Rattle.std.proofs.Common.{Bool, not, ◌||◌, ◌&&◌, sym, ap, ◌∙◌}
-use Rattle.kif.specs.Tree.{trees_of, name_eq}
+use Rattle.statement.specs.Tree.{trees_of, name_eq}
 use Rattle.kif.specs.View.{tree_of, trees_in}
-use Rattle.profile.specs.Words.{w_role}
-use Rattle.profile.specs.Items.{is_some}
+use Rattle.statement.specs.Words.{w_role}
+use Rattle.statement.specs.Items.{is_some}
 use Rattle.profile.proofs.Standings.{IsSplit, head_misused, body_misused, role_misused, facts_alone}
 use Rattle.profile.proofs.places.is_misusing_words.Goals as goal
 

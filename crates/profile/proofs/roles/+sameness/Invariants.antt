@@ -1,5 +1,5 @@
 use Rattle.std.proofs.Common.{◌≡◌, drop}
-use Rattle.kif.specs.Tree.{trees_eq, trees_of}
+use Rattle.statement.specs.Tree.{trees_eq, trees_of}
 use Rattle.kif.specs.View.{tree_of, trees_in}
 use Rattle.profile.proofs.Sizes.{tree_size, trees_size}
 use Rattle.profile.proofs.roles.+sameness.Given as goal

@@ -1,6 +1,6 @@
 use Rattle.std.proofs.Common.{◌∙◌, refl, ap}
 use Rattle.kif.specs.View.{tree_of, trees_in}
-use Rattle.profile.specs.Profile.{is_tree_in}
+use Rattle.statement.specs.Profile.{is_tree_in}
 use Rattle.profile.specs.Stated.{roles_at}
 use Rattle.profile.proofs.RoleLists.{role_at-here, adds_none, adds_old, adds_new, adds_too_many, placed}
 use Rattle.profile.proofs.roles.add_role.Goals as goal

@@ -1,7 +1,7 @@
 use Rattle.std.proofs.Common.{Bool, ◌||◌, ◌<◌, ◌+◌, length, drop, sym, ap, ◌∙◌}
 use Rattle.std.proofs.lemmas.List.Elements.{All-get_or}
 use Rattle.kif.specs.View.{tree_of, trees_in}
-use Rattle.profile.specs.Profile.{is_tree_in}
+use Rattle.statement.specs.Profile.{is_tree_in}
 use Rattle.profile.specs.Stated.{roles_at}
 use Rattle.profile.proofs.RoleLists.{stated_from}
 use Rattle.profile.proofs.roles.is_stated.Goals as goal

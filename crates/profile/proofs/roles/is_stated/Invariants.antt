@@ -1,6 +1,6 @@
 use Rattle.std.proofs.Common.{◌≡◌, drop}
 use Rattle.kif.specs.View.{tree_of, trees_in}
-use Rattle.profile.specs.Profile.{is_tree_in}
+use Rattle.statement.specs.Profile.{is_tree_in}
 use Rattle.profile.specs.Stated.{roles_at}
 use Rattle.profile.proofs.roles.is_stated.Given as goal
 

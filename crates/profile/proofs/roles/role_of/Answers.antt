@@ -1,10 +1,10 @@
 use Rattle.std.proofs.Common.{ap, ◌∙◌, cond, List, []}
-use Rattle.kif.specs.Tree.{Tree}
+use Rattle.statement.specs.Tree.{Tree}
 use Rattle.kif.specs.View.{tree_of}
-use Rattle.profile.specs.Words.{w_role}
-use Rattle.profile.specs.Clause.{relation_of, is_word}
-use Rattle.profile.specs.Items.{atom_in}
-use Rattle.profile.specs.Profile.{first_of}
+use Rattle.statement.specs.Words.{w_role}
+use Rattle.statement.specs.Clause.{relation_of, is_word}
+use Rattle.statement.specs.Items.{atom_in}
+use Rattle.statement.specs.Profile.{first_of}
 use Rattle.profile.proofs.FormTests.{tree_is_slice, tree_is_word}
 use Rattle.profile.proofs.RoleLists.{rule_states_none, fact_states, no_word_states_none, word_states, one_term, other_terms}
 use Rattle.profile.proofs.roles.role_of.Goals as goal

@@ -1,7 +1,7 @@
 use Rattle.std.proofs.Common.{arith}
 use Rattle.kif.specs.View.{tree_of}
 use Rattle.profile.specs.Names.{names_behind}
-use Rattle.profile.specs.Safety.{variables}
+use Rattle.statement.specs.Safety.{variables}
 use Rattle.profile.proofs.Sizes.{part_smaller}
 use Rattle.profile.proofs.NameSets.{gathers_more, many_already, variables_from}
 use Rattle.profile.proofs.variables.+gathering.Goals as goal

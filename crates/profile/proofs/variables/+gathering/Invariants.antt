@@ -1,9 +1,9 @@
 use Rattle.std.proofs.Common.{◌++◌, ◌≤◌, length, drop}
-use Rattle.kif.specs.Tree.{trees_of}
+use Rattle.statement.specs.Tree.{trees_of}
 use Rattle.kif.specs.View.{tree_of, trees_in}
 use Rattle.profile.specs.Names.{names_behind, HasSameNames, AreDifferent}
-use Rattle.profile.specs.Safety.{variables_in}
-use Rattle.profile.specs.Limits.{most_variables}
+use Rattle.statement.specs.Safety.{variables_in}
+use Rattle.statement.specs.RuleLimits.{most_variables}
 use Rattle.profile.proofs.Sizes.{tree_size, trees_size}
 use Rattle.profile.proofs.variables.+gathering.Given as goal
 

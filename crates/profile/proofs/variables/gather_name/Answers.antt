@@ -1,7 +1,7 @@
 use Rattle.std.proofs.Common.{ℕ, List, ◌++◌, ◌<◌, sym, ap, subst, ◌∙◌}
 use Rattle.profile.specs.Names.{names_behind, Gathers}
-use Rattle.profile.specs.Safety.{is_name_in, count_different}
-use Rattle.profile.specs.Limits.{most_variables}
+use Rattle.statement.specs.Safety.{is_name_in, count_different}
+use Rattle.statement.specs.RuleLimits.{most_variables}
 use Rattle.profile.proofs.NameSets.{gathers_none, gathers_old, gathers_new, too_many, variables_of_name, variables_of_constant, length-names_behind}
 use Rattle.profile.proofs.NameSets.{names_behind-last}
 use Rattle.profile.proofs.variables.gather_name.Goals as goal

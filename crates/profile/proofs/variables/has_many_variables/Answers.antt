@@ -1,8 +1,8 @@
 use Rattle.std.proofs.Common.{ap, ◌≤◌, length, arith}
 use Rattle.kif.specs.View.{tree_of}
 use Rattle.profile.specs.Names.{names_behind}
-use Rattle.profile.specs.Safety.{variables}
-use Rattle.profile.specs.Limits.{most_variables}
+use Rattle.statement.specs.Safety.{variables}
+use Rattle.statement.specs.RuleLimits.{most_variables}
 use Rattle.profile.proofs.NameSets.{fits_or_not, length-names_behind}
 use Rattle.profile.proofs.variables.has_many_variables.Goals as goal
 

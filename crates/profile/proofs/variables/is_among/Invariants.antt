@@ -1,6 +1,6 @@
 use Rattle.std.proofs.Common.{◌≡◌, drop}
 use Rattle.profile.specs.Names.{names_behind}
-use Rattle.profile.specs.Safety.{is_name_in}
+use Rattle.statement.specs.Safety.{is_name_in}
 use Rattle.profile.proofs.variables.is_among.Given as goal
 
 abbrev pub invariant-loop-other : goal.invariant-loop-other

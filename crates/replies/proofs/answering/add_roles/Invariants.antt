@@ -1,6 +1,6 @@
 use Rattle.std.proofs.Common.{◌≡◌, ◌++◌, take}
 use Rattle.rules.specs.RuleSetView.{roles_in}
-use Rattle.replies.specs.Checking.{spaced}
+use Rattle.statement.specs.Checking.{spaced}
 use Rattle.replies.proofs.answering.add_roles.Given as goal
 
 abbrev pub invariant-loop-role : goal.invariant-loop-role

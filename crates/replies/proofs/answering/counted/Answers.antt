@@ -1,6 +1,6 @@
 use Rattle.std.proofs.Common.{length, map}
 use Rattle.rules.specs.Drafts.{numbered}
-use Rattle.profile.specs.Order.{relations_in_order}
+use Rattle.statement.specs.Order.{relations_in_order}
 use Rattle.rules.specs.RuleSetView.{lists_of_set, rules_in, roles_in}
 use Rattle.replies.proofs.Counting.{as_many_alternatives, as_many_relations, lines_are}
 use Rattle.replies.proofs.answering.counted.Goals as goal

@@ -1,9 +1,9 @@
 use Rattle.std.proofs.Common.{[], drop}
 use Rattle.std.specs.Prelude.{Some}
 use Rattle.kif.proofs.Facts.{Written}
-use Rattle.kif.specs.Tree.{trees_of}
+use Rattle.statement.specs.Tree.{trees_of}
 use Rattle.kif.specs.View.{trees_in}
-use Rattle.replies.specs.Replies.{lines_of}
+use Rattle.statement.specs.Replies.{lines_of}
 use Rattle.replies.proofs.answering.shown.Given as goal
 
 abbrev pub invariant-loop-tree : goal.invariant-loop-tree

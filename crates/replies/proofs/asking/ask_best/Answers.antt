@@ -1,7 +1,7 @@
 use Rattle.std.proofs.Common.{ℕ, Some, None}
 use Rattle.std.specs.Prelude.{Ok}
 use Rattle.replies.specs.Histories.{named}
-use Rattle.replies.specs.Solving.{IsRoleNamed}
+use Rattle.statement.specs.Solving.{IsRoleNamed}
 use Rattle.replies.proofs.NoRole.{no_role, some_role}
 use Rattle.replies.proofs.Questions.{lift_asked}
 use Rattle.replies.proofs.asking.ask_best.Goals as goal

@@ -1,9 +1,9 @@
 use Rattle.kif.specs.View.{trees_in}
-use Rattle.game.specs.NamedRules.{NamedRules}
+use Rattle.statement.specs.NamedRules.{NamedRules}
 use Rattle.rulegame.specs.RuleState.{named_rules_of}
-use Rattle.replies.specs.Answers.{Reply}
-use Rattle.replies.specs.Games.{IsPlayReply}
-use Rattle.replies.specs.Solving.{IsSolveReply}
+use Rattle.statement.specs.Answers.{Reply}
+use Rattle.statement.specs.Games.{IsPlayReply}
+use Rattle.statement.specs.Solving.{IsSolveReply}
 use Rattle.replies.proofs.Describing.{over_network, over_rules, its_reply}
 use Rattle.replies.proofs.Questions.{of_network, of_rules}
 use Rattle.replies.proofs.games.ask_solve.Goals as goal

@@ -1,7 +1,7 @@
 use Rattle.std.proofs.Common.{rules}
-use Rattle.kif.specs.Tree.{trees_of}
+use Rattle.statement.specs.Tree.{trees_of}
 use Rattle.kif.specs.View.{trees_in}
-use Rattle.kif.specs.Reading.{Reads}
+use Rattle.statement.specs.Reading.{Reads}
 use Rattle.replies.specs.Histories.{named}
 use Rattle.replies.proofs.Leading.{text_leads_to, text_is_refused}
 use Rattle.replies.proofs.history.position_after.Goals as goal

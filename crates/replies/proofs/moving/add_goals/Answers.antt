@@ -1,5 +1,5 @@
 use Rattle.replies.specs.Histories.{named}
-use Rattle.replies.specs.Moving.{goal_line}
+use Rattle.statement.specs.Moving.{goal_line}
 use Rattle.replies.proofs.Lines.{one_number_more}
 use Rattle.replies.proofs.moving.add_goals.Goals as goal
 

@@ -1,6 +1,6 @@
 use Rattle.std.specs.List.{flat_map}
 use Rattle.replies.specs.Histories.{named}
-use Rattle.replies.specs.Moving.{legal_line}
+use Rattle.statement.specs.Moving.{legal_line}
 use Rattle.replies.proofs.Lines.{one_number_more}
 use Rattle.replies.proofs.moving.add_moves.Goals as goal
 

@@ -1,7 +1,7 @@
 use Rattle.std.proofs.Common.{◌≡◌, ◌++◌}
 use Rattle.std.specs.List.{flat_map, range_with_len}
 use Rattle.replies.specs.Histories.{named}
-use Rattle.replies.specs.Moving.{legal_line}
+use Rattle.statement.specs.Moving.{legal_line}
 use Rattle.replies.proofs.moving.add_moves.Given as goal
 
 -- the lines of the roles before this one stand

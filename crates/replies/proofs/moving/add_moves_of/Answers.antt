@@ -1,6 +1,6 @@
 use Rattle.std.proofs.Common.{◌<◌, length, arith}
 use Rattle.replies.specs.Histories.{named}
-use Rattle.replies.specs.Moving.{legal_line}
+use Rattle.statement.specs.Moving.{legal_line}
 use Rattle.game.proofs.Facts.{legal_known, legal_place, legal_count}
 use Rattle.replies.proofs.Lines.{one_element_more, past_the_end}
 use Rattle.replies.proofs.moving.add_moves_of.Goals as goal

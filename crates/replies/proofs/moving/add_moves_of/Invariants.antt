@@ -1,7 +1,7 @@
 use Rattle.std.proofs.Common.{◌≡◌, ◌++◌, ◌≤◌, ◌-◌, length, take}
 use Rattle.std.specs.List.{flat_map}
 use Rattle.replies.specs.Histories.{named}
-use Rattle.replies.specs.Moving.{legal_line}
+use Rattle.statement.specs.Moving.{legal_line}
 use Rattle.replies.proofs.moving.add_moves_of.Given as goal
 
 -- the lines of the moves before this place stand

@@ -1,5 +1,5 @@
 use Rattle.std.proofs.Common.{ℕ, sym, arith, below_more}
-use Rattle.kif.specs.Tree.{text, name_eq}
+use Rattle.statement.specs.Tree.{text, name_eq}
 use Rattle.kif.specs.View.{tree_of}
 use Rattle.game.proofs.Facts.{is_named, is_not_named}
 use Rattle.replies.proofs.Ranges.{find_range, find_range_none}

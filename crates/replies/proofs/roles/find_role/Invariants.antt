@@ -1,5 +1,5 @@
 use Rattle.std.proofs.Common.{◌≡◌, ℕ, ◌<◌, false}
-use Rattle.kif.specs.Tree.{text, name_eq}
+use Rattle.statement.specs.Tree.{text, name_eq}
 use Rattle.kif.specs.View.{tree_of}
 use Rattle.replies.proofs.roles.find_role.Given as goal
 

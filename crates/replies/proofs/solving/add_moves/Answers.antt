@@ -2,9 +2,9 @@ use Rattle.std.proofs.Common.{rules as facts, ◌≡◌, ◌++◌, ◌∙◌, ap
 use Rattle.std.specs.Prelude.{slice_index}
 use Rattle.std.proofs.lemmas.List.{take_all}
 use Rattle.std.proofs.lemmas.List.FromFn.{length-map-range_with_len, get_or-map-range_with_len}
-use Rattle.replies.specs.Checking.{spaced}
+use Rattle.statement.specs.Checking.{spaced}
 use Rattle.replies.specs.Histories.{named}
-use Rattle.replies.specs.Solving.{move_texts}
+use Rattle.statement.specs.Solving.{move_texts}
 use Rattle.replies.proofs.Spacing.{spaced_more}
 use Rattle.replies.proofs.solving.add_moves.Goals as goal
 

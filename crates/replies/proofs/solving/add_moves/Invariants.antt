@@ -1,7 +1,7 @@
 use Rattle.std.proofs.Common.{◌≡◌, ◌++◌, take}
-use Rattle.replies.specs.Checking.{spaced}
+use Rattle.statement.specs.Checking.{spaced}
 use Rattle.replies.specs.Histories.{named}
-use Rattle.replies.specs.Solving.{move_texts}
+use Rattle.statement.specs.Solving.{move_texts}
 use Rattle.replies.proofs.solving.add_moves.Given as goal
 
 abbrev pub invariant-loop-role : goal.invariant-loop-role

@@ -1,10 +1,10 @@
 use Rattle.std.proofs.Common.{◌≡◌, ◌+◌, ◌-◌, ◌≤◌, ◌++◌}
 use Rattle.std.specs.Prelude.{pos}
 use Rattle.maximin.specs.Room.{room_depth}
-use Rattle.game.specs.Value.{value, choice_of, line_of}
+use Rattle.statement.specs.Value.{value, choice_of, line_of}
 use Rattle.replies.specs.Histories.{named}
 use Rattle.replies.specs.Play.{IsPlayOf}
-use Rattle.replies.specs.Solving.{turn_lines}
+use Rattle.statement.specs.Solving.{turn_lines}
 use Rattle.replies.proofs.solving.add_turns.Given as goal
 
 -- what is added and the lines of the turns that are left are the lines of all turns

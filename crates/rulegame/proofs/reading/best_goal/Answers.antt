@@ -1,5 +1,5 @@
 use Rattle.std.proofs.Common.{Bool, false, cond, get_or, ap, ◌∙◌}
-use Rattle.meaning.specs.declared.kind.Kind.TheVariants.{Fixed}
+use Rattle.statement.specs.declared.kind.Kind.TheVariants.{Fixed}
 use Rattle.rulegame.specs.declared.plan.Standing.{Standing}
 use Rattle.rulegame.specs.RulePlay.{goal_value}
 use Rattle.rulegame.proofs.PlanLemmas.{greatest_more}

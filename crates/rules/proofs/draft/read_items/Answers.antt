@@ -1,5 +1,5 @@
 use Rattle.std.proofs.Common.{◌≡◌, true}
-use Rattle.profile.specs.Items.{is_item}
+use Rattle.statement.specs.Items.{is_item}
 use Rattle.profile.proofs.Facts.{held_at}
 use Rattle.rules.proofs.DraftLemmas.{read_on, found_unsafe}
 use Rattle.rules.proofs.draft.read_items.Goals as goal

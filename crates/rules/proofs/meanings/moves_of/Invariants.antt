@@ -1,5 +1,5 @@
-use Rattle.profile.specs.Clause.{relation_eq}
-use Rattle.profile.specs.Profile.{does_relation}
+use Rattle.statement.specs.Clause.{relation_eq}
+use Rattle.statement.specs.Profile.{does_relation}
 use Rattle.clauses.specs.StoreView.{data_of}
 use Rattle.rules.proofs.MeaningLemmas.{Tested}
 use Rattle.rules.proofs.meanings.moves_of.Given as goal

@@ -11,9 +11,9 @@ loop-role-preserved c =
       first = let here = ap (λ (xs : List ℕ). get_or xs c.loop-role.role 0) c.inputs.ensures in
           let more = sum_more inputs c.loop-role.role (search rules) in
           omega (arith, c.loop-role.invariant.first, here, more);
-      groups = elim c.match-branch-2.branch [
+      groups = elim c.match-group_of.branch [
         | in-Some+in_ok-push w ↦ rw w.groups-is (groups_more c.args.net.now c.args.sources.now.words.items c.loop-role.groups.items
-            w.push.new.self.items _ c.loop-role.invariant.groups (rw w.in-Some.is at c.in_ok-group.ensures) w.in_ok-push.ensures.items)
+            w.push.new.self.items _ c.loop-role.invariant.groups (rw w.in-Some.is at c.group_of.ensures) w.in_ok-push.ensures.items)
         | in_default w ↦ rw w.groups-is c.loop-role.invariant.groups
       ];
     }

@@ -1,7 +1,7 @@
 use Rattle.std.proofs.Common.{ℕ, ◌+◌, List, [], ◌∷◌, drop, length, get_or, ap, sym, subst, refl, ◌∙◌}
 use Rattle.clauses.specs.Numbers.{word_at}
 use Rattle.terms.specs.Keys.{IsKey, term_at, trees, tree_of_key}
-use Rattle.meaning.specs.Meaning.{atom2}
+use Rattle.statement.specs.Meaning.{atom2}
 use Rattle.terms.proofs.AddingAtoms.{AddingEach, each_begins, each_next, each_ends, number_next, fits_key, pair_tree}
 use Rattle.terms.proofs.AtPlaces.{at_end}
 use Rattle.terms.proofs.adding.add_pairs.Goals as goal

@@ -1,7 +1,7 @@
 use Rattle.std.proofs.Common.{drop}
 use Rattle.clauses.specs.Numbers.{word_at}
 use Rattle.terms.specs.Keys.{term_at, trees}
-use Rattle.meaning.specs.Meaning.{atom2}
+use Rattle.statement.specs.Meaning.{atom2}
 use Rattle.terms.proofs.AddingAtoms.{AddingEach}
 use Rattle.terms.proofs.adding.add_pairs.Given as goal
 

@@ -1,6 +1,6 @@
 use Rattle.std.proofs.Common.{drop}
 use Rattle.clauses.specs.Numbers.{word_at}
-use Rattle.meaning.specs.Meaning.{atom1}
+use Rattle.statement.specs.Meaning.{atom1}
 use Rattle.terms.proofs.AddingAtoms.{AddingEach}
 use Rattle.terms.proofs.adding.add_singles.Given as goal
 

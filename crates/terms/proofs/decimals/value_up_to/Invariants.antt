@@ -1,5 +1,5 @@
 use Rattle.std.proofs.Common.{◌≡◌}
-use Rattle.meaning.specs.Kinds.{value_up_to}
+use Rattle.statement.specs.Kinds.{value_up_to}
 use Rattle.terms.proofs.decimals.value_up_to.Given as goal
 
 abbrev pub invariant-loop-value : goal.invariant-loop-value

@@ -1,9 +1,9 @@
 use Rattle.std.proofs.Common.{List, ◌∷◌, [], sym, ap, ◌∙◌, arith, subst, refl}
 use Rattle.std.proofs.lemmas.List.{length-map}
-use Rattle.kif.specs.Tree.{Tree, trees_of}
+use Rattle.statement.specs.Tree.{Tree, trees_of}
 use Rattle.kif.specs.View.{tree_of, trees_in}
 use Rattle.kif.proofs.Facts.{trees_in_take}
-use Rattle.profile.specs.Items.{is_term, are_terms}
+use Rattle.statement.specs.Items.{is_term, are_terms}
 use Rattle.clauses.specs.StoreView.{data_of}
 use Rattle.clauses.specs.Adding.{Adds}
 use Rattle.profile.proofs.Facts.{rest_smaller, part_smaller, tree_is_slice, tree_is_word, no_word_no_term, one_of_all, compound_word, compound_terms}

@@ -1,5 +1,5 @@
 use Rattle.std.proofs.Common.{ℕ, List, ◌<◌, Some, length, slice_range, sym, ◌∙◌, ap, arith}
-use Rattle.propnet.specs.declared.node.Name.{Name}
+use Rattle.statement.specs.declared.node_name.Name.{Name}
 use Rattle.propnet.specs.NetView.{gate_with}
 use Rattle.propnet.proofs.Order.{here_is}
 use Rattle.propnet.proofs.Pushes.{length-gates}

@@ -16,7 +16,7 @@ invariant_of-self-2 c =
     let is : c.len-number.result ≡ length old.list.items = search rules in
     let s : IsStored old.list.items old.operands.items c.args.name (map (number_read c.args.atoms.now c.args.nots.now) c.args.body.now) c.push_reserved.new.self.items c.write_body.new.operands.items c.len-number.result c.in_ok-end.end =
     stored old.list.items c.room_for.new.list.items old.operands.items c.room_for.new.operands.items _ c.args.name _ _ _ _ c.in_ok-end.end
-    c.room_for.ensures.list c.room_for.ensures.operands c.in_ok-label.ensures c.write_body.ensures c.push_reserved.ensures.items (omega (arith, c.in_ok-end.ensures.end, length-map c.args.body.now (number_read c.args.atoms.now c.args.nots.now))) is in
+    c.room_for.ensures.list c.room_for.ensures.operands c.of-label.ensures c.write_body.ensures c.push_reserved.ensures.items (omega (arith, c.in_ok-end.ensures.end, length-map c.args.body.now (number_read c.args.atoms.now c.args.nots.now))) is in
     record { laid = laid_push old.list.items old.operands.items c.args.name (map (number_read c.args.atoms.now c.args.nots.now) c.args.body.now) _ _ _ _ old.laid s }
 
 pub returns : goal.returns
@@ -25,5 +25,5 @@ returns c =
     let is : c.len-number.result ≡ length old.list.items = search rules in
     let s : IsStored old.list.items old.operands.items c.args.name (map (number_read c.args.atoms.now c.args.nots.now) c.args.body.now) c.push_reserved.new.self.items c.write_body.new.operands.items c.len-number.result c.in_ok-end.end =
     stored old.list.items c.room_for.new.list.items old.operands.items c.room_for.new.operands.items _ c.args.name _ _ _ _ c.in_ok-end.end
-    c.room_for.ensures.list c.room_for.ensures.operands c.in_ok-label.ensures c.write_body.ensures c.push_reserved.ensures.items (omega (arith, c.in_ok-end.ensures.end, length-map c.args.body.now (number_read c.args.atoms.now c.args.nots.now))) is in
+    c.room_for.ensures.list c.room_for.ensures.operands c.of-label.ensures c.write_body.ensures c.push_reserved.ensures.items (omega (arith, c.in_ok-end.ensures.end, length-map c.args.body.now (number_read c.args.atoms.now c.args.nots.now))) is in
     pushed old.list.items old.operands.items c.args.name (map (number_read c.args.atoms.now c.args.nots.now) c.args.body.now) _ _ _ _ old.laid s

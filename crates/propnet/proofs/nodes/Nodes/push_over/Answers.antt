@@ -22,7 +22,7 @@ invariant_of-self-2 c =
     let s : IsStored old.list.items old.operands.items c.args.name reads c.push_reserved.new.self.items c.count_up.new.operands.items
     c.len-count.result c.in_ok-end.end =
     stored old.list.items c.room_for.new.list.items old.operands.items c.room_for.new.operands.items _ c.args.name reads _ _ _ c.in_ok-end.end
-    c.room_for.ensures.list c.room_for.ensures.operands c.in_ok-label.ensures
+    c.room_for.ensures.list c.room_for.ensures.operands c.of-label.ensures
     (c.count_up.ensures ∙ ap (λ (n : ℕ). c.room_for.new.operands.items ++ range_with_len start (n - start)) is) c.push_reserved.ensures.items all is in
     record { laid = laid_push old.list.items old.operands.items c.args.name reads _ _ _ _ old.laid s }
 
@@ -38,7 +38,7 @@ returns c =
     let s : IsStored old.list.items old.operands.items c.args.name reads c.push_reserved.new.self.items c.count_up.new.operands.items
     c.len-count.result c.in_ok-end.end =
     stored old.list.items c.room_for.new.list.items old.operands.items c.room_for.new.operands.items _ c.args.name reads _ _ _ c.in_ok-end.end
-    c.room_for.ensures.list c.room_for.ensures.operands c.in_ok-label.ensures
+    c.room_for.ensures.list c.room_for.ensures.operands c.of-label.ensures
     (c.count_up.ensures ∙ ap (λ (n : ℕ). c.room_for.new.operands.items ++ range_with_len start (n - start)) is) c.push_reserved.ensures.items all is in
     pushed old.list.items old.operands.items c.args.name reads _ _ _ _ old.laid s
 

@@ -15,7 +15,7 @@ invariant_of-self-2 c =
     let is : c.len-number.result ≡ length old.list.items = search rules in
     let s : IsStored old.list.items old.operands.items c.args.name [] c.push_reserved.new.self.items c.room_for.new.operands.items c.len-number.result c.in_ok-end.end =
     stored old.list.items c.room_for.new.list.items old.operands.items c.room_for.new.operands.items _ c.args.name _ _ _ _ c.in_ok-end.end
-    c.room_for.ensures.list c.room_for.ensures.operands c.in_ok-label.ensures (sym (append-nil c.room_for.new.operands.items)) c.push_reserved.ensures.items c.in_ok-end.ensures.end is in
+    c.room_for.ensures.list c.room_for.ensures.operands c.of-label.ensures (sym (append-nil c.room_for.new.operands.items)) c.push_reserved.ensures.items c.in_ok-end.ensures.end is in
     record { laid = laid_push old.list.items old.operands.items c.args.name [] _ _ _ _ old.laid s }
 
 pub returns : goal.returns
@@ -24,5 +24,5 @@ returns c =
     let is : c.len-number.result ≡ length old.list.items = search rules in
     let s : IsStored old.list.items old.operands.items c.args.name [] c.push_reserved.new.self.items c.room_for.new.operands.items c.len-number.result c.in_ok-end.end =
     stored old.list.items c.room_for.new.list.items old.operands.items c.room_for.new.operands.items _ c.args.name _ _ _ _ c.in_ok-end.end
-    c.room_for.ensures.list c.room_for.ensures.operands c.in_ok-label.ensures (sym (append-nil c.room_for.new.operands.items)) c.push_reserved.ensures.items c.in_ok-end.ensures.end is in
+    c.room_for.ensures.list c.room_for.ensures.operands c.of-label.ensures (sym (append-nil c.room_for.new.operands.items)) c.push_reserved.ensures.items c.in_ok-end.ensures.end is in
     pushed old.list.items old.operands.items c.args.name [] _ _ _ _ old.laid s

@@ -1,7 +1,7 @@
 use Rattle.std.proofs.Common.{◌≡◌, ◌-◌, w16, sym, ap, ◌∙◌}
 use Rattle.std.proofs.lemmas.Int.{to_z-of_z}
 use Rattle.std.specs.Prelude.{pos}
-use Rattle.game.specs.Value.{value, worst}
+use Rattle.statement.specs.Value.{value, worst}
 use Rattle.game.proofs.Facts.{choice_within, reply_within}
 use Rattle.maximin.proofs.Facts.{choice_stays, reply_stays}
 use Rattle.replies.proofs.LineLemmas.{choice_legal}

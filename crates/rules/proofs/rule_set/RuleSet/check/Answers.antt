@@ -1,7 +1,7 @@
 use Rattle.std.proofs.Common.{◌∙◌, sym, subst, map}
 use Rattle.kif.specs.View.{trees_in}
-use Rattle.profile.specs.declared.fault.RuleFault.{RuleFault}
-use Rattle.profile.specs.Answer.{IsFaultOf}
+use Rattle.statement.specs.declared.rule_fault.RuleFault.{RuleFault}
+use Rattle.statement.specs.RuleFaults.{IsRuleFault}
 use Rattle.rules.specs.Drafts.{numbered}
 use Rattle.clauses.specs.StoreView.{data_of}
 use Rattle.clauses.proofs.Facts.{extends_refl}
@@ -18,7 +18,7 @@ returns-in_err-layout-clause-refused g c =
     let items = trees_in c.args.items.now in
     let said = c.in_err-layout.ensures.faults items c.in_ok-draft.ensures.read in
     err_given c.from_residual-in_err-layout.result _ _ c.from_residual-in_err-layout.ensures.1
-    (λ fault same. subst (λ (f : RuleFault). IsFaultOf items f) (sym same)
+    (λ fault same. subst (λ (f : RuleFault). IsRuleFault items f) (sym same)
     (dependence_fault items _ c.in_ok-places.ensures.passed c.in_ok-draft.ensures.safe said))
 
 pub role_texts-requires : goal.role_texts-requires

@@ -23,5 +23,5 @@ returns c =
     sources_more (gates_of c.args.net.now) c.args.marks.now c.args.n c.gate-name.result.0 c.gate-name.result.1.now c.args.self.now.words.items
     c.push-2.new.self.items
     c.args.self.now.literals.items c.push-3.new.self.items c.in-Some.word c.given.result c.requires.so_far c.gate-name.ensures
-    (sym c.in_ok-word.ensures ∙ c.in-Some.is)
-    c.in_ok-push-3.ensures.items (omega (arith, c.given.ensures.slot, c.in_ok-index.ensures.same, c.len.ensures)) c.in_ok-push-4.ensures.items
+    (sym c.word_of.ensures ∙ c.in-Some.is)
+    c.in_ok-push-3.ensures.items (omega (arith, c.given.ensures.slot, c.len-index.ensures)) c.in_ok-push-4.ensures.items

@@ -1,5 +1,5 @@
 use Rattle.std.proofs.Common.{◌++◌, length, reverse}
-use Rattle.kif.specs.Tree.{text}
+use Rattle.statement.specs.Tree.{text}
 use Rattle.rules.specs.RuleSetView.{lists_of_set}
 use Rattle.terms.specs.Keys.{term_at, trees}
 use Rattle.terms.specs.Writing.{pending_text}

@@ -1,5 +1,5 @@
 use Rattle.std.proofs.Common.{ℕ, List, get_or, nat_eq, ap, ◌∙◌, sym}
-use Rattle.meaning.specs.InOrder.{first_place}
+use Rattle.statement.specs.Printed.{first_place}
 use Rattle.terms.specs.NumberSets.{Members}
 use Rattle.terms.proofs.NumberSets.{place_past}
 use Rattle.terms.proofs.number_set.NumberSet.place.Goals as goal

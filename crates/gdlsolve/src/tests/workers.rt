@@ -1,0 +1,123 @@
+//! The cut that words name, on its way to the workers of a search.
+ghost use Rattle.std.specs.Prelude.{IfOk, IfErr};
+ghost use Rattle.ground.specs.GroundView.{IsGround};
+ghost use Rattle.listing.specs.Progress.{IsFaultOf};
+ghost use Rattle.statement.specs.Limits.{excess_in};
+ghost use Rattle.rules.specs.RuleSetView.{rules_in};
+
+use super::games::FOUR;
+use crate::working::told_by_workers;
+use game::{Game, Joint};
+use ground::{FlatGround, GroundFault, instantiate_flat_alone};
+use position::RuleGame;
+use replies::{Means, Player, Question, Request, Search, ask, request_of};
+use rules::RuleSet;
+use std::alloc::{AllocError, Global};
+use std::hint::spin_loop;
+use std::sync::atomic::{AtomicBool, AtomicUsize, Ordering};
+use std::thread::Threads;
+use trial_games::watched::{Watch, Watched};
+
+/// Steps, each of which waits until so many have begun, at most 2^30 turns.
+#[derive(Drop)]
+struct Crowd {
+    most: usize,
+    begun: AtomicUsize,
+    gave_up: AtomicBool,
+}
+
+impl Crowd {
+    /// Waits, and answers whether as many have begun.
+    fn is_there(&self) -> bool {
+        for _ in 0..1u32 << 30 {
+            if self.begun.load(Ordering::SeqCst) >= self.most {
+                return true;
+            }
+            spin_loop();
+        }
+        false
+    }
+}
+
+impl Watch for &Crowd {
+    fn stepped(&self, _joint: &Joint) {
+        self.begun.fetch_add(1, Ordering::SeqCst);
+        if !self.gave_up.load(Ordering::SeqCst) && !self.is_there() {
+            self.gave_up.store(true, Ordering::SeqCst);
+        }
+    }
+
+    fn gave(&self) {}
+}
+
+/// The search that words ask for over a description, which is played by rules.
+fn search_of<T: AllocGlobal>(
+    rt: &T,
+    words: &[&str],
+    text: &[u8],
+) -> Result<Search<RuleGame>, AllocError> {
+    let instantiate = |rules: &RuleSet| -> Result<FlatGround, GroundFault>
+        ensures ground { IfOk result (λ g. IsGround (rules_in rules.now) g) }
+        ensures fault { IfErr result (IsFaultOf (excess_in (rules_in rules.now))) }
+    { instantiate_flat_alone(rt, rules) };
+    let means = Means {
+        alloc: rt.alloc(),
+        instantiate: &instantiate,
+    };
+    let request = request_of(rt.alloc(), &*words)?;
+    let Request::Run(command) = &request else {
+        return Err(AllocError);
+    };
+    let Question::Rules(search) = ask(&means, Player::Rules, command, text)? else {
+        return Err(AllocError);
+    };
+    Ok(search)
+}
+
+/// Whether the four moves of a game are stepped at once where words ask for a search of it.
+fn step_at_once<T: Threads + Sync + AllocGlobal>(
+    rt: &T,
+    words: &[&str],
+) -> Result<bool, AllocError> {
+    let crowd = Crowd {
+        most: 4,
+        begun: AtomicUsize::new(0),
+        gave_up: AtomicBool::new(false),
+    };
+    let asked = search_of(rt, words, FOUR)?;
+    let Search {
+        game,
+        here: _,
+        role,
+        depth,
+        at,
+        cut,
+    } = asked;
+    let game = Watched {
+        inner: game,
+        watch: &crowd,
+    };
+    let here = game.fresh()?;
+    if role >= game.roles() {
+        return Ok(false);
+    }
+    let search = Search {
+        game,
+        here,
+        role,
+        depth,
+        at,
+        cut,
+    };
+    let reply = told_by_workers(rt, search)?;
+    let is_right = reply.output.as_slice() == b"value 70\nmove y\nline 1 y\n".as_slice();
+    Ok(is_right && !crowd.gave_up.load(Ordering::SeqCst))
+}
+
+// Only the run itself is left out, which searches a game that nobody watches.
+#[test]
+fn as_many_workers_search_as_the_words_ask_for(rt: HostRuntime) -> Result<(), AllocError> {
+    let words = ["solve", "--role", "a", "--depth", "1", "--cut", "4"];
+    assert!(rt; step_at_once(&rt, &words)?);
+    Ok(())
+}

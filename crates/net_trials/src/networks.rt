@@ -1,0 +1,281 @@
+//! Play over networks beside play over rules, and states that are taken out of many.
+ghost use Rattle.std.specs.Prelude.{◌≡◌, ◌<◌, ◌≤◌, All, length, IfOk, IfSome};
+ghost use Rattle.statement.specs.Rules.{IsTurn};
+
+mod judged;
+mod refused;
+
+use game::{Game, Joint, is_stuck, new_joint, put_move};
+use ground::{FlatGround, instantiate_flat_alone};
+use kif::read;
+use position::{NetGame, RuleGame};
+use propnet::Net;
+use rules::RuleSet;
+use std::alloc::{AllocGlobal, Global};
+use std::io::Write;
+use std::test::Fail;
+
+const MATCH: &[u8] =
+    b"(role a)(role b)(base done)(base same)(input a h)(input a t)(input b h)(input b t)
+    (<= (legal ?r ?m) (input ?r ?m) (not (true done)))(<= (next done) (does a ?m))
+    (<= (next same) (does a ?m) (does b ?m))(<= terminal (true done))(<= (goal a 100) (true same))
+    (<= (goal a 0) (not (true same)))(<= (goal b 0) (true same))(<= (goal b 100) (not (true same)))";
+
+const TTT: &[u8] = b"(role xplayer)(role oplayer)(index 1)(index 2)(index 3)
+    (<= (base (cell ?x ?y b)) (index ?x) (index ?y))(<= (base (cell ?x ?y x)) (index ?x) (index ?y))
+    (<= (base (cell ?x ?y o)) (index ?x) (index ?y))(<= (base (control ?p)) (role ?p))
+    (<= (input ?p (mark ?x ?y)) (role ?p) (index ?x) (index ?y))(<= (input ?p noop) (role ?p))
+    (init (cell 1 1 b))(init (cell 1 2 b))(init (cell 1 3 b))(init (cell 2 1 b))(init (cell 2 2 b))
+    (init (cell 2 3 b))(init (cell 3 1 b))(init (cell 3 2 b))(init (cell 3 3 b))(init (control xplayer))
+    (<= (next (cell ?x ?y x)) (does xplayer (mark ?x ?y)) (true (cell ?x ?y b)))
+    (<= (next (cell ?x ?y o)) (does oplayer (mark ?x ?y)) (true (cell ?x ?y b)))
+    (<= (next (cell ?x ?y ?w)) (true (cell ?x ?y ?w)) (distinct ?w b))
+    (<= (next (cell ?x ?y b)) (does ?w (mark ?m ?n)) (true (cell ?x ?y b))
+        (or (distinct ?x ?m) (distinct ?y ?n)))
+    (<= (next (control xplayer)) (true (control oplayer)))
+    (<= (next (control oplayer)) (true (control xplayer)))
+    (<= (row ?x ?w) (true (cell ?x 1 ?w)) (true (cell ?x 2 ?w)) (true (cell ?x 3 ?w)))
+    (<= (column ?y ?w) (true (cell 1 ?y ?w)) (true (cell 2 ?y ?w)) (true (cell 3 ?y ?w)))
+    (<= (diagonal ?w) (true (cell 1 1 ?w)) (true (cell 2 2 ?w)) (true (cell 3 3 ?w)))
+    (<= (diagonal ?w) (true (cell 1 3 ?w)) (true (cell 2 2 ?w)) (true (cell 3 1 ?w)))
+    (<= (line ?w) (row ?x ?w))(<= (line ?w) (column ?y ?w))(<= (line ?w) (diagonal ?w))
+    (<= open (true (cell ?x ?y b)))
+    (<= (legal ?w (mark ?x ?y)) (true (cell ?x ?y b)) (true (control ?w)))
+    (<= (legal xplayer noop) (true (control oplayer)))(<= (legal oplayer noop) (true (control xplayer)))
+    (<= (goal xplayer 100) (line x))(<= (goal xplayer 50) (not (line x)) (not (line o)) (not open))
+    (<= (goal xplayer 0) (line o))(<= (goal oplayer 100) (line o))
+    (<= (goal oplayer 50) (not (line x)) (not (line o)) (not open))(<= (goal oplayer 0) (line x))
+    (<= terminal (line x))(<= terminal (line o))(<= terminal (not open))";
+
+/// Two moves, and no base proposition: the one state never ends.
+const TIMELESS: &[u8] = b"(role a)(input a x)(input a y)(legal a y)(goal a 30)";
+
+/// No inputs, so its one legal atom gives no move.
+const SILENT: &[u8] =
+    b"(role a)(base p)(init p)(<= (legal a x) (true p))(<= (goal a 40) (true p))(<= terminal (not (true p)))";
+
+/// The second role picks a cell of eight by eight, in printed order. The last of each eight ends the game, and each eight is worth 10
+/// more to the first role than the one before.
+const PICK: &[u8] = b"(role a)(role b)(t 0)(t 1)(t 2)(t 3)(t 4)(t 5)(t 6)(t 7)
+    (v 0 0)(v 1 10)(v 2 20)(v 3 30)(v 4 40)(v 5 50)(v 6 60)(v 7 70)(input a go)(legal a go)
+    (<= (input b (m ?x ?y)) (t ?x) (t ?y))(<= (legal b (m ?x ?y)) (t ?x) (t ?y))
+    (<= (base (at ?x ?y)) (t ?x) (t ?y))(<= (next (at ?x ?y)) (does b (m ?x ?y)))
+    (<= terminal (true (at ?x 7)))(<= (goal a ?v) (true (at ?x ?y)) (v ?x ?v))";
+
+/// The rules of a description.
+fn rules_of(alloc: Global, text: &[u8]) -> Result<RuleSet, Fail> {
+    let items = read(alloc, text)?;
+    Ok(RuleSet::check(alloc, &items)?)
+}
+
+/// The kept instances of a description.
+fn ground_of<R: AllocGlobal>(rt: &R, text: &[u8]) -> Result<FlatGround, Fail> {
+    let rules = rules_of(rt.alloc(), text)?;
+    Ok(instantiate_flat_alone(rt, &rules)?)
+}
+
+/// The game of a description, over its kept instances.
+fn rule_game<R: AllocGlobal>(rt: &R, text: &[u8]) -> Result<RuleGame, Fail> {
+    let ground = ground_of(rt, text)?;
+    Ok(RuleGame::of_flat(rt.alloc(), ground)?)
+}
+
+/// The game of a description, over its network.
+fn net_game<R: AllocGlobal>(rt: &R, text: &[u8]) -> Result<NetGame, Fail> {
+    let ground = ground_of(rt, text)?;
+    let net = Net::of_flat(rt.alloc(), &ground)?;
+    Ok(NetGame::of_flat(rt.alloc(), ground, net)?)
+}
+
+/// Adds what is told of a state: whether the game has ended, and the goal and the legal moves of each role.
+fn add_state<G: Game>(g: &G, p: &G::Pos, text: &mut Vec<u8>) -> Result<(), Fail>
+    requires { G.fits g.now p.now }
+{
+    write!(text, "{}", g.ended(p))?;
+    for role in 0..g.roles() {
+        write!(text, " {}:", g.goal(p, role))?;
+        for place in 0..100usize {
+            if let Some(number) = g.legal(p, role, place) {
+                write!(text, " {number}")?;
+            }
+        }
+    }
+    writeln!(text)?;
+    Ok(())
+}
+
+/// The legal move of a role at a place, or, where there is none, the first.
+fn move_at<G: Game>(g: &G, p: &G::Pos, role: usize, place: usize) -> Option<u32>
+    requires fits { G.fits g.now p.now }
+    requires role { role < (G.rules g.now).roles }
+    ensures { IfSome result (λ m. m < (G.rules g.now).moves role) }
+{
+    if let Some(number) = g.legal(p, role, place) {
+        return Some(number);
+    }
+    g.legal(p, role, 0)
+}
+
+/// The legal moves of all roles at a place, each the first where there is none at that place.
+fn turn_at<G: Game>(alloc: Global, g: &G, p: &G::Pos, place: usize) -> Result<Joint, Fail>
+    requires { G.fits g.now p.now }
+    ensures { IfOk result (λ joint. IsTurn (G.rules g.now) joint.items) }
+{
+    let mut joint = new_joint(alloc, g.roles())?;
+    for role in 0..g.roles() {
+        let Some(number) = move_at(g, p, role, place) else {
+            return Err(Fail::new("no legal move"));
+        };
+        put_move(&mut joint, role, number);
+    }
+    Ok(joint)
+}
+
+/// Writes the state after another and the second of two turns, stepped to alone or taken out of two.
+fn play<G: Game>(
+    g: &G,
+    here: &G::Pos,
+    turns: [Joint; 2],
+    many: bool,
+    next: &mut G::Pos,
+) -> Result<(), Fail>
+    requires here { G.fits g.now here.now }
+    requires next { G.fits g.now next.old }
+    requires turns { All (λ j. IsTurn (G.rules g.now) j.items) turns }
+    ensures { G.fits g.now next.new }
+{
+    if !many {
+        g.step(here, &turns[1], next);
+        return Ok(());
+    }
+    let mut wide = g.new_wide()?;
+    let mut states = g.new_many()?;
+    g.steps(here, &turns, &mut wide, &mut states);
+    g.take(&states, 1, next);
+    Ok(())
+}
+
+/// What is told of the states of a play, until it is over.
+fn course<G: Game>(alloc: Global, g: &G, many: bool) -> Result<Vec<u8>, Fail> {
+    let mut text = Vec::new(alloc);
+    let mut here = g.fresh()?;
+    let mut next = g.fresh()?;
+    add_state(g, &here, &mut text)?;
+    for place in 0..9usize {
+        if g.ended(&here) || is_stuck(g, &here) {
+            return Ok(text);
+        }
+        let first = turn_at(alloc, g, &here, place + 1)?;
+        let second = turn_at(alloc, g, &here, place)?;
+        play(g, &here, [first, second], many, &mut next)?;
+        g.copy(&next, &mut here);
+        add_state(g, &here, &mut text)?;
+    }
+    Ok(text)
+}
+
+/// What is told of a play over the kept instances of a description.
+fn rule_course(rt: &HostRuntime, text: &[u8], many: bool) -> Result<Vec<u8>, Fail> {
+    let game = rule_game(rt, text)?;
+    course(rt.alloc(), &game, many)
+}
+
+/// What is told of a play over the network of a description.
+fn net_course(rt: &HostRuntime, text: &[u8], many: bool) -> Result<Vec<u8>, Fail> {
+    let game = net_game(rt, text)?;
+    course(rt.alloc(), &game, many)
+}
+
+#[test]
+fn networks_play_as_rules_do(rt: HostRuntime) -> Result<(), Fail> {
+    for text in [MATCH, TTT, TIMELESS, SILENT] {
+        let want = rule_course(&rt, text, false)?;
+        assert_eq!(rt; rule_course(&rt, text, true)?, want);
+        assert_eq!(rt; net_course(&rt, text, false)?, want);
+        assert_eq!(rt; net_course(&rt, text, true)?, want);
+    }
+    Ok(())
+}
+
+/// Games, and what is told of their first states.
+const TOLD: [(&[u8], &[u8]); 3] = [
+    (MATCH, b"false 0: 0 1 100: 0 1\ntrue 100: 0:\n"),
+    (SILENT, b"false 40:\n"),
+    (
+        TIMELESS,
+        b"false 30: 1\nfalse 30: 1\nfalse 30: 1\nfalse 30: 1\nfalse 30: 1\n\
+        false 30: 1\nfalse 30: 1\nfalse 30: 1\nfalse 30: 1\nfalse 30: 1\n",
+    ),
+];
+
+#[test]
+fn networks_tell_of_states(rt: HostRuntime) -> Result<(), Fail> {
+    for (text, want) in TOLD {
+        let got = net_course(&rt, text, true)?;
+        assert_eq!(rt; got.as_slice(), want);
+    }
+    Ok(())
+}
+
+/// The first joint moves of a state, as the second role's moves go on.
+fn turns_of<G: Game>(alloc: Global, g: &G, p: &G::Pos, count: usize) -> Result<Vec<Joint>, Fail>
+    requires { G.fits g.now p.now }
+    ensures size { IfOk result (λ turns. length turns.items ≡ count) }
+    ensures each { IfOk result (λ turns. All (λ j. IsTurn (G.rules g.now) j.items) turns.items) }
+{
+    let mut turns = Vec::new(alloc);
+    for place in 0..count {
+        turns.push(turn_at(alloc, g, p, place)?)?;
+    }
+    Ok(turns)
+}
+
+/// Whether the game has ended after each of the first joint moves, and the goal of the first role then.
+fn told_after<G: Game>(alloc: Global, g: &G, count: usize) -> Result<Vec<u8>, Fail> {
+    if g.roles() == 0 || count == 0 || count > 64 {
+        return Err(Fail::new("not of this game"));
+    }
+    let start = g.fresh()?;
+    let mut child = g.fresh()?;
+    let mut wide = g.new_wide()?;
+    let mut states = g.new_many()?;
+    let turns = turns_of(alloc, g, &start, count)?;
+    g.steps(&start, &turns, &mut wide, &mut states);
+    let mut text = Vec::new(alloc);
+    for place in 0..count {
+        g.take(&states, place, &mut child);
+        writeln!(text, "{} {}", g.ended(&child), g.goal(&child, 0))?;
+    }
+    Ok(text)
+}
+
+/// What is to be told of the first cells.
+fn cells(alloc: Global, count: usize) -> Result<Vec<u8>, Fail> {
+    let mut text = Vec::new(alloc);
+    for place in 0..count.min(64) {
+        writeln!(text, "{} {}", place % 8 == 7, place / 8 * 10)?;
+    }
+    Ok(text)
+}
+
+/// What is told of the cells, over the kept instances.
+fn rule_cells(rt: &HostRuntime, count: usize) -> Result<Vec<u8>, Fail> {
+    let game = rule_game(rt, PICK)?;
+    told_after(rt.alloc(), &game, count)
+}
+
+/// What is told of the cells, over the network.
+fn net_cells(rt: &HostRuntime, count: usize) -> Result<Vec<u8>, Fail> {
+    let game = net_game(rt, PICK)?;
+    told_after(rt.alloc(), &game, count)
+}
+
+#[test]
+fn as_many_states_as_joint_moves_are_told_of(rt: HostRuntime) -> Result<(), Fail> {
+    for count in [1, 63, 64] {
+        let want = cells(rt.alloc(), count)?;
+        assert_eq!(rt; rule_cells(&rt, count)?, want);
+        assert_eq!(rt; net_cells(&rt, count)?, want);
+    }
+    Ok(())
+}

@@ -1,0 +1,225 @@
+//! The end of the game in states that are judged, beside that in states that are taken.
+ghost use Rattle.std.specs.Prelude.{◌≡◌, ◌<◌, ◌≤◌, All, length, IfOk};
+ghost use Rattle.statement.specs.Rules.{IsTurn};
+
+use super::{MATCH, PICK, TIMELESS, TTT, net_game, rule_game, turn_at, turns_of};
+use game::{Game, Joint, is_stuck};
+use std::alloc::Global;
+use std::io::Write;
+use std::test::Fail;
+
+/// Adds a goal, or that the game goes on.
+fn add_worth(worth: Option<u8>, text: &mut Vec<u8>) -> Result<(), Fail> {
+    if let Some(goal) = worth {
+        write!(text, " {goal}")?;
+        return Ok(());
+    }
+    text.extend_from_slice(b" -")?;
+    Ok(())
+}
+
+/// The goal value of a role, if the game has ended.
+fn worth_of<G: Game>(g: &G, p: &G::Pos, role: usize) -> Option<u8>
+    requires fits { G.fits g.now p.now }
+    requires role { role < (G.rules g.now).roles }
+{
+    if g.ended(p) {
+        return Some(g.goal(p, role));
+    }
+    None
+}
+
+/// Adds the goals in the states after some joint moves, if the game has ended there, each state taken out of many.
+fn add_taken<G: Game>(g: &G, p: &G::Pos, turns: &[Joint], text: &mut Vec<u8>) -> Result<(), Fail>
+    requires from { G.fits g.now p.now }
+    requires some { 0 < length turns.now }
+    requires few { length turns.now ≤ 64 }
+    requires turns { All (λ j. IsTurn (G.rules g.now) j.items) turns.now }
+{
+    let mut child = g.fresh()?;
+    let mut wide = g.new_wide()?;
+    let mut states = g.new_many()?;
+    g.steps(p, turns, &mut wide, &mut states);
+    for place in 0..turns.len() {
+        g.take(&states, place, &mut child);
+        for role in 0..g.roles() {
+            add_worth(worth_of(g, &child, role), text)?;
+        }
+    }
+    Ok(())
+}
+
+/// Adds the same, judged.
+fn add_judged<G: Game>(g: &G, p: &G::Pos, turns: &[Joint], text: &mut Vec<u8>) -> Result<(), Fail>
+    requires from { G.fits g.now p.now }
+    requires some { 0 < length turns.now }
+    requires few { length turns.now ≤ 64 }
+    requires turns { All (λ j. IsTurn (G.rules g.now) j.items) turns.now }
+{
+    let mut wide = g.new_wide()?;
+    if !g.judge(p, turns, &mut wide) {
+        return Err(Fail::new("not judged"));
+    }
+    for place in 0..turns.len() {
+        for role in 0..g.roles() {
+            add_worth(g.verdict(&wide, place, role), text)?;
+        }
+    }
+    Ok(())
+}
+
+/// The goals in the states after the first joint moves of each state of a play, until it is over.
+fn worths<G: Game>(alloc: Global, g: &G, count: usize, judged: bool) -> Result<Vec<u8>, Fail> {
+    if count == 0 || count > 64 {
+        return Err(Fail::new("not so many"));
+    }
+    let mut text = Vec::new(alloc);
+    let mut here = g.fresh()?;
+    let mut next = g.fresh()?;
+    for place in 0..9usize {
+        if g.ended(&here) || is_stuck(g, &here) {
+            return Ok(text);
+        }
+        let turns = turns_of(alloc, g, &here, count)?;
+        if judged {
+            add_judged(g, &here, &turns, &mut text)?;
+        } else {
+            add_taken(g, &here, &turns, &mut text)?;
+        }
+        let turn = turn_at(alloc, g, &here, place)?;
+        g.step(&here, &turn, &mut next);
+        g.copy(&next, &mut here);
+    }
+    Ok(text)
+}
+
+/// The goals over the kept instances of a description.
+fn rule_worths(rt: &HostRuntime, text: &[u8], count: usize) -> Result<Vec<u8>, Fail> {
+    let game = rule_game(rt, text)?;
+    worths(rt.alloc(), &game, count, false)
+}
+
+/// The goals over the network of a description, judged.
+fn net_worths(rt: &HostRuntime, text: &[u8], count: usize) -> Result<Vec<u8>, Fail> {
+    let game = net_game(rt, text)?;
+    worths(rt.alloc(), &game, count, true)
+}
+
+#[test]
+fn networks_judge_as_rules_tell(rt: HostRuntime) -> Result<(), Fail> {
+    for (text, count) in [(MATCH, 3), (TTT, 9), (TIMELESS, 2), (PICK, 64)] {
+        let want = rule_worths(&rt, text, count)?;
+        assert_eq!(rt; net_worths(&rt, text, count)?, want);
+    }
+    Ok(())
+}
+
+/// Games, and the goals after the first joint moves of each state of a play.
+const JUDGED: [(&[u8], usize, &[u8]); 3] = [
+    (MATCH, 3, b" 100 0 100 0 100 0"),
+    (TIMELESS, 1, b" - - - - - - - - -"),
+    (
+        PICK,
+        17,
+        b" - - - - - - - - - - - - - - 0 0 - - - - - - - - - - - - - - 10 0 - -",
+    ),
+];
+
+#[test]
+fn networks_judge_known_states(rt: HostRuntime) -> Result<(), Fail> {
+    for (text, count, want) in JUDGED {
+        let got = net_worths(&rt, text, count)?;
+        assert!(rt; got.starts_with(want));
+    }
+    Ok(())
+}
+
+/// The places of some states, the last first.
+fn places_of(alloc: Global, count: usize) -> Result<Vec<usize>, Fail>
+    ensures size { IfOk result (λ places. length places.items ≡ count) }
+    ensures below { IfOk result (λ places. All (λ k. k < count) places.items) }
+{
+    let mut places = Vec::new(alloc);
+    for place in 0..count {
+        places.push(count - 1 - place)?;
+    }
+    Ok(places)
+}
+
+/// Adds the goals in the states after joint moves that each begin at one of many states, if the game has ended there.
+fn add_stepped<G: Game>(
+    g: &G,
+    states: &G::Many,
+    places: &[usize],
+    turns: &[Joint],
+    text: &mut Vec<u8>,
+) -> Result<(), Fail>
+    requires states { G.fits_many g.now states.now }
+    requires count { length places.now ≡ length turns.now }
+    requires places { All (λ k. k < length (G.states g.now states.now)) places.now }
+    requires turns { All (λ j. IsTurn (G.rules g.now) j.items) turns.now }
+{
+    let mut child = g.fresh()?;
+    let mut next = g.fresh()?;
+    for turn in 0..turns.len() {
+        g.take(states, places[turn], &mut child);
+        g.step(&child, &turns[turn], &mut next);
+        for role in 0..g.roles() {
+            add_worth(worth_of(g, &next, role), text)?;
+        }
+    }
+    Ok(())
+}
+
+/// The goals two turns after the start: by each of the first joint moves and then one of them again, the last state first.
+fn second_worths<G: Game>(
+    alloc: Global,
+    g: &G,
+    count: usize,
+    judged: bool,
+) -> Result<Vec<u8>, Fail> {
+    if count == 0 || count > 64 {
+        return Err(Fail::new("not so many"));
+    }
+    let start = g.fresh()?;
+    let mut wide = g.new_wide()?;
+    let mut states = g.new_many()?;
+    let turns = turns_of(alloc, g, &start, count)?;
+    let places = places_of(alloc, count)?;
+    let mut text = Vec::new(alloc);
+    g.steps(&start, &turns, &mut wide, &mut states);
+    if !judged {
+        add_stepped(g, &states, &places, &turns, &mut text)?;
+        return Ok(text);
+    }
+    if !g.judge_from(&states, &places, &turns, &mut wide) {
+        return Err(Fail::new("not judged"));
+    }
+    for place in 0..count {
+        for role in 0..g.roles() {
+            add_worth(g.verdict(&wide, place, role), &mut text)?;
+        }
+    }
+    Ok(text)
+}
+
+/// The goals after two turns over the kept instances of a description.
+fn second_rule_worths(rt: &HostRuntime, text: &[u8], count: usize) -> Result<Vec<u8>, Fail> {
+    let game = rule_game(rt, text)?;
+    second_worths(rt.alloc(), &game, count, false)
+}
+
+/// The goals after two turns over the network of a description, judged.
+fn second_net_worths(rt: &HostRuntime, text: &[u8], count: usize) -> Result<Vec<u8>, Fail> {
+    let game = net_game(rt, text)?;
+    second_worths(rt.alloc(), &game, count, true)
+}
+
+#[test]
+fn networks_judge_from_many_as_rules_tell(rt: HostRuntime) -> Result<(), Fail> {
+    for (text, count) in [(MATCH, 3), (PICK, 64)] {
+        let want = second_rule_worths(&rt, text, count)?;
+        assert_eq!(rt; second_net_worths(&rt, text, count)?, want);
+    }
+    Ok(())
+}

@@ -1,4 +1,0 @@
-use Rattle.position.proofs.tests.judged.worths.Given as goal
-
-abbrev pub invariant-loop-place : goal.invariant-loop-place
-invariant-loop-place g l = record { here : g.G.Game.fits l.g l.here; next : g.G.Game.fits l.g l.next }

@@ -1,0 +1,40 @@
+-- What the program answers to what is asked of rules, as a relation between the bytes of its input and its reply.
+use Rattle.std.specs.Prelude.{ℕ, ◌≡◌, ◌≢◌, ◌⊎◌, List, [], ◌∷◌, ◌++◌}
+use Rattle.statement.specs.Tree.{Trees, no_trees, tree, text, list_of}
+use Rattle.statement.specs.Reading.{Reads}
+use Rattle.statement.specs.TextFaults.{IsTextFault, text_fault_words}
+use Rattle.statement.specs.declared.text_fault.KifFault.{KifFault}
+use Rattle.statement.specs.Queries.{Query, show, check, net, moves, solve}
+use Rattle.statement.specs.Answers.{Reply, answer, refusal}
+use Rattle.statement.specs.Checking.{IsCheckReply}
+use Rattle.statement.specs.Moving.{IsMovesReply}
+use Rattle.statement.specs.Games.{IsPlayReply}
+use Rattle.statement.specs.Networks.{IsNetReply}
+use Rattle.statement.specs.Solving.{IsSolveReply}
+use Rattle.statement.specs.declared.text_fault.KifFault.TheVariants as faults
+
+-- the canonical text of each tree, with a line end behind it
+abbrev pub lines_of : Trees → List ℕ
+lines_of no_trees = []
+lines_of (tree t ts) = text t ++ 10 ∷ lines_of ts
+
+-- the reply to a query over trees that were read
+abbrev pub IsReplyTo : Query → Trees → Reply → Type 0
+IsReplyTo show ts reply = reply ≡ answer (lines_of ts)
+IsReplyTo check ts reply = IsCheckReply (list_of ts) reply
+IsReplyTo net ts reply = IsNetReply (list_of ts) reply
+IsReplyTo (moves after) ts reply = IsPlayReply (list_of ts) (λ g. IsMovesReply g after) reply
+IsReplyTo (solve role depth at after) ts reply = IsPlayReply (list_of ts) (λ g. IsSolveReply g role depth at after) reply
+
+-- the bytes have a fault in their text, and the reply names it
+abbrev pub RefusesText : List ℕ → Reply → Type 0
+RefusesText bytes reply =
+    (fault : KifFault) × (fault ≢ faults.NoMemory) × IsTextFault bytes fault × (reply ≡ refusal (text_fault_words fault))
+
+-- the bytes read as trees, and the reply is that to the trees
+abbrev pub AnswersTrees : Query → List ℕ → Reply → Type 0
+AnswersTrees query bytes reply = (ts : Trees) × Reads bytes ts × IsReplyTo query ts reply
+
+-- the reply to a query over the bytes of the input
+abbrev pub IsReply : Query → List ℕ → Reply → Type 0
+IsReply query bytes reply = RefusesText bytes reply ⊎ AnswersTrees query bytes reply

@@ -1,0 +1,23 @@
+//! What the promise of the program rests on: its definitions, in `specs/`, and the types that they speak of, with how each is
+//! written. There is no other code.
+#![tactic(auto)]
+
+mod at_bound;
+mod excess;
+mod ground_fault;
+mod history_fault;
+mod kind;
+mod node_name;
+mod rule_fault;
+mod status;
+mod text_fault;
+
+pub use at_bound::AtBound;
+pub use excess::Excess;
+pub use ground_fault::GroundFault;
+pub use history_fault::HistoryFault;
+pub use kind::Kind;
+pub use node_name::Name;
+pub use rule_fault::{RuleExcess, RuleFault};
+pub use status::Status;
+pub use text_fault::KifFault;
