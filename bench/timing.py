@@ -10,6 +10,7 @@ import tempfile
 import time
 from dataclasses import dataclass
 from pathlib import Path
+from typing import NoReturn
 
 TOP = Path(__file__).resolve().parent.parent
 START_UP = ["show"], os.devnull
@@ -24,7 +25,7 @@ class Timed:
     seconds: float
 
 
-def options(about):
+def options(about: str) -> argparse.ArgumentParser:
     """The options that each script has; a script adds its own."""
     words = argparse.ArgumentParser(description=about)
     words.add_argument("--program", metavar="COMMAND", help="the program to run, in place of the proved one")
@@ -32,22 +33,22 @@ def options(about):
     return words
 
 
-def add_beside(words, runs):
+def add_beside(words: argparse.ArgumentParser, runs: int) -> None:
     """The options of the scripts that can time another program beside the first."""
     words.add_argument("--beside", metavar="COMMAND", help="another program, timed turn about with the first")
     words.add_argument("--runs", metavar="N", type=int, default=runs, help="how often each row is run")
     words.add_argument("--limit", metavar="SECONDS", type=float, default=60, help="a longer run is given up")
 
 
-def program(given):
+def program(given: str | None) -> list[str]:
     """The words of a command; without one, the proved program, which the launcher builds if it has to."""
     if given:
         return shlex.split(given)
-    subprocess.run([TOP / "gdlsolve", "show"], stdin=subprocess.DEVNULL, check=True)
-    return [str(TOP / "crates/gdlsolve/out/gdlsolve")]
+    subprocess.run([TOP / "gdlsolve", "--prove"], stdin=subprocess.DEVNULL, check=True)
+    return [str(TOP / "out/gdlsolve")]
 
 
-def programs(given):
+def programs(given: argparse.Namespace) -> dict[str, list[str]]:
     """The programs by the name under which they are printed."""
     found = {"program": program(given.program)}
     if given.beside:
@@ -55,18 +56,18 @@ def programs(given):
     return found
 
 
-def run(command, words, rules, limit=None):
+def run(command: list[str], words: list[str], rules: str | Path, limit: float | None = None) -> Timed:
     """One run over a file of rules."""
     with open(rules, "rb") as text:
         start = time.perf_counter()
         try:
             done = subprocess.run(command + words, stdin=text, stdout=subprocess.PIPE, stderr=subprocess.DEVNULL, timeout=limit)
         except subprocess.TimeoutExpired:
-            return Timed(None, b"", limit)
+            return Timed(None, b"", limit or 0)
         return Timed(done.returncode, done.stdout, time.perf_counter() - start)
 
 
-def peak(command, words, rules, limit=None):
+def peak(command: list[str], words: list[str], rules: str | Path, limit: float | None = None) -> float | None:
     """Peak memory of one run in MiB by GNU time, or None without it. (Of a child of Python, Python's own would count.)"""
     clock = shutil.which("time")
     if clock is None:
@@ -77,11 +78,13 @@ def peak(command, words, rules, limit=None):
     return int(lines[-1]) / 1024 if lines else None
 
 
-def turn_about(contestants, row, base, given):
+def turn_about(
+    contestants: dict[str, list[str]], row: tuple[list[str], str | Path], base: tuple[list[str], str | Path], given: argparse.Namespace
+) -> dict[str, Timed]:
     """Times a row, its words and rules, for each program. In each round every program runs the base and then the row;
     the time is the middle of the differences. A program that gives no answer is not run again."""
-    found = {}
-    times = {name: [] for name in contestants}
+    found: dict[str, Timed] = {}
+    times: dict[str, list[float]] = {name: [] for name in contestants}
     for _ in range(given.runs):
         for name, command in contestants.items():
             if name in found and found[name].status != 0:
@@ -92,14 +95,14 @@ def turn_about(contestants, row, base, given):
     return {name: Timed(one.status, one.output, statistics.median(times[name])) for name, one in found.items()}
 
 
-def why_not(one):
+def why_not(one: Timed) -> str:
     """What is printed of a program that gave no answer."""
     if one.status is None:
         return "given up"
     return f"status {one.status} {one.output[:60].decode(errors='replace').strip()}"
 
 
-def print_row(row, found, notes=None):
+def print_row(row: str, found: dict[str, Timed], notes: dict[str, str] | None = None) -> bool:
     """One line: the time of each program with a note, and how they compare. Tells whether all answers are the same."""
     parts = []
     for name, one in found.items():
@@ -114,10 +117,10 @@ def print_row(row, found, notes=None):
     return same(found)
 
 
-def same(found):
+def same(found: dict[str, Timed]) -> bool:
     """Whether all that answered gave one answer."""
     return len({one.output for one in found.values() if one.status == 0}) <= 1
 
 
-def finish(all_same):
+def finish(all_same: bool) -> NoReturn:
     sys.exit(0 if all_same else 1)

@@ -1,23 +1,42 @@
 # Completion of gdlsolve's words in bash: source this file, or put it among the files of bash-completion under the name gdlsolve.
-_gdlsolve() {
-  local word=${COMP_WORDS[COMP_CWORD]} before=${COMP_WORDS[COMP_CWORD-1]} command=${COMP_WORDS[1]} words=
-  COMPREPLY=()
-  if [ "$COMP_CWORD" -eq 1 ]; then
-    words='show check net moves solve help --help --version'
-  else
-    case $before in
-      --at-bound) words='zero goal' ;;
-      --cut) words='1 2 4 8 16 2x2 4x2 4x4 8x2 2x2x2 4x2x2' ;;
-      --role | --depth | --after) return 0 ;;
-      *)
-        case $command in
-          show | check | net) words='--help' ;;
-          moves) words='--after --help' ;;
-          solve) words='--role --depth --at-bound --cut --after --help' ;;
-        esac
-        ;;
+# Where it offers no word, as behind a <, bash completes the names of files.
+
+# The command: the first word behind the name of the program that is no < or >, nor the file behind one. --proved is a word of the
+# script ./gdlsolve alone, and stands before the command.
+_gdlsolve_command() {
+  local at
+  for ((at = 1; at < COMP_CWORD; at++)); do
+    case ${COMP_WORDS[at]} in
+      *[\<\>]) at=$((at + 1)) ;;
+      --proved) ;;
+      *) command=${COMP_WORDS[at]}; return ;;
     esac
-  fi
+  done
+}
+
+_gdlsolve() {
+  local word=${COMP_WORDS[COMP_CWORD]} before=${COMP_WORDS[COMP_CWORD-1]} command= words=
+  COMPREPLY=()
+  case $before in *[\<\>]) return 0 ;; esac
+  case $word in [\<\>]*) return 0 ;; esac
+  _gdlsolve_command
+  case $before in
+    --at-bound) words='zero goal' ;;
+    --cut) words='1 2 4 8 16 2x2 4x2 4x4 8x2 2x2x2 4x2x2' ;;
+    --role | --depth | --after) return 0 ;;
+    *)
+      case $command in
+        '')
+          words='show check net moves solve help --help --version'
+          [ "${COMP_WORDS[0]}" = ./gdlsolve ] && words+=' --prove --proved'
+          ;;
+        show | check | net) words='--help' ;;
+        moves) words='--after --help' ;;
+        solve) words='--role --depth --at-bound --cut --after --help' ;;
+        help) words='show check net moves solve' ;;
+      esac
+      ;;
+  esac
   mapfile -t COMPREPLY < <(compgen -W "$words" -- "$word")
 }
-complete -F _gdlsolve gdlsolve ./gdlsolve
+complete -o bashdefault -o default -F _gdlsolve gdlsolve ./gdlsolve

@@ -1,0 +1,351 @@
+#!/usr/bin/env python3
+"""Proves crates from nothing and builds what is made of them.
+
+    tools/prove.py program    proves the crates of the program and builds out/gdlsolve, with its object out/gdlsolve.o
+    tools/prove.py library    proves the crates of the library for C and builds out/libgdlsolve_c.a
+    tools/prove.py NAME       proves the crate NAME and all below it
+    --fresh                   only says by the status whether that has been done for the sources as they stand
+    --weigh                   writes the processor seconds of each crate that was proved to tools/weights.txt
+
+Each crate is proved once all crates that it stands on are, so those that do not stand on each other go side by side. The crate
+with the longest way above it gets as many jobs as there are cores, and the others, with half as many, fill what it leaves. What is proved stands in
+out/proved as the statements of each crate, beside a sum of all that it was made of; only what this sum does not fit is proved again.
+"""
+
+from __future__ import annotations
+
+import argparse
+import ctypes
+import fcntl
+import hashlib
+import os
+import shutil
+import signal
+import subprocess
+import sys
+import time
+from dataclasses import dataclass, field
+from functools import cache
+from pathlib import Path
+
+TOP = Path(__file__).resolve().parent.parent
+OUT = TOP / "out"
+PROVED = OUT / "proved"
+WEIGHTS = TOP / "tools" / "weights.txt"
+TARGET = "x86_64-unknown-linux-gnu"
+# A crate at four jobs has been seen to take 6.4 GB, and one at a single job 3.1.
+GIGABYTES_A_CRATE = 4
+SECONDS_BETWEEN_LINES = 15
+UNPROVED, CALLED_WRONGLY, STOPPED = 1, 2, 130
+
+
+class Failure(Exception):
+    """What is said on standard error before the script ends unproved."""
+
+
+def said(text: str) -> None:
+    print(f"gdlsolve: {text}", file=sys.stderr, flush=True)
+
+
+def clock(seconds: float) -> str:
+    minutes, rest = divmod(int(seconds), 60)
+    return f"{minutes}:{rest:02}"
+
+
+@cache
+def kit() -> Path:
+    """The folder of the Rattle kit, which its command `rt` tells."""
+    if shutil.which("rt") is None:
+        raise Failure("there is no command rt: put the folder bin of the Rattle kit on the path")
+    page = subprocess.run(["rt", "doc"], check=True, capture_output=True, text=True).stdout.strip()
+    return Path(page).parent
+
+
+@dataclass
+class Crate:
+    """A line of crates.txt."""
+
+    name: str
+    is_static: bool
+    uses: list[str]
+    below: list[Crate] = field(default_factory=list)
+    seconds: float = 60.0
+    way_up: float = 0.0
+
+    @property
+    def folder(self) -> Path:
+        return TOP / "crates" / self.name
+
+    @property
+    def is_program(self) -> bool:
+        return (self.folder / "src" / "main.rt").is_file()
+
+    @property
+    def product(self) -> Path:
+        if self.is_program:
+            return OUT / self.name
+        if self.is_static:
+            return OUT / f"lib{self.name}.a"
+        return PROVED / f"{self.name}.rlib"
+
+    @property
+    def stamp(self) -> Path:
+        return PROVED / f"{self.name}.sum"
+
+    def all_below(self) -> list[Crate]:
+        """The crates that this one stands on, each after those that it stands on itself."""
+        found: list[Crate] = []
+        for crate in self.below:
+            found += [each for each in [*crate.all_below(), crate] if each not in found]
+        return found
+
+    def is_fresh(self) -> bool:
+        return self.product.exists() and self.stamp.is_file() and self.stamp.read_text() == sum_of(self.name)
+
+
+@cache
+def crates() -> dict[str, Crate]:
+    """All crates of crates.txt by name."""
+    found: dict[str, Crate] = {}
+    for line in (TOP / "crates.txt").read_text().splitlines():
+        head, colon, uses = line.partition("#")[0].partition(":")
+        if colon:
+            name, *words = head.split()
+            found[name] = Crate(name, "staticlib" in words, uses.split())
+    for crate in found.values():
+        crate.below = [found[name] for name in crate.uses if name in found]
+    if WEIGHTS.is_file():
+        for line in WEIGHTS.read_text().splitlines():
+            name, seconds = line.split()
+            if name in found:
+                found[name].seconds = float(seconds)
+    return found
+
+
+@cache
+def sum_of(name: str) -> str:
+    """A sum of all that a crate is made of: the kit, its line, its files, and the sums of the crates below it."""
+    crate = crates()[name]
+    made = hashlib.sha256((kit() / "KIT-ID").read_bytes())
+    made.update(repr((crate.name, crate.is_static, crate.uses)).encode())
+    for part in ("src", "specs", "proofs"):
+        for file in sorted((crate.folder / part).rglob("*")):
+            if file.is_file():
+                made.update(f"{file.relative_to(crate.folder)}\0{file.stat().st_size}\0".encode())
+                made.update(file.read_bytes())
+    for each in crate.below:
+        made.update(sum_of(each.name).encode())
+    return made.hexdigest()
+
+
+def words_of(crate: Crate, jobs: int, product: Path) -> list[str]:
+    """The command that proves a crate and builds it."""
+    root = "src/main.rt" if crate.is_program else "src/lib.rt"
+    words = [str(kit() / "bin" / "rattle"), "build", "--crate-name", crate.name, root]
+    own = {each.name for each in crate.below}
+    for name in ["std", *crate.uses]:
+        place = PROVED if name in own else kit() / "rlibs"
+        words += ["--extern", f"{name}={place}/{name}.rlib"]
+    words += ["-L", f"dependency={kit()}/rlibs", "-L", f"dependency={PROVED}"]
+    words += ["--antt-project", f"{kit()}/rattle/logic/antt-project.json", "--logic-built", f"{kit()}/logic_built"]
+    words += ["--links", f"{crate.name}=", "--jobs", str(jobs), "-o", str(product)]
+    if crate.is_static:
+        words += ["--crate-type", "staticlib"]
+    if crate.is_static or crate.is_program:
+        return [*words, "--toolchain", f"{kit()}/toolchain", "--backend", "llvm"]
+    return [*words, "--statements"]
+
+
+def dies_with_this(nice: int) -> None:
+    """Run in the child: it is killed when the script ends, however that ends. It leads a group of its own but no session, since a
+    system that schedules by session would see no difference in how nice two crates are."""
+    ctypes.CDLL(None).prctl(1, signal.SIGKILL)
+    os.setpgid(0, 0)
+    os.nice(nice)
+
+
+@dataclass
+class Run:
+    """A crate that is being proved."""
+
+    crate: Crate
+    jobs: int
+    process: subprocess.Popen[bytes]
+    begun: float
+    digest: str
+
+    def share(self) -> float:
+        """How much of it is probably done."""
+        return min((time.monotonic() - self.begun) * min(self.jobs, 2) / self.crate.seconds, 0.95)
+
+
+def started(crate: Crate, jobs: int, nice: int) -> Run:
+    crate.stamp.unlink(missing_ok=True)
+    log = PROVED / f"{crate.name}.log"
+    product = OUT / f"{crate.name}.o" if crate.is_program else crate.product
+    if product.is_dir():
+        shutil.rmtree(product)
+    with log.open("wb") as output:
+        process = subprocess.Popen(
+            words_of(crate, jobs, product),
+            cwd=crate.folder,
+            stdin=subprocess.DEVNULL,
+            stdout=output,
+            stderr=subprocess.STDOUT,
+            preexec_fn=lambda: dies_with_this(nice),
+        )
+    return Run(crate, jobs, process, time.monotonic(), sum_of(crate.name))
+
+
+def link(crate: Crate) -> None:
+    """Links the program from the object that was built of it."""
+    words = [str(kit() / "bin" / "rattle-link"), "--target", TARGET, "--toolchain", f"{kit()}/toolchain"]
+    made = OUT / f"{crate.name}.o"
+    libraries = [f"{kit()}/c/libos_c.a", f"{kit()}/c/liblibc_c.a"]
+    subprocess.run([*words, "-o", str(crate.product), str(made), *libraries], check=True, stdout=sys.stderr)
+
+
+def ended(run: Run) -> bool:
+    """Notes that a crate is proved, or tells why it is not."""
+    if run.process.returncode:
+        lines = (PROVED / f"{run.crate.name}.log").read_text(errors="replace").splitlines()
+        print(*[line for line in lines if "error" in line][:20], *lines[-4:], sep="\n", file=sys.stderr)
+        said(f"the crate {run.crate.name} is not proved")
+        return False
+    if run.crate.is_program:
+        link(run.crate)
+    run.crate.stamp.write_text(run.digest)
+    return True
+
+
+def most_at_once() -> int:
+    """How many crates are proved side by side: by the cores, and by the memory that is free."""
+    free = next(line for line in Path("/proc/meminfo").read_text().splitlines() if line.startswith("MemAvailable"))
+    return max(1, min(cores(), int(free.split()[1]) // (GIGABYTES_A_CRATE << 20)))
+
+
+def cores() -> int:
+    return len(os.sched_getaffinity(0))
+
+
+class Proving:
+    """The crates that are still to be proved, and those that are being proved."""
+
+    def __init__(self, wanted: Crate) -> None:
+        self.left = [each for each in [*wanted.all_below(), wanted] if not each.is_fresh()]
+        self.whole = sum(each.seconds for each in self.left)
+        self.total = len(self.left)
+        self.done = 0.0
+        self.runs: list[Run] = []
+        self.spent: dict[str, float] = {}
+        self.failed: list[str] = []
+        self.begun = time.monotonic()
+        for crate in reversed(self.left):
+            above = [each.way_up for each in self.left if crate in each.below]
+            crate.way_up = crate.seconds + max(above, default=0.0)
+
+    def ready(self) -> list[Crate]:
+        """The crates that can be begun, the one with the longest way above it first."""
+        waiting = {each.name for each in self.left} | {run.crate.name for run in self.runs}
+        ready = [each for each in self.left if not any(below.name in waiting for below in each.all_below())]
+        return sorted(ready, key=lambda each: -each.way_up)
+
+    def begin(self) -> None:
+        for crate in self.ready():
+            longest = max((run.crate.way_up for run in self.runs), default=0.0)
+            # One more than there are cores, so that none is idle while a crate reads what it stands on.
+            if len(self.runs) > most_at_once():
+                return
+            leads = crate.way_up > longest
+            self.left.remove(crate)
+            self.runs.append(started(crate, cores() if leads else max(cores() // 2, 1), 0 if leads else 10))
+
+    def wait(self) -> None:
+        time.sleep(0.2)
+        for run in list(self.runs):
+            pid, status, used = os.wait4(run.process.pid, os.WNOHANG)
+            if pid:
+                run.process.returncode = os.waitstatus_to_exitcode(status)
+                self.spent[run.crate.name] = used.ru_utime + used.ru_stime
+                self.runs.remove(run)
+                self.done += run.crate.seconds
+                if not ended(run):
+                    self.fail(run.crate)
+
+    def fail(self, crate: Crate) -> None:
+        """Leaves out what stands on a crate that is not proved; the others go on, so that they need not be proved again."""
+        self.failed.append(crate.name)
+        self.left = [each for each in self.left if crate not in each.all_below()]
+
+    def tell(self) -> None:
+        part = (self.done + sum(run.share() * run.crate.seconds for run in self.runs)) / self.whole
+        names = ", ".join(run.crate.name for run in self.runs)
+        said(f"{clock(time.monotonic() - self.begun)}, {part:.0%} done, proving {names}")
+
+    def stop(self) -> None:
+        for run in self.runs:
+            os.killpg(run.process.pid, signal.SIGKILL)
+
+    def prove(self) -> None:
+        """Proves all that is left."""
+        told = 0.0
+        try:
+            while self.left or self.runs:
+                self.begin()
+                self.wait()
+                if self.runs and time.monotonic() - told >= SECONDS_BETWEEN_LINES:
+                    told = time.monotonic()
+                    self.tell()
+        finally:
+            self.stop()
+        if self.failed:
+            raise Failure(f"not proved: {', '.join(self.failed)}")
+        if self.total:
+            said(f"proved and built in {clock(time.monotonic() - self.begun)}")
+
+
+def weigh(spent: dict[str, float]) -> None:
+    """Writes the processor seconds of what was proved, beside those that are known."""
+    known = {name: crate.seconds for name, crate in crates().items()} | spent
+    WEIGHTS.write_text("".join(f"{name} {round(known[name])}\n" for name in crates()))
+
+
+def prove(name: str, is_weighed: bool) -> None:
+    PROVED.mkdir(parents=True, exist_ok=True)
+    with (PROVED / "lock").open("w") as lock:
+        try:
+            fcntl.flock(lock, fcntl.LOCK_EX | fcntl.LOCK_NB)
+        except BlockingIOError:
+            said("another build is at work here: waiting for its end")
+            fcntl.flock(lock, fcntl.LOCK_EX)
+        proving = Proving(crates()[name])
+        proving.prove()
+        if is_weighed:
+            weigh(proving.spent)
+
+
+def main() -> int:
+    parser = argparse.ArgumentParser(description="Proves crates from nothing and builds what is made of them.")
+    parser.add_argument("what", help="program, library, or the name of a crate")
+    parser.add_argument("--fresh", action="store_true", help="only say whether it is built from these sources")
+    parser.add_argument("--weigh", action="store_true", help="note the processor seconds of each crate")
+    asked = parser.parse_args()
+    name = {"program": "gdlsolve", "library": "gdlsolve_c"}.get(asked.what, asked.what)
+    for number in (signal.SIGTERM, signal.SIGHUP):
+        signal.signal(number, lambda *_: sys.exit(STOPPED))
+    if name not in crates():
+        parser.error(f"crates.txt has no line for {name}")
+    try:
+        if asked.fresh:
+            return 0 if crates()[name].is_fresh() else UNPROVED
+        prove(name, asked.weigh)
+    except Failure as failure:
+        said(str(failure))
+        return UNPROVED
+    except KeyboardInterrupt:
+        return STOPPED
+    return 0
+
+
+if __name__ == "__main__":
+    sys.exit(main())
