@@ -4,6 +4,8 @@
     tools/prove.py program    proves the crates of the program and builds out/gdlsolve, with its object out/gdlsolve.o
     tools/prove.py library    proves the crates of the library for C and builds out/libgdlsolve_c.a
     tools/prove.py NAME       proves the crate NAME and all below it
+    --check WORDS..           proves what NAME stands on, and then checks NAME over what an earlier check of it kept, with these words of rattle
+    --tests                   proves NAME with its tests, and builds out/tests/NAME with its object out/tests/NAME.o
     --fresh                   only says by the status whether that has been done for the sources as they stand
     --weigh                   writes the processor seconds of each crate that was proved to tools/weights.txt
 
@@ -32,11 +34,14 @@ TOP = Path(__file__).resolve().parent.parent
 OUT = TOP / "out"
 PROVED = OUT / "proved"
 WEIGHTS = TOP / "tools" / "weights.txt"
+TESTS = OUT / "tests"
+KEPT = OUT / "kept"
 TARGET = "x86_64-unknown-linux-gnu"
 # A crate at four jobs has been seen to take 6.4 GB, and one at a single job 3.1.
 GIGABYTES_A_CRATE = 4
 SECONDS_BETWEEN_LINES = 15
 UNPROVED, CALLED_WRONGLY, STOPPED = 1, 2, 130
+WITH_LLVM = ["--backend", "llvm"]
 
 
 class Failure(Exception):
@@ -61,7 +66,7 @@ def kit() -> Path:
     return Path(page).parent
 
 
-@dataclass
+@dataclass(eq=False)
 class Crate:
     """A line of crates.txt."""
 
@@ -138,21 +143,25 @@ def sum_of(name: str) -> str:
     return made.hexdigest()
 
 
-def words_of(crate: Crate, jobs: int, product: Path) -> list[str]:
-    """The command that proves a crate and builds it."""
-    root = "src/main.rt" if crate.is_program else "src/lib.rt"
-    words = [str(kit() / "bin" / "rattle"), "build", "--crate-name", crate.name, root]
+def words_over(crate: Crate, jobs: int) -> list[str]:
+    """What rattle is told of a crate, whatever it does with it: its root, and what stands below it."""
+    words = ["--crate-name", crate.name, "src/main.rt" if crate.is_program else "src/lib.rt"]
     own = {each.name for each in crate.below}
     for name in ["std", *crate.uses]:
         place = PROVED if name in own else kit() / "rlibs"
         words += ["--extern", f"{name}={place}/{name}.rlib"]
     words += ["-L", f"dependency={kit()}/rlibs", "-L", f"dependency={PROVED}"]
     words += ["--antt-project", f"{kit()}/rattle/logic/antt-project.json", "--logic-built", f"{kit()}/logic_built"]
-    words += ["--links", f"{crate.name}=", "--jobs", str(jobs), "-o", str(product)]
+    return [*words, "--links", f"{crate.name}=", "--jobs", str(jobs)]
+
+
+def words_of(crate: Crate, jobs: int, product: Path) -> list[str]:
+    """The command that proves a crate and builds it."""
+    words = [str(kit() / "bin" / "rattle"), "build", *words_over(crate, jobs), "-o", str(product)]
     if crate.is_static:
         words += ["--crate-type", "staticlib"]
     if crate.is_static or crate.is_program:
-        return [*words, "--toolchain", f"{kit()}/toolchain", "--backend", "llvm"]
+        return [*words, *WITH_LLVM, "--toolchain", f"{kit()}/toolchain"]
     return [*words, "--statements"]
 
 
@@ -197,12 +206,11 @@ def started(crate: Crate, jobs: int, nice: int) -> Run:
     return Run(crate, jobs, process, time.monotonic(), sum_of(crate.name))
 
 
-def link(crate: Crate) -> None:
-    """Links the program from the object that was built of it."""
+def link(made: Path, product: Path) -> None:
+    """Links a program from the object that was built of it."""
     words = [str(kit() / "bin" / "rattle-link"), "--target", TARGET, "--toolchain", f"{kit()}/toolchain"]
-    made = OUT / f"{crate.name}.o"
     libraries = [f"{kit()}/c/libos_c.a", f"{kit()}/c/liblibc_c.a"]
-    subprocess.run([*words, "-o", str(crate.product), str(made), *libraries], check=True, stdout=sys.stderr)
+    subprocess.run([*words, "-o", str(product), str(made), *libraries], check=True, stdout=sys.stderr)
 
 
 def ended(run: Run) -> bool:
@@ -213,7 +221,7 @@ def ended(run: Run) -> bool:
         said(f"the crate {run.crate.name} is not proved")
         return False
     if run.crate.is_program:
-        link(run.crate)
+        link(OUT / f"{run.crate.name}.o", run.crate.product)
     run.crate.stamp.write_text(run.digest)
     return True
 
@@ -231,8 +239,9 @@ def cores() -> int:
 class Proving:
     """The crates that are still to be proved, and those that are being proved."""
 
-    def __init__(self, wanted: Crate) -> None:
-        self.left = [each for each in [*wanted.all_below(), wanted] if not each.is_fresh()]
+    def __init__(self, wanted: list[Crate]) -> None:
+        all_wanted = dict.fromkeys(each for crate in wanted for each in [*crate.all_below(), crate])
+        self.left = [each for each in all_wanted if not each.is_fresh()]
         self.whole = sum(each.seconds for each in self.left)
         self.total = len(self.left)
         self.done = 0.0
@@ -310,7 +319,8 @@ def weigh(spent: dict[str, float]) -> None:
     WEIGHTS.write_text("".join(f"{name} {round(known[name])}\n" for name in crates()))
 
 
-def prove(name: str, is_weighed: bool) -> None:
+def prove(wanted: list[Crate], is_weighed: bool) -> None:
+    """Proves these crates and all below them."""
     PROVED.mkdir(parents=True, exist_ok=True)
     with (PROVED / "lock").open("w") as lock:
         try:
@@ -318,10 +328,32 @@ def prove(name: str, is_weighed: bool) -> None:
         except BlockingIOError:
             said("another build is at work here: waiting for its end")
             fcntl.flock(lock, fcntl.LOCK_EX)
-        proving = Proving(crates()[name])
+        proving = Proving(wanted)
         proving.prove()
         if is_weighed:
             weigh(proving.spent)
+
+
+def check(crate: Crate, words: list[str]) -> int:
+    """Checks a crate once what it stands on is proved, over what an earlier check kept of it. Tells the status of the check."""
+    prove(crate.below, False)
+    kept = KEPT / f"{crate.name}{'.tests' if '--test' in words else ''}"
+    kept.mkdir(parents=True, exist_ok=True)
+    told = [str(kit() / "bin" / "rattle"), "check", *words_over(crate, cores()), "--incremental", str(kept), *words]
+    return subprocess.run(told, cwd=crate.folder, stdin=subprocess.DEVNULL, check=False).returncode
+
+
+def prove_tests(crate: Crate) -> int:
+    """Proves a crate with its tests and builds them. Tells the status of the build."""
+    prove(crate.below, False)
+    TESTS.mkdir(parents=True, exist_ok=True)
+    made = TESTS / f"{crate.name}.o"
+    words = ["--test", *WITH_LLVM, "--toolchain", f"{kit()}/toolchain", "-o", str(made)]
+    told = [str(kit() / "bin" / "rattle"), "build", *words_over(crate, cores()), *words]
+    status = subprocess.run(told, cwd=crate.folder, stdin=subprocess.DEVNULL, check=False).returncode
+    if not status:
+        link(made, TESTS / crate.name)
+    return status
 
 
 def main() -> int:
@@ -329,16 +361,23 @@ def main() -> int:
     parser.add_argument("what", help="program, library, or the name of a crate")
     parser.add_argument("--fresh", action="store_true", help="only say whether it is built from these sources")
     parser.add_argument("--weigh", action="store_true", help="note the processor seconds of each crate")
+    parser.add_argument("--tests", action="store_true", help="prove the crate with its tests, and build them")
+    parser.add_argument("--check", nargs=argparse.REMAINDER, metavar="WORD", help="check the crate over its last check, with these words of rattle")
     asked = parser.parse_args()
     name = {"program": "gdlsolve", "library": "gdlsolve_c"}.get(asked.what, asked.what)
     for number in (signal.SIGTERM, signal.SIGHUP):
         signal.signal(number, lambda *_: sys.exit(STOPPED))
     if name not in crates():
         parser.error(f"crates.txt has no line for {name}")
+    crate = crates()[name]
     try:
         if asked.fresh:
-            return 0 if crates()[name].is_fresh() else UNPROVED
-        prove(name, asked.weigh)
+            return 0 if crate.is_fresh() else UNPROVED
+        if asked.check is not None:
+            return check(crate, asked.check)
+        if asked.tests:
+            return prove_tests(crate)
+        prove([crate], asked.weigh)
     except Failure as failure:
         said(str(failure))
         return UNPROVED
