@@ -99,13 +99,16 @@ class Crate:
 
     def all_below(self) -> list[Crate]:
         """The crates that this one stands on, each after those that it stands on itself."""
-        found: list[Crate] = []
-        for crate in self.below:
-            found += [each for each in [*crate.all_below(), crate] if each not in found]
-        return found
+        return list(below_of(self))
 
     def is_fresh(self) -> bool:
         return self.product.exists() and self.stamp.is_file() and self.stamp.read_text() == sum_of(self.name)
+
+
+@cache
+def below_of(crate: Crate) -> tuple[Crate, ...]:
+    """The crates below one, each after those that it stands on itself, found once."""
+    return tuple(dict.fromkeys(each for below in crate.below for each in [*below_of(below), below]))
 
 
 @cache
