@@ -1,4 +1,4 @@
-//! A join of which a level shares no value with those before it.
+//! Joins of which a level shares no value with those before it.
 use join::{Column, Level};
 use reorder::{are_levels, reordered_rows};
 use std::alloc::{AllocError, Global};
@@ -64,5 +64,63 @@ fn puts_rows_of_another_order_back(rt: HostRuntime) -> Result<(), Fail> {
     assert_eq!(rt; values.get(..6), Some(first.as_slice()));
     assert_eq!(rt; values.get(6..12), Some(second.as_slice()));
     assert!(rt; rows(rt.alloc(), 69)?.is_none());
+    Ok(())
+}
+
+/// The cells of four levels, (x), (y), (y) and (x z), each row behind its number: 70 rows of each of the first two, one of the third, whose y
+/// is no row of the second, and 70 for each x of the last.
+fn cells_of_a_trap(alloc: Global) -> Result<Vec<u32>, AllocError> {
+    let mut cells = Vec::new(alloc);
+    for _ in 0..2 {
+        for row in 0..70u32 {
+            cells.push(row)?;
+            cells.push(1_000 + row)?;
+        }
+    }
+    cells.push(70)?;
+    cells.push(2_000)?;
+    for x in 0..70u32 {
+        for z in 0..70u32 {
+            cells.push(100 + 70 * x + z)?;
+            cells.push(1_000 + x)?;
+            cells.push(1_000 + z)?;
+        }
+    }
+    Ok(cells)
+}
+
+// Written as (x) (y) (y) (x z) (x z') (x z''). What links all but the second and the third comes to 24 million rows.
+#[test]
+fn a_level_of_one_row_comes_first(rt: HostRuntime) -> Result<(), Fail> {
+    let first = Column::First;
+    let (x, y) = (Column::Same(1), Column::Same(3));
+    let columns = [
+        first, first, first, first, first, y, first, x, first, first, x, first, first, x, first,
+    ];
+    let pairs = |columns_from: usize, bound: usize| Level {
+        columns_from,
+        columns_to: columns_from + 3,
+        cells_from: 282,
+        rows: 4_900,
+        bound,
+    };
+    let levels = [
+        level(0, 2, 0, 0),
+        level(2, 4, 140, 2),
+        Level {
+            columns_from: 4,
+            columns_to: 6,
+            cells_from: 280,
+            rows: 1,
+            bound: 4,
+        },
+        pairs(6, 5),
+        pairs(9, 7),
+        pairs(12, 9),
+    ];
+    let cells = cells_of_a_trap(rt.alloc())?;
+    assert!(rt; are_levels(&columns, &cells, &levels, 11));
+    let values = reordered_rows(rt.alloc(), &columns, &cells, &levels, 11, 70)?.ok_or("not found")?;
+    assert_eq!(rt; values.len(), 0);
     Ok(())
 }
