@@ -1,12 +1,13 @@
 //! Answers over games of rules, whose workers meet.
 ghost use Rattle.std.specs.Prelude.{◌<◌};
 
+use cut::Cut;
 use game::{AtBound, Game, Joint};
 use ground::instantiate_flat_alone;
 use kif::read;
 use position::RuleGame;
 use rules::RuleSet;
-use share::{Answer, Cut, Gate, solve};
+use share::{Answer, Gate, solve};
 use std::alloc::{AllocError, AllocGlobal, Global};
 use std::hint::spin_loop;
 use std::process::Abort;

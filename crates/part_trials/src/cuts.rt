@@ -1,6 +1,7 @@
 //! Texts of cuts, and answers over the table.
+use cut::Cut;
 use game::{AtBound, Game};
-use share::{Cut, Gate, solve};
+use share::{Gate, solve};
 use std::alloc::AllocGlobal;
 use std::process::Abort;
 use std::sync::atomic::{AtomicUsize, Ordering};

@@ -12,8 +12,8 @@ use crate::history::{position_after, refused_history};
 use crate::reply::{Reply, refused};
 use crate::roles::role_named;
 use crate::search::Search;
+use cut::Cut;
 use game::{AtBound, Game, HistoryFault};
-use share::Cut;
 use std::alloc::{AllocError, Global};
 
 /// What a question about best play comes to.

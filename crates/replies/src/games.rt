@@ -14,13 +14,13 @@ use crate::means::Means;
 use crate::moving::moves_reply;
 use crate::question::Question;
 use crate::reply::Reply;
+use cut::Cut;
 use game::AtBound;
 use ground::{FlatGround, GroundFault};
 use kif::Expr;
 use position::{NetGame, RuleGame};
 use propnet::Net;
 use rules::RuleSet;
-use share::Cut;
 use std::alloc::{AllocError, Allocator, Global};
 
 /// What plays the game of an instantiation.

@@ -8,8 +8,9 @@ ghost use Rattle.statement.specs.Solving.{solve_lines};
 
 use crate::reply::{Reply, answered};
 use crate::solving::value_lines;
+use cut::Cut;
 use game::{AtBound, Game};
-use share::{Answer, Cut};
+use share::Answer;
 use std::alloc::{AllocError, Global};
 
 /// A search for what a role can be sure of: from a state of a game, within so many turns. Who has found the value and the first best

@@ -1,8 +1,8 @@
 //! What `solve` answers over a game of one turn, by hand.
 use crate::alone::reply_alone;
 use crate::games::Player;
+use cut::Cut;
 use game::AtBound;
-use share::Cut;
 use statement::Status;
 use std::alloc::{AllocError, AllocGlobal};
 use words::Command;

@@ -1,6 +1,6 @@
 //! What is asked of rules.
-use game::AtBound;
-use share::Cut;
+use cut::Cut;
+use statement::AtBound;
 
 /// What the program does with the rules that it reads.
 #[derive(Clone, Copy, Debug, PartialEq, Eq)]

@@ -1,8 +1,8 @@
 //! The words of the command line: the commands and their options, and the texts of their help.
 use crate::command::Command;
 use clap::error::ErrorKind;
-use game::AtBound;
-use share::Cut;
+use cut::Cut;
+use statement::AtBound;
 use std::alloc::{AllocError, Global};
 
 /// The version that `--version` tells.

@@ -2,8 +2,8 @@
 use super::games::{FOUR, MARKS, MATCH};
 use super::told;
 use crate::{Command, Status, run};
+use cut::Cut;
 use game::AtBound;
-use share::Cut;
 use std::alloc::{AllocError, Global};
 use std::io::Write;
 use std::thread::Threads;

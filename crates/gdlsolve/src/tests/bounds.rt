@@ -3,8 +3,8 @@ use super::games::MATCH;
 use super::lines::OPEN;
 use super::{replies, told};
 use crate::Command;
+use cut::Cut;
 use game::AtBound;
-use share::Cut;
 use std::alloc::AllocError;
 use std::thread::Threads;
 

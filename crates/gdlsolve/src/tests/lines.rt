@@ -2,8 +2,8 @@
 use super::games::{FOUR, LIVE, MARKS, MATCH, SIXTEEN};
 use super::{replies, told};
 use crate::Command;
+use cut::Cut;
 use game::AtBound;
-use share::Cut;
 use std::alloc::AllocError;
 use std::thread::Threads;
 

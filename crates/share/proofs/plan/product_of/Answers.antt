@@ -1,6 +1,6 @@
 use Rattle.std.proofs.Common.{arith}
 use Rattle.board.specs.Values.{most_tasks}
-use Rattle.share.proofs.Levels.{more_than}
+use Rattle.cut.proofs.Facts.{more_than}
 use Rattle.share.proofs.plan.product_of.Goals as goal
 
 pub returns-then-total-from-clause-none : goal.returns-then-total-from-clause-none

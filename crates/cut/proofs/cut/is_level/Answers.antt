@@ -1,8 +1,8 @@
 use Rattle.std.proofs.Common.{◌≡◌, ◌+◌, ◌%◌, [], ◌∷◌, sym, ◌∙◌, arith, rules as facts}
 use Rattle.std.proofs.lemmas.Fmt.{decimal_digit}
 use Rattle.std.specs.Cmp.Lexicographic.{same_text, other_text}
-use Rattle.share.proofs.Numerals.{two_bytes}
-use Rattle.share.proofs.cut.is_level.Goals as goal
+use Rattle.cut.proofs.Numerals.{two_bytes}
+use Rattle.cut.proofs.cut.is_level.Goals as goal
 
 pub returns-then-level-lt10-clause-yes : goal.returns-then-level-lt10-clause-yes
 returns-then-level-lt10-clause-yes c e =

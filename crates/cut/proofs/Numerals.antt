@@ -39,7 +39,7 @@ use Rattle.std.specs.Option.{option_map}
 use Rattle.std.specs.Prelude.{not, is_some, All, map, Option, Some, None, IfSome, IfNone}
 use Rattle.std.specs.List.{slice_split, join_with_byte, position_or_len}
 use Rattle.std.specs.Fmt.{decimal}
-use Rattle.share.specs.Cuts.{IsCut, cut_text, is_x, pieces_of}
+use Rattle.cut.specs.Cuts.{IsCut, cut_text, is_x, pieces_of}
 
 -- a number from 10 on and below 20 is a 1 and a digit
 pub two_digits : (n : ℕ) → 10 ≤ n → n < 20 → decimal n ≡ 49 ∷ (38 + n) ∷ []

@@ -2,8 +2,8 @@ use Rattle.std.proofs.Common.{◌≡◌, true, false, [], ◌∷◌, ◌∙◌, 
 use Rattle.std.specs.Prelude.{is_some}
 use Rattle.std.specs.Fmt.{decimal}
 use Rattle.std.specs.List.{slice_split}
-use Rattle.share.specs.Cuts.{is_x}
-use Rattle.share.proofs.Numerals.{
+use Rattle.cut.specs.Cuts.{is_x}
+use Rattle.cut.proofs.Numerals.{
   Refused,
   when_none,
   refused_first,
@@ -17,7 +17,7 @@ use Rattle.share.proofs.Numerals.{
   one_level,
   more_levels,
 }
-use Rattle.share.proofs.cut.Cut.parse.Goals as goal
+use Rattle.cut.proofs.cut.Cut.parse.Goals as goal
 
 pub returns-in_err-first-clause-none : goal.returns-in_err-first-clause-none
 returns-in_err-first-clause-none c = when_none c.from_residual.result (Refused c.args.text.now)

@@ -1,9 +1,9 @@
 use Rattle.std.proofs.Common.{◌≡◌, ℕ, List, ◌+◌, [], ◌∷◌, ◌∙◌, ap, sym, take, drop, arith}
 use Rattle.std.specs.Fmt.{decimal}
 use Rattle.std.specs.List.{slice_split}
-use Rattle.share.specs.Cuts.{is_x}
-use Rattle.share.proofs.Numerals.{BeginsNone, when_none, first_bytes, first_part, only_part, part_place, rest_taken}
-use Rattle.share.proofs.cut.split_level.Goals as goal
+use Rattle.cut.specs.Cuts.{is_x}
+use Rattle.cut.proofs.Numerals.{BeginsNone, when_none, first_bytes, first_part, only_part, part_place, rest_taken}
+use Rattle.cut.proofs.cut.split_level.Goals as goal
 
 pub returns-in_err-level-clause-none : goal.returns-in_err-level-clause-none
 returns-in_err-level-clause-none c = when_none c.from_residual.result (BeginsNone c.args.text.now)

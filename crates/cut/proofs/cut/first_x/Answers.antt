@@ -1,7 +1,7 @@
 use Rattle.std.proofs.Common.{◌≡◌, true, length, get_or, arith, sym, rules as facts}
 use Rattle.std.proofs.lemmas.List.Sums.{position_or_len_is}
-use Rattle.share.specs.Cuts.{is_x}
-use Rattle.share.proofs.cut.first_x.Goals as goal
+use Rattle.cut.specs.Cuts.{is_x}
+use Rattle.cut.proofs.cut.first_x.Goals as goal
 
 pub returns : goal.returns
 returns c =

@@ -1,0 +1,3 @@
+mod Products
+mod Numerals
+pub mod Facts
