@@ -1,9 +1,8 @@
 use Rattle.std.proofs.Common.{◌≡◌, length, false, get_or, ap, ◌∙◌, arith}
 use Rattle.ground.specs.Grounds.{texts_at}
 use Rattle.ground.specs.GroundView.{inputs_of, kinds_of}
-use Rattle.rulegame.specs.RuleState.{IsRoleRead, role_capacities}
-use Rattle.rulegame.proofs.Marks.{flat_map-set}
-use Rattle.rulegame.proofs.States.{room_set, read_more}
+use Rattle.rulebook.specs.RuleState.{IsRoleRead, role_capacities}
+use Rattle.rulebook.proofs.Facts.{flat_map-set, room_set, read_more}
 use Rattle.rulegame.proofs.rule_pos.read_roles.Goals as goal
 
 pub loop-role-preserved : goal.loop-role-preserved

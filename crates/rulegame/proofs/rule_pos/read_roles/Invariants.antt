@@ -1,8 +1,8 @@
 use Rattle.std.proofs.Common.{◌≡◌, ℕ, ◌<◌, false, length, get_or, vec_capacity}
 use Rattle.ground.specs.Grounds.{texts_at}
 use Rattle.ground.specs.GroundView.{inputs_of, kinds_of}
-use Rattle.rulegame.specs.declared.rule_pos.RoleState.{RoleState}
-use Rattle.rulegame.specs.RuleState.{HaveRoom, IsRoleRead, all_capacities}
+use Rattle.rulebook.specs.declared.role_state.RoleState.{RoleState}
+use Rattle.rulebook.specs.RuleState.{HaveRoom, IsRoleRead, all_capacities}
 use Rattle.rulegame.proofs.rule_pos.read_roles.Given as goal
 
 -- each role before this one is read

@@ -1,10 +1,10 @@
 use Rattle.std.proofs.Common.{ℕ, List, length, sym, ap, subst, ◌∙◌}
 use Rattle.ground.specs.GroundView.{inputs_of, kinds_of}
-use Rattle.rulegame.specs.declared.rule_pos.RoleState.{RoleState}
-use Rattle.rulegame.specs.RulePlay.{ends}
-use Rattle.rulegame.specs.RuleState.{AreRead, holds_in}
+use Rattle.rulebook.specs.declared.role_state.RoleState.{RoleState}
+use Rattle.rulebook.specs.RulePlay.{ends}
+use Rattle.rulebook.specs.RuleState.{AreRead, holds_in}
 use Rattle.netgame.specs.NetState.{AreSpread, lane_state}
-use Rattle.rulegame.proofs.Facts.{AreCopied, copied_room, copied_read}
+use Rattle.rulebook.proofs.Facts.{AreCopied, copied_room, copied_read}
 use Rattle.netgame.proofs.net_game.NetGameGame.copy.Goals as goal
 
 pub returns-clause-fits : goal.returns-clause-fits

@@ -1,9 +1,9 @@
 use Rattle.std.proofs.Common.{Bool, List, length, sym, ap, subst, ◌∙◌}
 use Rattle.ground.specs.GroundView.{inputs_of, kinds_of}
-use Rattle.rulegame.specs.declared.rule_pos.RoleState.{RoleState}
-use Rattle.rulegame.specs.RulePlay.{marked, ends}
-use Rattle.rulegame.specs.RuleState.{AreRead, holds_in}
-use Rattle.rulegame.proofs.States.{AreCopied, copied_room, copied_read}
+use Rattle.rulebook.specs.declared.role_state.RoleState.{RoleState}
+use Rattle.rulebook.specs.RulePlay.{marked, ends}
+use Rattle.rulebook.specs.RuleState.{AreRead, holds_in}
+use Rattle.rulebook.proofs.Facts.{AreCopied, copied_room, copied_read}
 use Rattle.rulegame.proofs.rule_game.RuleGameGame.copy.Goals as goal
 
 pub returns-clause-fits : goal.returns-clause-fits
