@@ -31,26 +31,21 @@ read_more P fs r y lt one before k d below = elim (cases_eq k r) [
   | inr other ↦ subst (λ (f : RoleState). P k f) (sym (get_or-set_other fs r k y d other)) (before k d (omega arith))
 ]
 
-abbrev pub AreCopied : List RoleState → List RoleState → List RoleState → Type 0
-AreCopied from old new = (r : ℕ) (d : RoleState) → r < length from → IsCopied (get_or from r d) (get_or old r d) (get_or new r d)
+abbrev pub AreCopied : List RoleState → List RoleState → Type 0
+AreCopied from new = (r : ℕ) (d : RoleState) → r < length from → IsCopied (get_or from r d) (get_or new r d)
 
-pub copied_room : (inputs : List (List (List ℕ))) (from old new : List RoleState) → HaveRoom inputs from → HaveRoom inputs old
-    → length new ≡ length old → AreCopied from old new → HaveRoom inputs new
-copied_room inputs from old new a b size copied = record {
-  size = size ∙ b.size;
+pub copied_room : (inputs : List (List (List ℕ))) (from new : List RoleState) → HaveRoom inputs from → length new ≡ length inputs
+    → AreCopied from new → HaveRoom inputs new
+copied_room inputs from new room size copied = record {
+  size = size;
   each = λ r d lt.
-      let whole = a.size in
-      let one = copied r d (omega arith) in
-      record {
-        marks = ap (λ v. length v.items) one.marks ∙ (b.each r d lt).marks;
-        moves = ap (λ (xs : List ℕ). length xs) one.moves ∙ (a.each r d lt).moves;
-      };
+      let whole = room.size in
+      ap (λ (xs : List ℕ). length xs) (copied r d (omega arith)).moves ∙ room.each r d lt;
 }
 
-pub copied_read : (kinds : List Kind) (f : ℕ → Bool) (inputs : List (List (List ℕ))) (from old new : List RoleState) → HaveRoom inputs from
-    → AreCopied from old new
-    → AreRead kinds f inputs from → AreRead kinds f inputs new
-copied_read kinds f inputs from old new a copied read r d lt =
+pub copied_read : (kinds : List Kind) (f : ℕ → Bool) (inputs : List (List (List ℕ))) (from new : List RoleState) → HaveRoom inputs from
+    → AreCopied from new → AreRead kinds f inputs from → AreRead kinds f inputs new
+copied_read kinds f inputs from new a copied read r d lt =
     let whole = a.size in
     let one = copied r d (omega arith) in
     let was = read r d lt in

@@ -28,9 +28,8 @@ abbrev pub holds_in : FlatGround → State → ℕ → Bool
 holds_in g s = holds (kinds_of g) (instances_of g) s no_turn
 
 -- there is room for n moves
-pub record HasRoleRoom (n : ℕ) (f : RoleState) : Type 0 where
-  pub marks : length f.marks.items ≡ n
-  pub moves : length f.moves.items ≡ n
+abbrev pub HasRoleRoom : ℕ → RoleState → Type 0
+HasRoleRoom n f = length f.moves.items ≡ n
 
 -- the legal moves and the goal are those of the atoms that hold
 pub record IsRoleRead (kinds : List Kind) (right : ℕ → Bool) (role n : ℕ) (f : RoleState) : Type 0 where
@@ -47,14 +46,13 @@ AreRead kinds right inputs fs =
     (r : ℕ) (d : RoleState) → r < length inputs → IsRoleRead kinds right r (length (texts_at inputs r)) (get_or fs r d)
 
 -- the moves and the goal are those of another state
-pub record IsCopied (from old new : RoleState) : Type 0 where
-  pub marks : new.marks ≡ old.marks
+pub record IsCopied (from new : RoleState) : Type 0 where
   pub moves : new.moves.items ≡ from.moves.items
   pub count : new.count ≡ from.count
   pub goal : new.goal ≡ from.goal
 
 abbrev pub role_capacities : RoleState → List ℕ
-role_capacities f = vec_capacity f.marks ∷ vec_capacity f.moves ∷ []
+role_capacities f = vec_capacity f.moves ∷ []
 
 abbrev pub all_capacities : List RoleState → List ℕ
 all_capacities fs = flat_map role_capacities fs

@@ -10,8 +10,6 @@ use std::alloc::{AllocError, Global};
 /// What is told of a role in a state.
 #[derive(Drop)]
 pub struct RoleState {
-    /// A mark for each move, to be written over.
-    pub marks: Vec<bool>,
     /// Begins with the legal moves, ascending.
     pub moves: Vec<u32>,
     /// How many moves are legal.
@@ -22,7 +20,7 @@ pub struct RoleState {
 /// Writes what is told of a role in another state.
 fn copy_role(from: &RoleState, to: &mut RoleState)
     requires { length from.now.moves.items ≡ length to.old.moves.items }
-    ensures copied { IsCopied from.now to.old to.new }
+    ensures copied { IsCopied from.now to.new }
     ensures capacities { role_capacities to.new ≡ role_capacities to.old }
 {
     to.moves.copy_from_slice(&from.moves);
@@ -35,8 +33,7 @@ pub fn copy_roles(from: &[RoleState], to: &mut Vec<RoleState>)
     requires size { length from.now ≡ length to.old.items }
     requires room { (r : ℕ) (d : RoleState) → r < length from.now
         → length (get_or from.now r d).moves.items ≡ length (get_or to.old.items r d).moves.items }
-    ensures copied { (r : ℕ) (d : RoleState) → r < length from.now
-        → IsCopied (get_or from.now r d) (get_or to.old.items r d) (get_or to.new.items r d) }
+    ensures copied { (r : ℕ) (d : RoleState) → r < length from.now → IsCopied (get_or from.now r d) (get_or to.new.items r d) }
     ensures size { length to.new.items ≡ length to.old.items }
     ensures capacities { all_capacities to.new.items ≡ all_capacities to.old.items }
     ensures capacity { vec_capacity to.new ≡ vec_capacity to.old }
@@ -51,7 +48,6 @@ fn new_role(alloc: Global, moves: usize) -> Result<RoleState, AllocError>
     ensures { IfOk result (λ role. HasRoleRoom moves role) }
 {
     Ok(RoleState {
-        marks: vec![in alloc; false; moves]?,
         moves: vec![in alloc; 0; moves]?,
         count: 0,
         goal: 0,

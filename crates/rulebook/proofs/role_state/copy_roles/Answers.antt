@@ -18,12 +18,8 @@ loop-role-preserved c =
     let new = c.copy_role.new.to in
     record {
       size = length-set fs k new ∙ size;
-      done = read_more (λ r f. (e : RoleState) → IsCopied (get_or from r e) (get_or old r e) f) fs k new (omega arith)
-          (λ e.
-          subst (λ (f : RoleState). IsCopied (get_or from k e) f new)
-          (c.index_mut.ensures.value ∙ get_or_any fs k _ e (omega arith) ∙ c.loop-role.invariant.rest k e (omega arith))
-          (subst (λ (f : RoleState). IsCopied f c.index_mut.result.now new) (c.index-from-role.is ∙ get_or_any from k _ e (omega arith))
-          c.copy_role.ensures.copied))
+      done = read_more (λ r f. (e : RoleState) → IsCopied (get_or from r e) f) fs k new (omega arith)
+          (λ e. subst (λ (f : RoleState). IsCopied f new) (c.index-from-role.is ∙ get_or_any from k _ e (omega arith)) c.copy_role.ensures.copied)
           c.loop-role.invariant.done;
       rest = λ r d past. get_or-set_other fs k r new d (λ e. absurd (omega arith)) ∙ c.loop-role.invariant.rest r d (omega arith);
       capacities = flat_map-set role_capacities fs k new _ (c.copy_role.ensures.capacities ∙ ap role_capacities c.index_mut.ensures.value)

@@ -50,5 +50,5 @@ returns-clause-read c =
       count = c.list_marked-out.ensures.count;
       legal = c.list_marked-out.ensures.listed ∙ ap marked c.deref-2.ensures.value
           ∙ named_marks kinds right (ByLegal c.args.role) plan.legals.items c.deref.result.now c.mark_named.new.marks.items
-          (length c.args.out.now.marks.items) _ here.legals c.deref.ensures.value c.mark_named.ensures.marks c.requires.room.marks;
+          (length c.args.marks.now.marks.items) _ here.legals c.deref.ensures.value c.mark_named.ensures.marks c.requires.room.marks;
     }

@@ -10,18 +10,22 @@ pub returns-clause-fits : goal.returns-clause-fits
 returns-clause-fits c =
     let g = c.args.self.now.played in
     let from = c.args.p.now.roles.items in
-    let old = c.args.q.now.roles.items in
     let new = c.copy_roles.new.to.items in
     let same = c.copy_from_slice.ensures.items ∙ c.deref.ensures.value in
-    let copied : AreCopied from old new = subst (λ (fs : List RoleState). AreCopied fs old new) c.deref-2.ensures.value c.copy_roles.ensures.copied in
+    let copied : AreCopied from new = subst (λ (fs : List RoleState). AreCopied fs new) c.deref-2.ensures.value c.copy_roles.ensures.copied in
+    let marks = c.requires.to.room.roles in
     record {
       room = record {
         base = ap length same ∙ c.requires.from.room.base;
         right = c.requires.to.room.right;
-        roles = copied_room (inputs_of g) from old new c.requires.from.room.roles c.requires.to.room.roles c.copy_roles.ensures.size copied;
+        roles = record {
+          size = marks.size;
+          each = marks.each;
+          roles = copied_room (inputs_of g) from new c.requires.from.room.roles.roles (c.copy_roles.ensures.size ∙ marks.roles.size) copied;
+        };
       };
       ended = c.requires.from.ended ∙ ap (λ (bs : List Bool). ends (kinds_of g) (holds_in g (marked bs))) (sym same);
       roles = subst (λ (bs : List Bool). AreRead (kinds_of g) (holds_in g (marked bs)) (inputs_of g) new) (sym same)
-          (copied_read (kinds_of g) (holds_in g (marked c.args.p.now.base.items)) (inputs_of g) from old new c.requires.from.room.roles copied
+          (copied_read (kinds_of g) (holds_in g (marked c.args.p.now.base.items)) (inputs_of g) from new c.requires.from.room.roles.roles copied
           c.requires.from.roles);
     }
