@@ -8,7 +8,7 @@ use Rattle.ground.specs.GroundView.{kinds_of}
 use Rattle.propnet.specs.declared.net.Net.{Net}
 use Rattle.propnet.specs.Builders.{IsNetOf}
 use Rattle.propnet.specs.Nets.{gates_of}
-use Rattle.rulegame.specs.RulePlay.{kind_at}
+use Rattle.rulebook.specs.RulePlay.{kind_at}
 use Rattle.netgame.specs.declared.lane_plan.Asking.{Asking}
 use Rattle.netgame.specs.NetState.{is_asked, view_of}
 use Rattle.netgame.specs.LanePlans.{shown_below, asked_nodes, next_below}

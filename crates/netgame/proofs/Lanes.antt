@@ -56,17 +56,17 @@ use Rattle.tape.specs.Tapes.{kept_in, HasRun, IsLane, IsJointOf, IsTurnTapeOf, I
 use Rattle.game.proofs.Facts.{turns_after_each}
 use Rattle.game.specs.Joints.{moves_of, joint_at}
 use Rattle.statement.specs.Rules.{State, IsTurn}
-use Rattle.rulegame.specs.declared.naming.Naming.TheVariants.{ByNext}
+use Rattle.rulebook.specs.declared.naming.Naming.TheVariants.{ByNext}
 use Rattle.netgame.specs.declared.lane_plan.Asking.{Asking}
 use Rattle.netgame.specs.declared.lane_plan.LanePlan.{LanePlan}
 use Rattle.netgame.specs.declared.lane_plan.Telling.{Telling}
-use Rattle.rulegame.specs.RulePlay.{no_turn, kind_at, holds, is_named}
-use Rattle.rulegame.specs.RuleState.{rules_of}
+use Rattle.rulebook.specs.RulePlay.{no_turn, kind_at, holds, is_named}
+use Rattle.rulebook.specs.RuleState.{rules_of}
 use Rattle.netgame.specs.NetState.{is_asked, is_lane_on, told_state, lane_state, view_of, AreSpread}
 use Rattle.netgame.specs.LanePlans.{shown_below, asked_at, asked_nodes, next_below, IsTellingOf, IsLanePlanOf}
 use Rattle.netgame.specs.NetLanes.{holds_lane, Tells, AreAfter}
 use Rattle.netgame.specs.NetSources.{AreFrom}
-use Rattle.rulegame.proofs.Facts.{filters_agree}
+use Rattle.rulebook.proofs.Facts.{filters_agree}
 use Rattle.netgame.proofs.NetFacts.{base_count, inputs_count}
 use Rattle.netgame.proofs.NetReads.{view_told, transition_told}
 use Rattle.netgame.proofs.Places.{asked_count, asked_node}

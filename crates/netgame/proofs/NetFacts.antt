@@ -12,7 +12,7 @@ use Rattle.propnet.specs.Values.{bit}
 use Rattle.propnet.proofs.Facts.{stands_below}
 use Rattle.netgame.specs.declared.lane_plan.Asking.{Asking}
 use Rattle.netgame.specs.NetState.{AreViewsBelow}
-use Rattle.rulegame.specs.GroundFacts.{fits}
+use Rattle.rulebook.specs.GroundFacts.{fits}
 use Rattle.netgame.proofs.NetReads.{view_told}
 
 module _ (g : FlatGround) (net : Net) (made : ∥ IsNetOf g net ∥₁) where

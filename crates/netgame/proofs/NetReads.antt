@@ -39,20 +39,15 @@ use Rattle.statement.specs.declared.kind.Kind.{Kind}
 use Rattle.statement.specs.declared.kind.Kind.TheVariants.{Fixed, Now, Does, Next, Legal, Goal, Terminal, Other}
 use Rattle.ground.specs.declared.flat_ground.FlatGround.{FlatGround}
 use Rattle.meaning.specs.Gates.{atom_at}
-use Rattle.statement.specs.Kept.{Kept, numbered}
+use Rattle.statement.specs.Kept.{Kept, numbered, number_of}
 use Rattle.ground.specs.GroundView.{base_of, kinds_of, instances_of, IsGround}
 use Rattle.statement.specs.Kinds.{kind_of, place_in}
 use Rattle.statement.specs.Listing.{listing, role_list, base_list, input_list}
 use Rattle.meaning.specs.Listed.{IsWellFormed}
 use Rattle.statement.specs.Meaning as meaning
-use Rattle.statement.specs.Meaning.{ordinary}
-use Rattle.statement.specs.Meaning.{source_of, Holds, nobody, IsRole, RightAs, atom1, atom2}
-use Rattle.statement.specs.Kept.{number_of}
+use Rattle.statement.specs.Meaning.{ordinary, source_of, Holds, nobody, IsRole, RightAs, atom1, atom2}
 use Rattle.statement.specs.GoalsAndMoves as play
-use Rattle.meaning.proofs.Facts.{kind_sound}
-use Rattle.meaning.proofs.Facts.{bases_in_order, inputs_in_order}
-use Rattle.meaning.proofs.Facts.{roles_exact, bases_exact}
-use Rattle.meaning.proofs.Facts.{one_number}
+use Rattle.meaning.proofs.Facts.{kind_sound, bases_in_order, inputs_in_order, roles_exact, bases_exact, one_number}
 use Rattle.propnet.specs.declared.net.Net.{Net}
 use Rattle.propnet.specs.Agreement as agreement
 use Rattle.propnet.specs.Bodies.{needs_view}
@@ -60,36 +55,15 @@ use Rattle.propnet.specs.Builders.{IsNetOf}
 use Rattle.propnet.specs.Nets.{gates_of}
 use Rattle.propnet.specs.Network.{given, value}
 use Rattle.propnet.proofs.Facts.{stands_below, view_law, transition_law, told_law}
-use Rattle.rulegame.specs.declared.naming.Naming.TheVariants.{ByNext}
+use Rattle.rulebook.specs.declared.naming.Naming.TheVariants.{ByNext}
 use Rattle.statement.specs.Rules.{State, Turn, IsTurn}
 use Rattle.statement.specs.Played.{nth_tree}
 use Rattle.statement.specs.GameNumbers.{stands_at, state_of, chosen_at, joint_of}
-use Rattle.rulegame.specs.RulePlay.{no_turn, kind_at, holds, is_named}
-use Rattle.rulegame.specs.RuleState.{rules_of, holds_in}
+use Rattle.rulebook.specs.RulePlay.{no_turn, kind_at, holds, is_named}
+use Rattle.rulebook.specs.RuleState.{rules_of, holds_in}
 use Rattle.netgame.specs.declared.lane_plan.Asking.{Asking}
 use Rattle.netgame.specs.NetState.{is_asked, told_state, view_of}
-use Rattle.rulegame.proofs.Facts.{
-  place_within,
-  within_input,
-  next_holds,
-  numbers_exact,
-  right_there,
-  among_atom,
-  number_at,
-  kind_at_number,
-  moving_kind,
-  place_among,
-  within_base,
-  no_move,
-  agree_now,
-  game_of_ground,
-  same_answer,
-  in_order_once,
-  inside,
-  placed,
-  place_at,
-  among_tree,
-}
+use Rattle.rulebook.proofs.Facts.{place_within, within_input, next_holds, numbers_exact, right_there, among_atom, number_at, kind_at_number, moving_kind, place_among, within_base, no_move, agree_now, game_of_ground, same_answer, in_order_once, inside, placed, place_at, among_tree}
 
 -- a number is 1 where a test says so
 one_told : (n : ℕ) (X : Type 0) → (n ≡ 1) ↔ X → ((n == 1) ≡ true) ↔ X

@@ -36,11 +36,11 @@ use Rattle.std.proofs.lemmas.Bool.{cases_eq}
 use Rattle.std.proofs.lemmas.List.{length-map, get_or-map, map-append}
 use Rattle.std.proofs.lemmas.List.FromFn.{get_or-map-range_with_len}
 use Rattle.statement.specs.declared.kind.Kind.{Kind}
-use Rattle.rulegame.specs.RulePlay.{kind_at}
+use Rattle.rulebook.specs.RulePlay.{kind_at}
 use Rattle.netgame.specs.declared.lane_plan.Asking.{Asking}
 use Rattle.netgame.specs.NetState.{is_asked, view_of}
 use Rattle.netgame.specs.LanePlans.{shown_below, asked_at, asked_below, asked_nodes, places_of}
-use Rattle.rulegame.proofs.Facts.{filter_range_more}
+use Rattle.rulebook.proofs.Facts.{filter_range_more}
 
 pub record StandsAt (xs : List ℕ) (i a : ℕ) : Type 0 where
   pub at : get_or xs i 0 ≡ a

@@ -29,15 +29,15 @@ use Rattle.std.specs.List.{list_any, range_with_len}
 use Rattle.std.proofs.lemmas.List.Elements.{All-map}
 use Rattle.statement.specs.declared.kind.Kind.{Kind}
 use Rattle.statement.specs.declared.kind.Kind.TheVariants.{Fixed, Now, Does, Next, Legal, Goal, Terminal, Other}
-use Rattle.rulegame.specs.declared.naming.Naming.TheVariants.{ByLegal}
-use Rattle.rulegame.specs.declared.plan.Sought.{Sought}
-use Rattle.rulegame.specs.declared.plan.Sought.TheVariants.{Goals}
-use Rattle.rulegame.specs.declared.plan.Standing.{Standing}
-use Rattle.rulegame.specs.RulePlay.{named_below, kind_at, names, is_named, is_terminal, ends, goal_value, best_goal}
-use Rattle.rulegame.specs.Plans.{seeks, standing_at, all_standing}
+use Rattle.rulebook.specs.declared.naming.Naming.TheVariants.{ByLegal}
+use Rattle.rulebook.specs.declared.standing.Sought.{Sought}
+use Rattle.rulebook.specs.declared.standing.Sought.TheVariants.{Goals}
+use Rattle.rulebook.specs.declared.standing.Standing.{Standing}
+use Rattle.rulebook.specs.RulePlay.{named_below, kind_at, names, is_named, is_terminal, ends, goal_value, best_goal}
+use Rattle.rulebook.specs.Standings.{seeks, standing_at, all_standing}
 use Rattle.netgame.specs.declared.lane_plan.Asking.{Asking}
 use Rattle.netgame.specs.NetState.{asks_moves, is_asked, Alike}
-use Rattle.rulegame.proofs.Facts.{below_agree, greatest_agree, filters_agree}
+use Rattle.rulebook.proofs.Facts.{below_agree, greatest_agree, filters_agree}
 
 -- Marks that agree where it is asked.
 

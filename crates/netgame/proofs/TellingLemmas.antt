@@ -40,13 +40,13 @@ use Rattle.std.proofs.lemmas.List.Folds.{list_any-append}
 use Rattle.statement.specs.declared.kind.Kind.{Kind}
 use Rattle.ground.specs.declared.flat_ground.FlatGround.{FlatGround}
 use Rattle.ground.specs.GroundView.{kinds_of}
-use Rattle.rulegame.specs.declared.naming.Naming.TheVariants.{ByLegal}
-use Rattle.rulegame.specs.declared.plan.Sought.TheVariants.{Goals, Ends}
-use Rattle.rulegame.specs.declared.plan.Standing.{Standing}
-use Rattle.rulegame.specs.RulePlay.{kind_at, names, is_named, named_below, some_below, is_terminal, ends, best_goal}
+use Rattle.rulebook.specs.declared.naming.Naming.TheVariants.{ByLegal}
+use Rattle.rulebook.specs.declared.standing.Sought.TheVariants.{Goals, Ends}
+use Rattle.rulebook.specs.declared.standing.Standing.{Standing}
+use Rattle.rulebook.specs.RulePlay.{kind_at, names, is_named, named_below, some_below, is_terminal, ends, best_goal}
 use Rattle.statement.specs.Value.{greatest}
-use Rattle.rulegame.specs.Plans.{standing_at, all_standing}
-use Rattle.rulegame.proofs.Facts.{ends_all, goals_all, filter_range_more, greatest_snoc, legal_only}
+use Rattle.rulebook.specs.Standings.{standing_at, all_standing}
+use Rattle.rulebook.proofs.Facts.{ends_all, goals_all, filter_range_more, greatest_snoc, legal_only}
 use Rattle.netgame.specs.declared.lane_plan.Asking.{Asking}
 use Rattle.netgame.specs.NetState.{asks_moves, is_asked, Alike}
 use Rattle.netgame.specs.LanePlans.{shown_below, asked_at, places_of, legal_named, legal_pair, legals_below, goal_pair, goals_of, ends_of}

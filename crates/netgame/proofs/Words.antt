@@ -1,8 +1,8 @@
 -- Words of bits, as lists.
 use Rattle.std.proofs.Common.{◌≡◌, ℕ, ◌<◌, Bool, false, List, [], ◌∷◌, ◌++◌, length, take, drop, get_or, refl, sym, ◌∙◌, ap, arith}
-use Rattle.rulegame.specs.RulePlay.{marked}
+use Rattle.rulebook.specs.RulePlay.{marked}
 use Rattle.netgame.specs.NetState.{is_lane_on, lane_state}
-use Rattle.rulegame.proofs.Facts.{filters_agree}
+use Rattle.rulebook.proofs.Facts.{filters_agree}
 
 -- a vector once all its items were written
 pub written_over : (ms items : List ℕ) (n : ℕ) → n ≡ length items → length ms ≡ length items → take n (ms ++ drop (length ms) items) ≡ ms

@@ -28,11 +28,11 @@ use Rattle.ground.specs.Grounds.{texts_at}
 use Rattle.ground.specs.GroundView.{inputs_of, kinds_of}
 use Rattle.propnet.specs.declared.net.Net.{Net}
 use Rattle.tape.specs.Tapes.{IsTapeOf, IsTurnTapeOf}
-use Rattle.rulegame.specs.declared.naming.Naming.TheVariants.{ByLegal}
-use Rattle.rulegame.specs.declared.plan.Sought.TheVariants.{Goals, Ends}
-use Rattle.rulegame.specs.declared.plan.Standing.{Standing}
-use Rattle.rulegame.specs.RulePlay.{kind_at, names, goal_value}
-use Rattle.rulegame.specs.Plans.{all_standing}
+use Rattle.rulebook.specs.declared.naming.Naming.TheVariants.{ByLegal}
+use Rattle.rulebook.specs.declared.standing.Sought.TheVariants.{Goals, Ends}
+use Rattle.rulebook.specs.declared.standing.Standing.{Standing}
+use Rattle.rulebook.specs.RulePlay.{kind_at, names, goal_value}
+use Rattle.rulebook.specs.Standings.{all_standing}
 use Rattle.netgame.specs.declared.lane_plan.LanePlan.{LanePlan}
 use Rattle.netgame.specs.declared.lane_plan.Asking.{Asking}
 use Rattle.netgame.specs.declared.lane_plan.RoleGoals.{RoleGoals}

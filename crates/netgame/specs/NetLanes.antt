@@ -39,8 +39,8 @@ use Rattle.netgame.specs.declared.net_many.NetWide.{NetWide}
 use Rattle.netgame.specs.declared.net_pos.NetPos.{NetPos}
 use Rattle.statement.specs.Rules.{State}
 use Rattle.statement.specs.Value.{greatest}
-use Rattle.rulegame.specs.RulePlay.{ends}
-use Rattle.rulegame.specs.RuleState.{holds_in, rules_of, HaveRoom, AreRead, all_capacities}
+use Rattle.rulebook.specs.RulePlay.{ends}
+use Rattle.rulebook.specs.RuleState.{holds_in, rules_of, HaveRoom, AreRead, all_capacities}
 use Rattle.netgame.specs.NetState.{lane_state, kept_state, AreSpread}
 
 -- the states that the words keep

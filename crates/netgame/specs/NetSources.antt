@@ -7,7 +7,7 @@ use Rattle.ground.specs.declared.flat_ground.FlatGround.{FlatGround}
 use Rattle.propnet.specs.Values.{lane}
 use Rattle.statement.specs.Rules.{State}
 use Rattle.game.specs.TurnsAfter.{turns_after}
-use Rattle.rulegame.specs.RuleState.{rules_of}
+use Rattle.rulebook.specs.RuleState.{rules_of}
 use Rattle.netgame.specs.declared.net_sources.Sources.{Sources}
 use Rattle.netgame.specs.NetState.{lane_state}
 

@@ -10,7 +10,7 @@ use Rattle.netgame.specs.declared.lane_plan.Asking.{Asking}
 use Rattle.netgame.specs.declared.lane_plan.Asking.TheVariants.{EndAlone, WithMoves}
 use Rattle.netgame.specs.declared.net_pos.NetPos.{NetPos}
 use Rattle.statement.specs.Rules.{State}
-use Rattle.rulegame.specs.RulePlay.{kind_at}
+use Rattle.rulebook.specs.RulePlay.{kind_at}
 
 -- bit k of word n is 1
 abbrev pub is_lane_on : List ℕ → ℕ → ℕ → Bool

@@ -14,7 +14,7 @@ use crate::lane_plan::{Asking, LanePlan, Telling};
 use crate::net_planning::{list_ends, plan_goals, plan_legals};
 use ground::{FlatGround, Kind};
 use propnet::Net;
-use rulegame::kind_of;
+use rulebook::kind_of;
 use std::alloc::{AllocError, Global};
 use tape::Tape;
 

@@ -3,7 +3,7 @@ ghost use Rattle.std.specs.Prelude.{◌≡◌, ◌<◌, ◌≤◌, All, true, le
 ghost use Rattle.std.specs.List.{range_with_len};
 ghost use Rattle.statement.specs.Rules.{IsTurn};
 ghost use Rattle.game.specs.TurnsAfter.{turns_after};
-ghost use Rattle.rulegame.specs.RuleState.{rules_of};
+ghost use Rattle.rulebook.specs.RuleState.{rules_of};
 ghost use Rattle.netgame.specs.NetState.{lane_state};
 ghost use Rattle.netgame.specs.NetLanes.{lane_states, IsNetMany, HasTurnRoom, HasWideRoom, turn_capacities, wide_capacities};
 ghost use Rattle.netgame.specs.NetSources.{AreFrom};

@@ -15,7 +15,7 @@ use crate::net_taking::{net_take, net_told, net_verdict};
 use game::{Game, Joint, Told};
 use ground::{FlatGround, Ground};
 use propnet::Net;
-use rulegame::{copy_roles, legal_at};
+use rulebook::{copy_roles, legal_at};
 use std::alloc::{AllocError, Global};
 
 /// The game that an instantiation describes, played over its network.
@@ -56,7 +56,7 @@ impl NetGame {
 impl Game for NetGame {
     ghost use Rattle.ground.specs.Grounds.{text_at, texts_at};
     ghost use Rattle.ground.specs.GroundView.{roles_of, inputs_of};
-    ghost use Rattle.rulegame.specs.RuleState.{rules_of};
+    ghost use Rattle.rulebook.specs.RuleState.{rules_of};
     ghost use Rattle.netgame.specs.NetState.{kept_state};
     ghost use Rattle.netgame.specs.NetLanes.{
       HasWideRoom,
@@ -67,7 +67,7 @@ impl Game for NetGame {
       wide_capacities as capacities_wide,
       many_capacities as capacities_many,
     };
-    ghost use Rattle.rulegame.specs.RuleLaws.{goal_at_most, few_moves_of, legal_below, legal_in_order, moves_in_order, roles_once};
+    ghost use Rattle.rulebook.specs.RuleLaws.{goal_at_most, few_moves_of, legal_below, legal_in_order, moves_in_order, roles_once};
 
     type Pos = NetPos;
 

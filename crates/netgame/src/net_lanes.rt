@@ -2,7 +2,7 @@
 ghost use Rattle.std.specs.Prelude.{◌≡◌, ◌<◌, ◌≤◌, All, true, length, map, vec_capacity, IfOk};
 ghost use Rattle.statement.specs.Rules.{IsTurn};
 ghost use Rattle.tape.specs.Tapes.{slots_in};
-ghost use Rattle.rulegame.specs.RuleState.{rules_of};
+ghost use Rattle.rulebook.specs.RuleState.{rules_of};
 ghost use Rattle.netgame.specs.NetState.{kept_state, AreSpread};
 ghost use Rattle.netgame.specs.LanePlans.{IsTellingOf};
 ghost use Rattle.netgame.specs.NetLanes.{

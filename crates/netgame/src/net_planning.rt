@@ -5,15 +5,15 @@
 ghost use Rattle.std.specs.Prelude.{◌≡◌, ◌<◌, ◌++◌, ℕ, None, Some, length, map, get_or, slice_index, OnOk, IfOk, if◌then◌else◌};
 ghost use Rattle.ground.specs.Grounds.{texts_at};
 ghost use Rattle.ground.specs.GroundView.{kinds_of, inputs_of};
-ghost use Rattle.rulegame.specs.declared.naming.Naming.TheVariants.{ByLegal};
-ghost use Rattle.rulegame.specs.RulePlay.{names};
+ghost use Rattle.rulebook.specs.declared.naming.Naming.TheVariants.{ByLegal};
+ghost use Rattle.rulebook.specs.RulePlay.{names};
 ghost use Rattle.netgame.specs.declared.lane_plan.RoleGoals.{RoleGoals};
 ghost use Rattle.netgame.specs.declared.lane_plan.RoleLegals.{RoleLegals};
 ghost use Rattle.netgame.specs.LanePlans.{legal_named, legal_pair, legals_below, goal_pair, goals_of, ends_of};
 
 use crate::lane_plan::{RoleGoals, RoleLegals};
 use ground::{FlatGround, Kind};
-use rulegame::{Naming, Sought, Standing, kind_of, list_standing, number_of, value_of};
+use rulebook::{Naming, Sought, Standing, kind_of, list_standing, number_of, value_of};
 use std::alloc::{AllocError, Global};
 
 /// The place of an atom.

@@ -1,8 +1,8 @@
 //! Play over a network.
 ghost use Rattle.std.specs.Prelude.{◌≡◌, ◌<◌, ℕ, length, slice_index_or, false, vec_capacity, IfOk};
 ghost use Rattle.statement.specs.Rules.{IsTurn};
-ghost use Rattle.rulegame.specs.RulePlay.{marked};
-ghost use Rattle.rulegame.specs.RuleState.{rules_of};
+ghost use Rattle.rulebook.specs.RulePlay.{marked};
+ghost use Rattle.rulebook.specs.RuleState.{rules_of};
 ghost use Rattle.netgame.specs.NetState.{is_lane_on, lane_state, kept_state};
 ghost use Rattle.netgame.specs.NetLanes.{HasNetRoom, IsNetState, net_capacities};
 
@@ -12,7 +12,7 @@ use crate::net_pos::NetPos;
 use crate::net_taking::take_told;
 use game::Joint;
 use ground::FlatGround;
-use rulegame::new_roles;
+use rulebook::new_roles;
 use std::alloc::AllocError;
 use std::slice::from_ref;
 

@@ -1,7 +1,7 @@
 //! A state of a game over a network, with what is told of it.
 
 use crate::net_many::{NetMany, NetTurn};
-use rulegame::RoleState;
+use rulebook::RoleState;
 
 /// A state, and what is told of it.
 #[derive(Drop)]

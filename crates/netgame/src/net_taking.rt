@@ -3,11 +3,11 @@ ghost use Rattle.std.specs.Prelude.{◌≡◌, ◌<◌, ◌≤◌, ℕ, [], None
 ghost use Rattle.ground.specs.Grounds.{texts_at};
 ghost use Rattle.ground.specs.GroundView.{inputs_of, kinds_of};
 ghost use Rattle.propnet.specs.Values.{lane};
-ghost use Rattle.rulegame.specs.RuleState.{HasRoleRoom, IsRoleRead, HaveRoom, AreRead, role_capacities, all_capacities, rules_of};
+ghost use Rattle.rulebook.specs.RuleState.{HasRoleRoom, IsRoleRead, HaveRoom, AreRead, role_capacities, all_capacities, rules_of};
 ghost use Rattle.netgame.specs.NetState.{lane_state, kept_state, AreSpread};
 ghost use Rattle.netgame.specs.LanePlans.{IsTellingOf};
 ghost use Rattle.netgame.specs.NetLanes.{holds_lane, lane_states, IsNetMany, HasNetRoom, HasWideRoom, IsNetState, net_capacities};
-ghost use Rattle.rulegame.specs.RulePlay.{ends, best_goal};
+ghost use Rattle.rulebook.specs.RulePlay.{ends, best_goal};
 ghost use Rattle.game.specs.Told.{IsTold, end_worth};
 
 use crate::lane_plan::Telling;
@@ -17,7 +17,7 @@ use crate::net_pos::NetPos;
 use crate::net_telling::{best_told, list_moves};
 use crate::net_words::{all_alike, lane_bit};
 use game::Told;
-use rulegame::RoleState;
+use rulebook::RoleState;
 
 /// Writes the bit of each word in one lane to all lanes.
 fn put_taken(states: &[u64], k: usize, lanes: &mut [u64])

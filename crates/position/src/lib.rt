@@ -7,9 +7,10 @@ pub use game::{
     same_play_is_played_the_same,
 };
 pub use netgame::{NetGame, NetPos};
-pub use rulegame::{
-    RuleGame, RulePos, games_of_the_rules_agree, numbers_find_what_holds, rules_have_a_game,
+pub use rulebook::{
+    games_of_the_rules_agree, numbers_find_what_holds, rules_have_a_game,
     the_game_plays_by_the_rules, the_rules_end_the_game, the_rules_give_the_goals,
     the_rules_give_the_moves, the_rules_give_the_next_state, the_rules_leave_the_game_stuck,
     the_rules_start_the_game,
 };
+pub use rulegame::{RuleGame, RulePos};

@@ -16,8 +16,8 @@ use Rattle.statement.specs.LimitTexts.{limit_fault_words}
 use Rattle.netgame.specs.declared.net_game.NetGame.{NetGame}
 use Rattle.rulegame.specs.declared.rule_game.RuleGame.{RuleGame}
 use Rattle.statement.specs.NamedRules.{NamedRules}
-use Rattle.rulegame.specs.RuleState.{named_rules_of}
-use Rattle.rulegame.proofs.Facts.{game_of_ground}
+use Rattle.rulebook.specs.RuleState.{named_rules_of}
+use Rattle.rulebook.proofs.Facts.{game_of_ground}
 use Rattle.statement.specs.declared.status.Status.{Status}
 use Rattle.statement.specs.declared.status.Status.TheVariants.{Refused}
 use Rattle.replies.specs.declared.games.Described.{Described}

@@ -15,7 +15,7 @@ use Rattle.statement.specs.Limits.{count_inputs}
 use Rattle.statement.specs.Most.{limits}
 use Rattle.statement.specs.Listing.{listing, role_list, base_list, input_list}
 use Rattle.statement.specs.GoalsAndMoves.{dropped}
-use Rattle.rulegame.specs.GroundFacts.{fits}
+use Rattle.rulebook.specs.GroundFacts.{fits}
 use Rattle.propnet.specs.declared.net.Net.{Net}
 use Rattle.statement.specs.declared.node_name.Name.{Name}
 use Rattle.propnet.specs.Builders.{IsNetOf, input_counts}

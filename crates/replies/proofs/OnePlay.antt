@@ -9,7 +9,7 @@ use Rattle.statement.specs.declared.excess.Excess.{Excess}
 use Rattle.statement.specs.declared.ground_fault.GroundFault.TheVariants.{TooMany}
 use Rattle.statement.specs.Limits.{excess_in}
 use Rattle.statement.specs.LimitTexts.{limit_fault_words}
-use Rattle.rulegame.proofs.Facts.{has_game, one_game}
+use Rattle.rulebook.proofs.Facts.{has_game, one_game}
 use Rattle.statement.specs.NamedRules.{NamedRules}
 use Rattle.game.specs.SamePlay.{SamePlay}
 use Rattle.replies.proofs.OneCheck.{some_verdict, one_refusal, refused_or_lawful}

@@ -3,7 +3,7 @@ use Rattle.std.proofs.Common.{◌≡◌, subst, sym}
 use Rattle.std.specs.Prelude.{Result, Ok, Err, IfOk}
 use Rattle.statement.specs.NamedRules.{NamedRules}
 use Rattle.statement.specs.Rules.{State}
-use Rattle.rulegame.specs.RuleState.{named_rules_of}
+use Rattle.rulebook.specs.RuleState.{named_rules_of}
 use Rattle.netgame.specs.declared.net_game.NetGame.{NetGame}
 use Rattle.netgame.specs.declared.net_many.NetMany.{NetMany}
 use Rattle.netgame.specs.declared.net_many.NetWide.{NetWide}
@@ -19,8 +19,7 @@ use Rattle.replies.specs.declared.question.Question.TheVariants.{Told, Network, 
 use Rattle.replies.specs.declared.reply.Reply as made
 use Rattle.replies.specs.declared.search.Search.{Search}
 use Rattle.statement.specs.Answers.{Reply}
-use Rattle.replies.specs.Questions.{reply_of, IsSearchOf, IsAskedOf, IsQuestionOf, net_fits, net_state}
-use Rattle.replies.specs.Questions.{rule_fits, rule_state, told_question, network_question, rules_question}
+use Rattle.replies.specs.Questions.{reply_of, IsSearchOf, IsAskedOf, IsQuestionOf, net_fits, net_state, rule_fits, rule_state, told_question, network_question, rules_question}
 
 -- a search whose reply is of one kind, where each of that kind is of another
 lift_search : {G P W M : Type 0} {made_for : G → P → Type 0} {game_of : G → NamedRules} {state_of : G → P → State} (is other : Reply → Type 0)

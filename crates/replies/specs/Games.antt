@@ -6,7 +6,7 @@ use Rattle.statement.specs.Items.{alternatives}
 use Rattle.statement.specs.Profile.{HasNoFault}
 use Rattle.ground.specs.declared.flat_ground.FlatGround.{FlatGround}
 use Rattle.ground.specs.GroundView.{IsGround}
-use Rattle.rulegame.specs.RuleState.{named_rules_of}
+use Rattle.rulebook.specs.RuleState.{named_rules_of}
 use Rattle.replies.specs.declared.games.Described.{Described}
 use Rattle.replies.specs.declared.games.Described.TheVariants.{Network, Rules, Refusal}
 use Rattle.replies.specs.declared.grounding.Instantiated.{Instantiated}

@@ -5,8 +5,9 @@ use Rattle.statement.specs.NamedRules.{NamedRules}
 use Rattle.statement.specs.Rules.{State}
 use Rattle.netgame.specs.NetState.{kept_state}
 use Rattle.netgame.specs.NetLanes.{IsNetState}
-use Rattle.rulegame.specs.RulePlay.{marked}
-use Rattle.rulegame.specs.RuleState.{IsStateOf, named_rules_of}
+use Rattle.rulebook.specs.RulePlay.{marked}
+use Rattle.rulegame.specs.RuleRoom.{IsStateOf}
+use Rattle.rulebook.specs.RuleState.{named_rules_of}
 use Rattle.netgame.specs.declared.net_game.NetGame.{NetGame}
 use Rattle.netgame.specs.declared.net_many.NetMany.{NetMany}
 use Rattle.netgame.specs.declared.net_many.NetWide.{NetWide}

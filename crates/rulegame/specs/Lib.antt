@@ -1,8 +1,5 @@
-pub mod RulePlay
-pub mod RuleState
-pub mod GroundFacts
-pub mod RuleLaws
-pub mod RuleMeaning
+pub mod Marks
+pub mod RuleRoom
 pub mod Flats
 pub mod Plans
 pub mod RuleMany

@@ -6,7 +6,7 @@ use Rattle.ground.specs.GroundView.{kinds_of}
 use Rattle.rulegame.specs.declared.rule_many.RuleBase.{RuleBase}
 use Rattle.rulegame.specs.declared.rule_many.RuleMany.{RuleMany}
 use Rattle.rulegame.specs.declared.rule_many.RuleWide.{RuleWide}
-use Rattle.rulegame.specs.RulePlay.{marked}
+use Rattle.rulebook.specs.RulePlay.{marked}
 
 -- there is room for 64 states of the game
 pub record HaveBaseRoom (g : FlatGround) (states : List RuleBase) : Type 0 where

@@ -1,28 +1,7 @@
 //! What is kept of an instantiation to play it fast.
 
-use crate::naming::Naming;
-use ground::Kind;
 use kept::AtomLiteral;
-
-/// An atom, with where it stands in play.
-#[derive(Clone, Copy)]
-pub struct Standing {
-    pub atom: u32,
-    pub kind: Kind,
-}
-
-/// Which atoms are listed.
-#[derive(Clone, Copy)]
-pub enum Sought {
-    /// Those that the state or the joint move makes right: `true` and `does`.
-    Given,
-    /// Those that name a number.
-    Named(Naming),
-    /// The goals of this role.
-    Goals(usize),
-    /// Those that end the game.
-    Ends,
-}
+use rulebook::Standing;
 
 /// The atoms that tell of a role, in order.
 #[derive(Drop)]

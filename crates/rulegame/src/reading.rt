@@ -1,33 +1,12 @@
 //! What is told of a state by the kinds of the atoms that hold.
-ghost use Rattle.std.specs.Prelude.{
-  ◌≡◌,
-  ◌<◌,
-  ◌≤◌,
-  ◌+◌,
-  ◌*◌,
-  ◌^◌,
-  ◌&&◌,
-  ◌||◌,
-  ◌++◌,
-  [],
-  ◌∷◌,
-  ℕ,
-  All,
-  false,
-  length,
-  max,
-  take,
-  slice_index_or,
-  vec_capacity,
-  if◌then◌else◌,
-};
-ghost use Rattle.rulegame.specs.RulePlay.{AreMarks, marked, number_named, names, goal_value, is_terminal};
-ghost use Rattle.rulegame.specs.Plans.{names_among, goal_among, ends_among};
+ghost use Rattle.std.specs.Prelude.{◌≡◌, ◌<◌, ◌≤◌, ◌+◌, ◌^◌, ◌&&◌, ◌||◌, ◌++◌, [], ◌∷◌, ℕ, All, false, length, max, take, slice_index_or, vec_capacity, if◌then◌else◌};
+ghost use Rattle.rulegame.specs.Marks.{AreMarks};
+ghost use Rattle.rulebook.specs.RulePlay.{marked, names, is_terminal};
+ghost use Rattle.rulebook.specs.Standings.{names_among, goal_among, ends_among};
 
 use crate::evaluation::put_mark;
-use crate::naming::Naming;
-use crate::plan::Standing;
 use ground::Kind;
+use rulebook::{Naming, Standing, number_of, value_of};
 
 /// Whether a number is marked.
 fn is_marked(right: &Vec<bool>, number: u32) -> bool
@@ -35,17 +14,6 @@ fn is_marked(right: &Vec<bool>, number: u32) -> bool
     ensures { result ≡ slice_index_or right.now.items number false }
 {
     right[number as usize]
-}
-
-/// The number that an atom of this kind names.
-pub fn number_of(by: Naming, kind: Kind) -> Option<u32>
-    ensures { result ≡ number_named by kind }
-{
-    match (by, kind) {
-        (Naming::ByNext, Kind::Next(p)) => Some(p),
-        (Naming::ByLegal(role), Kind::Legal(r, m)) if r as usize == role => Some(m),
-        _ => None,
-    }
 }
 
 /// Marks the number that an atom of this kind names, if the atom holds and the number has a mark.
@@ -87,16 +55,6 @@ pub(crate) fn mark_named(list: &[Standing], right: &Vec<bool>, by: Naming, marks
     for place in 0..list.len() {
         let here = list[place];
         note(is_marked(right, here.atom), here.kind, by, marks);
-    }
-}
-
-/// The value that an atom of this kind gives a role, if it holds, else 0.
-pub fn value_of(holds: bool, kind: Kind, role: usize) -> u8
-    ensures { result ≡ (if holds then goal_value role kind else 0) }
-{
-    match kind {
-        Kind::Goal(r, v) if holds && r as usize == role => v,
-        _ => 0,
     }
 }
 

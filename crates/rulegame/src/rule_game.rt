@@ -6,9 +6,10 @@ ghost use Rattle.rulegame.specs.Plans.{IsPlanOf};
 use crate::plan::Plan;
 use crate::planning::make_plan;
 use crate::rule_many::{RuleMany, RuleWide, new_bases, step_each};
-use crate::rule_pos::{RulePos, copy_roles, legal_at, read_state, start_state, step_state};
+use crate::rule_pos::{RulePos, read_state, start_state, step_state};
 use game::{Game, Joint, Told};
 use ground::{FlatGround, Ground};
+use rulebook::{copy_roles, legal_at};
 use std::alloc::{AllocError, Global};
 
 /// The game that an instantiation describes, played over its kept instances.
@@ -44,10 +45,11 @@ impl RuleGame {
 impl Game for RuleGame {
     ghost use Rattle.ground.specs.Grounds.{text_at, texts_at};
     ghost use Rattle.ground.specs.GroundView.{roles_of, inputs_of};
-    ghost use Rattle.rulegame.specs.RulePlay.{marked};
-    ghost use Rattle.rulegame.specs.RuleState.{IsStateOf, rules_of, capacities};
+    ghost use Rattle.rulebook.specs.RulePlay.{marked};
+    ghost use Rattle.rulegame.specs.RuleRoom.{IsStateOf, capacities};
+    ghost use Rattle.rulebook.specs.RuleState.{rules_of};
     ghost use Rattle.rulegame.specs.RuleMany.{IsManyOf, IsWideOf, kept_states, capacities_wide, capacities_many};
-    ghost use Rattle.rulegame.specs.RuleLaws.{goal_at_most, few_moves_of, legal_below, legal_in_order, moves_in_order, roles_once};
+    ghost use Rattle.rulebook.specs.RuleLaws.{goal_at_most, few_moves_of, legal_below, legal_in_order, moves_in_order, roles_once};
 
     type Pos = RulePos;
 

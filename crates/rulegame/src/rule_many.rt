@@ -3,8 +3,8 @@ ghost use Rattle.std.specs.Prelude.{◌≡◌, ◌<◌, ◌≤◌, ℕ, length, 
 ghost use Rattle.ground.specs.GroundView.{kinds_of};
 ghost use Rattle.game.specs.Joints.{joint_at};
 ghost use Rattle.rulegame.specs.declared.rule_many.RuleBase.{RuleBase};
-ghost use Rattle.rulegame.specs.RulePlay.{marked};
-ghost use Rattle.rulegame.specs.RuleState.{rules_of};
+ghost use Rattle.rulebook.specs.RulePlay.{marked};
+ghost use Rattle.rulebook.specs.RuleState.{rules_of};
 ghost use Rattle.rulegame.specs.RuleMany.{HaveBaseRoom, all_base_capacities};
 
 use crate::rule_game::RuleGame;

@@ -1,40 +1,33 @@
 //! A state of a game of rules, with what is told of it.
-ghost use Rattle.std.specs.Prelude.{◌≡◌, ◌<◌, ◌≤◌, ℕ, false, length, take, get_or, slice_get, slice_index_or, vec_capacity, IfOk};
+ghost use Rattle.std.specs.Prelude.{◌≡◌, ◌<◌, ℕ, false, length, get_or, slice_index_or, vec_capacity, IfOk};
 ghost use Rattle.ground.specs.Grounds.{texts_at};
 ghost use Rattle.ground.specs.GroundView.{inputs_of, kinds_of};
-ghost use Rattle.rulegame.specs.RulePlay.{AreMarks, marked};
-ghost use Rattle.rulegame.specs.declared.rule_pos.RoleState.{RoleState};
-ghost use Rattle.rulegame.specs.RuleState.{
-  HasRoleRoom,
-  IsRoleRead,
-  HaveRoom,
-  AreRead,
+ghost use Rattle.rulegame.specs.Marks.{AreMarks};
+ghost use Rattle.rulebook.specs.RulePlay.{marked};
+ghost use Rattle.rulebook.specs.declared.role_state.RoleState.{RoleState};
+ghost use Rattle.rulebook.specs.RuleState.{IsRoleRead, AreRead, role_capacities, rules_of};
+ghost use Rattle.rulegame.specs.declared.rule_pos.MoveMarks.{MoveMarks};
+ghost use Rattle.rulegame.specs.RuleRoom.{
+  HasMarkedRoom,
+  HaveMarkedRoom,
   HasRoom,
-  IsCopied,
   IsStateOf,
-  role_capacities,
-  all_capacities,
+  mark_capacities,
+  marked_capacities,
   capacities,
-  rules_of,
 };
 
 use crate::evaluation::{evaluate, put_mark};
-use crate::naming::Naming;
 use crate::reading::{best_goal, has_ended, list_marked, mark_named};
 use crate::rule_game::RuleGame;
 use ground::FlatGround;
+use rulebook::{Naming, RoleState, new_roles};
 use std::alloc::{AllocError, Global};
 
-/// What is told of a role in a state.
+/// A mark for each move of a role, to be written over.
 #[derive(Drop)]
-pub struct RoleState {
-    /// A mark for each move, to be written over.
-    pub marks: Vec<bool>,
-    /// Begins with the legal moves, ascending.
-    pub moves: Vec<u32>,
-    /// How many moves are legal.
-    pub count: usize,
-    pub goal: u8,
+pub struct MoveMarks {
+    pub(crate) marks: Vec<bool>,
 }
 
 /// A state, and what is told of it.
@@ -44,37 +37,50 @@ pub struct RulePos {
     pub(crate) base: Vec<bool>,
     /// A mark for each atom, to be written over.
     pub(crate) right: Vec<bool>,
+    /// Marks for each role.
+    pub(crate) marks: Vec<MoveMarks>,
     pub(crate) roles: Vec<RoleState>,
     pub(crate) ended: bool,
 }
 
 /// Writes what the atoms that hold tell of a role.
-fn read_role(game: &RuleGame, right: &Vec<bool>, role: usize, out: &mut RoleState)
+fn read_role(
+    game: &RuleGame,
+    right: &Vec<bool>,
+    role: usize,
+    marks: &mut MoveMarks,
+    out: &mut RoleState,
+)
     requires role { role < length (inputs_of game.now.played) }
     requires right { length right.now.items ≡ length (kinds_of game.now.played) }
-    requires room { HasRoleRoom (length (texts_at (inputs_of game.now.played) role)) out.old }
+    requires room { HasMarkedRoom (length (texts_at (inputs_of game.now.played) role)) marks.old out.old }
     ensures read { IsRoleRead (kinds_of game.now.played) (λ a. slice_index_or right.now.items a false) role
         (length (texts_at (inputs_of game.now.played) role)) out.new }
-    ensures room { HasRoleRoom (length (texts_at (inputs_of game.now.played) role)) out.new }
+    ensures room { HasMarkedRoom (length (texts_at (inputs_of game.now.played) role)) marks.new out.new }
+    ensures mark_capacities { mark_capacities marks.new ≡ mark_capacities marks.old }
     ensures capacities { role_capacities out.new ≡ role_capacities out.old }
 {
     let plan = &game.plan.roles[role];
-    mark_named(&plan.legals, right, Naming::ByLegal(role), &mut out.marks);
-    out.count = list_marked(&out.marks, &mut out.moves);
+    mark_named(&plan.legals, right, Naming::ByLegal(role), &mut marks.marks);
+    out.count = list_marked(&marks.marks, &mut out.moves);
     out.goal = best_goal(&plan.goals, right, role);
 }
 
 /// Writes what the atoms that hold tell of each role.
-fn read_roles(game: &RuleGame, right: &Vec<bool>, roles: &mut Vec<RoleState>)
+fn read_roles(
+    game: &RuleGame,
+    right: &Vec<bool>,
+    marks: &mut Vec<MoveMarks>,
+    roles: &mut Vec<RoleState>,
+)
     requires right { length right.now.items ≡ length (kinds_of game.now.played) }
-    requires room { HaveRoom (inputs_of game.now.played) roles.old.items }
+    requires room { HaveMarkedRoom (inputs_of game.now.played) marks.old.items roles.old.items }
     ensures read { AreRead (kinds_of game.now.played) (λ a. slice_index_or right.now.items a false) (inputs_of game.now.played) roles.new.items }
-    ensures room { HaveRoom (inputs_of game.now.played) roles.new.items }
-    ensures capacities { all_capacities roles.new.items ≡ all_capacities roles.old.items }
-    ensures capacity { vec_capacity roles.new ≡ vec_capacity roles.old }
+    ensures room { HaveMarkedRoom (inputs_of game.now.played) marks.new.items roles.new.items }
+    ensures capacities { marked_capacities marks.new roles.new ≡ marked_capacities marks.old roles.old }
 {
     for role in 0..roles.len() {
-        read_role(game, right, role, &mut roles[role]);
+        read_role(game, right, role, &mut marks[role], &mut roles[role]);
     }
 }
 
@@ -87,7 +93,7 @@ pub(crate) fn read_state(game: &RuleGame, p: &mut RulePos)
 {
     evaluate(game, &p.base, &[], &mut p.right);
     p.ended = has_ended(&game.plan.ends, &p.right);
-    read_roles(game, &p.right, &mut p.roles);
+    read_roles(game, &p.right, &mut p.marks, &mut p.roles);
 }
 
 /// Marks the base propositions that hold after a joint move, in the state after the one whose base propositions are marked.
@@ -121,54 +127,26 @@ pub(crate) fn step_state(game: &RuleGame, p: &RulePos, joint: &[u32], q: &mut Ru
     read_state(game, q);
 }
 
-/// Writes what is told of a role in another state.
-fn copy_role(from: &RoleState, to: &mut RoleState)
-    requires { length from.now.moves.items ≡ length to.old.moves.items }
-    ensures copied { IsCopied from.now to.old to.new }
-    ensures capacities { role_capacities to.new ≡ role_capacities to.old }
+/// Marks for the moves of a role.
+fn new_move_marks(alloc: Global, moves: usize) -> Result<MoveMarks, AllocError>
+    ensures { IfOk result (λ role. length role.marks.items ≡ moves) }
 {
-    to.moves.copy_from_slice(&from.moves);
-    to.count = from.count;
-    to.goal = from.goal;
-}
-
-/// Writes what is told of each role in another state.
-pub fn copy_roles(from: &[RoleState], to: &mut Vec<RoleState>)
-    requires size { length from.now ≡ length to.old.items }
-    requires room { (r : ℕ) (d : RoleState) → r < length from.now
-        → length (get_or from.now r d).moves.items ≡ length (get_or to.old.items r d).moves.items }
-    ensures copied { (r : ℕ) (d : RoleState) → r < length from.now
-        → IsCopied (get_or from.now r d) (get_or to.old.items r d) (get_or to.new.items r d) }
-    ensures size { length to.new.items ≡ length to.old.items }
-    ensures capacities { all_capacities to.new.items ≡ all_capacities to.old.items }
-    ensures capacity { vec_capacity to.new ≡ vec_capacity to.old }
-{
-    for role in 0..from.len() {
-        copy_role(&from[role], &mut to[role]);
-    }
-}
-
-/// Room for what is told of a role with this many moves.
-fn new_role(alloc: Global, moves: usize) -> Result<RoleState, AllocError>
-    ensures { IfOk result (λ role. HasRoleRoom moves role) }
-{
-    Ok(RoleState {
+    Ok(MoveMarks {
         marks: vec![in alloc; false; moves]?,
-        moves: vec![in alloc; 0; moves]?,
-        count: 0,
-        goal: 0,
     })
 }
 
-/// Room for what is told of each role.
-pub fn new_roles(alloc: Global, ground: &FlatGround) -> Result<Vec<RoleState>, AllocError>
-    ensures { IfOk result (λ roles. HaveRoom (inputs_of ground.now) roles.items) }
+/// Marks for the moves of each role.
+fn new_marks(alloc: Global, ground: &FlatGround) -> Result<Vec<MoveMarks>, AllocError>
+    ensures size { IfOk result (λ marks. length marks.items ≡ length (inputs_of ground.now)) }
+    ensures each { IfOk result (λ marks. (r : ℕ) (d : MoveMarks) → r < length (inputs_of ground.now)
+        → length (get_or marks.items r d).marks.items ≡ length (texts_at (inputs_of ground.now) r)) }
 {
-    let mut roles = Vec::new(alloc);
+    let mut marks = Vec::new(alloc);
     for role in 0..ground.roles() {
-        roles.push(new_role(alloc, ground.inputs(role))?)?;
+        marks.push(new_move_marks(alloc, ground.inputs(role))?)?;
     }
-    Ok(roles)
+    Ok(marks)
 }
 
 /// Marks the base propositions that hold at the start.
@@ -193,6 +171,7 @@ pub(crate) fn start_state(game: &RuleGame) -> Result<RulePos, AllocError>
     let mut p = RulePos {
         base,
         right: vec![in alloc; false; ground.atoms()]?,
+        marks: new_marks(alloc, ground)?,
         roles: new_roles(alloc, ground)?,
         ended: false,
     };
@@ -200,13 +179,3 @@ pub(crate) fn start_state(game: &RuleGame) -> Result<RulePos, AllocError>
     Ok(p)
 }
 
-/// The legal move of a role at a place of their list, or none past its end.
-pub fn legal_at(role: &RoleState, place: usize) -> Option<u32>
-    requires { role.now.count ≤ length role.now.moves.items }
-    ensures { result ≡ slice_get (take role.now.count role.now.moves.items) place }
-{
-    if place < role.count {
-        return Some(role.moves[place]);
-    }
-    None
-}

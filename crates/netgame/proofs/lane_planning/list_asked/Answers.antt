@@ -2,9 +2,9 @@ use Rattle.std.proofs.Common.{◌≡◌, ◌+◌, ℕ, Bool, List, [], ◌∷◌
 use Rattle.std.proofs.lemmas.List.{length-map}
 use Rattle.std.proofs.lemmas.List.FromFn.{map-range_with_len_more}
 use Rattle.ground.specs.GroundView.{kinds_of}
-use Rattle.rulegame.specs.GroundFacts.{few_atoms}
+use Rattle.rulebook.specs.GroundFacts.{few_atoms}
 use Rattle.netgame.specs.NetState.{is_asked, view_of}
-use Rattle.rulegame.specs.RulePlay.{kind_at}
+use Rattle.rulebook.specs.RulePlay.{kind_at}
 use Rattle.netgame.specs.LanePlans.{shown_below, asked_below, places_below}
 use Rattle.netgame.proofs.Places.{asked_more, few_shown}
 use Rattle.netgame.proofs.lane_planning.list_asked.Goals as goal

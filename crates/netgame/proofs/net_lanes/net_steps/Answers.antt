@@ -1,7 +1,7 @@
 use Rattle.std.proofs.Common.{ℕ, List, length, map, ap, ◌∙◌}
 use Rattle.std.specs.List.{range_with_len}
 use Rattle.smallvec.specs.SmallVec.{SmallVec}
-use Rattle.rulegame.specs.RuleState.{rules_of}
+use Rattle.rulebook.specs.RuleState.{rules_of}
 use Rattle.netgame.specs.NetState.{lane_state}
 use Rattle.netgame.proofs.net_lanes.net_steps.Goals as goal
 

@@ -1,9 +1,9 @@
 use Rattle.std.proofs.Common.{◌≡◌, ◌+◌, ℕ, suc, cond, length, get_or, ap, ◌∙◌, arith, Option, Some, None}
 use Rattle.statement.specs.declared.kind.Kind.{Kind}
 use Rattle.ground.specs.GroundView.{kinds_of}
-use Rattle.rulegame.specs.declared.naming.Naming.TheVariants.{ByLegal}
-use Rattle.rulegame.specs.GroundFacts.{few_atoms}
-use Rattle.rulegame.specs.RulePlay.{kind_at, names}
+use Rattle.rulebook.specs.declared.naming.Naming.TheVariants.{ByLegal}
+use Rattle.rulebook.specs.GroundFacts.{few_atoms}
+use Rattle.rulebook.specs.RulePlay.{kind_at, names}
 use Rattle.netgame.specs.LanePlans.{legal_named}
 use Rattle.netgame.proofs.net_planning.find_legals.Goals as goal
 

@@ -1,6 +1,6 @@
 use Rattle.std.proofs.Common.{◌≡◌, take, map}
 use Rattle.std.specs.Prelude.{slice_index}
-use Rattle.rulegame.specs.declared.plan.Standing.{Standing}
+use Rattle.rulebook.specs.declared.standing.Standing.{Standing}
 use Rattle.netgame.proofs.net_planning.list_ends.Given as goal
 
 -- the places of the atoms before this one are listed

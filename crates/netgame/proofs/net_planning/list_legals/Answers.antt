@@ -1,7 +1,7 @@
 use Rattle.std.proofs.Common.{◌≡◌, ◌+◌, ◌<◌, ℕ, List, ◌++◌, suc, length, ap, ◌∙◌, arith, Option, None}
 use Rattle.ground.specs.GroundView.{kinds_of}
 use Rattle.game.proofs.Facts.{get_or_any}
-use Rattle.rulegame.specs.GroundFacts.{few_moves}
+use Rattle.rulebook.specs.GroundFacts.{few_moves}
 use Rattle.netgame.specs.LanePlans.{legal_named, legal_pair, legals_below}
 use Rattle.netgame.proofs.net_planning.list_legals.Goals as goal
 

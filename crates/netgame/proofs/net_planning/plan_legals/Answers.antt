@@ -1,5 +1,5 @@
 use Rattle.std.proofs.Common.{arith}
-use Rattle.rulegame.specs.GroundFacts.{fits}
+use Rattle.rulebook.specs.GroundFacts.{fits}
 use Rattle.netgame.proofs.net_planning.plan_legals.Goals as goal
 
 pub returns-clause-each : goal.returns-clause-each

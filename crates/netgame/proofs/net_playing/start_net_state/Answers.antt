@@ -1,5 +1,5 @@
 use Rattle.std.proofs.Common.{sym, ◌∙◌}
-use Rattle.rulegame.specs.GroundFacts.{fits}
+use Rattle.rulebook.specs.GroundFacts.{fits}
 use Rattle.netgame.proofs.net_playing.start_net_state.Goals as goal
 
 pub take_told-ended-requires-clause-lanes : goal.take_told-ended-requires-clause-lanes

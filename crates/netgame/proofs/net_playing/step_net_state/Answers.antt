@@ -2,7 +2,7 @@ use Rattle.std.proofs.Common.{◌≡◌, ℕ, List, [], ◌∷◌, length, get_o
 use Rattle.std.specs.Prelude.{map}
 use Rattle.smallvec.specs.SmallVec.{SmallVec}
 use Rattle.statement.specs.Rules.{State}
-use Rattle.rulegame.specs.RuleState.{rules_of}
+use Rattle.rulebook.specs.RuleState.{rules_of}
 use Rattle.netgame.specs.NetState.{lane_state, kept_state}
 use Rattle.netgame.specs.NetLanes.{lane_states}
 use Rattle.netgame.proofs.Lanes.{states_count, state_at}

@@ -4,8 +4,8 @@ use Rattle.std.specs.Prelude.{◌==◌}
 use Rattle.ground.specs.GroundView.{kinds_of}
 use Rattle.statement.specs.Rules.{State}
 use Rattle.game.specs.Told.{end_worth}
-use Rattle.rulegame.specs.RulePlay.{ends, best_goal}
-use Rattle.rulegame.specs.RuleState.{rules_of, holds_in}
+use Rattle.rulebook.specs.RulePlay.{ends, best_goal}
+use Rattle.rulebook.specs.RuleState.{rules_of, holds_in}
 use Rattle.netgame.specs.NetState.{lane_state}
 use Rattle.netgame.specs.NetLanes.{lane_states}
 use Rattle.netgame.proofs.Lanes.{states_count, state_at}

@@ -36,7 +36,7 @@ list_moves-out-requires-clause-many c =
     let size : length c.deref-2.result.now ≡ length (legals_below places kinds role n) = ap (λ (ls : List (ℕ × ℕ)). length ls)
     (c.deref-2.ensures.value ∙ here) in
     let few = legals_few places kinds role n in
-    let room = c.requires.room.moves in
+    let room = c.requires.room in
     omega arith
 
 pub returns-clause-read : goal.returns-clause-read

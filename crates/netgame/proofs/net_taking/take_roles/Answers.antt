@@ -2,8 +2,8 @@ use Rattle.std.proofs.Common.{◌≡◌, length, ap, ◌∙◌, arith}
 use Rattle.ground.specs.Grounds.{texts_at}
 use Rattle.ground.specs.GroundView.{inputs_of, kinds_of}
 use Rattle.netgame.specs.NetLanes.{holds_lane}
-use Rattle.rulegame.specs.RuleState.{IsRoleRead, role_capacities}
-use Rattle.rulegame.proofs.Facts.{flat_map-set, room_set, read_more}
+use Rattle.rulebook.specs.RuleState.{IsRoleRead, role_capacities}
+use Rattle.rulebook.proofs.Facts.{flat_map-set, room_set, read_more}
 use Rattle.netgame.proofs.net_taking.take_roles.Goals as goal
 
 pub loop-role-preserved : goal.loop-role-preserved

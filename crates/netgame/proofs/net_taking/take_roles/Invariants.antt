@@ -1,9 +1,9 @@
 use Rattle.std.proofs.Common.{◌≡◌, ℕ, ◌<◌, length, get_or, vec_capacity}
 use Rattle.ground.specs.Grounds.{texts_at}
 use Rattle.ground.specs.GroundView.{inputs_of, kinds_of}
-use Rattle.rulegame.specs.declared.rule_pos.RoleState.{RoleState}
+use Rattle.rulebook.specs.declared.role_state.RoleState.{RoleState}
 use Rattle.netgame.specs.NetLanes.{holds_lane}
-use Rattle.rulegame.specs.RuleState.{HaveRoom, IsRoleRead, all_capacities}
+use Rattle.rulebook.specs.RuleState.{HaveRoom, IsRoleRead, all_capacities}
 use Rattle.netgame.proofs.net_taking.take_roles.Given as goal
 
 -- each role before this one is written

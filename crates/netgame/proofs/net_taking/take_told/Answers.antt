@@ -2,8 +2,8 @@ use Rattle.std.proofs.Common.{◌≡◌, ◌<◌, ℕ, List, length, ap, subst, 
 use Rattle.std.specs.Prelude.{◌==◌}
 use Rattle.ground.specs.GroundView.{inputs_of, kinds_of}
 use Rattle.statement.specs.Rules.{State}
-use Rattle.rulegame.specs.RulePlay.{ends}
-use Rattle.rulegame.specs.RuleState.{holds_in, AreRead}
+use Rattle.rulebook.specs.RulePlay.{ends}
+use Rattle.rulebook.specs.RuleState.{holds_in, AreRead}
 use Rattle.netgame.specs.NetState.{lane_state}
 use Rattle.netgame.specs.NetLanes.{lane_states}
 use Rattle.netgame.proofs.Lanes.{states_count, state_at}

@@ -1,6 +1,6 @@
 use Rattle.kif.specs.View.{trees_in}
 use Rattle.statement.specs.NamedRules.{NamedRules}
-use Rattle.rulegame.specs.RuleState.{named_rules_of}
+use Rattle.rulebook.specs.RuleState.{named_rules_of}
 use Rattle.statement.specs.Answers.{Reply}
 use Rattle.statement.specs.Games.{IsPlayReply}
 use Rattle.statement.specs.Solving.{IsSolveReply}

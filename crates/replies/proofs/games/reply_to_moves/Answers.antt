@@ -1,5 +1,5 @@
 use Rattle.kif.specs.View.{trees_in}
-use Rattle.rulegame.specs.RuleState.{named_rules_of}
+use Rattle.rulebook.specs.RuleState.{named_rules_of}
 use Rattle.statement.specs.Moving.{IsMovesReply}
 use Rattle.replies.proofs.Describing.{tells_game, over_network, over_rules}
 use Rattle.replies.proofs.games.reply_to_moves.Goals as goal

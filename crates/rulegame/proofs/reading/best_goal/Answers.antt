@@ -1,7 +1,7 @@
 use Rattle.std.proofs.Common.{Bool, false, cond, get_or, ap, ◌∙◌}
 use Rattle.statement.specs.declared.kind.Kind.TheVariants.{Fixed}
-use Rattle.rulegame.specs.declared.plan.Standing.{Standing}
-use Rattle.rulegame.specs.RulePlay.{goal_value}
+use Rattle.rulebook.specs.declared.standing.Standing.{Standing}
+use Rattle.rulebook.specs.RulePlay.{goal_value}
 use Rattle.rulegame.proofs.PlanLemmas.{greatest_more}
 use Rattle.rulegame.proofs.reading.best_goal.Goals as goal
 

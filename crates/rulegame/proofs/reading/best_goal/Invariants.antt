@@ -1,5 +1,5 @@
 use Rattle.std.proofs.Common.{◌≡◌, false, get_or, take}
-use Rattle.rulegame.specs.Plans.{goal_among}
+use Rattle.rulebook.specs.Standings.{goal_among}
 use Rattle.rulegame.proofs.reading.best_goal.Given as goal
 
 -- the greatest of the atoms before this one

@@ -1,5 +1,5 @@
 use Rattle.std.proofs.Common.{◌≡◌, false, get_or, take}
-use Rattle.rulegame.specs.Plans.{ends_among}
+use Rattle.rulebook.specs.Standings.{ends_among}
 use Rattle.rulegame.proofs.reading.has_ended.Given as goal
 
 -- whether an atom before this one ends the game

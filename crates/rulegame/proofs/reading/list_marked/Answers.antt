@@ -1,5 +1,5 @@
 use Rattle.std.proofs.Common.{ℕ, List, [], ◌∷◌, ◌++◌, false, cond, get_or, sym, ap, ◌∙◌, arith}
-use Rattle.rulegame.proofs.Marks.{filter_range_more}
+use Rattle.rulebook.proofs.Facts.{filter_range_more}
 use Rattle.rulegame.proofs.reading.list_marked.Goals as goal
 
 pub loop-number-preserved : goal.loop-number-preserved

@@ -1,5 +1,5 @@
 use Rattle.std.proofs.Common.{◌≡◌, ℕ, ◌<◌, length, take, false, get_or, vec_capacity}
-use Rattle.rulegame.specs.Plans.{names_among}
+use Rattle.rulebook.specs.Standings.{names_among}
 use Rattle.rulegame.proofs.reading.mark_named.Given as goal
 
 -- what the atoms before this one name is marked

@@ -2,10 +2,10 @@ use Rattle.std.proofs.Common.{◌≡◌, ◌<◌, ℕ, List, [], ◌∷◌, leng
 use Rattle.std.proofs.Math.ListN.{length-set}
 use Rattle.game.specs.Joints.{joint_at}
 use Rattle.rulegame.specs.declared.rule_many.RuleBase.{RuleBase}
-use Rattle.rulegame.specs.RulePlay.{marked}
-use Rattle.rulegame.specs.RuleState.{rules_of}
+use Rattle.rulebook.specs.RulePlay.{marked}
+use Rattle.rulebook.specs.RuleState.{rules_of}
 use Rattle.rulegame.specs.RuleMany.{base_capacities}
-use Rattle.rulegame.proofs.Marks.{flat_map-set}
+use Rattle.rulebook.proofs.Facts.{flat_map-set}
 use Rattle.game.proofs.Facts.{set_all, set_more, joint_read}
 use Rattle.rulegame.proofs.RuleRooms.{base_room}
 use Rattle.rulegame.proofs.rule_many.step_each.Goals as goal

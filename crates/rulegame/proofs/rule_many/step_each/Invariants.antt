@@ -1,8 +1,8 @@
 use Rattle.std.proofs.Common.{◌≡◌, ℕ, ◌<◌, length, get_or, vec_capacity}
 use Rattle.game.specs.Joints.{joint_at}
 use Rattle.rulegame.specs.declared.rule_many.RuleBase.{RuleBase}
-use Rattle.rulegame.specs.RulePlay.{marked}
-use Rattle.rulegame.specs.RuleState.{rules_of}
+use Rattle.rulebook.specs.RulePlay.{marked}
+use Rattle.rulebook.specs.RuleState.{rules_of}
 use Rattle.rulegame.specs.RuleMany.{HaveBaseRoom, all_base_capacities}
 use Rattle.rulegame.proofs.rule_many.step_each.Given as goal
 

@@ -1,8 +1,8 @@
 use Rattle.std.proofs.Common.{ℕ, length, false, get_or, ◌∙◌}
 use Rattle.ground.specs.GroundView.{kinds_of, instances_of}
-use Rattle.rulegame.specs.declared.naming.Naming.TheVariants.{ByNext}
-use Rattle.rulegame.specs.declared.plan.Sought.TheVariants.{Named}
-use Rattle.rulegame.specs.RulePlay.{marked, holds}
+use Rattle.rulebook.specs.declared.naming.Naming.TheVariants.{ByNext}
+use Rattle.rulebook.specs.declared.standing.Sought.TheVariants.{Named}
+use Rattle.rulebook.specs.RulePlay.{marked, holds}
 use Rattle.rulegame.proofs.PlanLemmas.{named_marks, sought_within}
 use Rattle.rulegame.proofs.States.{named_same}
 use Rattle.rulegame.proofs.rule_pos.mark_next.Goals as goal

@@ -1,13 +1,15 @@
 use Rattle.std.proofs.Common.{ℕ, List, false, length, get_or, ap, subst, sym, ◌∙◌, arith}
 use Rattle.ground.specs.GroundView.{kinds_of}
-use Rattle.rulegame.specs.declared.naming.Naming.TheVariants.{ByLegal}
+use Rattle.rulebook.specs.declared.naming.Naming.TheVariants.{ByLegal}
 use Rattle.rulegame.specs.declared.plan.RolePlan.{RolePlan}
-use Rattle.rulegame.specs.declared.plan.Sought.TheVariants.{Named, Goals}
-use Rattle.rulegame.specs.declared.plan.Standing.{Standing}
-use Rattle.rulegame.specs.RulePlay.{marked}
-use Rattle.rulegame.specs.Plans.{goal_among, IsRolePlanOf}
-use Rattle.rulegame.proofs.PlanLemmas.{goals_all, named_marks, sought_within}
-use Rattle.rulegame.specs.GroundFacts.{few_moves}
+use Rattle.rulebook.specs.declared.standing.Sought.TheVariants.{Named, Goals}
+use Rattle.rulebook.specs.declared.standing.Standing.{Standing}
+use Rattle.rulebook.specs.RulePlay.{marked}
+use Rattle.rulebook.specs.Standings.{goal_among}
+use Rattle.rulegame.specs.Plans.{IsRolePlanOf}
+use Rattle.rulebook.proofs.Facts.{goals_all}
+use Rattle.rulegame.proofs.PlanLemmas.{named_marks, sought_within}
+use Rattle.rulebook.specs.GroundFacts.{few_moves}
 use Rattle.rulegame.proofs.rule_pos.read_role.Goals as goal
 
 pub mark_named-requires : goal.mark_named-requires
@@ -48,5 +50,5 @@ returns-clause-read c =
       count = c.list_marked-out.ensures.count;
       legal = c.list_marked-out.ensures.listed ∙ ap marked c.deref-2.ensures.value
           ∙ named_marks kinds right (ByLegal c.args.role) plan.legals.items c.deref.result.now c.mark_named.new.marks.items
-          (length c.args.out.now.marks.items) _ here.legals c.deref.ensures.value c.mark_named.ensures.marks c.requires.room.marks;
+          (length c.args.marks.now.marks.items) _ here.legals c.deref.ensures.value c.mark_named.ensures.marks c.requires.room.marks;
     }

@@ -1,16 +1,16 @@
-use Rattle.std.proofs.Common.{◌≡◌, ℕ, ◌<◌, false, length, get_or, vec_capacity}
+use Rattle.std.proofs.Common.{◌≡◌, ℕ, ◌<◌, false, length, get_or}
 use Rattle.ground.specs.Grounds.{texts_at}
 use Rattle.ground.specs.GroundView.{inputs_of, kinds_of}
-use Rattle.rulegame.specs.declared.rule_pos.RoleState.{RoleState}
-use Rattle.rulegame.specs.RuleState.{HaveRoom, IsRoleRead, all_capacities}
+use Rattle.rulebook.specs.declared.role_state.RoleState.{RoleState}
+use Rattle.rulebook.specs.RuleState.{IsRoleRead}
+use Rattle.rulegame.specs.RuleRoom.{HaveMarkedRoom, marked_capacities}
 use Rattle.rulegame.proofs.rule_pos.read_roles.Given as goal
 
 -- each role before this one is read
 abbrev pub invariant-loop-role : goal.invariant-loop-role
 invariant-loop-role l = record {
-  room : HaveRoom (inputs_of l.game.played) l.roles.items;
+  room : HaveMarkedRoom (inputs_of l.game.played) l.marks.items l.roles.items;
   read : (r : ℕ) (d : RoleState) → r < l.role → IsRoleRead (kinds_of l.game.played) (λ a. get_or l.right.items a false) r
       (length (texts_at (inputs_of l.game.played) r)) (get_or l.roles.items r d);
-  capacities : all_capacities l.roles.items ≡ all_capacities l.initial.roles.items;
-  capacity : vec_capacity l.roles ≡ vec_capacity l.initial.roles;
+  capacities : marked_capacities l.marks l.roles ≡ marked_capacities l.initial.marks l.initial.roles;
 }

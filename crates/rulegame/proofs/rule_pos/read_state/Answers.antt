@@ -1,11 +1,13 @@
 use Rattle.std.proofs.Common.{ℕ, Bool, List, [], length, false, get_or, ap, subst, ◌∙◌}
 use Rattle.ground.specs.GroundView.{inputs_of, kinds_of, instances_of}
-use Rattle.rulegame.specs.declared.plan.Sought.TheVariants.{Ends}
-use Rattle.rulegame.specs.declared.plan.Standing.{Standing}
-use Rattle.rulegame.specs.RulePlay.{marked, AreMarks, holds}
-use Rattle.rulegame.specs.Plans.{ends_among}
+use Rattle.rulebook.specs.declared.standing.Sought.TheVariants.{Ends}
+use Rattle.rulebook.specs.declared.standing.Standing.{Standing}
+use Rattle.rulebook.specs.RulePlay.{marked, holds}
+use Rattle.rulegame.specs.Marks.{AreMarks}
+use Rattle.rulebook.specs.Standings.{ends_among}
 use Rattle.rulegame.proofs.States.{ends_same, reads_same}
-use Rattle.rulegame.proofs.PlanLemmas.{ends_all, sought_within}
+use Rattle.rulebook.proofs.Facts.{ends_all}
+use Rattle.rulegame.proofs.PlanLemmas.{sought_within}
 use Rattle.rulegame.proofs.rule_pos.read_state.Goals as goal
 
 pub has_ended-p-requires : goal.has_ended-p-requires

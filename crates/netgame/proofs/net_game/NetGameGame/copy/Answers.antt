@@ -1,10 +1,10 @@
 use Rattle.std.proofs.Common.{ℕ, List, length, sym, ap, subst, ◌∙◌}
 use Rattle.ground.specs.GroundView.{inputs_of, kinds_of}
-use Rattle.rulegame.specs.declared.rule_pos.RoleState.{RoleState}
-use Rattle.rulegame.specs.RulePlay.{ends}
-use Rattle.rulegame.specs.RuleState.{AreRead, holds_in}
+use Rattle.rulebook.specs.declared.role_state.RoleState.{RoleState}
+use Rattle.rulebook.specs.RulePlay.{ends}
+use Rattle.rulebook.specs.RuleState.{AreRead, holds_in}
 use Rattle.netgame.specs.NetState.{AreSpread, lane_state}
-use Rattle.rulegame.proofs.Facts.{AreCopied, copied_room, copied_read}
+use Rattle.rulebook.proofs.Facts.{AreCopied, copied_room, copied_read}
 use Rattle.netgame.proofs.net_game.NetGameGame.copy.Goals as goal
 
 pub returns-clause-fits : goal.returns-clause-fits
@@ -12,20 +12,19 @@ returns-clause-fits c =
     let g = c.args.self.now.played in
     let n = length g.starts.items in
     let from = c.args.p.now.roles.items in
-    let old = c.args.q.now.roles.items in
     let new = c.copy_roles.new.to.items in
     let same = c.copy_from_slice.ensures.items ∙ c.deref.ensures.value in
-    let copied : AreCopied from old new = subst (λ (fs : List RoleState). AreCopied fs old new) c.deref-2.ensures.value c.copy_roles.ensures.copied in
+    let copied : AreCopied from new = subst (λ (fs : List RoleState). AreCopied fs new) c.deref-2.ensures.value c.copy_roles.ensures.copied in
     record {
       room = record {
         lanes = ap length same ∙ c.requires.from.room.lanes;
         turn = c.requires.to.room.turn;
         many = c.requires.to.room.many;
-        roles = copied_room (inputs_of g) from old new c.requires.from.room.roles c.requires.to.room.roles c.copy_roles.ensures.size copied;
+        roles = copied_room (inputs_of g) from new c.requires.from.room.roles (c.copy_roles.ensures.size ∙ c.requires.to.room.roles.size) copied;
       };
       spread = subst AreSpread (sym same) c.requires.from.spread;
       ended = c.requires.from.ended ∙ ap (λ (ws : List ℕ). ends (kinds_of g) (holds_in g (lane_state ws n 0))) (sym same);
       roles = subst (λ (ws : List ℕ). AreRead (kinds_of g) (holds_in g (lane_state ws n 0)) (inputs_of g) new) (sym same)
-          (copied_read (kinds_of g) (holds_in g (lane_state c.args.p.now.lanes.items n 0)) (inputs_of g) from old new c.requires.from.room.roles
+          (copied_read (kinds_of g) (holds_in g (lane_state c.args.p.now.lanes.items n 0)) (inputs_of g) from new c.requires.from.room.roles
           copied c.requires.from.roles);
     }

@@ -1,5 +1,5 @@
 use Rattle.std.proofs.Common.{arith}
-use Rattle.rulegame.specs.GroundFacts.{fits}
+use Rattle.rulebook.specs.GroundFacts.{fits}
 use Rattle.netgame.proofs.net_game.NetGameGame.role_text.Goals as goal
 
 pub role_text-requires : goal.role_text-requires

@@ -1,27 +1,31 @@
 use Rattle.std.proofs.Common.{Bool, List, length, sym, ap, subst, ◌∙◌}
 use Rattle.ground.specs.GroundView.{inputs_of, kinds_of}
-use Rattle.rulegame.specs.declared.rule_pos.RoleState.{RoleState}
-use Rattle.rulegame.specs.RulePlay.{marked, ends}
-use Rattle.rulegame.specs.RuleState.{AreRead, holds_in}
-use Rattle.rulegame.proofs.States.{AreCopied, copied_room, copied_read}
+use Rattle.rulebook.specs.declared.role_state.RoleState.{RoleState}
+use Rattle.rulebook.specs.RulePlay.{marked, ends}
+use Rattle.rulebook.specs.RuleState.{AreRead, holds_in}
+use Rattle.rulebook.proofs.Facts.{AreCopied, copied_room, copied_read}
 use Rattle.rulegame.proofs.rule_game.RuleGameGame.copy.Goals as goal
 
 pub returns-clause-fits : goal.returns-clause-fits
 returns-clause-fits c =
     let g = c.args.self.now.played in
     let from = c.args.p.now.roles.items in
-    let old = c.args.q.now.roles.items in
     let new = c.copy_roles.new.to.items in
     let same = c.copy_from_slice.ensures.items ∙ c.deref.ensures.value in
-    let copied : AreCopied from old new = subst (λ (fs : List RoleState). AreCopied fs old new) c.deref-2.ensures.value c.copy_roles.ensures.copied in
+    let copied : AreCopied from new = subst (λ (fs : List RoleState). AreCopied fs new) c.deref-2.ensures.value c.copy_roles.ensures.copied in
+    let marks = c.requires.to.room.roles in
     record {
       room = record {
         base = ap length same ∙ c.requires.from.room.base;
         right = c.requires.to.room.right;
-        roles = copied_room (inputs_of g) from old new c.requires.from.room.roles c.requires.to.room.roles c.copy_roles.ensures.size copied;
+        roles = record {
+          size = marks.size;
+          each = marks.each;
+          roles = copied_room (inputs_of g) from new c.requires.from.room.roles.roles (c.copy_roles.ensures.size ∙ marks.roles.size) copied;
+        };
       };
       ended = c.requires.from.ended ∙ ap (λ (bs : List Bool). ends (kinds_of g) (holds_in g (marked bs))) (sym same);
       roles = subst (λ (bs : List Bool). AreRead (kinds_of g) (holds_in g (marked bs)) (inputs_of g) new) (sym same)
-          (copied_read (kinds_of g) (holds_in g (marked c.args.p.now.base.items)) (inputs_of g) from old new c.requires.from.room.roles copied
+          (copied_read (kinds_of g) (holds_in g (marked c.args.p.now.base.items)) (inputs_of g) from new c.requires.from.room.roles.roles copied
           c.requires.from.roles);
     }

@@ -1,5 +1,5 @@
 use Rattle.std.proofs.Common.{sym, ◌∙◌}
-use Rattle.rulegame.specs.GroundFacts.{fits}
+use Rattle.rulebook.specs.GroundFacts.{fits}
 use Rattle.rulegame.proofs.rule_game.RuleGameGame.roles.Goals as goal
 
 pub returns : goal.returns

@@ -1,6 +1,6 @@
 use Rattle.std.proofs.Common.{ℕ, List, ap, ◌∙◌}
-use Rattle.rulegame.specs.RulePlay.{marked}
-use Rattle.rulegame.specs.RuleState.{rules_of}
+use Rattle.rulebook.specs.RulePlay.{marked}
+use Rattle.rulebook.specs.RuleState.{rules_of}
 use Rattle.rulegame.proofs.rule_game.RuleGameGame.step.Goals as goal
 
 pub returns-clause-after : goal.returns-clause-after

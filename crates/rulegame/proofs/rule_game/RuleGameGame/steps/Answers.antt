@@ -1,6 +1,6 @@
 use Rattle.std.proofs.Common.{◌≡◌, length, arith}
-use Rattle.rulegame.specs.RulePlay.{marked}
-use Rattle.rulegame.specs.RuleState.{rules_of}
+use Rattle.rulebook.specs.RulePlay.{marked}
+use Rattle.rulebook.specs.RuleState.{rules_of}
 use Rattle.rulegame.specs.declared.rule_many.RuleBase.{RuleBase}
 use Rattle.game.proofs.Facts.{taken_map}
 use Rattle.rulegame.proofs.rule_game.RuleGameGame.steps.Goals as goal
