@@ -45,7 +45,7 @@ use Rattle.statement.specs.Most.{limits}
 use Rattle.ground.specs.GroundView.{base_of, inputs_of, kinds_of, instances_of}
 use Rattle.statement.specs.declared.node_name.Name.{Name}
 use Rattle.statement.specs.declared.node_name.Name.TheVariants.{Base, Input, Not, And, View, Transition}
-use Rattle.statement.specs.Nodes.{has_gate, gates_from, gates_of, has_view, is_negated, atom_names, base_names, role_names, input_names, node_names}
+use Rattle.propnet.specs.NodeNames.{has_gate, gates_from, gates_of, has_view, is_negated, atom_names, base_names, role_names, input_names, node_names}
 use Rattle.propnet.specs.Builders.{input_counts, names_below}
 use Rattle.propnet.proofs.GroundFacts.{fits}
 

@@ -10,3 +10,5 @@ pub use Rattle.propnet.proofs.GateValues.{value_lt}
 pub use Rattle.propnet.proofs.NetLaw.{view_law, transition_law, told_law}
 -- Values of the gates in their order.
 pub use Rattle.propnet.proofs.Order.{value_solves, got_map}
+-- What the nodes of a network stand for.
+pub use Rattle.propnet.proofs.NodesLaw.{nodes_law}

@@ -42,7 +42,7 @@ use Rattle.statement.specs.declared.node_name.Name.{Name}
 use Rattle.statement.specs.declared.node_name.Name.TheVariants.{Base, Input, Not, And, View, Transition}
 use Rattle.propnet.specs.Values.{lane}
 use Rattle.propnet.specs.Network.{Gate, given}
-use Rattle.statement.specs.Nodes.{has_view, is_negated, gates_of, atom_names, base_names, role_names, input_names, node_names}
+use Rattle.propnet.specs.NodeNames.{has_view, is_negated, gates_of, atom_names, base_names, role_names, input_names, node_names}
 use Rattle.game.specs.Joints.{joint_at}
 use Rattle.propnet.specs.Building.{names_of, Stands}
 use Rattle.propnet.specs.Placing.{input_number, ArePlaced}

@@ -29,7 +29,10 @@ pub use bits::get_bit;
 pub use fault::NetFault;
 pub use game::Joint;
 pub use label::Label;
-pub use laws::{each_name_is_one_node, values_solve_the_equations, views_say_what_holds};
+pub use laws::{
+    each_name_is_one_node, nodes_are_those_of_the_rules, values_solve_the_equations,
+    views_say_what_holds,
+};
 pub use net::Net;
 pub use node::Node;
 pub use nodes::Nodes;
