@@ -5,7 +5,7 @@ use Rattle.std.proofs.lemmas.List.{length-take, take-append-drop, take_more_set,
 use Rattle.std.proofs.lemmas.List.Elements.{filter-append}
 use Rattle.std.proofs.Math.Seq.{take-add, take-append_seam, drop-append_seam, take-length}
 use Rattle.kept.specs.declared.entry.Entry.{Entry}
-use Rattle.kept.specs.declared.entry.Run.{Run}
+use Rattle.kept.specs.declared.entry.AlternativeRun.{AlternativeRun}
 use Rattle.statement.specs.Kept.{Kept}
 use Rattle.kept.specs.LeavingOut.{moved, with_some}
 use Rattle.kept.specs.Lists.{alternative_at, kept_behind, kept_from, StandBetween, Rise}
@@ -42,7 +42,7 @@ part_passes p ls a b many h m =
     ∙ ap (take (length part)) (drop-append_seam (filter p (take a ls)) (part ++ rest))
     ∙ take-append_seam part rest
 
-numbers_behind : (p : ℕ × Bool → Bool) (runs : List Run) (ls : List (ℕ × Bool)) (n start many : ℕ) (es : List Entry) (end : ℕ)
+numbers_behind : (p : ℕ × Bool → Bool) (runs : List AlternativeRun) (ls : List (ℕ × Bool)) (n start many : ℕ) (es : List Entry) (end : ℕ)
     → StandBetween start es end → many ≡ passing p (take start ls)
     → kept_behind runs (filter p ls) n many (moved p ls start many es) ≡ map (with_some p) (kept_behind runs ls n start es)
 numbers_behind p runs ls n start many [] end h m = refl
@@ -66,13 +66,13 @@ moved_many p ls start many [] = refl
 moved_many p ls start many (e ∷ es) = ap suc (moved_many p ls e.end (many + passing p (slice_range ls start e.end)) es)
 
 -- the instances once the ends have moved and the literals that do not stay are gone
-pub some_numbers : (p : ℕ × Bool → Bool) (runs : List Run) (ls left : List (ℕ × Bool)) (es new : List Entry) → StandBetween 0 es (length ls)
+pub some_numbers : (p : ℕ × Bool → Bool) (runs : List AlternativeRun) (ls left : List (ℕ × Bool)) (es new : List Entry) → StandBetween 0 es (length ls)
     → new ≡ moved p ls 0 0 es → left ≡ filter p ls → kept_behind runs left 0 0 new ≡ map (with_some p) (kept_behind runs ls 0 0 es)
 some_numbers p runs ls left es new h e f =
     ap (λ (xs : List Entry). kept_behind runs left 0 0 xs) e ∙ ap (λ (ks : List (ℕ × Bool)). kept_behind runs ks 0 0 (moved p ls 0 0 es)) f
     ∙ numbers_behind p runs ls 0 0 0 es (length ls) h refl
 
-pub some_laid : (p : ℕ × Bool → Bool) (runs : List Run) (ls left : List (ℕ × Bool)) (es new : List Entry)
+pub some_laid : (p : ℕ × Bool → Bool) (runs : List AlternativeRun) (ls left : List (ℕ × Bool)) (es new : List Entry)
     → StandBetween 0 es (length ls) × Rise 0 runs (length es) → new ≡ moved p ls 0 0 es → left ≡ filter p ls
     → StandBetween 0 new (length left) × Rise 0 runs (length new)
 some_laid p runs ls left es new h e f = (

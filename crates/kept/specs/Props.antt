@@ -4,7 +4,7 @@ use Rattle.std.specs.Prelude.{ℕ, List, [], ◌∷◌, length}
 use Rattle.std.specs.Coded.{×_prop, le_prop}
 use Rattle.std.proofs.Math.Nat.{ℕ_set}
 use Rattle.kept.specs.declared.entry.Entry.{Entry}
-use Rattle.kept.specs.declared.entry.Run.{Run}
+use Rattle.kept.specs.declared.entry.AlternativeRun.{AlternativeRun}
 use Rattle.kept.specs.declared.found_list.FoundList.{FoundList}
 use Rattle.kept.specs.Lists.{StandBetween, Rise, AreLaid}
 
@@ -12,7 +12,7 @@ StandBetween-prop : (start : ℕ) (es : List Entry) (end : ℕ) → IsProp (Stan
 StandBetween-prop start [] end = ℕ_set start end
 StandBetween-prop start (e ∷ es) end = ×_prop le_prop (StandBetween-prop e.end es end)
 
-Rise-prop : (low : ℕ) (rs : List Run) (high : ℕ) → IsProp (Rise low rs high)
+Rise-prop : (low : ℕ) (rs : List AlternativeRun) (high : ℕ) → IsProp (Rise low rs high)
 Rise-prop low [] high = le_prop
 Rise-prop low (r ∷ rs) high = ×_prop le_prop (Rise-prop r.first rs high)
 

@@ -12,7 +12,7 @@ pub struct Entry {
 
 /// Instances of one alternative, which stand one behind the other, up to the first of the next run.
 #[derive(Drop)]
-pub struct Run {
+pub struct AlternativeRun {
     /// The place of the alternative, from 0.
     pub alternative: u32,
     /// The place of the first of the instances.

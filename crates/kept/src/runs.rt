@@ -2,26 +2,26 @@
 ghost use Rattle.std.specs.Prelude.{ℕ, ◌≡◌, ◌<◌, ◌≤◌, get_or, leb, length, true, OnOk};
 ghost use Rattle.kept.specs.Lists.{Adds, Rise, alternative_at, last_behind};
 
-use crate::entry::Run;
+use crate::entry::AlternativeRun;
 use keys::in_32_bits;
 use std::alloc::AllocError;
 
 /// How many runs begin at a place or before it.
-fn count_runs(runs: &[Run], place: usize) -> usize
+fn count_runs(runs: &[AlternativeRun], place: usize) -> usize
     ensures within { result ≤ length runs.now }
-    ensures begun { (low high : ℕ) → Rise low runs.now high → (k : ℕ) (d : Run) → k < result → (get_or runs.now k d).first ≤ place }
-    ensures others { (low high : ℕ) → Rise low runs.now high → (k : ℕ) (d : Run) → result ≤ k → k < length runs.now
+    ensures begun { (low high : ℕ) → Rise low runs.now high → (k : ℕ) (d : AlternativeRun) → k < result → (get_or runs.now k d).first ≤ place }
+    ensures others { (low high : ℕ) → Rise low runs.now high → (k : ℕ) (d : AlternativeRun) → result ≤ k → k < length runs.now
         → place < (get_or runs.now k d).first }
 {
     runs.partition_point(
-        |run: &Run| -> bool
+        |run: &AlternativeRun| -> bool
             ensures { result ≡ leb run.now.first place }
         { run.first as usize <= place },
     )
 }
 
 /// The alternative of the instance at a place; 0 where no run has begun.
-pub fn alternative_at(runs: &[Run], place: usize) -> u32
+pub fn alternative_at(runs: &[AlternativeRun], place: usize) -> u32
     ensures { (low high : ℕ) → Rise low runs.now high → result ≡ alternative_at runs.now place }
 {
     let begun = count_runs(runs, place);
@@ -32,7 +32,7 @@ pub fn alternative_at(runs: &[Run], place: usize) -> u32
 }
 
 /// Whether the last run is of an alternative.
-fn is_last(runs: &[Run], alternative: usize) -> bool
+fn is_last(runs: &[AlternativeRun], alternative: usize) -> bool
     ensures { result ≡ true → last_behind 0 runs.now ≡ alternative }
 {
     let many = runs.len();
@@ -40,13 +40,13 @@ fn is_last(runs: &[Run], alternative: usize) -> bool
 }
 
 /// Adds the run of an instance behind those of all before it, unless it is of the last one's alternative.
-pub fn add_run(runs: &mut Vec<Run>, alternative: usize, place: usize) -> Result<(), AllocError>
+pub fn add_run(runs: &mut Vec<AlternativeRun>, alternative: usize, place: usize) -> Result<(), AllocError>
     ensures { OnOk result (Rise 0 runs.old.items place → Adds alternative place runs.old.items runs.new.items) }
 {
     if is_last(runs, alternative) {
         return Ok(());
     }
-    let run = Run {
+    let run = AlternativeRun {
         alternative: in_32_bits(alternative)?,
         first: in_32_bits(place)?,
     };

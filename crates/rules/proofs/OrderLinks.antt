@@ -11,7 +11,7 @@ use Rattle.std.proofs.lemmas.Cmp.{nat_cmp_total, nat_list_cmp_total, on_total, t
 use Rattle.std.proofs.lemmas.List.Sorted.{sorted_far, ranks_by, All-permutation, Contains-permutation, IsPermutation-map, sum_by-IsPermutation}
 use Rattle.std.proofs.lemmas.List.Sums.{sum_by-cons}
 use Rattle.std.proofs.lemmas.List.Elements.{All-head, All-tail}
-use Rattle.rules.specs.declared.order_of_relations.Entry.{Entry}
+use Rattle.rules.specs.declared.order_of_relations.Ranked.{Ranked}
 use Rattle.statement.specs.Clause.{Alternative, Relation}
 use Rattle.statement.specs.Dependence.{IsAmong, is_fixed}
 use Rattle.statement.specs.Order.{rank, then_by, fixed_place, relation_cmp, sorted, relations_in_order}
@@ -23,10 +23,10 @@ use Rattle.profile.proofs.Facts.{tied_equal, rising_same, relations_rising, rela
 
 entry_total : IsTotalOrder entry_cmp
 entry_total =
-    then_total (on_total (λ (e : Entry). e.is_moving) bool_cmp_total)
-    (then_total (on_total (λ (e : Entry). e.rank) nat_cmp_total)
-    (then_total (on_total (λ (e : Entry). e.name.now) nat_list_cmp_total)
-    (then_total (on_total (λ (e : Entry). e.arity) nat_cmp_total) (on_total (λ (e : Entry). e.number) nat_cmp_total))))
+    then_total (on_total (λ (e : Ranked). e.is_moving) bool_cmp_total)
+    (then_total (on_total (λ (e : Ranked). e.rank) nat_cmp_total)
+    (then_total (on_total (λ (e : Ranked). e.name.now) nat_list_cmp_total)
+    (then_total (on_total (λ (e : Ranked). e.arity) nat_cmp_total) (on_total (λ (e : Ranked). e.number) nat_cmp_total))))
 
 -- The entries in order rise.
 
@@ -48,12 +48,12 @@ contains_among xs x c = go xs c.0 c.1 c.2
     go (y ∷ ys) zero h e = inl (sym e)
     go (y ∷ ys) (suc k) h e = inr (go ys k (omega (arith, h)) e)
 
-map_among : (f : Entry → Relation) (es : List Entry) (q : Relation) → IsAmong q (map f es) → (e : Entry) × IsAmong e es × (q ≡ f e)
+map_among : (f : Ranked → Relation) (es : List Ranked) (q : Relation) → IsAmong q (map f es) → (e : Ranked) × IsAmong e es × (q ≡ f e)
 map_among f [] q i = absurd i
 map_among f (e ∷ es) q (inl s) = (e, inl refl, s)
 map_among f (e ∷ es) q (inr i) = let k = map_among f es q i in (k.0, inr k.1, k.2)
 
-among_at : (es : List Entry) (e : Entry) → IsAmong e es → (k : ℕ) × (k < length es) × (get_or es k e ≡ e)
+among_at : (es : List Ranked) (e : Ranked) → IsAmong e es → (k : ℕ) × (k < length es) × (get_or es k e ≡ e)
 among_at [] e i = absurd i
 among_at (x ∷ es) e (inl s) = (0, (let l : 0 < suc (length es) = omega arith in l), sym s)
 among_at (x ∷ es) e (inr i) = let k = among_at es e i in (suc k.0, (let h = k.1 in omega (arith, h)), k.2)
@@ -65,18 +65,18 @@ counts_one a b e = go (a == b) (eq-eqb a b e)
     go true f = omega arith
     go false f = absurd cc
 
-counted : (number : ℕ) (es : List Entry) (e : Entry) → IsAmong e es → e.number ≡ number → 1 ≤ count_by (λ (x : Entry). x.number == number) es
+counted : (number : ℕ) (es : List Ranked) (e : Ranked) → IsAmong e es → e.number ≡ number → 1 ≤ count_by (λ (x : Ranked). x.number == number) es
 counted number [] e i s = absurd i
 counted number (x ∷ es) e (inl f) s =
-    let g = sum_by-cons (λ (y : Entry). cond (y.number == number) 1 0) x es in
-    let h = counts_one x.number number (ap (λ (y : Entry). y.number) (sym f) ∙ s) in
+    let g = sum_by-cons (λ (y : Ranked). cond (y.number == number) 1 0) x es in
+    let h = counts_one x.number number (ap (λ (y : Ranked). y.number) (sym f) ∙ s) in
     omega (arith, g, h)
-counted number (x ∷ es) e (inr i) s = let g = sum_by-cons (λ (y : Entry). cond (y.number == number) 1 0) x es in let h = counted number es e i s in
+counted number (x ∷ es) e (inr i) s = let g = sum_by-cons (λ (y : Ranked). cond (y.number == number) 1 0) x es in let h = counted number es e i s in
     omega (arith, g, h)
 
-counted_more : (number : ℕ) (x : Entry) (es : List Entry)
-    → count_by (λ (y : Entry). y.number == number) es ≤ count_by (λ (y : Entry). y.number == number) (x ∷ es)
-counted_more number x es = let g = sum_by-cons (λ (y : Entry). cond (y.number == number) 1 0) x es in omega (arith, g)
+counted_more : (number : ℕ) (x : Ranked) (es : List Ranked)
+    → count_by (λ (y : Ranked). y.number == number) es ≤ count_by (λ (y : Ranked). y.number == number) (x ∷ es)
+counted_more number x es = let g = sum_by-cons (λ (y : Ranked). cond (y.number == number) 1 0) x es in omega (arith, g)
 
 then_by-assoc : (a b c : Ordering) → then_by (then_by a b) c ≡ then_by a (then_by b c)
 then_by-assoc Less b c = refl
@@ -89,7 +89,7 @@ moving_place true false = refl
 moving_place false true = refl
 moving_place false false = refl
 
-entry_is : (n : ℕ) (name : ℕ → Relation) (rules : List Alternative) (a b : Entry) → IsEntry n name rules a → IsEntry n name rules b
+entry_is : (n : ℕ) (name : ℕ → Relation) (rules : List Alternative) (a b : Ranked) → IsEntry n name rules a → IsEntry n name rules b
     → entry_cmp a b ≡ then_by (relation_cmp rules (name a.number) (name b.number)) (nat_cmp a.number b.number)
 entry_is n name rules a b p q =
     let place : bool_cmp a.is_moving b.is_moving ≡ nat_cmp (fixed_place rules (name a.number)) (fixed_place rules (name b.number))
@@ -113,17 +113,17 @@ entry_is n name rules a b p q =
         ∙ sym (then_by-assoc f' (then_by r' (then_by w' t')) m
         ∙ ap (λ (x : Ordering). then_by f' x) (then_by-assoc r' (then_by w' t') m ∙ ap (λ (x : Ordering). then_by r' x) (then_by-assoc w' t' m)))
 
-AreFar : List Entry → Type 0
-AreFar es = (i j : ℕ) (d : Entry) → i ≤ j → j < length es → is_lt (entry_cmp (get_or es j d) (get_or es i d)) ≡ false
+AreFar : List Ranked → Type 0
+AreFar es = (i j : ℕ) (d : Ranked) → i ≤ j → j < length es → is_lt (entry_cmp (get_or es j d) (get_or es i d)) ≡ false
 
-entries_rising : (n : ℕ) (name : ℕ → Relation) (rules : List Alternative) → ((i j : ℕ) → i < n → j < n → name i ≡ name j → i ≡ j) → (es : List Entry)
+entries_rising : (n : ℕ) (name : ℕ → Relation) (rules : List Alternative) → ((i j : ℕ) → i < n → j < n → name i ≡ name j → i ≡ j) → (es : List Ranked)
     → All (IsEntry n name rules) es
-    → ((number : ℕ) → count_by (λ (e : Entry). e.number == number) es ≤ 1) → AreFar es
-    → Rising (relation_cmp rules) (map (λ (e : Entry). name e.number) es)
+    → ((number : ℕ) → count_by (λ (e : Ranked). e.number == number) es ≤ 1) → AreFar es
+    → Rising (relation_cmp rules) (map (λ (e : Ranked). name e.number) es)
 unfolding AreFar
 entries_rising n name rules different [] all once far = tt
 entries_rising n name rules different (e ∷ es) all once far = (
-  (λ q i. first q (map_among (λ (x : Entry). name x.number) es q i)),
+  (λ q i. first q (map_among (λ (x : Ranked). name x.number) es q i)),
   entries_rising n name rules different es (All-tail (IsEntry n name rules) e es all) (λ number. (let a = once number in let b =
       counted_more number e es in omega (arith, a, b)))
       (λ i j d h k. far (suc i) (suc j) d (omega (arith, h)) (omega (arith, k))),
@@ -132,64 +132,64 @@ entries_rising n name rules different (e ∷ es) all once far = (
     here : IsEntry n name rules e
     here = All-head (IsEntry n name rules) e es all
 
-    alone : (x : Entry) → IsAmong x es → x.number ≡ e.number → ⊥
+    alone : (x : Ranked) → IsAmong x es → x.number ≡ e.number → ⊥
     alone x i s =
         let a = once e.number in let b = counted e.number es x i s in
-        let g = sum_by-cons (λ (y : Entry). cond (y.number == e.number) 1 0) e es in
+        let g = sum_by-cons (λ (y : Ranked). cond (y.number == e.number) 1 0) e es in
         let h = counts_one e.number e.number refl in
         omega (arith, a, b, g, h)
 
-    not_after : (x : Entry) → IsAmong x es → is_lt (entry_cmp x e) ≡ false
+    not_after : (x : Ranked) → IsAmong x es → is_lt (entry_cmp x e) ≡ false
     not_after x i = let k = among_at es x i in
-        subst (λ (y : Entry). is_lt (entry_cmp y e) ≡ false) k.2 (far 0 (suc k.0) x (omega arith) (let h = k.1 in omega (arith, h)))
+        subst (λ (y : Ranked). is_lt (entry_cmp y e) ≡ false) k.2 (far 0 (suc k.0) x (omega arith) (let h = k.1 in omega (arith, h)))
 
-    less : (x : Entry) → IsAmong x es → IsEntry n name rules x → (o : Ordering) → relation_cmp rules (name x.number) (name e.number) ≡ o
+    less : (x : Ranked) → IsAmong x es → IsEntry n name rules x → (o : Ordering) → relation_cmp rules (name x.number) (name e.number) ≡ o
         → is_lt (then_by o (nat_cmp x.number e.number)) ≡ false
         → relation_cmp rules (name e.number) (name x.number) ≡ Less
     less x i p Less h f = absurd cc
     less x i p Equal h f = absurd (alone x i (different x.number e.number p.inside here.inside (tied_equal rules (name x.number) (name e.number) h)))
     less x i p Greater h f = (relation_total rules).antisymm (name e.number) (name x.number) ∙ ap ordering_reverse h
 
-    first : (q : Relation) → (x : Entry) × IsAmong x es × (q ≡ name x.number) → relation_cmp rules (name e.number) q ≡ Less
+    first : (q : Relation) → (x : Ranked) × IsAmong x es × (q ≡ name x.number) → relation_cmp rules (name e.number) q ≡ Less
     first q k =
         let p = all_among (IsEntry n name rules) es k.0 (All-tail (IsEntry n name rules) e es all) k.1 in
         subst (λ (y : Relation). relation_cmp rules (name e.number) y ≡ Less) (sym k.2)
         (less k.0 k.1 p (relation_cmp rules (name (k.0).number) (name e.number)) refl (ap is_lt (sym (entry_is n name rules k.0 e p here))
         ∙ not_after k.0 k.1))
 
-map_numbers : (name : ℕ → Relation) (es : List Entry) → map name (map (λ (e : Entry). e.number) es) ≡ map (λ (e : Entry). name e.number) es
+map_numbers : (name : ℕ → Relation) (es : List Ranked) → map name (map (λ (e : Ranked). e.number) es) ≡ map (λ (e : Ranked). name e.number) es
 map_numbers name [] = refl
 map_numbers name (e ∷ es) = ap (λ (ps : List Relation). name e.number ∷ ps) (map_numbers name es)
 
-pub order_is : (n : ℕ) (name : ℕ → Relation) (rules : List Alternative) (entries : List Entry) → AreEntries n name rules entries → (numbers : List ℕ)
+pub order_is : (n : ℕ) (name : ℕ → Relation) (rules : List Alternative) (entries : List Ranked) → AreEntries n name rules entries → (numbers : List ℕ)
     → AreInOrder entries numbers
     → map name numbers ≡ relations_in_order rules
 unfolding AreFar
 order_is n name rules entries a numbers o =
     ap (map name) o.numbers_are ∙ map_numbers name o.placed
-    ∙ rising_same (relation_cmp rules) (relation_total rules) (map (λ (e : Entry). name e.number) o.placed) (relations_in_order rules)
+    ∙ rising_same (relation_cmp rules) (relation_total rules) (map (λ (e : Ranked). name e.number) o.placed) (relations_in_order rules)
     (entries_rising n name rules a.different o.placed all once far) (relations_rising rules) out into
   where
     all : All (IsEntry n name rules) o.placed
     all = All-permutation (IsEntry n name rules) entries o.placed o.moved a.each
 
-    once : (number : ℕ) → count_by (λ (e : Entry). e.number == number) o.placed ≤ 1
-    once number = let s = sum_by-IsPermutation (λ (e : Entry). cond (e.number == number) 1 0) entries o.placed o.moved in let b = a.once number in
+    once : (number : ℕ) → count_by (λ (e : Ranked). e.number == number) o.placed ≤ 1
+    once number = let s = sum_by-IsPermutation (λ (e : Ranked). cond (e.number == number) 1 0) entries o.placed o.moved in let b = a.once number in
         omega (arith, s, b)
 
     far : AreFar o.placed
-    far i j d h k = sorted_far (λ x y. is_lt (entry_cmp x y)) (ranks_by entry_total (λ (e : Entry). e)) o.placed o.sorted i j d h k
+    far i j d h k = sorted_far (λ x y. is_lt (entry_cmp x y)) (ranks_by entry_total (λ (e : Ranked). e)) o.placed o.sorted i j d h k
 
-    out : (q : Relation) → IsAmong q (map (λ (e : Entry). name e.number) o.placed) → IsAmong q (relations_in_order rules)
+    out : (q : Relation) → IsAmong q (map (λ (e : Ranked). name e.number) o.placed) → IsAmong q (relations_in_order rules)
     out q i =
-        let k = map_among (λ (e : Entry). name e.number) o.placed q i in
+        let k = map_among (λ (e : Ranked). name e.number) o.placed q i in
         subst (λ (x : Relation). IsAmong x (relations_in_order rules)) (sym k.2)
         (heads_are_relations rules (name (k.0).number) (all_among (IsEntry n name rules) o.placed k.0 all k.1).heads)
 
-    into : (q : Relation) → IsAmong q (relations_in_order rules) → IsAmong q (map (λ (e : Entry). name e.number) o.placed)
+    into : (q : Relation) → IsAmong q (relations_in_order rules) → IsAmong q (map (λ (e : Ranked). name e.number) o.placed)
     into q i =
         let here = a.complete q (relations_are_heads rules q i) in
-        contains_among (map (λ (e : Entry). name e.number) o.placed) q
-        (Contains-permutation (map (λ (e : Entry). name e.number) entries) (map (λ (e : Entry). name e.number) o.placed) q
-        (IsPermutation-map (λ (e : Entry). name e.number) entries o.placed o.moved)
-        (among_contains (map (λ (e : Entry). name e.number) entries) q here))
+        contains_among (map (λ (e : Ranked). name e.number) o.placed) q
+        (Contains-permutation (map (λ (e : Ranked). name e.number) entries) (map (λ (e : Ranked). name e.number) o.placed) q
+        (IsPermutation-map (λ (e : Ranked). name e.number) entries o.placed o.moved)
+        (among_contains (map (λ (e : Ranked). name e.number) entries) q here))

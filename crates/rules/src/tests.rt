@@ -1,7 +1,7 @@
 //! Links and entries that are worked out by hand.
 use crate::dependences::graph_of;
 use crate::item_links::{Bound, Links, first_bad_dependence, first_recursive};
-use crate::order_of_relations::{Entry, numbers_in_order};
+use crate::order_of_relations::{Ranked, numbers_in_order};
 use std::test::Fail;
 
 #[test]
@@ -43,8 +43,8 @@ fn entry(
     name: &'static [u8],
     arity: usize,
     number: usize,
-) -> Entry<'static> {
-    Entry {
+) -> Ranked<'static> {
+    Ranked {
         is_moving,
         rank,
         name,

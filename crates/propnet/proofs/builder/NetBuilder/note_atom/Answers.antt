@@ -2,7 +2,7 @@ use Rattle.std.proofs.Common.{length}
 use Rattle.ground.specs.GroundView.{base_of, kinds_of, instances_of}
 use Rattle.propnet.specs.Builders.{input_counts, gates_made}
 use Rattle.propnet.proofs.AtomLemmas.{atom_noted}
-use Rattle.propnet.proofs.builder.Builder.note_atom.Goals as goal
+use Rattle.propnet.proofs.builder.NetBuilder.note_atom.Goals as goal
 
 pub returns-clause-made : goal.returns-clause-made
 returns-clause-made c =
