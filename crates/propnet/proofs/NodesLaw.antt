@@ -20,7 +20,7 @@ use Rattle.meaning.specs.InOrder.{AreDistinct}
 use Rattle.meaning.specs.Gates.{atom_at}
 use Rattle.meaning.proofs.Facts.{one_number, atom_found, atom_test, place_below, is_atom_yes, is_atom_in_yes}
 use Rattle.propnet.specs.NodeNames.{has_gate, gates_from, gates_of, has_view, is_negated, atom_names, base_names, role_names, input_names, node_names}
-use Rattle.propnet.specs.NetNodes.{NetNode, base, input, conjunction, view, negation, transition, gated, is_negative_of, is_negated_in, gates, AreNodesOf}
+use Rattle.statement.specs.Nodes.{NetNode, base, input, conjunction, view, negation, transition, gated, is_negative_of, is_negated_in, inner_nodes, AreNodesOf}
 use Rattle.propnet.specs.Standing.{no_instance, meant}
 use Rattle.ground.specs.declared.flat_ground.FlatGround.{FlatGround}
 use Rattle.ground.specs.GroundView.{base_of, kinds_of, instances_of, IsGround}
@@ -344,7 +344,7 @@ module _ (rules : List Alternative) where
         let views = map view (filter (λ x. is_atom_in x (heads (gated rules))) atoms) in
         let nots = map negation (filter (is_negated_in rules (gated rules)) atoms) in
         let inner = views ++ nots in
-        let parts : (map conjunction (gated rules) ++ inner) ++ map (meant rules) last ≡ gates rules =
+        let parts : (map conjunction (gated rules) ++ inner) ++ map (meant rules) last ≡ inner_nodes rules =
         append_assoc (map conjunction (gated rules)) inner (map (meant rules) last)
         ∙ ap (λ l. map conjunction (gated rules) ++ l) (append_assoc views nots (map (meant rules) last)
         ∙ ap (λ l. views ++ (nots ++ l)) transitions_meant) in

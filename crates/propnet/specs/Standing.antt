@@ -8,7 +8,7 @@ use Rattle.statement.specs.Played.{nth_tree}
 use Rattle.statement.specs.declared.node_name.Name.{Name}
 use Rattle.statement.specs.declared.node_name.Name.TheVariants.{Base, Input, Not, And, View, Transition}
 use Rattle.meaning.specs.Gates.{atom_at}
-use Rattle.propnet.specs.NetNodes.{NetNode, base, input, conjunction, view, negation, transition}
+use Rattle.statement.specs.Nodes.{NetNode, base, input, conjunction, view, negation, transition}
 
 -- an instance that is at no place
 abbrev pub no_instance : Instance

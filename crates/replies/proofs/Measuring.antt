@@ -5,27 +5,27 @@ use Rattle.statement.specs.Tree.{Tree, text}
 use Rattle.statement.specs.Clause.{Alternative}
 use Rattle.statement.specs.Items.{alternatives}
 use Rattle.ground.specs.declared.flat_ground.FlatGround.{FlatGround}
-use Rattle.statement.specs.declared.kind.Kind.{Kind}
 use Rattle.ground.specs.Fits.{count_all}
 use Rattle.statement.specs.Kept.{Kept, numbered}
 use Rattle.ground.specs.Grounds.{texts_at}
-use Rattle.ground.specs.GroundView.{IsGround, roles_of, base_of, inputs_of, kinds_of, instances_of}
-use Rattle.statement.specs.Kinds.{kind_of}
+use Rattle.ground.specs.GroundView.{IsGround, roles_of, base_of, inputs_of, instances_of}
 use Rattle.statement.specs.Limits.{count_inputs}
 use Rattle.statement.specs.Most.{limits}
 use Rattle.statement.specs.Listing.{listing, role_list, base_list, input_list}
 use Rattle.statement.specs.GoalsAndMoves.{dropped}
 use Rattle.rulebook.specs.GroundFacts.{fits}
 use Rattle.propnet.specs.declared.net.Net.{Net}
-use Rattle.statement.specs.declared.node_name.Name.{Name}
-use Rattle.propnet.specs.Builders.{IsNetOf, input_counts}
-use Rattle.statement.specs.Nodes.{node_names}
+use Rattle.propnet.specs.Building.{names_of}
+use Rattle.propnet.specs.Builders.{IsNetOf}
+use Rattle.propnet.specs.Standing.{meant}
+use Rattle.propnet.proofs.Facts.{nodes_law}
+use Rattle.statement.specs.Nodes.{NetNode}
 use Rattle.propnet.specs.Network.{Gate}
 use Rattle.propnet.specs.Nets.{gates_of}
 use Rattle.statement.specs.declared.status.Status.{Status}
 use Rattle.statement.specs.declared.status.Status.TheVariants.{Answer}
 use Rattle.replies.specs.Games.{IsItsGround}
-use Rattle.statement.specs.Networks.{nodes_of, net_lines, measures, IsNetReply}
+use Rattle.statement.specs.Networks.{net_lines, measures, IsNetReply}
 
 -- one more role
 pub count_more : (lists : List (List (List ℕ))) (r : ℕ) → r < length lists
@@ -78,37 +78,25 @@ counts_all rules (r ∷ rs) =
     let rest = counts_all rules rs in
     omega arith
 
-counts_each : (rules : List Alternative) (rs : List Tree)
-    → map (λ (ts : List (List ℕ)). length ts) (map (λ r. map text (input_list rules r)) rs) ≡ map (λ r. length (input_list rules r)) rs
-counts_each rules [] = refl
-counts_each rules (r ∷ rs) =
-    let here : length (map text (input_list rules r)) ≡ length (input_list rules r) = length-map (input_list rules r) text in
-    let rest = counts_each rules rs in
-    cc
+-- what the nodes of the network stand for
+abbrev nodes_meant : List Alternative → Net → List NetNode
+nodes_meant rules net = map (meant rules) (names_of (gates_of net))
 
-nodes_are : (rules : List Alternative) (g : FlatGround) (net : Net) → IsGround rules g → IsNetOf g net → length (gates_of net) ≡ length (nodes_of rules)
-nodes_are rules g net are of =
-    sym (length-map (gates_of net) (λ (gate : Gate). gate.name))
-    ∙ ap (λ (xs : List Name). length xs) of.names
-    ∙ ap (λ (n : ℕ). length (node_names n (input_counts g) (kinds_of g) (instances_of g)))
-    (ap (λ (ts : List (List ℕ)). length ts) are.base_are ∙ length-map (base_list rules) text)
-    ∙ ap (λ (ns : List ℕ). length (node_names (length (base_list rules)) ns (kinds_of g) (instances_of g)))
-    (ap (λ (lists : List (List (List ℕ))). map (λ (ts : List (List ℕ)). length ts) lists) are.inputs_are ∙ counts_each rules (role_list rules))
-    ∙ ap (λ (kinds : List Kind). length (node_names (length (base_list rules)) (map (λ r. length (input_list rules r)) (role_list rules)) kinds
-    (instances_of g))) are.kinds_are
-    ∙ ap (λ (kept : List Kept). length (node_names (length (base_list rules)) (map (λ r. length (input_list rules r)) (role_list rules))
-    (map (kind_of rules) (listing rules).atoms) kept)) are.kept_are
+nodes_are : (rules : List Alternative) (net : Net) → length (gates_of net) ≡ length (nodes_meant rules net)
+nodes_are rules net =
+    sym (length-map (gates_of net) (λ (gate : Gate). gate.name)) ∙ sym (length-map (names_of (gates_of net)) (meant rules))
 
-measures_are : (rules : List Alternative) (g : FlatGround) (net : Net) → IsGround rules g → IsNetOf g net
-    → net_lines (length (base_of g)) (count_all (inputs_of g)) (length (instances_of g)) g.dropped (length (gates_of net)) ≡ measures rules
-measures_are rules g net are of =
+measures_are : (rules : List Alternative) (g : FlatGround) (net : Net) → IsGround rules g
+    → net_lines (length (base_of g)) (count_all (inputs_of g)) (length (instances_of g)) g.dropped (length (gates_of net))
+    ≡ measures rules (nodes_meant rules net)
+measures_are rules g net are =
     let base : length (base_of g) ≡ length (base_list rules) =
     ap (λ (ts : List (List ℕ)). length ts) are.base_are ∙ length-map (base_list rules) text in
     let inputs : count_all (inputs_of g) ≡ count_inputs rules (role_list rules) = ap count_all are.inputs_are ∙ counts_all rules (role_list rules) in
     let kept : length (instances_of g) ≡ length (listing rules).kept =
     ap (λ (ks : List Kept). length ks) are.kept_are ∙ length-map (listing rules).kept (numbered rules) in
     let heads : g.dropped ≡ dropped rules = are.dropped_is in
-    let nodes = nodes_are rules g net are of in
+    let nodes = nodes_are rules net in
     ap (λ (n : ℕ). net_lines n (count_all (inputs_of g)) (length (instances_of g)) g.dropped (length (gates_of net))) base
     ∙ ap (λ (n : ℕ). net_lines (length (base_list rules)) n (length (instances_of g)) g.dropped (length (gates_of net))) inputs
     ∙ ap (λ (n : ℕ). net_lines (length (base_list rules)) (count_inputs rules (role_list rules)) n g.dropped (length (gates_of net))) kept
@@ -122,5 +110,7 @@ pub items_measured : (items : List Tree) (g : FlatGround) (net : Net) (made outp
     → made ≡ net_lines (length (base_of g)) (count_all (inputs_of g)) (length (instances_of g)) g.dropped (length (gates_of net))
     → output ≡ made → status ≡ Answer → IsNetReply items (record { output = output; status = status })
 items_measured items g net made output status its of lines is_output is_status =
-    let all : output ≡ measures (alternatives items) = is_output ∙ lines ∙ measures_are (alternatives items) g net its.ground of in
-    inr (its.lawful, its.ground.within, cc (all, is_status))
+    let rules = alternatives items in
+    let nodes = nodes_meant rules net in
+    let all : output ≡ measures rules nodes = is_output ∙ lines ∙ measures_are rules g net its.ground in
+    inr (its.lawful, its.ground.within, nodes, nodes_law rules g its.ground net of, cc (all, is_status))

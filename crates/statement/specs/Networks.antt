@@ -1,25 +1,16 @@
 -- The reply to `net`: how large the instantiation of a description and its network are.
-use Rattle.std.specs.Prelude.{ℕ, ◌≡◌, ◌⊎◌, List, ◌++◌, codes, length, map, None}
+use Rattle.std.specs.Prelude.{ℕ, ◌≡◌, ◌⊎◌, List, ◌++◌, codes, length, None}
 use Rattle.statement.specs.Tree.{Tree}
 use Rattle.statement.specs.Clause.{Alternative}
 use Rattle.statement.specs.Items.{alternatives}
 use Rattle.statement.specs.Profile.{HasNoFault}
-use Rattle.statement.specs.Kept.{numbered}
-use Rattle.statement.specs.Kinds.{kind_of}
 use Rattle.statement.specs.Limits.{count_inputs, excess_in}
-use Rattle.statement.specs.Listing.{listing, role_list, base_list, input_list}
+use Rattle.statement.specs.Listing.{listing, role_list, base_list}
 use Rattle.statement.specs.GoalsAndMoves.{dropped}
-use Rattle.statement.specs.declared.node_name.Name.{Name}
-use Rattle.statement.specs.Nodes.{node_names}
+use Rattle.statement.specs.Nodes.{NetNode, AreNodesOf}
 use Rattle.statement.specs.Answers.{Reply, answer}
 use Rattle.statement.specs.Checking.{count_line}
 use Rattle.statement.specs.Games.{HasNoGame}
-
--- what the nodes of the network of the rules stand for, each once
-abbrev pub nodes_of : List Alternative → List Name
-nodes_of rules =
-    node_names (length (base_list rules)) (map (λ r. length (input_list rules r)) (role_list rules))
-    (map (kind_of rules) (listing rules).atoms) (map (numbered rules) (listing rules).kept)
 
 -- the numbers of base propositions, of inputs, of kept instances, of heads without effect on play, and of nodes
 abbrev pub net_lines : ℕ → ℕ → ℕ → ℕ → ℕ → List ℕ
@@ -27,16 +18,16 @@ net_lines base inputs instances heads nodes =
     count_line (codes "base") base ++ count_line (codes "inputs") inputs ++ count_line (codes "instances") instances
     ++ count_line (codes "dropped") heads ++ count_line (codes "nodes") nodes
 
--- the same of the rules
-abbrev pub measures : List Alternative → List ℕ
-measures rules =
-    net_lines (length (base_list rules)) (count_inputs rules (role_list rules)) (length (listing rules).kept) (dropped rules)
-    (length (nodes_of rules))
+-- the same of the rules, where a network of them has these nodes
+abbrev pub measures : List Alternative → List NetNode → List ℕ
+measures rules nodes =
+    net_lines (length (base_list rules)) (count_inputs rules (role_list rules)) (length (listing rules).kept) (dropped rules) (length nodes)
 
--- the items are a description within all limits, and the reply says how large it is
+-- the items are a description within all limits, and the reply says how large it and its network are
 abbrev pub MeasuresItems : List Tree → Reply → Type 0
 MeasuresItems items reply =
-    HasNoFault items × (excess_in (alternatives items) ≡ None) × (reply ≡ answer (measures (alternatives items)))
+    HasNoFault items × (excess_in (alternatives items) ≡ None)
+    × (nodes : List NetNode) × AreNodesOf (alternatives items) nodes × (reply ≡ answer (measures (alternatives items) nodes))
 
 abbrev pub IsNetReply : List Tree → Reply → Type 0
 IsNetReply items reply = HasNoGame items reply ⊎ MeasuresItems items reply

@@ -1,68 +1,48 @@
--- The nodes that the network of an instantiation has, by what they stand for.
-use Rattle.std.specs.Prelude.{ℕ, suc, Bool, true, false, not, ◌&&◌, ◌==◌, List, [], ◌∷◌, ◌++◌, length, map, if◌then◌else◌, slice_index_or}
-use Rattle.std.specs.List.{list_any, flat_map, range_with_len}
-use Rattle.statement.specs.declared.kind.Kind.{Kind}
-use Rattle.statement.specs.declared.kind.Kind.TheVariants.{Fixed, Now, Does, Next, Legal, Goal, Terminal, Other}
-use Rattle.statement.specs.Kept.{Kept}
-use Rattle.statement.specs.declared.node_name.Name.{Name}
-use Rattle.statement.specs.declared.node_name.Name.TheVariants.{Base, Input, Not, And, View, Transition}
+-- The nodes of the network of a set of rules, by what they stand for.
+use Rattle.std.specs.Prelude.{◌≡◌, Bool, false, not, ◌&&◌, List, ◌++◌, map, filter, IsPermutation}
+use Rattle.std.specs.List.{flat_map, list_any}
+use Rattle.statement.specs.Tree.{Tree}
+use Rattle.statement.specs.Clause.{Atom, Literal, positive, negative, atom_eq, Alternative, relation_of}
+use Rattle.statement.specs.Dependence.{is_fixed}
+use Rattle.statement.specs.Listing.{Instance, is_atom_in, heads, other_part, listing, role_list, base_list, input_list}
 
-abbrev pub kind_of_atom : List Kind → ℕ → Kind
-kind_of_atom kinds a = slice_index_or kinds a Other
+-- what a node stands for: a base proposition, an input of a role, all of the body of a kept instance, an atom as the head of such
+-- instances, the negation of an atom, or a base proposition after the turn
+pub data NetNode : Type 0 where
+  base : Tree → NetNode
+  input : Tree → Tree → NetNode
+  conjunction : Instance → NetNode
+  view : Atom → NetNode
+  negation : Atom → NetNode
+  transition : Tree → NetNode
 
-abbrev pub is_fixed_kind : Kind → Bool
-is_fixed_kind Fixed = true
-is_fixed_kind (Now p) = false
-is_fixed_kind (Does r m) = false
-is_fixed_kind (Next p) = false
-is_fixed_kind (Legal r m) = false
-is_fixed_kind (Goal r v) = false
-is_fixed_kind Terminal = false
-is_fixed_kind Other = false
+-- the base propositions in printed order, and the inputs by role and then in printed order
+abbrev pub sources : List Alternative → List NetNode
+sources rules = map base (base_list rules) ++ flat_map (λ r. map (λ m. input r m) (input_list rules r)) (role_list rules)
 
--- a kept instance has an and gate where its head is not of a fixed relation
-abbrev pub has_gate : List Kind → Kept → Bool
-has_gate kinds k = not (is_fixed_kind (kind_of_atom kinds k.head))
+-- the kept instances whose heads may change from state to state
+abbrev pub gated : List Alternative → List Instance
+gated rules = other_part rules (listing rules).kept
 
--- the places of the and gates of the atom, where the first instance has place n
-abbrev pub gates_from : ℕ → List Kind → List Kept → ℕ → List ℕ
-gates_from n kinds [] a = []
-gates_from n kinds (k ∷ ks) a =
-    let rest = gates_from (suc n) kinds ks a in if has_gate kinds k && (k.head == a) then n ∷ rest else rest
+abbrev pub is_negative_of : Atom → Literal → Bool
+is_negative_of x (positive y) = false
+is_negative_of x (negative y) = atom_eq x y
 
-abbrev pub gates_of : List Kind → List Kept → ℕ → List ℕ
-gates_of kinds kept a = gates_from 0 kinds kept a
+-- the atom may change from state to state, and one of the instances negates it
+abbrev pub is_negated_in : List Alternative → List Instance → Atom → Bool
+is_negated_in rules is x = not (is_fixed rules (relation_of x)) && list_any (λ (i : Instance). list_any (is_negative_of x) i.body) is
 
-abbrev pub negates : ℕ → Kept → Bool
-negates a k = list_any (λ (l : ℕ × Bool). l.1 && (l.0 == a)) k.body
+-- a node for each of these instances, for each of their heads, for each atom that one of them negates, and for each base
+-- proposition after the turn
+abbrev pub inner_nodes : List Alternative → List NetNode
+inner_nodes rules =
+    map conjunction (gated rules)
+    ++ (map view (filter (λ x. is_atom_in x (heads (gated rules))) (listing rules).atoms)
+    ++ (map negation (filter (is_negated_in rules (gated rules)) (listing rules).atoms) ++ map transition (base_list rules)))
 
--- an instance with an and gate negates the atom
-abbrev pub is_negated : List Kind → List Kept → ℕ → Bool
-is_negated kinds kept a = list_any (λ (k : Kept). has_gate kinds k && negates a k) kept
-
--- it has a view where it has and gates
-abbrev pub has_view : List Kind → List Kept → ℕ → Bool
-has_view kinds kept a = not (length (gates_of kinds kept a) == 0)
-
--- the nodes of an atom: its and gates, its view, and its not gate
-abbrev pub atom_names : List Kind → List Kept → ℕ → List Name
-atom_names kinds kept a =
-    map And (gates_of kinds kept a)
-    ++ ((if has_view kinds kept a then View a ∷ [] else []) ++ (if is_negated kinds kept a then Not a ∷ [] else []))
-
--- the base propositions, and the inputs by role
-abbrev pub base_names : ℕ → List Name
-base_names base = map Base (range_with_len 0 base)
-
-abbrev pub role_names : ℕ → ℕ → List Name
-role_names r inputs = map (Input r) (range_with_len 0 inputs)
-
-abbrev pub input_names : ℕ → List ℕ → List Name
-input_names r [] = []
-input_names r (n ∷ ns) = role_names r n ++ input_names (suc r) ns
-
--- all nodes, where there are so many base propositions, and so many inputs of each role
-abbrev pub node_names : ℕ → List ℕ → List Kind → List Kept → List Name
-node_names base inputs kinds kept =
-    ((base_names base ++ input_names 0 inputs) ++ flat_map (atom_names kinds kept) (range_with_len 0 (length kinds)))
-    ++ map Transition (range_with_len 0 base)
+-- these are what the nodes of a network stand for, by number: base propositions and inputs in their order, and behind them all others
+-- in any order
+pub record AreNodesOf (rules : List Alternative) (nodes : List NetNode) : Type 0 where
+  pub behind : List NetNode
+  pub all : nodes ≡ sources rules ++ behind
+  pub same : IsPermutation (inner_nodes rules) behind
