@@ -6,14 +6,14 @@ use native.Mathlib.Decide.{dec_le}
 use lib.ListN.{get_elem?}
 use Rattle.board.specs.Weights.{times}
 use Rattle.board.specs.Values.{move_of, moves, value_at, top, Opens}
-use Rattle.board.specs.Lawful.{upper, greatest_low, least_high, Keeps, IsDone, Lawful}
+use Rattle.board.specs.Lawful.{upper, greatest_low, least_high, BoardKeeps, IsDone, Lawful}
 use Rattle.board.specs.declared.book.Setup.{Setup}
 use Rattle.board.specs.declared.book.Book.{Book}
 use Rattle.board.proofs.SeatFacts.{in_hand}
 use Rattle.board.proofs.Places.{place_in}
 use Rattle.board.proofs.Narrowest.{low_there}
 
-module _ (value : ℕ → ℕ → ℕ) (o : Setup) (ws : List ℕ) (ks : List Book) (s : Keeps value o (greatest_low o.low ks) (least_high o.high ks) ws ks) where
+module _ (value : ℕ → ℕ → ℕ) (o : Setup) (ws : List ℕ) (ks : List Book) (s : BoardKeeps value o (greatest_low o.low ks) (least_high o.high ks) ws ks) where
   abbrev low : ℕ
   low = greatest_low o.low ks
 
@@ -39,6 +39,6 @@ module _ (value : ℕ → ℕ → ℕ) (o : Setup) (ws : List ℕ) (ks : List Bo
       )
 
 pub lawful : (value : ℕ → ℕ → ℕ) (narrows : Bool) (o : Setup) (ws : List ℕ) (ks : List Book) → Opens o
-    → Keeps value o (greatest_low o.low ks) (least_high o.high ks) ws ks
+    → BoardKeeps value o (greatest_low o.low ks) (least_high o.high ks) ws ks
     → (narrows ≡ false → (greatest_low o.low ks ≡ o.low) × (least_high o.high ks ≡ o.high)) → Lawful value narrows o ws ks
 lawful value narrows o ws ks op s wide = record { opens = op; keeps = s; done = done_lowered value o ws ks s; wide = wide }

@@ -9,7 +9,7 @@ use Rattle.atomic_table.proofs.Lists.{at_set}
 use Rattle.board.specs.Weights.{total, below, only, times}
 use Rattle.board.specs.Values.{move_of, reply_of, moves, tasks, worth, best_worth, top, Opens}
 use Rattle.board.specs.Books.{owes}
-use Rattle.board.specs.Lawful.{claims, best, upper, left, Fits, Keeps}
+use Rattle.board.specs.Lawful.{claims, best, upper, left, Fits, BoardKeeps}
 use Rattle.board.specs.declared.book.Setup.{Setup}
 use Rattle.board.specs.declared.book.Book.{Book}
 use Rattle.board.specs.declared.book.Raise.TheVariants.{Owed, Ready}
@@ -44,7 +44,7 @@ fits_on o ws ws' u f b c h a = record {
   amount = λ i x e. a i x e ∙ f.amount i x e;
 }
 
-module _ (value : ℕ → ℕ → ℕ) (o : Setup) (low high : ℕ) (ws : List ℕ) (ks : List Book) (s : Keeps value o low high ws ks) where
+module _ (value : ℕ → ℕ → ℕ) (o : Setup) (low high : ℕ) (ws : List ℕ) (ks : List Book) (s : BoardKeeps value o low high ws ks) where
   abbrev handed : ℕ
   handed = min (claims ws) (tasks o)
 

@@ -24,21 +24,21 @@ OlderWindowsServe = (k w : Book) (margin i v r : ℕ) → IsNarrower k w
 
 -- the results in the book l, of an inner board, were found with bounds no narrower than low and high, or than those
 -- that it was opened with
-abbrev pub IsWithin : ℕ → ℕ → Setup → Book → Type 0
-IsWithin low high inner l = (l.low ≤ max inner.low low) × (min inner.high high ≤ l.high)
+abbrev pub BoundsWithin : ℕ → ℕ → Setup → Book → Type 0
+BoundsWithin low high inner l = (l.low ≤ max inner.low low) × (min inner.high high ≤ l.high)
 
 -- So it is at the opening. It stays so where low and high become narrower, where a result is reported that was cut by
 -- them, for the new seat of a split, and where two seats are joined.
 abbrev pub InnerBoundsStay : Type 0
 InnerBoundsStay = (inner : Setup) (low high : ℕ)
-    → IsWithin low high inner (first_book inner)
-    × ((k : Book) (low' high' : ℕ) → low ≤ low' → high' ≤ high → IsWithin low high inner k → IsWithin low' high' inner k)
-    × ((k l : Book) → l.low ≡ max k.low low → l.high ≡ min k.high high → IsWithin low high inner k → IsWithin low high inner l)
-    × ((k : Book) → k.setup ≡ inner → IsWithin low high inner (right_part k))
-    × ((k l : Book) → IsWithin low high inner k → IsWithin low high inner l → IsWithin low high inner (joined k l))
+    → BoundsWithin low high inner (first_book inner)
+    × ((k : Book) (low' high' : ℕ) → low ≤ low' → high' ≤ high → BoundsWithin low high inner k → BoundsWithin low' high' inner k)
+    × ((k l : Book) → l.low ≡ max k.low low → l.high ≡ min k.high high → BoundsWithin low high inner k → BoundsWithin low high inner l)
+    × ((k : Book) → k.setup ≡ inner → BoundsWithin low high inner (right_part k))
+    × ((k l : Book) → BoundsWithin low high inner k → BoundsWithin low high inner l → BoundsWithin low high inner (joined k l))
 
 -- An inner board was opened for a task of the value v, and low and high are the narrowest bounds that its workers saw.
 -- What it answers is a result for the task in each window that is no wider than those bounds and the opening.
 abbrev pub InnerAnswersServe : Type 0
-InnerAnswersServe = (inner : Setup) (l : Book) (v low high low' high' r : ℕ) → IsWithin low high inner l
+InnerAnswersServe = (inner : Setup) (l : Book) (v low high low' high' r : ℕ) → BoundsWithin low high inner l
     → low ≤ low' → high' ≤ high → inner.low ≤ low' → high' ≤ inner.high → Answers v l.low l.high r → Answers v low' high' r

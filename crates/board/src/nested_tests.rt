@@ -3,7 +3,7 @@ ghost use Rattle.std.specs.Prelude.{◌≡◌, ◌-◌, ◌≤◌, pos, negsuc, 
 ghost use Rattle.board.specs.Values.{best_worth};
 ghost use Rattle.board.specs.Books.{seen, all_shares};
 ghost use Rattle.board.specs.Boards.{kept, table_of};
-ghost use Rattle.board.specs.Windows.{IsWithin};
+ghost use Rattle.board.specs.Windows.{BoundsWithin};
 ghost use Rattle.board.specs.Seats.{book, setup_on, task_own, task_reply, IsSeatOf, IsTaskOf, IsInHand};
 
 use crate::{Board, Seat, Task, Values};
@@ -46,13 +46,13 @@ fn work_behind(
     requires outer { IsSeatOf outer.now above × IsTaskOf outer.now task.now }
     requires inner { IsSeatOf inner.now seat × ((book seat).hand ≡ []) }
     requires ties { (setup_on inner.now).margin ≡ 0 }
-    requires bounds { IsWithin ((book above).best - (setup_on outer.now).margin)
+    requires bounds { BoundsWithin ((book above).best - (setup_on outer.now).margin)
         (seen (book above) (task_own task.now)) (setup_on inner.now) (book seat) }
     ensures outer { IsSeatOf outer.now result.0 }
     ensures inner { IsSeatOf inner.now result.1 × ((book result.1).hand ≡ []) }
     ensures marked { (book result.1).marked ≡ true }
     ensures shares { (book result.1).shares ≡ (book seat).shares }
-    ensures bounds { IsWithin ((book result.0).best - (setup_on outer.now).margin)
+    ensures bounds { BoundsWithin ((book result.0).best - (setup_on outer.now).margin)
         (seen (book result.0) (task_own task.now)) (setup_on inner.now) (book result.1) }
 {
     while let Some(reply) = inner.claim(&mut seat) {
@@ -80,7 +80,7 @@ fn answer(
     requires inner { IsSeatOf inner behind × ((book behind).hand ≡ []) }
     requires marked { (book behind).marked ≡ true }
     requires shares { (book behind).shares ≡ all_shares }
-    requires bounds { IsWithin ((book above).best - (setup_on outer.now).margin)
+    requires bounds { BoundsWithin ((book above).best - (setup_on outer.now).margin)
         (seen (book above) (task_own task)) (setup_on inner) (book behind) }
     requires low { (setup_on inner).low ≤ (book seat).best - (setup_on outer.now).margin }
     requires high { seen (book seat) (task_own task) ≤ (setup_on inner).high }

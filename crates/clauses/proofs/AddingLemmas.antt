@@ -12,18 +12,18 @@ use Rattle.clauses.specs.declared.signatures.Signature.{Signature}
 use Rattle.statement.specs.Clause as said
 use Rattle.statement.specs.Clause.{is_variable, positive, negative, count_trees}
 use Rattle.clauses.specs.Signatures.{no_signature, signature_at, with_signature}
-use Rattle.clauses.specs.Numbers.{Begins, word_at, with_word, with_number}
+use Rattle.clauses.specs.Numbers.{BeginsWith, word_at, with_word, with_fresh}
 use Rattle.clauses.specs.Store.{Data, variable_name, with_part, terms_before, count_terms, AreFull, relation_at, literal_of, no_literal}
-use Rattle.clauses.specs.Adding.{Extends, Grows, AreSorted, Spells, Adds, MakesPart, BeginsList, NumbersRelation, StandsFor, AddsAtom, AddsLiteral}
-use Rattle.clauses.proofs.NumberLemmas.{with_word-Begins, with_word-AreDifferent, with_number-Begins, with_number-StandOnce}
+use Rattle.clauses.specs.Adding.{Extends, DataGrows, AreSorted, Spells, AddsTerms, MakesPart, BeginsList, NumbersRelation, AtomStandsFor, AddsAtom, AddsLiteral}
+use Rattle.clauses.proofs.NumberLemmas.{with_word-Begins, with_word-AreDifferent, with_fresh-Begins, with_fresh-StandOnce}
 use Rattle.clauses.proofs.SignatureLemmas.{with_signature-Begins, with_signature-AreDifferent, with_signature-named}
 
 -- Lists that grow.
 
-pub begins_refl : {A : Type 0} (xs : List A) → Begins xs xs
+pub begins_refl : {A : Type 0} (xs : List A) → BeginsWith xs xs
 begins_refl xs = ([], sym (append-nil xs))
 
-pub begins_trans : {A : Type 0} (xs ys zs : List A) → Begins xs ys → Begins ys zs → Begins xs zs
+pub begins_trans : {A : Type 0} (xs ys zs : List A) → BeginsWith xs ys → BeginsWith ys zs → BeginsWith xs zs
 begins_trans xs ys zs (a, e) (b, f) = (a ++ b, f ∙ ap (λ (us : List _). us ++ b) e ∙ append_assoc xs a b)
 
 at_before : {A : Type 0} (xs more : List A) (k : ℕ) (d : A) → k < length xs → get_or (xs ++ more) k d ≡ get_or xs k d
@@ -31,13 +31,13 @@ at_before [] more k d h = absurd (let bad : ⊥ = omega (arith, h) in bad)
 at_before (x ∷ xs) more zero d h = refl
 at_before (x ∷ xs) more (suc k) d h = at_before xs more k d (omega (arith, h))
 
-pub begins_at : {A : Type 0} (xs ys : List A) (k : ℕ) (d : A) → Begins xs ys → k < length xs → get_or ys k d ≡ get_or xs k d
+pub begins_at : {A : Type 0} (xs ys : List A) (k : ℕ) (d : A) → BeginsWith xs ys → k < length xs → get_or ys k d ≡ get_or xs k d
 begins_at xs ys k d (more, e) h = ap (λ (us : List _). get_or us k d) e ∙ at_before xs more k d h
 
-pub begins_long : {A : Type 0} (xs ys : List A) (k : ℕ) → Begins xs ys → k ≤ length xs → k ≤ length ys
+pub begins_long : {A : Type 0} (xs ys : List A) (k : ℕ) → BeginsWith xs ys → k ≤ length xs → k ≤ length ys
 begins_long xs ys k (more, e) h = let l = ap length e ∙ length-append xs more in omega (arith, l, h)
 
-pub begins_less : {A : Type 0} (xs ys : List A) (k : ℕ) → Begins xs ys → k < length xs → k < length ys
+pub begins_less : {A : Type 0} (xs ys : List A) (k : ℕ) → BeginsWith xs ys → k < length xs → k < length ys
 begins_less xs ys k (more, e) h = let l = ap length e ∙ length-append xs more in omega (arith, l, h)
 
 pub extends_refl : (d : Data) → Extends d d
@@ -61,10 +61,10 @@ extends_trans a b c x y =
       literals = begins_trans _ _ _ x.literals y.literals;
     }
 
-pub grows_refl : (from : ℕ) (d : Data) → Grows from d d
+pub grows_refl : (from : ℕ) (d : Data) → DataGrows from d d
 grows_refl from d = record { extends = extends_refl d; words = λ h. h; signatures = λ h. h; named = λ h. h; variables = λ h. h }
 
-pub grows_trans : (from : ℕ) (a b c : Data) → Grows from a b → Grows from b c → Grows from a c
+pub grows_trans : (from : ℕ) (a b c : Data) → DataGrows from a b → DataGrows from b c → DataGrows from a c
 grows_trans from a b c x y =
     record {
       extends = extends_trans a b c x.extends y.extends;
@@ -74,9 +74,9 @@ grows_trans from a b c x y =
       variables = λ h. y.variables (x.variables h);
     }
 
-pub grows_word : (from : ℕ) (a b : Data) (w : List ℕ) → b ≡ record a { words = with_word a.words w } → Grows from a b
+pub grows_word : (from : ℕ) (a b : Data) (w : List ℕ) → b ≡ record a { words = with_word a.words w } → DataGrows from a b
 grows_word from a b w e =
-    subst (λ (d : Data). Grows from a d) (sym e)
+    subst (λ (d : Data). DataGrows from a d) (sym e)
     (record {
       extends = record {
         words = with_word-Begins a.words w;
@@ -92,28 +92,28 @@ grows_word from a b w e =
       variables = λ h. h;
     })
 
-pub grows_variable : (from : ℕ) (a b : Data) (s : ℕ) → from ≤ length a.variables → b ≡ record a { variables = with_number from a.variables s }
-    → Grows from a b
+pub grows_variable : (from : ℕ) (a b : Data) (s : ℕ) → from ≤ length a.variables → b ≡ record a { variables = with_fresh from a.variables s }
+    → DataGrows from a b
 grows_variable from a b s h e =
-    subst (λ (d : Data). Grows from a d) (sym e)
+    subst (λ (d : Data). DataGrows from a d) (sym e)
     (record {
       extends = record {
         words = begins_refl a.words;
         signatures = begins_refl a.signatures;
         variables =
-            with_number-Begins from a.variables s;
+            with_fresh-Begins from a.variables s;
         parts = begins_refl a.parts;
         literals = begins_refl a.literals;
       };
       words = λ h. h;
       signatures = λ h. h;
       named = λ h. h;
-      variables = with_number-StandOnce from a.variables s h;
+      variables = with_fresh-StandOnce from a.variables s h;
     })
 
-pub grows_part : (from : ℕ) (a b : Data) (p : Part) → b ≡ record a { parts = a.parts ++ p ∷ [] } → Grows from a b
+pub grows_part : (from : ℕ) (a b : Data) (p : Part) → b ≡ record a { parts = a.parts ++ p ∷ [] } → DataGrows from a b
 grows_part from a b p e =
-    subst (λ (d : Data). Grows from a d) (sym e)
+    subst (λ (d : Data). DataGrows from a d) (sym e)
     (record {
       extends = record {
         words = begins_refl a.words;
@@ -140,7 +140,7 @@ pub sorted_append : (d : Data) (from : ℕ) (ps qs : List Part) → AreSorted d 
 sorted_append d from [] qs h k = k
 sorted_append d from (p ∷ ps) qs h k = (h.0, sorted_append d from ps qs h.1 k)
 
-pub adds_none : (from : ℕ) (d : Data) → Adds from d d []
+pub adds_none : (from : ℕ) (d : Data) → AddsTerms from d d []
 adds_none from d =
     record {
       grows = grows_refl from d;
@@ -167,7 +167,7 @@ spells_both from a b ps qs ts us x s t =
           omega (arith, long, front, back);
     }
 
-pub adds_both : (from : ℕ) (a b c : Data) (ts us : List Tree) → Adds from a b ts → Adds from b c us → Adds from a c (ts ++ us)
+pub adds_both : (from : ℕ) (a b c : Data) (ts us : List Tree) → AddsTerms from a b ts → AddsTerms from b c us → AddsTerms from a c (ts ++ us)
 adds_both from a b c ts us x y =
     record {
       grows = grows_trans from a b c x.grows y.grows;
@@ -177,7 +177,7 @@ adds_both from a b c ts us x y =
     }
 
 pub variable_part : (from : ℕ) (a b c : Data) (s v : ℕ) (w : List ℕ) → from ≤ length a.variables → b ≡ record a { words = with_word a.words w }
-    → c ≡ record b { variables = with_number from b.variables s }
+    → c ≡ record b { variables = with_fresh from b.variables s }
     → (s < length b.words) × (word_at b.words s ≡ w) → (from + v < length c.variables) × (slice_index c.variables (from + v) ≡ s)
     → is_variable w ≡ true
     → MakesPart from a c (parts.Variable v) w
@@ -223,7 +223,7 @@ constant_part from a b s w e (in_words, same_word) constant =
     }
 
 pub adds_name : (from : ℕ) (a b c : Data) (p : Part) (w : List ℕ) → MakesPart from a b p w → c ≡ record b { parts = b.parts ++ p ∷ [] }
-    → Adds from a c (name w ∷ [])
+    → AddsTerms from a c (name w ∷ [])
 adds_name from a b c p w m e =
     let grown = grows_part from b c p e in
     record {
@@ -261,8 +261,8 @@ drop_front [] us = refl
 drop_front (t ∷ ts) us = drop_front ts us
 
 pub adds_list : (from : ℕ) (a b c : Data) (w : List ℕ) (n : ℕ) (ts : List Tree) → n ≡ length ts → is_variable w ≡ false → BeginsList from a b w n
-    → Adds from b c ts
-    → Adds from a c (list (tree (name w) (trees_of ts)) ∷ [])
+    → AddsTerms from b c ts
+    → AddsTerms from a c (list (tree (name w) (trees_of ts)) ∷ [])
 adds_list from a b c w n ts long constant l x =
     record {
       grows = grows_trans from a b c l.grows x.grows;
@@ -284,15 +284,15 @@ adds_list from a b c w n ts long constant l x =
       };
     }
 
-pub longer : (from k : ℕ) (a b : Data) → Grows from a b → k ≤ length a.variables → k ≤ length b.variables
+pub longer : (from k : ℕ) (a b : Data) → DataGrows from a b → k ≤ length a.variables → k ≤ length b.variables
 longer from k a b g h = begins_long a.variables b.variables k g.extends.variables h
 
 -- Relations and atoms.
 
 grows_signature : (from : ℕ) (a b : Data) (s : Signature) → s.word < length a.words → b ≡ record a { signatures = with_signature a.signatures s }
-    → Grows from a b
+    → DataGrows from a b
 grows_signature from a b s there e =
-    subst (λ (d : Data). Grows from a d) (sym e)
+    subst (λ (d : Data). DataGrows from a d) (sym e)
     (record {
       extends = record {
         words = begins_refl a.words;
@@ -317,7 +317,7 @@ numbers_relation from a b c s r n w e (in_words, same_word) f (in_signatures, sa
     let grown = grows_signature from b c (record { word = s; arity = n }) in_words f in
     let at : (later : Data) → Extends c later → signature_at later.signatures r ≡ record { word = s; arity = n } =
     λ later x. begins_at c.signatures later.signatures r no_signature x.signatures in_signatures ∙ same_signature in
-    let words : (later : Data) → Extends c later → Begins b.words later.words = λ later x. begins_trans _ _ _ grown.extends.words x.words in
+    let words : (later : Data) → Extends c later → BeginsWith b.words later.words = λ later x. begins_trans _ _ _ grown.extends.words x.words in
     record {
       grows = grows_trans from a b c (grows_word from a b w e) grown;
       within = λ later x. begins_less c.signatures later.signatures r x.signatures in_signatures;
@@ -356,7 +356,7 @@ count_trees-length (t ∷ ts) = ap (λ (n : ℕ). suc n) (count_trees-length ts)
 
 pub adds_atom : (from : ℕ) (a b c : Data) (r n i j : ℕ) (w : List ℕ) (ts : List Tree) → n ≡ length ts
     → NumbersRelation from a b r (record { word = w; arity = n })
-    → Adds from b c ts → i ≡ length b.parts → j ≡ length c.parts
+    → AddsTerms from b c ts → i ≡ length b.parts → j ≡ length c.parts
     → AddsAtom from a c (record { relation = r; terms = record { from = i; to = j } }) (record { word = w; terms = trees_of ts })
 adds_atom from a b c r n i j w ts long number x f g =
     let up : (later : Data) → Extends c later → Extends b later = λ later e. extends_trans b c later x.grows.extends e in
@@ -384,9 +384,9 @@ adds_atom from a b c r n i j w ts long number x f g =
 
 -- Literals.
 
-grows_literal : (from : ℕ) (a b : Data) (l : Literal) → b ≡ record a { literals = a.literals ++ l ∷ [] } → Grows from a b
+grows_literal : (from : ℕ) (a b : Data) (l : Literal) → b ≡ record a { literals = a.literals ++ l ∷ [] } → DataGrows from a b
 grows_literal from a b l e =
-    subst (λ (d : Data). Grows from a d) (sym e)
+    subst (λ (d : Data). DataGrows from a d) (sym e)
     (record {
       extends = record {
         words = begins_refl a.words;
@@ -427,14 +427,14 @@ adds_literal from a b c x atom n is_negated y e f =
     subst (λ (d : Data). (n < length d.literals) × (slice_index_or d.literals n no_literal ≡ l)) (sym f) (last_literal b.literals l no_literal n e) in
     let at : (later : Data) → Extends c later → slice_index_or later.literals n no_literal ≡ l =
     λ later g. begins_at c.literals later.literals n no_literal g.literals here.0 ∙ here.1 in
-    let stand : (later : Data) → Extends c later → StandsFor from later x atom =
+    let stand : (later : Data) → Extends c later → AtomStandsFor from later x atom =
     λ later g. y.stands later (extends_trans b c later grown.extends g) in
     record {
       grows = grows_trans from a b c y.grows grown;
       stands = λ later g. record {
         within = begins_less c.literals later.literals n g.literals here.0;
-        atom = subst (λ (k : Literal). StandsFor from later k.atom (said.atom_of (literal_said is_negated atom))) (sym (at later g))
-            (subst (λ (q : said.Atom). StandsFor from later x q) (sym (literal_said-atom is_negated atom)) (stand later g));
+        atom = subst (λ (k : Literal). AtomStandsFor from later k.atom (said.atom_of (literal_said is_negated atom))) (sym (at later g))
+            (subst (λ (q : said.Atom). AtomStandsFor from later x q) (sym (literal_said-atom is_negated atom)) (stand later g));
         same = ap (λ (k : Literal). literal_of later from k) (at later g) ∙ ap (λ (q : said.Atom). literal_said is_negated q) (stand later g).same;
       };
     }

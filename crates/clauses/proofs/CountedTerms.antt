@@ -9,7 +9,7 @@ use Rattle.statement.specs.Clause as said
 use Rattle.statement.specs.Clause.{count_trees}
 use Rattle.clauses.specs.Signatures.{signature_at}
 use Rattle.clauses.specs.Store.{Data, terms_before, count_terms}
-use Rattle.clauses.specs.Adding.{StandsFor}
+use Rattle.clauses.specs.Adding.{AtomStandsFor}
 use Rattle.clauses.specs.Marks.{IsInside}
 use Rattle.clauses.proofs.AddingLemmas.{count_trees-length}
 
@@ -22,7 +22,7 @@ length_of_terms d from (parts.List s n ∷ ps) =
     ap (λ (k : ℕ). suc k) (length-drop n (terms_before d from ps []) ∙ ap (λ (k : ℕ). k - n) (length_of_terms d from ps))
 
 -- and these are the terms of the atom
-pub terms_of_standing : (from : ℕ) (d : Data) (a : Atom) (atom : said.Atom) → StandsFor from d a atom
+pub terms_of_standing : (from : ℕ) (d : Data) (a : Atom) (atom : said.Atom) → AtomStandsFor from d a atom
     → count_terms (slice_range d.parts a.terms.from a.terms.to) ≡ count_trees atom.terms
 terms_of_standing from d a atom s =
     sym (length_of_terms d from (slice_range d.parts a.terms.from a.terms.to))
@@ -30,7 +30,7 @@ terms_of_standing from d a atom s =
     ∙ ap (λ (q : said.Atom). count_trees q.terms) s.same
 
 -- an atom has as many terms as its relation has arguments
-pub arity_of_standing : (from : ℕ) (d : Data) (a : Atom) (atom : said.Atom) → StandsFor from d a atom
+pub arity_of_standing : (from : ℕ) (d : Data) (a : Atom) (atom : said.Atom) → AtomStandsFor from d a atom
     → (signature_at d.signatures a.relation).arity ≡ count_terms (slice_range d.parts a.terms.from a.terms.to)
 arity_of_standing from d a atom s = ap (λ (r : said.Relation). r.arity) s.same_relation ∙ sym (terms_of_standing from d a atom s)
 

@@ -8,7 +8,7 @@ use Rattle.clauses.specs.declared.items.Item.{Item}
 use Rattle.statement.specs.Items.{is_item, is_atom, are_literals, head_tree, body_trees, readings_of_all, atom_in}
 use Rattle.clauses.specs.Spread.{lists_of}
 use Rattle.clauses.specs.Store.{Data}
-use Rattle.clauses.specs.Adding.{Extends, HasVariables, StandOnce, AddsAtom, Spreads, StandsFor, StandForLists}
+use Rattle.clauses.specs.Adding.{Extends, HasVariables, StandOnce, AddsAtom, Spreads, AtomStandsFor, StandForLists}
 use Rattle.clauses.specs.ItemView.{ReadsItem}
 use Rattle.clauses.proofs.AddingLemmas.{extends_trans, begins_at, begins_long}
 
@@ -54,7 +54,7 @@ reads_item a b c i t h ts head body from to x s =
       to = to;
       once = once;
       stands = λ later e. record {
-        head = subst (λ (u : Tree). StandsFor i.variables.from later i.head (atom_in u)) (sym head)
+        head = subst (λ (u : Tree). AtomStandsFor i.variables.from later i.head (atom_in u)) (sym head)
             (x.stands later (extends_trans b c later s.grows.extends e));
         bodies = subst (λ (us : Trees). StandForLists i.variables.from later (lists_of i.bodies.items) (readings_of_all us)) (sym body)
             (s.stand later e);

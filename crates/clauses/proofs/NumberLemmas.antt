@@ -10,7 +10,7 @@ use Rattle.std.proofs.lemmas.List.{map-append, append-nil, length-map, drop-appe
 use Rattle.statement.specs.Tree.{name_eq}
 use Rattle.kif.proofs.Facts.{name_eq_yes, name_eq_self}
 use Rattle.statement.specs.Safety.{is_name_in}
-use Rattle.clauses.specs.Numbers.{Begins, word_at, with_word, AreDifferent, is_number_in, with_number}
+use Rattle.clauses.specs.Numbers.{BeginsWith, word_at, with_word, NamesDiffer, is_number_in, with_fresh}
 use Rattle.clauses.specs.Adding.{StandOnce}
 use Rattle.profile.proofs.Facts.{or_left, or_right}
 
@@ -108,10 +108,10 @@ with_new ws new w n none e f =
     subst (λ (xs : List (List ℕ)). (n < length xs) × (word_at xs n ≡ w)) (sym g)
     (subst (λ (k : ℕ). (k < length (ws ++ w ∷ [])) × (word_at (ws ++ w ∷ []) k ≡ w)) (sym f) (last_word ws w))
 
-pub with_word-Begins : (ws : List (List ℕ)) (w : List ℕ) → Begins ws (with_word ws w)
+pub with_word-Begins : (ws : List (List ℕ)) (w : List ℕ) → BeginsWith ws (with_word ws w)
 with_word-Begins ws w = go (is_name_in w ws)
   where
-    go : (b : Bool) → Begins ws (cond b ws (ws ++ w ∷ []))
+    go : (b : Bool) → BeginsWith ws (cond b ws (ws ++ w ∷ []))
     go true = ([], sym (append-nil ws))
     go false = (w ∷ [], refl)
 
@@ -148,10 +148,10 @@ more_different xs x d none old i j h k e = go (last_or_before xs x d i h) (last_
 pub true_or_false : (b : Bool) → b ≡ true → b ≡ false → ⊥
 true_or_false b e f = let g = sym e ∙ f in absurd cc
 
-pub with_word-AreDifferent : (ws : List (List ℕ)) (w : List ℕ) → AreDifferent ws → AreDifferent (with_word ws w)
+pub with_word-AreDifferent : (ws : List (List ℕ)) (w : List ℕ) → NamesDiffer ws → NamesDiffer (with_word ws w)
 with_word-AreDifferent ws w old = go (is_name_in w ws) refl
   where
-    go : (b : Bool) → is_name_in w ws ≡ b → AreDifferent (cond b ws (ws ++ w ∷ []))
+    go : (b : Bool) → is_name_in w ws ≡ b → NamesDiffer (cond b ws (ws ++ w ∷ []))
     go true e = old
     go false e = more_different ws w [] (λ k h same. true_or_false (is_name_in w ws) (is_in ws w k h same) e) old
 
@@ -179,22 +179,22 @@ seen_number xs x (Some k) e =
     let same : slice_index xs k ≡ x = sym (eqb-true x (slice_index xs k) f.1) in
     (f.0, same, number_in x xs k f.0 same)
 
-pub number_there : (xs : List ℕ) (from x : ℕ) → is_number_in x (drop from xs) ≡ true → with_number from xs x ≡ xs
+pub number_there : (xs : List ℕ) (from x : ℕ) → is_number_in x (drop from xs) ≡ true → with_fresh from xs x ≡ xs
 number_there xs from x h = ap (λ (b : Bool). cond b xs (xs ++ x ∷ [])) h
 
-pub number_new : (xs : List ℕ) (from x : ℕ) → is_number_in x (drop from xs) ≡ false → with_number from xs x ≡ xs ++ x ∷ []
+pub number_new : (xs : List ℕ) (from x : ℕ) → is_number_in x (drop from xs) ≡ false → with_fresh from xs x ≡ xs ++ x ∷ []
 number_new xs from x h = ap (λ (b : Bool). cond b xs (xs ++ x ∷ [])) h
 
-pub with_number-Begins : (from : ℕ) (xs : List ℕ) (x : ℕ) → Begins xs (with_number from xs x)
-with_number-Begins from xs x = go (is_number_in x (drop from xs))
+pub with_fresh-Begins : (from : ℕ) (xs : List ℕ) (x : ℕ) → BeginsWith xs (with_fresh from xs x)
+with_fresh-Begins from xs x = go (is_number_in x (drop from xs))
   where
-    go : (b : Bool) → Begins xs (cond b xs (xs ++ x ∷ []))
+    go : (b : Bool) → BeginsWith xs (cond b xs (xs ++ x ∷ []))
     go true = ([], sym (append-nil xs))
     go false = (x ∷ [], refl)
 
-pub with_number-StandOnce : (from : ℕ) (xs : List ℕ) (x : ℕ) → from ≤ length xs → StandOnce (drop from xs)
-    → StandOnce (drop from (with_number from xs x))
-with_number-StandOnce from xs x h old = go (is_number_in x (drop from xs)) refl
+pub with_fresh-StandOnce : (from : ℕ) (xs : List ℕ) (x : ℕ) → from ≤ length xs → StandOnce (drop from xs)
+    → StandOnce (drop from (with_fresh from xs x))
+with_fresh-StandOnce from xs x h old = go (is_number_in x (drop from xs)) refl
   where
     go : (b : Bool) → is_number_in x (drop from xs) ≡ b → StandOnce (drop from (cond b xs (xs ++ x ∷ [])))
     go true e = old

@@ -12,10 +12,10 @@ use Rattle.statement.specs.Safety.{variables, variables_in, is_binding, bound, n
 use Rattle.clauses.specs.declared.numbered.Part.{Part}
 use Rattle.clauses.specs.declared.numbered.Part.TheVariants as parts
 use Rattle.clauses.specs.declared.numbered.Atom.{Atom}
-use Rattle.clauses.specs.Numbers.{word_at, AreDifferent, is_number_in}
-use Rattle.clauses.specs.Store.{Data, variable_name, terms_before, atom_of}
-use Rattle.clauses.specs.Adding.{StandOnce, AreSorted, StandsFor, LiteralStandsFor, StandForEach}
-use Rattle.clauses.specs.Marks.{variable_numbers, with_marks, all_marked, AreBelow, literal_in, atom_numbers, binds, bound_numbers, needed_numbers}
+use Rattle.clauses.specs.Numbers.{word_at, NamesDiffer, is_number_in}
+use Rattle.clauses.specs.Store.{Data, variable_name, terms_before, stated_atom}
+use Rattle.clauses.specs.Adding.{StandOnce, AreSorted, AtomStandsFor, LiteralStandsFor, StandForEach}
+use Rattle.clauses.specs.Marks.{variable_numbers, with_marks, all_marked, NumbersBelow, literal_in, atom_numbers, binds, bound_numbers, needed_numbers}
 use Rattle.clauses.specs.Marks.{IsInside, AreInside, is_safe_by}
 use Rattle.clauses.proofs.CountedTerms.{arity_of_standing}
 
@@ -52,7 +52,7 @@ vars_behind d from (parts.List c n ∷ ps) behind s =
     ∙ ap (λ (ts : List Tree). variables_in (trees_of ts)) (take_and_drop n rest)
     ∙ vars_behind d from ps behind s.1
 
-pub vars_of_atom : (from : ℕ) (d : Data) (a : Atom) (atom : said.Atom) → StandsFor from d a atom
+pub vars_of_atom : (from : ℕ) (d : Data) (a : Atom) (atom : said.Atom) → AtomStandsFor from d a atom
     → variables_in atom.terms ≡ map (variable_name d from) (atom_numbers d a)
 vars_of_atom from d a atom s =
     ap (λ (x : said.Atom). variables_in x.terms) (sym s.same)
@@ -68,7 +68,7 @@ binding_said false a = refl
 same_binding : (from : ℕ) (d : Data) (n : ℕ) (l : said.Literal) → LiteralStandsFor from d n l → is_binding l ≡ binds d (literal_in d n)
 same_binding from d n l s =
     ap is_binding (sym s.same)
-    ∙ binding_said (literal_in d n).is_negated (atom_of d from (literal_in d n).atom)
+    ∙ binding_said (literal_in d n).is_negated (stated_atom d from (literal_in d n).atom)
     ∙ ap (λ (r : said.Relation). not (literal_in d n).is_negated && not (is_distinct r)) (ap relation_of s.atom.same ∙ sym s.atom.same_relation)
 
 map-cond : (from : ℕ) (d : Data) (b : Bool) (xs ys : List ℕ)
@@ -144,11 +144,11 @@ turn true false c = refl
 turn false true c = refl
 turn false false c = refl
 
-marked_at : (ys : List ℕ) (ms : List Bool) (x : ℕ) → AreBelow (length ms) ys
+marked_at : (ys : List ℕ) (ms : List Bool) (x : ℕ) → NumbersBelow (length ms) ys
     → slice_index_or (with_marks ms ys) x false ≡ (is_number_in x ys || slice_index_or ms x false)
 marked_at [] ms x h = refl
 marked_at (y ∷ ys) ms x h =
-    marked_at ys (slice_set ms y true) x (subst (λ (n : ℕ). AreBelow n ys) (sym (length-set ms y true)) h.1)
+    marked_at ys (slice_set ms y true) x (subst (λ (n : ℕ). NumbersBelow n ys) (sym (length-set ms y true)) h.1)
     ∙ ap (λ (b : Bool). is_number_in x ys || b) (set_at ms x y h.0)
     ∙ turn (is_number_in x ys) (x == y) (slice_index_or ms x false)
 
@@ -165,11 +165,11 @@ abbrev are_numbers_in : List ℕ → List ℕ → Bool
 are_numbers_in [] ys = true
 are_numbers_in (x ∷ xs) ys = is_number_in x ys && are_numbers_in xs ys
 
-all_marked-numbers : (many : ℕ) (ys xs : List ℕ) → AreBelow many ys → all_marked (with_marks (replicate many false) ys) xs ≡ are_numbers_in xs ys
+all_marked-numbers : (many : ℕ) (ys xs : List ℕ) → NumbersBelow many ys → all_marked (with_marks (replicate many false) ys) xs ≡ are_numbers_in xs ys
 all_marked-numbers many ys [] h = refl
 all_marked-numbers many ys (x ∷ xs) h =
     cc (
-      marked_at ys (replicate many false) x (subst (λ (n : ℕ). AreBelow n ys) (sym (length-replicate many false)) h),
+      marked_at ys (replicate many false) x (subst (λ (n : ℕ). NumbersBelow n ys) (sym (length-replicate many false)) h),
       none_marked many x,
       or_nothing (is_number_in x ys),
       all_marked-numbers many ys xs h,
@@ -208,13 +208,13 @@ needed_named d from (n ∷ ns) s = named_append d from (cond (binds d (literal_i
     (named_cond d from (binds d (literal_in d n)) [] (atom_numbers d (literal_in d n).atom) tt (named d from _ s.0.1.sorted))
     (needed_named d from ns s.1)
 
-named_below : (d : Data) (from many : ℕ) (xs : List ℕ) → length d.variables ≡ from + many → AreNamed d from xs → AreBelow many xs
+named_below : (d : Data) (from many : ℕ) (xs : List ℕ) → length d.variables ≡ from + many → AreNamed d from xs → NumbersBelow many xs
 named_below d from many [] e h = tt
 named_below d from many (x ∷ xs) e h = (let k = h.0.0 in omega (arith, k, e), named_below d from many xs e h.1)
 
 -- where different variables of the item have different names
 pub record AreDistinct (d : Data) (from : ℕ) : Type 0 where
-  pub words : AreDifferent d.words
+  pub words : NamesDiffer d.words
   pub once : StandOnce (drop from d.variables)
 
 from_place : (xs : List ℕ) (from v : ℕ) → slice_index (drop from xs) v ≡ slice_index xs (from + v)
@@ -254,7 +254,7 @@ names_in : (d : Data) (from : ℕ) (xs ys : List ℕ) → AreDistinct d from →
 names_in d from [] ys a h k = refl
 names_in d from (x ∷ xs) ys a h k = cc (name_in d from x ys a h.0 k, names_in d from xs ys a h.1 k)
 
-pub is_inside : (from : ℕ) (d : Data) (a : Atom) (atom : said.Atom) → StandsFor from d a atom → IsInside from d a
+pub is_inside : (from : ℕ) (d : Data) (a : Atom) (atom : said.Atom) → AtomStandsFor from d a atom → IsInside from d a
 is_inside from d a atom s =
     record {
       relation = s.relation;
@@ -276,7 +276,7 @@ are_inside from d (n ∷ ns) (l ∷ ls) s = ((s.0.within, is_inside from d (lite
 -- the test over numbers decides safety
 pub safe_is : (from many : ℕ) (d : Data) (a : Atom) (atom : said.Atom) (ns : List ℕ) (ls : List said.Literal) → AreDistinct d from
     → length d.variables ≡ from + many
-    → StandsFor from d a atom → StandForEach from d ns ls → is_safe_by many d a ns ≡ is_safe (record { head = atom; body = ls })
+    → AtomStandsFor from d a atom → StandForEach from d ns ls → is_safe_by many d a ns ≡ is_safe (record { head = atom; body = ls })
 safe_is from many d a atom ns ls distinct e s t =
     let i = are_inside from d ns ls t in
     let xs : List ℕ = atom_numbers d a ++ needed_numbers d ns in

@@ -4,7 +4,7 @@ use Rattle.std.proofs.Common.{arith, eq-eqb}
 use Rattle.std.specs.List.{list_any}
 use Rattle.std.proofs.lemmas.List.{append-nil}
 use Rattle.clauses.specs.declared.signatures.Signature.{Signature}
-use Rattle.clauses.specs.Numbers.{Begins}
+use Rattle.clauses.specs.Numbers.{BeginsWith}
 use Rattle.clauses.specs.Adding.{AreDifferentSignatures}
 use Rattle.clauses.proofs.NumberLemmas.{more_different, true_or_false, last_or_before}
 use Rattle.profile.proofs.Facts.{or_left, or_right}
@@ -20,10 +20,10 @@ pub kept : (eq : Signature → Signature → Bool) → ((s t : Signature) → eq
     → cond (list_any (eq s) ss) ss (ss ++ s ∷ []) ≡ with_signature ss s
 kept eq same ss s = ap (λ (b : Bool). cond b ss (ss ++ s ∷ [])) (any-is_signature_in eq same ss s)
 
-pub with_signature-Begins : (ss : List Signature) (s : Signature) → Begins ss (with_signature ss s)
+pub with_signature-Begins : (ss : List Signature) (s : Signature) → BeginsWith ss (with_signature ss s)
 with_signature-Begins ss s = go (is_signature_in s ss)
   where
-    go : (b : Bool) → Begins ss (cond b ss (ss ++ s ∷ []))
+    go : (b : Bool) → BeginsWith ss (cond b ss (ss ++ s ∷ []))
     go true = ([], sym (append-nil ss))
     go false = (s ∷ [], refl)
 

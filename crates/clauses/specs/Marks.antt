@@ -26,9 +26,9 @@ abbrev pub all_marked : List Bool → List ℕ → Bool
 all_marked ms [] = true
 all_marked ms (v ∷ vs) = slice_index_or ms v false && all_marked ms vs
 
-abbrev pub AreBelow : ℕ → List ℕ → Type 0
-AreBelow n [] = Unit {0}
-AreBelow n (x ∷ xs) = (x < n) × AreBelow n xs
+abbrev pub NumbersBelow : ℕ → List ℕ → Type 0
+NumbersBelow n [] = Unit {0}
+NumbersBelow n (x ∷ xs) = (x < n) × NumbersBelow n xs
 
 abbrev pub literal_in : Data → ℕ → Literal
 literal_in d n = slice_index_or d.literals n no_literal

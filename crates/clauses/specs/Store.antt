@@ -53,15 +53,15 @@ abbrev pub relation_at : Data → ℕ → said.Relation
 relation_at d r = record { word = word_at d.words (signature_at d.signatures r).word; arity = (signature_at d.signatures r).arity }
 
 -- the atom that stands for an item whose variables stand from a place on
-abbrev pub atom_of : Data → ℕ → Atom → said.Atom
-atom_of d from a =
+abbrev pub stated_atom : Data → ℕ → Atom → said.Atom
+stated_atom d from a =
     record { word = (relation_at d a.relation).word; terms = trees_of (terms_before d from (slice_range d.parts a.terms.from a.terms.to) []) }
 
 abbrev pub literal_of : Data → ℕ → Literal → said.Literal
-literal_of d from l = cond l.is_negated (negative (atom_of d from l.atom)) (positive (atom_of d from l.atom))
+literal_of d from l = cond l.is_negated (negative (stated_atom d from l.atom)) (positive (stated_atom d from l.atom))
 
 abbrev pub no_literal : Literal
 no_literal = record { atom = record { relation = 0; terms = record { from = 0; to = 0 } }; is_negated = false }
 
-abbrev pub literal_at : Data → ℕ → ℕ → said.Literal
-literal_at d from n = literal_of d from (slice_index_or d.literals n no_literal)
+abbrev pub stated_literal : Data → ℕ → ℕ → said.Literal
+stated_literal d from n = literal_of d from (slice_index_or d.literals n no_literal)

@@ -5,9 +5,9 @@ ghost use Rattle.statement.specs.Tree.{name, trees_of};
 ghost use Rattle.kif.specs.View.{tree_of, trees_in};
 ghost use Rattle.profile.specs.Uses.{use_in};
 ghost use Rattle.statement.specs.Items.{is_term, are_terms, is_atom, atom_in};
-ghost use Rattle.clauses.specs.Adding.{Adds, MakesPart, BeginsList, NumbersRelation, AddsAtom, AddsLiteral};
+ghost use Rattle.clauses.specs.Adding.{AddsTerms, MakesPart, BeginsList, NumbersRelation, AddsAtom, AddsLiteral};
 ghost use Rattle.statement.specs.Clause.{positive, negative, is_word};
-ghost use Rattle.clauses.specs.Numbers.{word_at, with_word, with_number, is_number_in};
+ghost use Rattle.clauses.specs.Numbers.{word_at, with_word, with_fresh, is_number_in};
 ghost use Rattle.clauses.specs.StoreView.{data_of};
 ghost use Rattle.clauses.specs.Marks.{literal_in};
 ghost use Rattle.statement.specs.Dependence.{is_distinct};
@@ -59,7 +59,7 @@ impl Store {
         ensures found { IfOk result (λ v. (from + v < length (data_of self.new).variables)
             × (slice_index (data_of self.new).variables (from + v) ≡ symbol)) }
         ensures kept { OnOk result (data_of self.new
-            ≡ record (data_of self.old) { variables = with_number from (data_of self.old).variables symbol }) }
+            ≡ record (data_of self.old) { variables = with_fresh from (data_of self.old).variables symbol }) }
     {
         let known = place_of(&self.variables[from..], symbol);
         if let Some(number) = known {
@@ -191,7 +191,7 @@ impl Store {
 
     fn add_name(&mut self, from: usize, word: &[u8]) -> Result<(), AllocError>
         requires { from ≤ length (data_of self.old).variables }
-        ensures { OnOk result (Adds from (data_of self.old) (data_of self.new) (name word.now ∷ [])) }
+        ensures { OnOk result (AddsTerms from (data_of self.old) (data_of self.new) (name word.now ∷ [])) }
     {
         let part = self.name_part(from, word)?;
         self.push_part(part)
@@ -209,7 +209,7 @@ impl Store {
     fn add_term<A: Allocator>(&mut self, from: usize, e: &Expr<A>) -> Result<(), AllocError>
         requires variables { from ≤ length (data_of self.old).variables }
         requires term { is_term (tree_of e.now) ≡ true }
-        ensures { OnOk result (Adds from (data_of self.old) (data_of self.new) (tree_of e.now ∷ [])) }
+        ensures { OnOk result (AddsTerms from (data_of self.old) (data_of self.new) (tree_of e.now ∷ [])) }
     {
         match e {
             Expr::Name(name) => self.add_name(from, name),
@@ -227,7 +227,7 @@ impl Store {
     fn add_terms<A: Allocator>(&mut self, from: usize, terms: &[Expr<A>]) -> Result<(), AllocError>
         requires variables { from ≤ length (data_of self.old).variables }
         requires terms { are_terms (trees_of (trees_in terms.now)) ≡ true }
-        ensures { OnOk result (Adds from (data_of self.old) (data_of self.new) (trees_in terms.now)) }
+        ensures { OnOk result (AddsTerms from (data_of self.old) (data_of self.new) (trees_in terms.now)) }
     {
         for term in terms {
             self.add_term(from, term)?;
@@ -244,7 +244,7 @@ impl Store {
         Ok(relation)
     }
 
-    /// Adds the atom of a word and terms.
+    /// AddsTerms the atom of a word and terms.
     fn add_atom_of<A: Allocator>(
         &mut self,
         from: usize,
@@ -269,7 +269,7 @@ impl Store {
         })
     }
 
-    /// Adds an atom.
+    /// AddsTerms an atom.
     pub(crate) fn add_atom<A: Allocator>(
         &mut self,
         from: usize,
@@ -283,7 +283,7 @@ impl Store {
         self.add_atom_of(from, word, terms)
     }
 
-    /// Adds a literal, and tells its number.
+    /// AddsTerms a literal, and tells its number.
     pub(crate) fn add_literal<A: Allocator>(
         &mut self,
         from: usize,

@@ -12,7 +12,7 @@ use Rattle.std.proofs.Math.Seq.{get_or-append_seam}
 use Rattle.digraph.specs.declared.components.Walk.{Walk}
 use Rattle.digraph.specs.declared.graph.Arrow.{Arrow}
 use Rattle.digraph.specs.Graph.{arrow_at, Leads, ReachesIn, Reaches, AreLinked}
-use Rattle.digraph.specs.Grouping.{LeadsOn, AreComponents, IsOpen, StandsBehind, Follows, IsPassed, unseen, Grouping, IsWalk, work_left, IsCut}
+use Rattle.digraph.specs.Grouping.{LeadsOn, AreComponents, IsOpen, StandsBehind, ComesBehind, IsPassed, unseen, Grouping, IsWalk, work_left, StartsCut}
 use Rattle.digraph.specs.Grouping.{AreNumberedFrom, IsLookedAt, numbered, opened, joined}
 use Rattle.digraph.proofs.GraphLemmas.{same_or, last_or}
 use Rattle.digraph.proofs.Search.{three, sum-set, read_nat, read_arrow}
@@ -185,8 +185,8 @@ module _ (arrows : List Arrow) (n m : ℕ) (ends places open' starts pending num
         omega (arith, e, some)) (s.standing none (let e = at_other p o in omega (arith, e, some)));
   }
     where
-      go : get_or numbers p 0 ≡ 0 → 0 < get_or places p 0 → Follows places starts numbers p y
-          → Follows (set places q (length open' + 1)) (starts ++ length open' ∷ []) numbers p y
+      go : get_or numbers p 0 ≡ 0 → 0 < get_or places p 0 → ComesBehind places starts numbers p y
+          → ComesBehind (set places q (length open' + 1)) (starts ++ length open' ∷ []) numbers p y
       go none some (inl h) = inl h
       go none some (inr b) = inr (
         (let e = at_other y not_y in let g = b.0 in omega (arith, e, g)),
@@ -275,7 +275,7 @@ module _ (arrows : List Arrow) (n m : ℕ) (ends places open' starts pending num
 module _ (arrows : List Arrow) (n m : ℕ) (ends places open' starts pending numbers : List ℕ) (count : ℕ) (starts' : List ℕ) (x y : ℕ)
     (w : Grouping arrows n m ends places open' starts pending numbers count) (x_open : IsOpen n places numbers x) (y_open : IsOpen n places numbers y)
     (top : (j : ℕ) → j < length starts → get_or starts j 0 < get_or places x 0) (leads : LeadsOn arrows x y)
-    (cut : IsCut starts starts' (get_or places y 0 - 1)) where
+    (cut : StartsCut starts starts' (get_or places y 0 - 1)) where
   behind_y : (j : ℕ) → length starts' ≤ j → j < length starts → get_or places y 0 ≤ get_or starts j 0
   behind_y j h k = let g = cut.behind j h k in omega (arith, g)
 
@@ -318,7 +318,7 @@ module _ (arrows : List Arrow) (n m : ℕ) (ends places open' starts pending num
   passed_joined : (p z : ℕ) → IsPassed places starts numbers p z → IsPassed places starts' numbers p z
   passed_joined p z s = record { numbered = s.numbered; standing = λ none some. go (s.standing none some) }
     where
-      go : Follows places starts numbers p z → Follows places starts' numbers p z
+      go : ComesBehind places starts numbers p z → ComesBehind places starts' numbers p z
       go (inl h) = inl h
       go (inr b) =
           inr (b.0, λ j j_in under. (let e = cut.kept j j_in in let g = b.1 j (kept_in j j_in) (omega (arith, e, under)) in omega (arith, e, g)))
@@ -358,7 +358,7 @@ module _ (arrows : List Arrow) (n m : ℕ) (ends places open' starts pending num
       fewer : (c t t' s n : ℕ) → c + t + s ≤ n → t' ≤ t → c + t' + s ≤ n
       fewer c t t' s n h k = omega arith
 
-  pub follows_joined : Follows places starts' numbers x y
+  pub follows_joined : ComesBehind places starts' numbers x y
   follows_joined = inr (y_open.placed, λ j j_in _. low j j_in (same_or j (length starts' - 1)))
     where
       low : (j : ℕ) → j < length starts' → (j ≡ length starts' - 1) ⊎ (j ≡ length starts' - 1 → ⊥) → get_or starts' j 0 < get_or places y 0
@@ -372,7 +372,7 @@ module _ (arrows : List Arrow) (ends0 before : List ℕ) (l : AreLinked arrows e
     (count : ℕ) (node end next : ℕ)
     (w : Grouping arrows (length ends0) m ends places open' starts pending numbers count) (here : IsOpen (length ends0) places numbers node)
     (end_is : get_or ends node 0 ≡ end) (some : 0 < end)
-    (next_is : get_or before (end - 1) 0 ≡ next) (follows : Follows places starts numbers node (arrow_at arrows (end - 1)).to) where
+    (next_is : get_or before (end - 1) 0 ≡ next) (follows : ComesBehind places starts numbers node (arrow_at arrows (end - 1)).to) where
   next_at : (p : ℕ) → p ≡ node → get_or (set ends node next) p 0 ≡ next
   next_at p e = ap (λ (x : ℕ). get_or (set ends node next) x 0) e
       ∙ get_or-set_same ends node next 0 (let g = w.ends_are in let h = here.inside in omega (arith, g, h))
@@ -403,12 +403,12 @@ module _ (arrows : List Arrow) (ends0 before : List ℕ) (l : AreLinked arrows e
       let f = next_off p o in from_at (get_or (set ends node next) p 0 - 1) (get_or ends p 0 - 1) (omega (arith, f))
       ∙ w.end_own p h (omega (arith, f, more))
 
-  node_passed : (k : ℕ) → (arrow_at arrows k).from ≡ node → Follows places starts numbers node (arrow_at arrows k).to
+  node_passed : (k : ℕ) → (arrow_at arrows k).from ≡ node → ComesBehind places starts numbers node (arrow_at arrows k).to
       → IsPassed places starts numbers (arrow_at arrows k).from (arrow_at arrows k).to
   node_passed k e f = record {
     numbered = λ h. absurd (let g = ap (λ (x : ℕ). get_or numbers x 0) e in let none = here.unnumbered in let bad : ⊥ = omega (arith, h, g, none) in
         bad);
-    standing = λ _ _. subst (λ (x : ℕ). Follows places starts numbers x (arrow_at arrows k).to) (sym e) f;
+    standing = λ _ _. subst (λ (x : ℕ). ComesBehind places starts numbers x (arrow_at arrows k).to) (sym e) f;
   }
 
   passed' : (k : ℕ) → k < length arrows → get_or (set ends node next) (arrow_at arrows k).from 0 ≤ k
@@ -419,7 +419,7 @@ module _ (arrows : List Arrow) (ends0 before : List ℕ) (l : AreLinked arrows e
       go : (k < end - 1) ⊎ ((k ≡ end - 1) ⊎ (end ≤ k)) → IsPassed places starts numbers (arrow_at arrows k).from (arrow_at arrows k).to
       go (inl less) = absurd (let f = next_at (arrow_at arrows k).from e in
           l.before_gap (end - 1) k arrow_in (omega (arith, f, next_is, past)) less (e ∙ sym arrow_own))
-      go (inr (inl same)) = node_passed k e (subst (λ (x : ℕ). Follows places starts numbers node (arrow_at arrows x).to) (sym same) follows)
+      go (inr (inl same)) = node_passed k e (subst (λ (x : ℕ). ComesBehind places starts numbers node (arrow_at arrows x).to) (sym same) follows)
       go (inr (inr more)) = w.passed k h (let f = ap (λ (x : ℕ). get_or ends x 0) e in omega (arith, f, end_is, more))
   passed' k h past (inr o) = let f = next_off (arrow_at arrows k).from o in w.passed k h (omega (arith, f, past))
 
@@ -637,7 +637,7 @@ module _ (arrows : List Arrow) (n m : ℕ) (ends places open' starts pending num
   start_behind p q more b = let g = b.1 (length starts) (omega (arith, count_starts)) (omega (arith, last_start, more)) in
       omega (arith, g, last_start)
 
-  left_behind : (p q : ℕ) → q < n → StandsBehind places (starts ++ start ∷ []) p q → Case q → Follows places starts numbers' p q
+  left_behind : (p q : ℕ) → q < n → StandsBehind places (starts ++ start ∷ []) p q → Case q → ComesBehind places starts numbers' p q
   left_behind p q q_in b (is_old some e) = inl (omega (arith, e, some))
   left_behind p q q_in b (is_new o more e) = inl (omega (arith, e))
   left_behind p q q_in b (is_kept none less e) =
@@ -658,7 +658,7 @@ module _ (arrows : List Arrow) (n m : ℕ) (ends places open' starts pending num
     standing = λ none. absurd (let bad : ⊥ = omega (arith, e, none) in bad);
   }
     where
-      go : Follows places (starts ++ start ∷ []) numbers p q → (0 < get_or numbers' q 0) × (get_or numbers' q 0 ≤ get_or numbers' p 0)
+      go : ComesBehind places (starts ++ start ∷ []) numbers p q → (0 < get_or numbers' q 0) × (get_or numbers' q 0 ≤ get_or numbers' p 0)
       go (inl h) = let g = numbered_now q q_in h in let b = g.1 in (g.0, omega (arith, b, e))
       go (inr b) = let g = behind_new q q_in b.0 (start_behind p q more b) (case_of q q_in) in let c = g.1 in (g.0, omega (arith, c, e))
   passed_left p q p_in q_in x (is_kept none less e) = record {
@@ -666,7 +666,7 @@ module _ (arrows : List Arrow) (n m : ℕ) (ends places open' starts pending num
     standing = λ _ placed. go (x.standing none placed);
   }
     where
-      go : Follows places (starts ++ start ∷ []) numbers p q → Follows places starts numbers' p q
+      go : ComesBehind places (starts ++ start ∷ []) numbers p q → ComesBehind places starts numbers' p q
       go (inl h) = inl (numbered_now q q_in h).0
       go (inr b) = left_behind p q q_in b (case_of q q_in)
 
@@ -980,7 +980,7 @@ to_top arrows n m w node p v t h = go (less_or (get_or w.places.items node 0) (g
 record Looked (arrows : List Arrow) (n m : ℕ) (ends : List ℕ) (new : Walk) (node target : ℕ) : Type 0 where
   walk : Grouping arrows n m ends new.places.items new.open_nodes.items new.starts.items new.pending.items new.numbers.items new.count
   is_open : IsOpen n new.places.items new.numbers.items node
-  follows : Follows new.places.items new.starts.items new.numbers.items node target
+  follows : ComesBehind new.places.items new.starts.items new.numbers.items node target
 
 same_open : (n : ℕ) (places numbers places' numbers' : List ℕ) (p : ℕ) → places' ≡ places → numbers' ≡ numbers → IsOpen n places numbers p
     → IsOpen n places' numbers' p
@@ -1034,8 +1034,8 @@ looked arrows n m old new node target v t leads target_in (joined none some cut 
       new.starts.items node target v t.is_open target_open t.top
       (one_on arrows node target leads) cut);
   is_open = same_open n _ _ _ _ node a e t.is_open;
-  follows = subst (λ (x : List ℕ). Follows x new.starts.items new.numbers.items node target) (sym a)
-      (subst (λ (x : List ℕ). Follows old.places.items new.starts.items x node target) (sym e)
+  follows = subst (λ (x : List ℕ). ComesBehind x new.starts.items new.numbers.items node target) (sym a)
+      (subst (λ (x : List ℕ). ComesBehind old.places.items new.starts.items x node target) (sym e)
       (follows_joined arrows n m old.ends.items old.places.items old.open_nodes.items old.starts.items old.pending.items old.numbers.items old.count
       new.starts.items node target v t.is_open target_open t.top
       (one_on arrows node target leads) cut));
@@ -1056,7 +1056,7 @@ followed_at arrows ends0 before l m old new node end next target v t a look e =
     new.pending.items new.numbers.items new.count) (sym e)
     (followed arrows ends0 before l m old.ends.items new.places.items new.open_nodes.items new.starts.items new.pending.items new.numbers.items
     new.count node end next k.walk k.is_open a.end_is a.some a.next_is
-    (subst (λ (x : ℕ). Follows new.places.items new.starts.items new.numbers.items node x) (sym a.target_is) k.follows))
+    (subst (λ (x : ℕ). ComesBehind new.places.items new.starts.items new.numbers.items node x) (sym a.target_is) k.follows))
 
 -- What is left to do falls.
 

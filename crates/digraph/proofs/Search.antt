@@ -11,7 +11,7 @@ use Rattle.std.proofs.lemmas.List.Sums.{sum_by-set}
 use Rattle.std.proofs.Math.ListN.{get_or-append}
 use Rattle.std.proofs.Math.Seq.{get_or-append_seam}
 use Rattle.digraph.specs.declared.graph.Arrow.{Arrow}
-use Rattle.digraph.specs.Graph.{arrow_at, Leads, ReachesIn, Reaches, AreLinked, IsReachedFrom, AreMarks, Stands}
+use Rattle.digraph.specs.Graph.{arrow_at, Leads, ReachesIn, Reaches, AreLinked, IsReachedFrom, ReachedMarked, Stands}
 use Rattle.digraph.proofs.GraphLemmas.{same_or, last_or}
 
 -- Chains of arrows.
@@ -255,7 +255,7 @@ work marks ends pending = length pending + sum_by weight marks + sum_by (λ x. x
 pub all_marked : (arrows : List Arrow) (ends0 before : List ℕ) → AreLinked arrows ends0 before → (starts : List ℕ)
     → ((i : ℕ) → i < length starts → get_or starts i 0 < length ends0)
     → (marks : List Bool) (ends : List ℕ) → Searching arrows starts (length ends0) (length starts) marks ends []
-    → AreMarks arrows starts (length ends0) marks
+    → ReachedMarked arrows starts (length ends0) marks
 all_marked arrows ends0 before l starts starts_in marks ends s = record {
   length_is = s.marks_are;
   exact = λ p h. (s.sound p h, λ r. whole p r r.leads);
@@ -501,7 +501,7 @@ pub all_marked_at : (arrows : List Arrow) (ends0 before : List ℕ) → AreLinke
     → ((i : ℕ) → i < length starts → get_or starts i 0 < length ends0)
     → (marks : List Bool) (ends pending : List ℕ) (n : ℕ) → n ≡ length ends0 → length pending ≡ 0
     → Searching arrows starts (length ends0) (length starts) marks ends pending
-    → AreMarks arrows starts n marks
+    → ReachedMarked arrows starts n marks
 all_marked_at arrows ends0 before l starts starts_in marks ends [] n e none s =
-    subst (λ (x : ℕ). AreMarks arrows starts x marks) (sym e) (all_marked arrows ends0 before l starts starts_in marks ends s)
+    subst (λ (x : ℕ). ReachedMarked arrows starts x marks) (sym e) (all_marked arrows ends0 before l starts starts_in marks ends s)
 all_marked_at arrows ends0 before l starts starts_in marks ends (x ∷ pending) n e none s = absurd (let bad : ⊥ = omega (arith, none) in bad)

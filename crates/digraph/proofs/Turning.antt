@@ -5,7 +5,7 @@ use Rattle.std.specs.Prelude.{Contains}
 use Rattle.std.proofs.lemmas.List.{length-map}
 use Rattle.std.proofs.lemmas.Grind.{get_or_default_zero}
 use Rattle.digraph.specs.declared.graph.Arrow.{Arrow}
-use Rattle.digraph.specs.Graph.{arrow_at, Leads, ReachesIn, Reaches, IsReachedFrom, AreMarks, Stands, turned_arrow, IsLeading, AreLeading, ArePlaces}
+use Rattle.digraph.specs.Graph.{arrow_at, Leads, ReachesIn, Reaches, IsReachedFrom, ReachedMarked, Stands, turned_arrow, IsLeading, AreLeading, ArePlaces}
 use Rattle.digraph.proofs.Search.{reaches_then}
 
 arrow_turned : (arrows : List Arrow) (k : ℕ) → arrow_at (map turned_arrow arrows) k ≡ turned_arrow (arrow_at arrows k)
@@ -55,7 +55,7 @@ places_inside marks places a i h = marked_inside marks (get_or places i 0) (a.so
 
 pub leading : (arrows turned : List Arrow) (n m : ℕ) (goals marks : List Bool) (places : List ℕ) → turned ≡ map turned_arrow arrows → n ≡ m
     → length goals ≡ n → ArePlaces goals places
-    → AreMarks turned places m marks → AreLeading arrows goals marks
+    → ReachedMarked turned places m marks → AreLeading arrows goals marks
 leading arrows turned n m goals marks places e f len a r = record {
   length_is = r.length_is ∙ sym f ∙ sym len;
   exact = λ p h. (

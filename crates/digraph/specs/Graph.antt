@@ -43,7 +43,7 @@ pub record IsReachedFrom (arrows : List Arrow) (starts : List ℕ) (p : ℕ) : T
   pub leads : (start ≡ p) ⊎ Reaches arrows start p
 
 -- the marks of n nodes say which are reached from the starts
-pub record AreMarks (arrows : List Arrow) (starts : List ℕ) (n : ℕ) (marks : List Bool) : Type 0 where
+pub record ReachedMarked (arrows : List Arrow) (starts : List ℕ) (n : ℕ) (marks : List Bool) : Type 0 where
   pub length_is : length marks ≡ n
   pub exact : (p : ℕ) → p < n → (slice_index_or marks p false ≡ true) ↔ IsReachedFrom arrows starts p
 

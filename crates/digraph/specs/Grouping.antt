@@ -25,13 +25,13 @@ abbrev pub StandsBehind : List ℕ → List ℕ → ℕ → ℕ → Type 0
 StandsBehind places starts p q = (0 < slice_index places q) × ((j : ℕ) → j < length starts → slice_index starts j < slice_index places p
     → slice_index starts j < slice_index places q)
 
-abbrev pub Follows : List ℕ → List ℕ → List ℕ → ℕ → ℕ → Type 0
-Follows places starts numbers p q = (0 < slice_index numbers q) ⊎ StandsBehind places starts p q
+abbrev pub ComesBehind : List ℕ → List ℕ → List ℕ → ℕ → ℕ → Type 0
+ComesBehind places starts numbers p q = (0 < slice_index numbers q) ⊎ StandsBehind places starts p q
 
 -- what an arrow from p to q that was followed tells
 pub record IsPassed (places starts numbers : List ℕ) (p q : ℕ) : Type 0 where
   pub numbered : 0 < slice_index numbers p → (0 < slice_index numbers q) × (slice_index numbers q ≤ slice_index numbers p)
-  pub standing : slice_index numbers p ≡ 0 → 0 < slice_index places p → Follows places starts numbers p q
+  pub standing : slice_index numbers p ≡ 0 → 0 < slice_index places p → ComesBehind places starts numbers p q
 
 abbrev pub unseen : ℕ → ℕ
 unseen zero = 1
@@ -79,7 +79,7 @@ abbrev pub work_of : Walk → ℕ
 work_of w = work_left w.ends.items w.places.items w.starts.items w.pending.items
 
 -- the starts that are left are those up to a place
-pub record IsCut (old new : List ℕ) (place : ℕ) : Type 0 where
+pub record StartsCut (old new : List ℕ) (place : ℕ) : Type 0 where
   pub some : 0 < length new
   pub fewer : length new ≤ length old
   pub kept : (j : ℕ) → j < length new → slice_index new j ≡ slice_index old j
@@ -103,7 +103,7 @@ pub data IsLookedAt (old new : Walk) (target : ℕ) : Type 0 where
       → new.pending.items ≡ old.pending.items ++ length old.open_nodes.items ∷ []
       → new.numbers.items ≡ old.numbers.items → new.count ≡ old.count → IsLookedAt old new target
   joined : slice_index old.numbers.items target ≡ 0 → 0 < slice_index old.places.items target
-      → IsCut old.starts.items new.starts.items (slice_index old.places.items target - 1)
+      → StartsCut old.starts.items new.starts.items (slice_index old.places.items target - 1)
       → new.places.items ≡ old.places.items → new.open_nodes.items ≡ old.open_nodes.items → new.pending.items ≡ old.pending.items
       → new.numbers.items ≡ old.numbers.items → new.count ≡ old.count
       → IsLookedAt old new target

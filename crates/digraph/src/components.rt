@@ -7,7 +7,7 @@
 ghost use Rattle.std.specs.Prelude.{ℕ, ◌≡◌, ◌<◌, ◌≤◌, ◌+◌, ◌-◌, ◌^◌, ◌++◌, ◌∷◌, [], length, IfOk, OnOk, MatchOption, replicate, slice_index};
 ghost use Rattle.std.specs.Prelude.{slice_set, take};
 ghost use Rattle.digraph.specs.GraphView.{arrows_of, nodes_of};
-ghost use Rattle.digraph.specs.Grouping.{AreComponents, AreNumberedFrom, IsCut, IsLookedAt, IsWalk, work_of};
+ghost use Rattle.digraph.specs.Grouping.{AreComponents, AreNumberedFrom, StartsCut, IsLookedAt, IsWalk, work_of};
 
 use crate::graph::Graph;
 use std::alloc::{AllocError, Global};
@@ -81,7 +81,7 @@ impl Walk {
 fn drop_behind(starts: &mut Vec<usize>, place: usize)
     requires some { 0 < length starts.old.items }
     requires first { slice_index starts.old.items 0 ≤ place }
-    ensures { IsCut starts.old.items starts.new.items place }
+    ensures { StartsCut starts.old.items starts.new.items place }
 {
     while starts[starts.len() - 1] > place {
         let _ = starts.pop();

@@ -1,6 +1,6 @@
 //! What is reached in a graph.
 ghost use Rattle.std.specs.Prelude.{◌≡◌, ◌<◌, ◌∷◌, ◌++◌, [], length, vec_len, IfOk, OnOk, All, slice_set, slice_index_or, false, true, if◌then◌else◌};
-ghost use Rattle.digraph.specs.Graph.{AreMarks, AreLeading, ArePlaces};
+ghost use Rattle.digraph.specs.Graph.{ReachedMarked, AreLeading, ArePlaces};
 ghost use Rattle.digraph.specs.GraphView.{arrows_of, nodes_of};
 
 use crate::graph::Graph;
@@ -10,7 +10,7 @@ impl Graph {
     /// Marks the nodes that are among the starts or are reached from one.
     pub(crate) fn reached(&self, alloc: Global, starts: &[usize]) -> Result<Vec<bool>, AllocError>
         requires { All (λ start. start < nodes_of self.now) starts.now }
-        ensures { IfOk result (λ marks. AreMarks (arrows_of self.now) starts.now (nodes_of self.now) marks.items) }
+        ensures { IfOk result (λ marks. ReachedMarked (arrows_of self.now) starts.now (nodes_of self.now) marks.items) }
     {
         let mut marks = vec![in alloc; false; self.ends.len()]?;
         let mut ends = self.ends.clone()?;

@@ -39,7 +39,7 @@ use Rattle.std.proofs.Common.{
 }
 use Rattle.std.proofs.lemmas.List.{drop-append-le, drop_all, get_or_default}
 use Rattle.std.proofs.Math.Seq.{drop-cons}
-use Rattle.gates.specs.Building.{AreLiterals, AreOneOf, IsStep, IsBuilt, IsLiteral, slots_of, value_of, all_of, any_of, IsNegation, AreNegations}
+use Rattle.gates.specs.Building.{HaveNegations, AreOneOf, IsStep, IsBuilt, IsLiteral, slots_of, signal_value, all_of, any_of, IsNegation, AreNegations}
 use Rattle.gates.specs.declared.builder.Builder.{Builder}
 use Rattle.gates.proofs.Literals.{step_then, step_refl, value_literals, groups_after, groups_before}
 
@@ -80,7 +80,7 @@ pub record IsAll (start now : Builder) (all rest : List ℕ) : Type 0 where
   pub step : IsStep start now
   pub some : 0 < length rest
   pub literals : All (λ l. l < slots_of now) rest
-  pub value : (bits : ℕ → Bool) → AreOneOf start.groups.items bits → all_of (value_of now bits) rest ≡ all_of (value_of start bits) all
+  pub value : (bits : ℕ → Bool) → AreOneOf start.groups.items bits → all_of (signal_value now bits) rest ≡ all_of (signal_value start bits) all
 
 pub all_begins : (b : Builder) (xs : List ℕ) → IsBuilt b → 0 < length xs → All (λ l. l < slots_of b) xs → IsAll b b xs xs
 all_begins b xs h s a = record { step = step_refl b h; some = s; literals = a; value = λ bits one. refl }
@@ -95,7 +95,7 @@ joined : (x y z r : Bool) → z ≡ (x && y) → (r && z) ≡ (x && (y && r))
 joined x y z r e = rw e (and_swap r (x && y) ∙ sym (all_assoc x y r))
 
 pub all_more : (start b c : Builder) (all rest : List ℕ) (x y z : ℕ) → IsAll start b all (x ∷ y ∷ rest) → IsStep b c
-    → IsLiteral c z (λ bits. value_of c bits x && value_of c bits y) → IsAll start c all (rest ++ (z ∷ []))
+    → IsLiteral c z (λ bits. signal_value c bits x && signal_value c bits y) → IsAll start c all (rest ++ (z ∷ []))
 all_more start b c all rest x y z h s l =
     let a : All (λ l. l < slots_of b) rest = (λ k d i. h.literals (suc (suc k)) d (omega arith)) in
     let p : x < slots_of b = h.literals 0 0 (omega arith) in
@@ -106,11 +106,11 @@ all_more start b c all rest x y z h s l =
       literals = within_more (slots_of b) (slots_of c) rest z s.more l.slot a;
       value = λ bits one.
           let here : AreOneOf c.groups.items bits = groups_after start c (step_then start b c h.step s) bits one in
-          let e : value_of c bits z ≡ (value_of b bits x && value_of b bits y) = rw (← s.keeps bits x p, ← s.keeps bits y q) (l.value bits here) in
-          let f : all_of (value_of c bits) rest ≡ all_of (value_of b bits) rest =
-          all_same (value_of c bits) (value_of b bits) (slots_of b) rest (λ k i. s.keeps bits k i) a in
-          rw (all_append (value_of c bits) rest (z ∷ []), f, and_true (value_of c bits z))
-          (joined (value_of b bits x) (value_of b bits y) (value_of c bits z) (all_of (value_of b bits) rest) e ∙ h.value bits one);
+          let e : signal_value c bits z ≡ (signal_value b bits x && signal_value b bits y) = rw (← s.keeps bits x p, ← s.keeps bits y q) (l.value bits here) in
+          let f : all_of (signal_value c bits) rest ≡ all_of (signal_value b bits) rest =
+          all_same (signal_value c bits) (signal_value b bits) (slots_of b) rest (λ k i. s.keeps bits k i) a in
+          rw (all_append (signal_value c bits) rest (z ∷ []), f, and_true (signal_value c bits z))
+          (joined (signal_value b bits x) (signal_value b bits y) (signal_value c bits z) (all_of (signal_value b bits) rest) e ∙ h.value bits one);
     }
 
 front_two : (xs : List ℕ) (n : ℕ) → n + 1 < length xs → drop n xs ≡ get_or xs n 0 ∷ get_or xs (n + 1) 0 ∷ drop (n + 2) xs
@@ -126,7 +126,7 @@ read_at xs i x h e = e ∙ get_or_default xs i x 0 h
 
 pub all_queued : (start b c : Builder) (all queue queue_then : List ℕ) (n x y z : ℕ) → n + 1 < length queue
     → x ≡ get_or queue n x → y ≡ get_or queue (n + 1) y → IsAll start b all (drop n queue) → IsStep b c
-    → IsLiteral c z (λ bits. value_of c bits x && value_of c bits y) → queue_then ≡ queue ++ (z ∷ [])
+    → IsLiteral c z (λ bits. signal_value c bits x && signal_value c bits y) → queue_then ≡ queue ++ (z ∷ [])
     → IsAll start c all (drop (n + 2) queue_then)
 all_queued start b c all queue queue_then n x y z h p q a s l f =
     let m : n + 2 ≤ length queue = omega arith in
@@ -137,17 +137,17 @@ all_queued start b c all queue queue_then n x y z h p q a s l f =
     rw (f, drop-append-le (n + 2) queue (z ∷ []) m) (all_more start b c all (drop (n + 2) queue) x y z i s l)
 
 last_at : (start b : Builder) (all queue : List ℕ) (n : ℕ) → length queue ≤ n + 1 → n < length queue → IsAll start b all (drop n queue)
-    → IsLiteral b (get_or queue n 0) (λ bits. all_of (value_of start bits) all)
+    → IsLiteral b (get_or queue n 0) (λ bits. all_of (signal_value start bits) all)
 last_at start b all queue n h k a =
     let e : drop n queue ≡ get_or queue n 0 ∷ [] = rw (drop-cons queue n 0 k, drop_all (suc n) queue (omega arith)) refl in
     let i : IsAll start b all (get_or queue n 0 ∷ []) = rw e at a in
     record {
       slot = i.literals 0 0 (omega arith);
-      value = λ bits one. sym (and_true (value_of b bits (get_or queue n 0))) ∙ i.value bits (groups_before start b a.step bits one);
+      value = λ bits one. sym (and_true (signal_value b bits (get_or queue n 0))) ∙ i.value bits (groups_before start b a.step bits one);
     }
 
 pub last_queued : (start b : Builder) (all queue : List ℕ) (n x : ℕ) → length queue ≤ n + 1 → n < length queue → x ≡ get_or queue n x
-    → IsAll start b all (drop n queue) → IsLiteral b x (λ bits. all_of (value_of start bits) all)
+    → IsAll start b all (drop n queue) → IsLiteral b x (λ bits. all_of (signal_value start bits) all)
 last_queued start b all queue n x h k p a =
     let px : x ≡ get_or queue n 0 = read_at queue n x k p in
     rw px (last_at start b all queue n h k a)
@@ -168,18 +168,18 @@ second_within start b all queue n y h q a =
     let l : get_or queue (n + 1) 0 < slots_of b = i.literals 1 0 (omega arith) in
     omega arith
 
-pub literal_one : (w : ℕ → Bool) → AreLiterals w → w 1 ≡ true
+pub literal_one : (w : ℕ → Bool) → HaveNegations w → w 1 ≡ true
 literal_one w h = let p : w 1 ≡ not (w 0) = h.pairs 0 refl in rw (p, h.none) refl
 
-pub all_of_none : (b : Builder) (xs : List ℕ) → IsBuilt b → length xs ≡ 0 → IsLiteral b 1 (λ bits. all_of (value_of b bits) xs)
+pub all_of_none : (b : Builder) (xs : List ℕ) → IsBuilt b → length xs ≡ 0 → IsLiteral b 1 (λ bits. all_of (signal_value b bits) xs)
 all_of_none b [] h e = record {
   slot = omega (arith, h.tape.some);
-  value = λ bits one. literal_one (value_of b bits) (value_literals b.first b.gates.items h.tape bits);
+  value = λ bits one. literal_one (signal_value b bits) (value_literals b.first b.gates.items h.tape bits);
 }
 all_of_none b (x ∷ xs) h e = absurd (omega arith)
 
 -- the or by the and of the negations
-or_of_negations : (w : ℕ → Bool) → AreLiterals w → (xs ys : List ℕ) → length ys ≡ length xs
+or_of_negations : (w : ℕ → Bool) → HaveNegations w → (xs ys : List ℕ) → length ys ≡ length xs
     → ((k : ℕ) → k < length xs → IsNegation (get_or xs k 0) (get_or ys k 0)) → all_of w ys ≡ not (any_of w xs)
 or_of_negations w h [] [] e f = refl
 or_of_negations w h [] (y ∷ ys) e f = absurd (omega arith)
@@ -209,14 +209,14 @@ negations_within n xs ys e h a k d l =
     subst (λ (t : ℕ). t < n) (get_or_default ys k 0 d l) m
 
 pub any_literal : (old new : Builder) (xs ys : List ℕ) (l m : ℕ) → IsBuilt old → IsBuilt new → AreNegations xs ys
-    → IsLiteral new l (λ bits. all_of (value_of old bits) ys) → IsNegation l m
-    → IsLiteral new m (λ bits. any_of (value_of old bits) xs)
+    → IsLiteral new l (λ bits. all_of (signal_value old bits) ys) → IsNegation l m
+    → IsLiteral new m (λ bits. any_of (signal_value old bits) xs)
 any_literal old new xs ys l m h k a i n = record {
   slot = same_pair l m (slots_of new) (let p : new.first % 2 ≡ 0 = k.tape.pairs in omega arith) n.node i.slot;
   value = λ bits one.
-      n.value (value_of new bits) (value_literals new.first new.gates.items k.tape bits)
-      ∙ (ap not (i.value bits one ∙ or_of_negations (value_of old bits) (value_literals old.first old.gates.items h.tape bits) xs ys a.count a.each)
-      ∙ not_not (any_of (value_of old bits) xs));
+      n.value (signal_value new bits) (value_literals new.first new.gates.items k.tape bits)
+      ∙ (ap not (i.value bits one ∙ or_of_negations (signal_value old bits) (value_literals old.first old.gates.items h.tape bits) xs ys a.count a.each)
+      ∙ not_not (any_of (signal_value old bits) xs));
 }
 
 -- one more literal of a queue is negated in its place
@@ -235,9 +235,9 @@ pub left_alone : (initial queue : List ℕ) (i y : ℕ)
 left_alone initial queue i y left k h = let ne : k ≢ i = (λ q. absurd (omega arith)) in rw get_or-set_other (left k (omega arith))
 
 pub nor_literal : (old new : Builder) (xs : List ℕ) (l m : ℕ) → IsBuilt new
-    → IsLiteral new l (λ bits. any_of (value_of old bits) xs) → IsNegation l m
-    → IsLiteral new m (λ bits. not (any_of (value_of old bits) xs))
+    → IsLiteral new l (λ bits. any_of (signal_value old bits) xs) → IsNegation l m
+    → IsLiteral new m (λ bits. not (any_of (signal_value old bits) xs))
 nor_literal old new xs l m k i n = record {
   slot = same_pair l m (slots_of new) (let p : new.first % 2 ≡ 0 = k.tape.pairs in omega arith) n.node i.slot;
-  value = λ bits one. n.value (value_of new bits) (value_literals new.first new.gates.items k.tape bits) ∙ ap not (i.value bits one);
+  value = λ bits one. n.value (signal_value new bits) (value_literals new.first new.gates.items k.tape bits) ∙ ap not (i.value bits one);
 }

@@ -6,7 +6,7 @@ use Rattle.std.proofs.lemmas.Bool.Decides.{nat_tests}
 use Rattle.std.proofs.lemmas.List.{take_more, drop_all}
 use Rattle.gates.specs.Values.{start, value}
 use Rattle.gates.specs.declared.builder.Builder.{Builder}
-use Rattle.gates.specs.Building.{any_of, slots_of, value_of, IsBuilt, IsStep, IsLiteral, IsOneOf, AreOneOf, IsNegation}
+use Rattle.gates.specs.Building.{any_of, slots_of, signal_value, IsBuilt, IsStep, IsLiteral, IsOneOf, AreOneOf, IsNegation}
 use Rattle.gates.specs.Grouping.{any_marked, are_unmarked}
 use Rattle.std.specs.Prelude.{Result, Ok, Err, IfOk}
 use Rattle.gates.proofs.Passes.{pass_below}
@@ -180,7 +180,7 @@ others_tell w bits from on (m ∷ ms) h low high each = elim (cases_eq from on) 
     on_behind true b = refl
     on_behind false b = refl
 
-given_value : (b : Builder) (bits : ℕ → Bool) (k : ℕ) → 2 + 2 * k < b.first → value_of b bits (2 + 2 * k) ≡ bits k
+given_value : (b : Builder) (bits : ℕ → Bool) (k : ℕ) → 2 + 2 * k < b.first → signal_value b bits (2 + 2 * k) ≡ bits k
 unfolding value
 given_value b bits k h = pass_below b.first b.gates.items (start bits) (2 + 2 * k) h ∙ given_slot bits k
 
@@ -188,12 +188,12 @@ given_value b bits k h = pass_below b.first b.gates.items (start bits) (2 + 2 * 
 pub turned : (old new : Builder) (from to : ℕ) (queue rest next others : List ℕ) (marks : List Bool) (other neg : ℕ) → IsBuilt old → IsStep old new
     → from ≤ to → 2 + 2 * to ≤ old.first
     → length marks ≡ to - from → ((w : ℕ → Bool) → any_of w queue ≡ (any_of w rest || any_marked w from marks)) → All (λ l. l < slots_of old) rest
-    → ((w : ℕ → Bool) → any_of w others ≡ any_marked w from (map not marks)) → IsLiteral new other (λ bits. any_of (value_of old bits) others)
+    → ((w : ℕ → Bool) → any_of w others ≡ any_marked w from (map not marks)) → IsLiteral new other (λ bits. any_of (signal_value old bits) others)
     → IsNegation other neg → next ≡ rest ++ (neg ∷ [])
-    → (bits : ℕ → Bool) → AreOneOf old.groups.items bits → IsOneOf bits from to → any_of (value_of new bits) next ≡ any_of (value_of old bits) queue
+    → (bits : ℕ → Bool) → AreOneOf old.groups.items bits → IsOneOf bits from to → any_of (signal_value new bits) next ≡ any_of (signal_value old bits) queue
 turned old new from to queue rest next others marks other neg built s order within size parted below told l n e bits one here =
-    let w : ℕ → Bool = value_of old bits in
-    let v : ℕ → Bool = value_of new bits in
+    let w : ℕ → Bool = signal_value old bits in
+    let v : ℕ → Bool = signal_value new bits in
     let far : from + length marks ≡ to = omega arith in
     let kept : any_of v rest ≡ any_of w rest = any_same v w (slots_of old) rest (λ k i. s.keeps bits k i) below in
     let asked : v other ≡ any_marked w from (map not marks) = l.value bits (groups_after old new s bits one) ∙ told w in
@@ -213,8 +213,8 @@ turned_below old new rest next other neg s below slot n e =
     rw e (within_more (slots_of old) (slots_of new) rest neg s.more (omega arith) below)
 
 pub any_turned : (start mid new : Builder) (queue all : List ℕ) (l : ℕ) → IsStep start mid → IsStep mid new
-    → ((bits : ℕ → Bool) → AreOneOf start.groups.items bits → any_of (value_of mid bits) queue ≡ any_of (value_of start bits) all)
-    → IsLiteral new l (λ bits. any_of (value_of mid bits) queue) → IsLiteral new l (λ bits. any_of (value_of start bits) all)
+    → ((bits : ℕ → Bool) → AreOneOf start.groups.items bits → any_of (signal_value mid bits) queue ≡ any_of (signal_value start bits) all)
+    → IsLiteral new l (λ bits. any_of (signal_value mid bits) queue) → IsLiteral new l (λ bits. any_of (signal_value start bits) all)
 any_turned start mid new queue all l s t same h = record {
   slot = h.slot;
   value = λ bits one. h.value bits one ∙ same bits (groups_before start new (step_then start mid new s t) bits one);

@@ -37,7 +37,7 @@ use Rattle.std.proofs.Common.{
 }
 use Rattle.std.proofs.lemmas.Option.{slice_get-get_or}
 use Rattle.gates.specs.Values.{slots, InOrder, IsTape, start, value}
-use Rattle.gates.specs.Building.{AreLiterals, AreOneOf, IsStep, IsBuilt, IsLiteral, slots_of, value_of}
+use Rattle.gates.specs.Building.{HaveNegations, AreOneOf, IsStep, IsBuilt, IsLiteral, slots_of, signal_value}
 use Rattle.gates.specs.declared.gates.Gate.{Gate}
 use Rattle.gates.specs.declared.builder.Builder.{Builder}
 use Rattle.gates.specs.declared.builder.Group.{Group}
@@ -49,7 +49,7 @@ start_pairs bits l h =
     let b : (l + 1) % 2 ≡ 1 = omega arith in
     rw (a, b, h) refl
 
-pub value_literals : (first : ℕ) (gates : List Gate) → IsTape first gates → (bits : ℕ → Bool) → AreLiterals (value first gates bits)
+pub value_literals : (first : ℕ) (gates : List Gate) → IsTape first gates → (bits : ℕ → Bool) → HaveNegations (value first gates bits)
 unfolding value
 value_literals first gates t bits = record {
   none = pass_below first gates (start bits) 0 (omega (arith, t.some));
@@ -125,7 +125,7 @@ step_of_push old new a b literal h i j p =
     }
 
 pub literal_of_push : (old new : Builder) (a b literal : ℕ) → IsBuilt old → a < slots_of old → b < slots_of old
-    → IsPushed old new a b literal → IsLiteral new literal (λ bits. value_of new bits a && value_of new bits b)
+    → IsPushed old new a b literal → IsLiteral new literal (λ bits. signal_value new bits a && signal_value new bits b)
 unfolding value
 literal_of_push old new a b literal h i j p =
     let m : slots_of new ≡ slots_of old + 2 = more_slots old new a b literal p in
@@ -137,16 +137,16 @@ literal_of_push old new a b literal h i j p =
     }
 
 pub folded_literal : (b : Builder) (x y l : ℕ) → IsBuilt b → x < slots_of b → y < slots_of b → l ≤ max x y
-    → ((w : ℕ → Bool) → AreLiterals w → w l ≡ (w x && w y))
-    → IsLiteral b l (λ bits. value_of b bits x && value_of b bits y)
+    → ((w : ℕ → Bool) → HaveNegations w → w l ≡ (w x && w y))
+    → IsLiteral b l (λ bits. signal_value b bits x && signal_value b bits y)
 folded_literal b x y l h i j k f = record {
   slot = omega arith;
-  value = λ bits one. f (value_of b bits) (value_literals b.first b.gates.items h.tape bits);
+  value = λ bits one. f (signal_value b bits) (value_literals b.first b.gates.items h.tape bits);
 }
 
 pub shared_literal : (b : Builder) (x y i l : ℕ) → IsBuilt b → i < length b.gates.items
     → slice_get b.gates.items i ≡ Some (record { a = x; b = y }) → l ≡ b.first + 2 * i
-    → IsLiteral b l (λ bits. value_of b bits x && value_of b bits y)
+    → IsLiteral b l (λ bits. signal_value b bits x && signal_value b bits y)
 unfolding value
 shared_literal b x y i l h k e m =
     let g : Gate = record { a = x; b = y } in
@@ -163,12 +163,12 @@ and_comm true false = refl
 and_comm false true = refl
 and_comm false false = refl
 
-pub swapped_literal : (b : Builder) (x y l : ℕ) → IsLiteral b l (λ bits. value_of b bits y && value_of b bits x)
-    → IsLiteral b l (λ bits. value_of b bits x && value_of b bits y)
-swapped_literal b x y l h = record { slot = h.slot; value = λ bits one. h.value bits one ∙ and_comm (value_of b bits y) (value_of b bits x) }
+pub swapped_literal : (b : Builder) (x y l : ℕ) → IsLiteral b l (λ bits. signal_value b bits y && signal_value b bits x)
+    → IsLiteral b l (λ bits. signal_value b bits x && signal_value b bits y)
+swapped_literal b x y l h = record { slot = h.slot; value = λ bits one. h.value bits one ∙ and_comm (signal_value b bits y) (signal_value b bits x) }
 
 pub swapped_result : {E : Type 0} → (b : Builder) (x y : ℕ) (r : Result ℕ E)
-    → IfOk r (λ l. IsLiteral b l (λ bits. value_of b bits y && value_of b bits x))
-    → IfOk r (λ l. IsLiteral b l (λ bits. value_of b bits x && value_of b bits y))
+    → IfOk r (λ l. IsLiteral b l (λ bits. signal_value b bits y && signal_value b bits x))
+    → IfOk r (λ l. IsLiteral b l (λ bits. signal_value b bits x && signal_value b bits y))
 swapped_result b x y (Ok l) h = swapped_literal b x y l h
 swapped_result b x y (Err e) h = h

@@ -9,8 +9,8 @@ abbrev pub slots_of : Builder → ℕ
 slots_of b = slots b.first b.gates.items
 
 -- the value of a literal under given bits
-abbrev pub value_of : Builder → (ℕ → Bool) → ℕ → Bool
-value_of b given l = value b.first b.gates.items given l
+abbrev pub signal_value : Builder → (ℕ → Bool) → ℕ → Bool
+signal_value b given l = value b.first b.gates.items given l
 
 -- of the given bits from one on to before another exactly one is 1
 pub record IsOneOf (given : ℕ → Bool) (from to : ℕ) : Type 0 where
@@ -34,17 +34,17 @@ pub record IsStep (old new : Builder) : Type 0 where
   pub first : new.first ≡ old.first
   pub groups : new.groups.items ≡ old.groups.items
   pub more : slots_of old ≤ slots_of new
-  pub keeps : (given : ℕ → Bool) (l : ℕ) → l < slots_of old → value_of new given l ≡ value_of old given l
+  pub keeps : (given : ℕ → Bool) (l : ℕ) → l < slots_of old → signal_value new given l ≡ signal_value old given l
 
 -- values of literals: literal 0 is false, and each even literal has its negation behind it
-pub record AreLiterals (w : ℕ → Bool) : Type 0 where
+pub record HaveNegations (w : ℕ → Bool) : Type 0 where
   pub none : w 0 ≡ false
   pub pairs : (l : ℕ) → l % 2 ≡ 0 → w (l + 1) ≡ not (w l)
 
 -- a literal of the tape that has under all given bits of which one of each group is 1 the value that `want` gives
 pub record IsLiteral (b : Builder) (l : ℕ) (want : (ℕ → Bool) → Bool) : Type 0 where
   pub slot : l < slots_of b
-  pub value : (given : ℕ → Bool) → AreOneOf b.groups.items given → value_of b given l ≡ want given
+  pub value : (given : ℕ → Bool) → AreOneOf b.groups.items given → signal_value b given l ≡ want given
 
 -- true where all are, and for no literals
 abbrev pub all_of : (ℕ → Bool) → List ℕ → Bool
@@ -59,7 +59,7 @@ any_of w (l ∷ ls) = w l || any_of w ls
 -- literals of the same nodes, each with the other value
 pub record IsNegation (a b : ℕ) : Type 0 where
   pub node : b / 2 ≡ a / 2
-  pub value : (w : ℕ → Bool) → AreLiterals w → w b ≡ not (w a)
+  pub value : (w : ℕ → Bool) → HaveNegations w → w b ≡ not (w a)
 
 pub record AreNegations (xs ys : List ℕ) : Type 0 where
   pub count : length ys ≡ length xs

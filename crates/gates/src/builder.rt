@@ -23,7 +23,7 @@ ghost use Rattle.std.specs.Prelude.{
   Some,
 };
 ghost use Rattle.gates.specs.Values.{start, value, IsTape};
-ghost use Rattle.gates.specs.Building.{slots_of, value_of, IsBuilt, IsStep, AreLiterals, IsLiteral, IsNegation, AreNegations, all_of, any_of};
+ghost use Rattle.gates.specs.Building.{slots_of, signal_value, IsBuilt, IsStep, HaveNegations, IsLiteral, IsNegation, AreNegations, all_of, any_of};
 ghost use Rattle.gates.specs.declared.gates.Gate.{Gate};
 
 use crate::gates::{Gate, Literal};
@@ -69,7 +69,7 @@ pub fn given(number: u32) -> Literal
 /// The and of two literals that needs no gate.
 fn folded(a: Literal, b: Literal) -> Option<Literal>
     ensures within { IfSome result (λ l. l ≤ max a b) }
-    ensures value { IfSome result (λ l. (w : ℕ → Bool) → AreLiterals w → w l ≡ (w a && w b)) }
+    ensures value { IfSome result (λ l. (w : ℕ → Bool) → HaveNegations w → w l ≡ (w a && w b)) }
 {
     if a == b || b == 1 {
         return Some(a);
@@ -168,7 +168,7 @@ impl Builder {
         requires a { a < slots_of self.old }
         requires b { b < slots_of self.old }
         ensures step { IsStep self.old self.new }
-        ensures value { IfOk result (λ l. IsLiteral self.new l (λ bits. value_of self.new bits a && value_of self.new bits b)) }
+        ensures value { IfOk result (λ l. IsLiteral self.new l (λ bits. signal_value self.new bits a && signal_value self.new bits b)) }
     {
         self.make_room()?;
         let Ok(literal) = u32::try_from(self.first as usize + 2 * self.gates.len()) else {
@@ -185,7 +185,7 @@ impl Builder {
         requires a { a < slots_of self.old }
         requires b { b < slots_of self.old }
         ensures step { IsStep self.old self.new }
-        ensures value { IfOk result (λ l. IsLiteral self.new l (λ bits. value_of self.new bits a && value_of self.new bits b)) }
+        ensures value { IfOk result (λ l. IsLiteral self.new l (λ bits. signal_value self.new bits a && signal_value self.new bits b)) }
     {
         if let Some(literal) = folded(a, b) {
             return Ok(literal);
@@ -211,7 +211,7 @@ impl Builder {
         requires a { a < slots_of self.old }
         requires b { b < slots_of self.old }
         ensures step { IsStep self.old self.new }
-        ensures value { IfOk result (λ l. IsLiteral self.new l (λ bits. value_of self.new bits a && value_of self.new bits b)) }
+        ensures value { IfOk result (λ l. IsLiteral self.new l (λ bits. signal_value self.new bits a && signal_value self.new bits b)) }
     {
         if b < a {
             return self.and_in_order(b, a);
@@ -224,7 +224,7 @@ impl Builder {
         requires built { IsBuilt self.old }
         requires literals { All (λ l. l < slots_of self.old) queue.old.items }
         ensures step { IsStep self.old self.new }
-        ensures value { IfOk result (λ l. IsLiteral self.new l (λ bits. all_of (value_of self.old bits) queue.old.items)) }
+        ensures value { IfOk result (λ l. IsLiteral self.new l (λ bits. all_of (signal_value self.old bits) queue.old.items)) }
     {
         if queue.is_empty() {
             return Ok(1);
@@ -243,7 +243,7 @@ impl Builder {
         requires built { IsBuilt self.old }
         requires literals { All (λ l. l < slots_of self.old) queue.old.items }
         ensures step { IsStep self.old self.new }
-        ensures value { IfOk result (λ l. IsLiteral self.new l (λ bits. any_of (value_of self.old bits) queue.old.items)) }
+        ensures value { IfOk result (λ l. IsLiteral self.new l (λ bits. any_of (signal_value self.old bits) queue.old.items)) }
     {
         negate_all(queue);
         let none = self.all(queue)?;

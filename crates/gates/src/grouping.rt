@@ -1,6 +1,6 @@
 //! Ors of given bits of which exactly one is 1: some of these are the negation of the others.
 ghost use Rattle.std.specs.Prelude.{ℕ, Bool, ◌||◌, ◌≡◌, ◌+◌, ◌-◌, ◌*◌, ◌^◌, ◌<◌, ◌≤◌, [], length, map, not, All, IfOk, OnOk, IfSome};
-ghost use Rattle.gates.specs.Building.{slots_of, value_of, any_of, IsBuilt, IsStep, IsLiteral, IsOneOf, AreOneOf};
+ghost use Rattle.gates.specs.Building.{slots_of, signal_value, any_of, IsBuilt, IsStep, IsLiteral, IsOneOf, AreOneOf};
 ghost use Rattle.gates.specs.Grouping.{any_marked, are_unmarked};
 
 use crate::builder::{Builder, Group, given, negation};
@@ -87,7 +87,7 @@ impl Builder {
         ensures step { IsStep self.old self.new }
         ensures literals { OnOk result (All (λ l. l < slots_of self.new) queue.new.items) }
         ensures value { OnOk result ((bits : ℕ → Bool) → AreOneOf self.old.groups.items bits
-            → any_of (value_of self.new bits) queue.new.items ≡ any_of (value_of self.old bits) queue.old.items) }
+            → any_of (signal_value self.new bits) queue.new.items ≡ any_of (signal_value self.old bits) queue.old.items) }
     {
         if group.from > group.to {
             return Ok(());
@@ -112,7 +112,7 @@ impl Builder {
         requires built { IsBuilt self.old }
         requires literals { All (λ l. l < slots_of self.old) queue.old.items }
         ensures step { IsStep self.old self.new }
-        ensures value { IfOk result (λ l. IsLiteral self.new l (λ bits. any_of (value_of self.old bits) queue.old.items)) }
+        ensures value { IfOk result (λ l. IsLiteral self.new l (λ bits. any_of (signal_value self.old bits) queue.old.items)) }
     {
         for number in 0..self.groups.len() {
             let group = self.groups[number];

@@ -53,12 +53,12 @@ fn push_each(
 }
 
 impl Terms {
-    ghost use Rattle.gates.specs.Terms.{terms_of, AreWhole};
+    ghost use Rattle.gates.specs.Terms.{terms_there, TermsWhole};
 
     /// No terms.
     pub fn new(alloc: Global) -> Self
-        ensures none { terms_of result ≡ [] }
-        ensures whole { AreWhole result }
+        ensures none { terms_there result ≡ [] }
+        ensures whole { TermsWhole result }
     {
         Terms {
             literals: Vec::new(alloc),
@@ -71,8 +71,8 @@ impl Terms {
 
     /// Takes all terms away, and makes room for counts of so many literals.
     pub fn begin(&mut self, literals: usize) -> Result<(), AllocError>
-        ensures none { OnOk result (terms_of self.new ≡ []) }
-        ensures whole { OnOk result (AreWhole self.new) }
+        ensures none { OnOk result (terms_there self.new ≡ []) }
+        ensures whole { OnOk result (TermsWhole self.new) }
     {
         self.literals.clear();
         self.parts.clear();
@@ -83,9 +83,9 @@ impl Terms {
     /// Adds the and of the literals with these numbers.
     pub fn add(&mut self, numbers: &[u32], literals: &[Literal]) -> Result<(), AllocError>
         requires within { All (λ n. n < length literals.now) numbers.now }
-        requires whole { AreWhole self.old }
-        ensures term { OnOk result (terms_of self.new ≡ terms_of self.old ++ map (λ n. slice_index literals.now n) numbers.now ∷ []) }
-        ensures whole { OnOk result (AreWhole self.new) }
+        requires whole { TermsWhole self.old }
+        ensures term { OnOk result (terms_there self.new ≡ terms_there self.old ++ map (λ n. slice_index literals.now n) numbers.now ∷ []) }
+        ensures whole { OnOk result (TermsWhole self.new) }
     {
         let from = short(self.literals.len())?;
         push_each(&mut self.literals, numbers, literals)?;

@@ -54,7 +54,7 @@ use Rattle.statement.specs.declared.kind.Kind.TheVariants.{Fixed, Now, Does, Nex
 use Rattle.statement.specs.Meaning.{source_of, ordinary, atom1, atom2}
 use Rattle.statement.specs.Printed.{AreInOrder}
 use Rattle.statement.specs.Kinds.{place_in, kind_of}
-use Rattle.meaning.specs.Effects.{IsWithin}
+use Rattle.meaning.specs.Effects.{IsWithinLimits}
 use Rattle.statement.specs.Limits.{count_inputs}
 use Rattle.statement.specs.Most.{limits}
 use Rattle.meaning.specs.Listed.{IsWellFormed}
@@ -63,7 +63,7 @@ use Rattle.statement.specs.Kept.{gate}
 use Rattle.statement.specs.GoalsAndMoves as play
 use Rattle.statement.specs.Kept.{Kept, numbered}
 use Rattle.ground.specs.Grounds.{texts_at, IsGroundOf, IsSomeGround}
-use Rattle.ground.specs.Fits.{Rise, Differ, count_all, IsInputWithin, IsKindWithin, IsKeptWithin, FitTogether}
+use Rattle.ground.specs.Fits.{TextsRise, Differ, count_all, IsInputWithin, IsKindWithin, IsKeptWithin, FitTogether}
 use Rattle.meaning.proofs.Facts.{
   among_map_out,
   place_below,
@@ -225,14 +225,14 @@ module _ (rules : List Alternative) (w : IsWellFormed rules) where
       pairs_map (λ (r s : Tree). r ≡ s → ⊥) (λ (s t : List ℕ). s ≢ t) text (role_list rules) (roles_once rules w)
       (λ r s a b differ e. differ (text_once r s (role_named r a) (role_named s b) e))
 
-  base_texts : Rise (map text (base_list rules))
+  base_texts : TextsRise (map text (base_list rules))
   base_texts =
       pairs_map (λ (t u : Tree). printed_cmp t u ≡ Less) (λ (s t : List ℕ). slice_cmp nat_cmp s t ≡ Less) text (base_list rules)
       (bases_in_order rules w) (λ t u a b l. l)
 
-  input_texts : All Rise (map (λ r. map text (input_list rules r)) (role_list rules))
+  input_texts : All TextsRise (map (λ r. map text (input_list rules r)) (role_list rules))
   input_texts =
-      all_map Rise (λ (r : Tree). map text (input_list rules r)) (role_list rules)
+      all_map TextsRise (λ (r : Tree). map text (input_list rules r)) (role_list rules)
       (λ r a. pairs_map (λ (t u : Tree). printed_cmp t u ≡ Less) (λ (s t : List ℕ). slice_cmp nat_cmp s t ≡ Less) text (input_list rules r)
       (inputs_in_order rules w r ((roles_exact rules w r).0 a)) (λ t u b c l. l))
 
@@ -299,7 +299,7 @@ module _ (roles base : List (List ℕ)) (inputs : List (List (List ℕ))) (start
     w : IsWellFormed rules
     w = g.well_formed
 
-    within : IsWithin limits rules
+    within : IsWithinLimits limits rules
     within = (excess_exact limits rules).0 g.within
 
     base_size : length base ≡ length (base_list rules)
@@ -326,11 +326,11 @@ module _ (roles base : List (List ℕ)) (inputs : List (List (List ℕ))) (start
     roles_of : Differ roles
     roles_of = subst (λ (ts : List (List ℕ)). Differ ts) (sym g.roles_are) (texts_differ rules w)
 
-    base_of : Rise base
-    base_of = subst (λ (ts : List (List ℕ)). Rise ts) (sym g.base_are) (base_texts rules w)
+    base_of : TextsRise base
+    base_of = subst (λ (ts : List (List ℕ)). TextsRise ts) (sym g.base_are) (base_texts rules w)
 
-    rise_of : All Rise inputs
-    rise_of = subst (λ (ts : List (List (List ℕ))). All Rise ts) (sym g.inputs_are) (input_texts rules w)
+    rise_of : All TextsRise inputs
+    rise_of = subst (λ (ts : List (List (List ℕ))). All TextsRise ts) (sym g.inputs_are) (input_texts rules w)
 
     kept_of : All (IsKeptWithin (length kinds)) kept
     kept_of =

@@ -7,19 +7,19 @@ use Rattle.statement.specs.Dependence.{is_fixed}
 use Rattle.statement.specs.declared.kind.Kind.{Kind}
 use Rattle.terms.specs.Keys.{term_at}
 use Rattle.statement.specs.Kinds.{kind_of}
-use Rattle.meaning.specs.Marked.{AreMarked}
+use Rattle.meaning.specs.Marked.{FixedBefore}
 
 -- the kinds of the atoms before a place are known, and some atoms are left
 pub record KindsTo (rules : List Alternative) (terms : List Tree) (n : ℕ) (kinds : List Kind) (place : ℕ) (rest : List ℕ) (xs : List Atom) : Type 0
   where
     pub left : List Atom
     pub same : map (term_at terms) rest ≡ map tree_of left
-    pub marked : AreMarked rules n place left
+    pub marked : FixedBefore rules n place left
     pub kinds_are : kinds ++ map (kind_of rules) left ≡ map (kind_of rules) xs
 
 pub record Kinding (rules : List Alternative) (terms : List Tree) (n : ℕ) (all : List ℕ) (kinds : List Kind) (place : ℕ) (rest : List ℕ) : Type 0
   where
-    pub each : (xs : List Atom) → map (term_at terms) all ≡ map tree_of xs → AreMarked rules n 0 xs → KindsTo rules terms n kinds place rest xs
+    pub each : (xs : List Atom) → map (term_at terms) all ≡ map tree_of xs → FixedBefore rules n 0 xs → KindsTo rules terms n kinds place rest xs
 
 module _ (rules : List Alternative) (terms : List Tree) (n : ℕ) (all : List ℕ) where
   pub kinding_next : (kinds new : List Kind) (place a : ℕ) (rest : List ℕ) (k : Kind) → Kinding rules terms n all kinds place (a ∷ rest)
@@ -30,7 +30,7 @@ module _ (rules : List Alternative) (terms : List Tree) (n : ℕ) (all : List �
       go : (xs : List Atom) → KindsTo rules terms n kinds place (a ∷ rest) xs → KindsTo rules terms n new (place + 1) rest xs
       go xs t = pick t.left t.same t.marked t.kinds_are
         where
-          pick : (ys : List Atom) → map (term_at terms) (a ∷ rest) ≡ map tree_of ys → AreMarked rules n place ys
+          pick : (ys : List Atom) → map (term_at terms) (a ∷ rest) ≡ map tree_of ys → FixedBefore rules n place ys
               → kinds ++ map (kind_of rules) ys ≡ map (kind_of rules) xs → KindsTo rules terms n new (place + 1) rest xs
           pick [] f m g = absurd cc
           pick (y ∷ ys) f m g =
@@ -46,7 +46,7 @@ module _ (rules : List Alternative) (terms : List Tree) (n : ℕ) (all : List �
               }
 
   pub kinding_ends : (kinds : List Kind) (place : ℕ) → Kinding rules terms n all kinds place [] → (xs : List Atom)
-      → map (term_at terms) all ≡ map tree_of xs → AreMarked rules n 0 xs → kinds ≡ map (kind_of rules) xs
+      → map (term_at terms) all ≡ map tree_of xs → FixedBefore rules n 0 xs → kinds ≡ map (kind_of rules) xs
   kinding_ends kinds place s xs f m = go (s.each xs f m)
     where
       go : KindsTo rules terms n kinds place [] xs → kinds ≡ map (kind_of rules) xs

@@ -11,8 +11,8 @@ use Rattle.ground.specs.Grounds.{texts_at}
 use Rattle.statement.specs.Most.{limits}
 
 -- each text stands before all later ones in the order of bytes
-abbrev pub Rise : List (List ℕ) → Type 0
-Rise texts = AllPairs (λ s t. slice_cmp nat_cmp s t ≡ Less) texts
+abbrev pub TextsRise : List (List ℕ) → Type 0
+TextsRise texts = AllPairs (λ s t. slice_cmp nat_cmp s t ≡ Less) texts
 
 abbrev pub Differ : List (List ℕ) → Type 0
 Differ texts = AllPairs (λ s t. s ≢ t) texts
@@ -47,8 +47,8 @@ pub record FitTogether (roles base : List (List ℕ)) (inputs : List (List (List
   pub starts_fit : length starts ≡ length base
   pub inputs_fit : length inputs ≡ length roles
   pub roles_differ : Differ roles
-  pub base_rises : Rise base
-  pub inputs_rise : All Rise inputs
+  pub base_rises : TextsRise base
+  pub inputs_rise : All TextsRise inputs
   pub kept_within : All (IsKeptWithin (length kinds)) kept
   pub kinds_within : All (IsKindWithin (length base) inputs) kinds
   pub few_kept : length kept ≤ limits.instances

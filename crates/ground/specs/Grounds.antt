@@ -13,8 +13,8 @@ use Rattle.ground.specs.declared.ground.Instance as shown
 pub use Rattle.statement.specs.Kept.{Kept, numbered}
 
 -- an instance in memory
-abbrev pub kept_of : shown.Instance → Kept
-kept_of i = record { alternative = i.alternative; head = i.head; body = i.body.items }
+abbrev pub shown_kept : shown.Instance → Kept
+shown_kept i = record { alternative = i.alternative; head = i.head; body = i.body.items }
 
 -- the texts, marks, kinds and instances are those of the rules
 pub record IsGroundOf (rules : List Alternative) (roles base : List (List ℕ)) (inputs : List (List (List ℕ))) (starts : List Bool) (kinds : List Kind)

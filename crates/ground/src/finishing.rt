@@ -3,7 +3,7 @@
 //! Each is numbered by itself, so where there are many literals or instances a piece of the list goes to each thread.
 ghost use Rattle.std.specs.Prelude.{◌≡◌, ◌<◌, length, map, nat_eq};
 ghost use Rattle.std.specs.List.{list_all};
-ghost use Rattle.ground.specs.Finishing.{is_read_in, reading_in, headed_in, AreNumbered};
+ghost use Rattle.ground.specs.Finishing.{is_read_in, reading_in, headed_in, InstancesNumbered};
 ghost use Rattle.kept.specs.LeavingOut.{with_some};
 ghost use Rattle.kept.specs.Lists.{AreLaid, numbers_of_list};
 ghost use Rattle.statement.specs.Printed.{first_place};
@@ -93,7 +93,7 @@ fn leave_unread(atoms: &NumberSet, found: &mut FoundList)
 pub fn renumbered(found: FoundList, atoms: &NumberSet) -> FoundList
     requires few { length atoms.now.keys < 2147483648 }
     requires found { AreLaid found }
-    ensures { AreNumbered atoms.now.keys found result }
+    ensures { InstancesNumbered atoms.now.keys found result }
 {
     let mut found = found;
     leave_unread(atoms, &mut found);
@@ -144,7 +144,7 @@ pub fn renumbered_in_threads<R: Threads + Sync>(
 ) -> FoundList
     requires few { length atoms.now.keys < 2147483648 }
     requires found { AreLaid found }
-    ensures { AreNumbered atoms.now.keys found result }
+    ensures { InstancesNumbered atoms.now.keys found result }
 {
     let mut found = found;
     leave_unread(atoms, &mut found);

@@ -1,6 +1,6 @@
 //! What an instantiation gives.
 ghost use Rattle.std.specs.Prelude.{◌≡◌, map};
-ghost use Rattle.ground.specs.Grounds.{kept_of};
+ghost use Rattle.ground.specs.Grounds.{shown_kept};
 ghost use Rattle.kept.specs.Lists.{numbers_of_list};
 
 use crate::flat_ground::FlatGround;
@@ -22,5 +22,5 @@ pub struct Instance {
 pub struct Ground {
     pub(crate) flat: FlatGround,
     pub(crate) kept: Vec<Instance>,
-    pub ghost same: { map kept_of kept.items ≡ numbers_of_list flat.kept },
+    pub ghost same: { map shown_kept kept.items ≡ numbers_of_list flat.kept },
 }

@@ -2,10 +2,10 @@
 ghost use Rattle.std.specs.Prelude.{List, ◌≡◌, length, map, IfOk};
 ghost use Rattle.statement.specs.Clause.{Atom, tree_of};
 ghost use Rattle.rules.specs.RuleSetView.{lists_of_set, rules_in};
-ghost use Rattle.clauses.specs.Marks.{AreBelow};
+ghost use Rattle.clauses.specs.Marks.{NumbersBelow};
 ghost use Rattle.terms.specs.Keys.{term_at, trees};
 ghost use Rattle.statement.specs.Kinds.{kind_of};
-ghost use Rattle.meaning.specs.Marked.{AreMarked};
+ghost use Rattle.meaning.specs.Marked.{FixedBefore};
 ghost use Rattle.terms.specs.Tables.{AreTables};
 
 use crate::tables::Tables;
@@ -24,11 +24,11 @@ pub fn kinds_of_atoms(
     tables: &Tables,
 ) -> Result<Vec<Kind>, AllocError>
     requires symbols { length arena.now.sizes ≡ length (lists_of_set rules.now).words }
-    requires within { AreBelow (length arena.now.keys) atoms.now }
+    requires within { NumbersBelow (length arena.now.keys) atoms.now }
     requires tables { AreTables (rules_in rules.now) (trees (lists_of_set rules.now).words arena.now.keys) tables.now.roles.keys tables.now.base.keys
         (map (λ s. s.keys) tables.now.inputs.items) }
     ensures { IfOk result (λ kinds. (xs : List Atom) → map (term_at (trees (lists_of_set rules.now).words arena.now.keys)) atoms.now ≡ map tree_of xs
-        → AreMarked (rules_in rules.now) fixed_atoms 0 xs → kinds.items ≡ map (kind_of (rules_in rules.now)) xs) }
+        → FixedBefore (rules_in rules.now) fixed_atoms 0 xs → kinds.items ≡ map (kind_of (rules_in rules.now)) xs) }
 {
     let mut kinds = Vec::with_capacity(alloc, atoms.len())?;
     for (place, atom) in atoms.iter().enumerate() {

@@ -3,17 +3,17 @@ use Rattle.std.proofs.Common.{◌≡◌, ℕ, zero, suc, ◌≤◌, ◌<◌, leb
 use Rattle.std.proofs.lemmas.Bool.{le-leb, lt-leb}
 use Rattle.std.specs.List.Sorted.{IsNonDecreasingBy}
 use Rattle.kept.specs.declared.entry.AlternativeRun.{AlternativeRun}
-use Rattle.kept.specs.Lists.{alternative_behind, alternative_at, Rise, Adds, last_behind}
+use Rattle.kept.specs.Lists.{alternative_behind, alternative_at, RunsRise, AddsRun, last_behind}
 
 -- each run begins at or behind the place from which on runs rise
-first_low : (low : ℕ) (rs : List AlternativeRun) (high i : ℕ) (d : AlternativeRun) → Rise low rs high → i < length rs → low ≤ (get_or rs i d).first
+first_low : (low : ℕ) (rs : List AlternativeRun) (high i : ℕ) (d : AlternativeRun) → RunsRise low rs high → i < length rs → low ≤ (get_or rs i d).first
 first_low low [] high i d h l = absurd (omega (arith, l))
 first_low low (r ∷ rs) high zero d h l = h.0
 first_low low (r ∷ rs) high (suc i) d h l =
     let first = h.0 in
     let rest = first_low r.first rs high i d h.1 (omega (arith, l)) in omega (arith, first, rest)
 
-pub in_order : (low : ℕ) (rs : List AlternativeRun) (high : ℕ) → Rise low rs high → IsNonDecreasingBy (λ (r : AlternativeRun). r.first) rs
+pub in_order : (low : ℕ) (rs : List AlternativeRun) (high : ℕ) → RunsRise low rs high → IsNonDecreasingBy (λ (r : AlternativeRun). r.first) rs
 in_order low [] high h i j d le l = absurd (omega (arith, l))
 in_order low (r ∷ rs) high h zero zero d le l = omega arith
 in_order low (r ∷ rs) high h zero (suc j) d le l = first_low r.first rs high j d h.1 (omega (arith, l))
@@ -60,24 +60,24 @@ pub last_is : (rs : List AlternativeRun) (i a : ℕ) → length rs ≡ suc i →
     → last_behind 0 rs ≡ a
 last_is rs i a e same = last_here 0 rs i (record { alternative = 0; first = 0 }) e ∙ same
 
-rise_more : (low : ℕ) (rs : List AlternativeRun) (high more : ℕ) → high ≤ more → Rise low rs high → Rise low rs more
+rise_more : (low : ℕ) (rs : List AlternativeRun) (high more : ℕ) → high ≤ more → RunsRise low rs high → RunsRise low rs more
 rise_more low [] high more h r = omega (arith, h, r)
 rise_more low (x ∷ rs) high more h r = (r.0, rise_more x.first rs high more h r.1)
 
-rise_up : (low : ℕ) (rs : List AlternativeRun) (high : ℕ) → Rise low rs high → low ≤ high
+rise_up : (low : ℕ) (rs : List AlternativeRun) (high : ℕ) → RunsRise low rs high → low ≤ high
 rise_up low [] high r = r
 rise_up low (x ∷ rs) high r =
     let first = r.0 in
     let rest = rise_up x.first rs high r.1 in omega (arith, first, rest)
 
 -- at the place where runs end the last of them goes on
-goes_on : (a low : ℕ) (rs : List AlternativeRun) (high : ℕ) → Rise low rs high → alternative_behind a rs high ≡ last_behind a rs
+goes_on : (a low : ℕ) (rs : List AlternativeRun) (high : ℕ) → RunsRise low rs high → alternative_behind a rs high ≡ last_behind a rs
 goes_on a low [] high r = refl
 goes_on a low (x ∷ rs) high r =
     ap (λ (b : Bool). if b then alternative_behind x.alternative rs high else a) (le-leb x.first high (rise_up x.first rs high r.1))
     ∙ goes_on x.alternative x.first rs high r.1
 
-pub same_run : (a place : ℕ) (rs : List AlternativeRun) → last_behind 0 rs ≡ a → Rise 0 rs place → Adds a place rs rs
+pub same_run : (a place : ℕ) (rs : List AlternativeRun) → last_behind 0 rs ≡ a → RunsRise 0 rs place → AddsRun a place rs rs
 same_run a place rs e r = record {
   rise = rise_more 0 rs place (suc place) (omega arith) r;
   before = λ n l. refl;
@@ -88,23 +88,23 @@ before_new : (b : ℕ) (rs : List AlternativeRun) (x : AlternativeRun) (n : ℕ)
 before_new b [] x n l = ap (λ (t : Bool). if t then x.alternative else b) (lt-leb x.first n l)
 before_new b (r ∷ rs) x n l = ap (λ (a : ℕ). if leb r.first n then a else b) (before_new r.alternative rs x n l)
 
-at_new : (b low : ℕ) (rs : List AlternativeRun) (x : AlternativeRun) → Rise low rs x.first → alternative_behind b (rs ++ x ∷ []) x.first ≡ x.alternative
+at_new : (b low : ℕ) (rs : List AlternativeRun) (x : AlternativeRun) → RunsRise low rs x.first → alternative_behind b (rs ++ x ∷ []) x.first ≡ x.alternative
 at_new b low [] x r = ap (λ (t : Bool). if t then x.alternative else b) (le-leb x.first x.first (omega arith))
 at_new b low (y ∷ rs) x r =
     ap (λ (t : Bool). if t then alternative_behind y.alternative (rs ++ x ∷ []) x.first else b) (le-leb y.first x.first (rise_up y.first rs x.first r.1))
     ∙ at_new y.alternative y.first rs x r.1
 
-rise_new : (low : ℕ) (rs : List AlternativeRun) (x : AlternativeRun) → Rise low rs x.first → Rise low (rs ++ x ∷ []) (suc x.first)
+rise_new : (low : ℕ) (rs : List AlternativeRun) (x : AlternativeRun) → RunsRise low rs x.first → RunsRise low (rs ++ x ∷ []) (suc x.first)
 rise_new low [] x r = (r, omega arith)
 rise_new low (y ∷ rs) x r = (r.0, rise_new y.first rs x r.1)
 
 pub new_run : (a place b first : ℕ) (rs all : List AlternativeRun) → b ≡ a → first ≡ place → all ≡ rs ++ record { alternative = b; first = first } ∷ []
-    → Rise 0 rs place → Adds a place rs all
+    → RunsRise 0 rs place → AddsRun a place rs all
 new_run a place b first rs all e f is r =
     let x : AlternativeRun = record { alternative = b; first = first } in
-    let rise : Rise 0 rs first = subst (λ (n : ℕ). Rise 0 rs n) (sym f) r in
-    subst (λ (n : ℕ). Adds a n rs all) f
-    (subst (λ (xs : List AlternativeRun). Adds a first rs xs) (sym is) (record {
+    let rise : RunsRise 0 rs first = subst (λ (n : ℕ). RunsRise 0 rs n) (sym f) r in
+    subst (λ (n : ℕ). AddsRun a n rs all) f
+    (subst (λ (xs : List AlternativeRun). AddsRun a first rs xs) (sym is) (record {
       rise = rise_new 0 rs x rise;
       before = λ n l. before_new 0 rs x n l;
       here = at_new 0 0 rs x rise ∙ e;

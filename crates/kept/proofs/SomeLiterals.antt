@@ -8,7 +8,7 @@ use Rattle.kept.specs.declared.entry.Entry.{Entry}
 use Rattle.kept.specs.declared.entry.AlternativeRun.{AlternativeRun}
 use Rattle.statement.specs.Kept.{Kept}
 use Rattle.kept.specs.LeavingOut.{moved, with_some}
-use Rattle.kept.specs.Lists.{alternative_at, kept_behind, kept_from, StandBetween, Rise}
+use Rattle.kept.specs.Lists.{alternative_at, kept_behind, kept_from, StandBetween, RunsRise}
 
 abbrev passing : (ℕ × Bool → Bool) → List (ℕ × Bool) → ℕ
 passing p ls = length (filter p ls)
@@ -73,13 +73,13 @@ some_numbers p runs ls left es new h e f =
     ∙ numbers_behind p runs ls 0 0 0 es (length ls) h refl
 
 pub some_laid : (p : ℕ × Bool → Bool) (runs : List AlternativeRun) (ls left : List (ℕ × Bool)) (es new : List Entry)
-    → StandBetween 0 es (length ls) × Rise 0 runs (length es) → new ≡ moved p ls 0 0 es → left ≡ filter p ls
-    → StandBetween 0 new (length left) × Rise 0 runs (length new)
+    → StandBetween 0 es (length ls) × RunsRise 0 runs (length es) → new ≡ moved p ls 0 0 es → left ≡ filter p ls
+    → StandBetween 0 new (length left) × RunsRise 0 runs (length new)
 some_laid p runs ls left es new h e f = (
   subst (λ (xs : List Entry). StandBetween 0 xs (length left)) (sym e)
       (subst (λ (n : ℕ). StandBetween 0 (moved p ls 0 0 es) n) (ap (λ (ks : List (ℕ × Bool)). passing p ks) (take-length ls) ∙ sym (ap length f))
       (moved_between p ls 0 0 es (length ls) h.0 refl)),
-  subst (λ (n : ℕ). Rise 0 runs n) (sym (ap length e ∙ moved_many p ls 0 0 es)) h.1,
+  subst (λ (n : ℕ). RunsRise 0 runs n) (sym (ap length e ∙ moved_many p ls 0 0 es)) h.1,
 )
 
 -- One entry more has moved.

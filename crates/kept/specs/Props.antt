@@ -6,15 +6,15 @@ use Rattle.std.proofs.Math.Nat.{ℕ_set}
 use Rattle.kept.specs.declared.entry.Entry.{Entry}
 use Rattle.kept.specs.declared.entry.AlternativeRun.{AlternativeRun}
 use Rattle.kept.specs.declared.found_list.FoundList.{FoundList}
-use Rattle.kept.specs.Lists.{StandBetween, Rise, AreLaid}
+use Rattle.kept.specs.Lists.{StandBetween, RunsRise, AreLaid}
 
 StandBetween-prop : (start : ℕ) (es : List Entry) (end : ℕ) → IsProp (StandBetween start es end)
 StandBetween-prop start [] end = ℕ_set start end
 StandBetween-prop start (e ∷ es) end = ×_prop le_prop (StandBetween-prop e.end es end)
 
-Rise-prop : (low : ℕ) (rs : List AlternativeRun) (high : ℕ) → IsProp (Rise low rs high)
-Rise-prop low [] high = le_prop
-Rise-prop low (r ∷ rs) high = ×_prop le_prop (Rise-prop r.first rs high)
+RunsRise-prop : (low : ℕ) (rs : List AlternativeRun) (high : ℕ) → IsProp (RunsRise low rs high)
+RunsRise-prop low [] high = le_prop
+RunsRise-prop low (r ∷ rs) high = ×_prop le_prop (RunsRise-prop r.first rs high)
 
 pub AreLaid-prop : (f : FoundList) → IsProp (AreLaid f)
-AreLaid-prop f = ×_prop (StandBetween-prop 0 f.entries.items (length f.bodies.items)) (Rise-prop 0 f.runs.items (length f.entries.items))
+AreLaid-prop f = ×_prop (StandBetween-prop 0 f.entries.items (length f.bodies.items)) (RunsRise-prop 0 f.runs.items (length f.entries.items))

@@ -1,6 +1,6 @@
 //! The alternatives of instances, once for each run of them.
 ghost use Rattle.std.specs.Prelude.{ℕ, ◌≡◌, ◌<◌, ◌≤◌, get_or, leb, length, true, OnOk};
-ghost use Rattle.kept.specs.Lists.{Adds, Rise, alternative_at, last_behind};
+ghost use Rattle.kept.specs.Lists.{AddsRun, RunsRise, alternative_at, last_behind};
 
 use crate::entry::AlternativeRun;
 use keys::in_32_bits;
@@ -9,8 +9,8 @@ use std::alloc::AllocError;
 /// How many runs begin at a place or before it.
 fn count_runs(runs: &[AlternativeRun], place: usize) -> usize
     ensures within { result ≤ length runs.now }
-    ensures begun { (low high : ℕ) → Rise low runs.now high → (k : ℕ) (d : AlternativeRun) → k < result → (get_or runs.now k d).first ≤ place }
-    ensures others { (low high : ℕ) → Rise low runs.now high → (k : ℕ) (d : AlternativeRun) → result ≤ k → k < length runs.now
+    ensures begun { (low high : ℕ) → RunsRise low runs.now high → (k : ℕ) (d : AlternativeRun) → k < result → (get_or runs.now k d).first ≤ place }
+    ensures others { (low high : ℕ) → RunsRise low runs.now high → (k : ℕ) (d : AlternativeRun) → result ≤ k → k < length runs.now
         → place < (get_or runs.now k d).first }
 {
     runs.partition_point(
@@ -22,7 +22,7 @@ fn count_runs(runs: &[AlternativeRun], place: usize) -> usize
 
 /// The alternative of the instance at a place; 0 where no run has begun.
 pub fn alternative_at(runs: &[AlternativeRun], place: usize) -> u32
-    ensures { (low high : ℕ) → Rise low runs.now high → result ≡ alternative_at runs.now place }
+    ensures { (low high : ℕ) → RunsRise low runs.now high → result ≡ alternative_at runs.now place }
 {
     let begun = count_runs(runs, place);
     if begun == 0 {
@@ -39,9 +39,9 @@ fn is_last(runs: &[AlternativeRun], alternative: usize) -> bool
     many > 0 && runs[many - 1].alternative as usize == alternative
 }
 
-/// Adds the run of an instance behind those of all before it, unless it is of the last one's alternative.
+/// AddsRun the run of an instance behind those of all before it, unless it is of the last one's alternative.
 pub fn add_run(runs: &mut Vec<AlternativeRun>, alternative: usize, place: usize) -> Result<(), AllocError>
-    ensures { OnOk result (Rise 0 runs.old.items place → Adds alternative place runs.old.items runs.new.items) }
+    ensures { OnOk result (RunsRise 0 runs.old.items place → AddsRun alternative place runs.old.items runs.new.items) }
 {
     if is_last(runs, alternative) {
         return Ok(());

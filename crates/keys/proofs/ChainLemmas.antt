@@ -30,7 +30,7 @@ use Rattle.std.proofs.Common.{
 use Rattle.std.proofs.lemmas.List.{get_or-set_same, get_or-set_other, get_or-take, length-set}
 use Rattle.std.proofs.lemmas.Grind.{get_or_default_zero}
 use Rattle.std.specs.Prelude.{replicate, ◌≢◌}
-use Rattle.keys.specs.Chains.{AreChained, bucket_of, key_hash}
+use Rattle.keys.specs.Chains.{KeysChained, bucket_of, key_hash}
 use Rattle.keys.specs.Hashes.{upper, bucket_in}
 use Rattle.keys.specs.KeyLists.{key_at}
 
@@ -48,8 +48,8 @@ before_at (y ∷ ys) x zero h = refl
 before_at (y ∷ ys) x (suc i) h = before_at ys x i (omega (arith, h))
 
 -- one more number in its bucket
-pub chained_on : (of : ℕ → ℕ) (n b x : ℕ) (last before : List ℕ) → AreChained of n last before → of n ≡ b → b < length last
-    → x ≡ get_or last b 0 → AreChained of (n + 1) (set last b (n + 1)) (before ++ x ∷ [])
+pub chained_on : (of : ℕ → ℕ) (n b x : ℕ) (last before : List ℕ) → KeysChained of n last before → of n ≡ b → b < length last
+    → x ≡ get_or last b 0 → KeysChained of (n + 1) (set last b (n + 1)) (before ++ x ∷ [])
 chained_on of n b x last before a own room is =
     record {
       many = let m = a.many in let l = length-append before (x ∷ []) in omega (arith, m, l);
@@ -119,8 +119,8 @@ chained_on of n b x last before a own room is =
         ((a.heads b (subst (λ (k : ℕ). 0 < k) new_at (subst (λ (m : ℕ). 0 < get_or (before ++ x ∷ []) m 0) f some))).1 ∙ sym own))
 
 -- the same buckets under another name
-pub chained_alike : (of to : ℕ → ℕ) (n : ℕ) (last before : List ℕ) → ((i : ℕ) → i < n → of i ≡ to i) → AreChained of n last before
-    → AreChained to n last before
+pub chained_alike : (of to : ℕ → ℕ) (n : ℕ) (last before : List ℕ) → ((i : ℕ) → i < n → of i ≡ to i) → KeysChained of n last before
+    → KeysChained to n last before
 chained_alike of to n last before same a =
     record {
       many = a.many;
@@ -133,8 +133,8 @@ chained_alike of to n last before same a =
     }
 
 -- without the last number
-pub chained_less : (of : ℕ → ℕ) (n b x : ℕ) (last before : List ℕ) → AreChained of (suc n) last before → of n ≡ b → b < length last
-    → x ≡ get_or before n 0 → AreChained of n (set last b x) (take n before)
+pub chained_less : (of : ℕ → ℕ) (n b x : ℕ) (last before : List ℕ) → KeysChained of (suc n) last before → of n ≡ b → b < length last
+    → x ≡ get_or before n 0 → KeysChained of n (set last b x) (take n before)
 chained_less of n b x last before a own room is =
     record {
       many = take_many n before (let m = a.many in omega (arith, m));
@@ -187,10 +187,10 @@ chained_less of n b x last before a own room is =
             absurd (other (sym old.1 ∙ ap of (let f : get_or last c 0 - 1 ≡ n = omega (arith, e, h) in f) ∙ own))
 
 -- the read value is that of the bucket
-pub linked : (of : ℕ → ℕ) (n b x : ℕ) (last before b1 b2 : List ℕ) → AreChained of n last before → of n ≡ b → b < length last
-    → x ≡ get_or last b x → b1 ≡ before → b2 ≡ b1 ++ x ∷ [] → AreChained of (n + 1) (set last b (n + 1)) b2
+pub linked : (of : ℕ → ℕ) (n b x : ℕ) (last before b1 b2 : List ℕ) → KeysChained of n last before → of n ≡ b → b < length last
+    → x ≡ get_or last b x → b1 ≡ before → b2 ≡ b1 ++ x ∷ [] → KeysChained of (n + 1) (set last b (n + 1)) b2
 linked of n b x last before b1 b2 a own room is e f =
-    subst (λ (zs : List ℕ). AreChained of (n + 1) (set last b (n + 1)) zs) (sym (f ∙ ap (λ (zs : List ℕ). zs ++ x ∷ []) e))
+    subst (λ (zs : List ℕ). KeysChained of (n + 1) (set last b (n + 1)) zs) (sym (f ∙ ap (λ (zs : List ℕ). zs ++ x ∷ []) e))
     (chained_on of n b x last before a own room (is ∙ get_or_default_zero last b x room))
 
 -- Looking for a key.
@@ -201,7 +201,7 @@ pub record Finding (keys : List (List ℕ)) (key : List ℕ) (many left : ℕ) :
   pub alike : 0 < left → bucket_of keys many (left - 1) ≡ bucket_in (upper (key_hash 0 key)) many
 
 pub finding_starts : (keys : List (List ℕ)) (key : List ℕ) (many hash b left : ℕ) (last before : List ℕ)
-    → AreChained (bucket_of keys many) (length keys) last before → hash ≡ key_hash 0 key → b ≡ bucket_in (upper hash) many → left ≡ get_or last b left
+    → KeysChained (bucket_of keys many) (length keys) last before → hash ≡ key_hash 0 key → b ≡ bucket_in (upper hash) many → left ≡ get_or last b left
     → b < length last → Finding keys key many left
 finding_starts keys key many hash b left last before a h e l room =
     let at : b ≡ bucket_in (upper (key_hash 0 key)) many = e ∙ ap (λ (x : ℕ). bucket_in (upper x) many) h in
@@ -219,7 +219,7 @@ finding_starts keys key many hash b left last before a h e l room =
     inside (suc k) e is = let h = (a.heads b (omega (arith, e))).0 in omega (arith, h, is)
 
 pub finding_next : (keys : List (List ℕ)) (key : List ℕ) (many left number next : ℕ) (last before : List ℕ)
-    → AreChained (bucket_of keys many) (length keys) last before → Finding keys key many left → 0 < left → number ≡ left - 1
+    → KeysChained (bucket_of keys many) (length keys) last before → Finding keys key many left → 0 < left → number ≡ left - 1
     → (key_at keys number ≡ key → ⊥) → next ≡ get_or before number next → Finding keys key many next
 finding_next keys key many left number next last before a f some e other n =
     let w = f.within in
@@ -254,22 +254,22 @@ list_last (y ∷ ys) x zero e = absurd (let bad : ⊥ = omega (arith, e) in bad)
 list_last (y ∷ ys) x (suc n) e = list_last ys x n (omega (arith, e))
 
 pub added_kept : (keys more : List (List ℕ)) (key : List ℕ) (many m1 k hash b n : ℕ) (last before last1 before1 : List ℕ)
-    → AreChained (bucket_of keys many) (length keys) last before → more ≡ keys ++ key ∷ [] → hash ≡ key_hash 0 key → b ≡ bucket_in (upper hash) k → k ≡ many
+    → KeysChained (bucket_of keys many) (length keys) last before → more ≡ keys ++ key ∷ [] → hash ≡ key_hash 0 key → b ≡ bucket_in (upper hash) k → k ≡ many
     → m1 ≡ many → n ≡ length keys
-    → ((of : ℕ → ℕ) → AreChained of n last before → of n ≡ b → AreChained of (n + 1) last1 before1)
-    → AreChained (bucket_of more m1) (length more) last1 before1
+    → ((of : ℕ → ℕ) → KeysChained of n last before → of n ≡ b → KeysChained of (n + 1) last1 before1)
+    → KeysChained (bucket_of more m1) (length more) last1 before1
 added_kept keys more key many m1 k hash b n last before last1 before1 a e h f g m c step =
-    let old : AreChained (bucket_of (keys ++ key ∷ []) many) n last before =
-    subst (λ (i : ℕ). AreChained (bucket_of (keys ++ key ∷ []) many) i last before) (sym c)
+    let old : KeysChained (bucket_of (keys ++ key ∷ []) many) n last before =
+    subst (λ (i : ℕ). KeysChained (bucket_of (keys ++ key ∷ []) many) i last before) (sym c)
     (chained_alike (bucket_of keys many) (bucket_of (keys ++ key ∷ []) many) (length keys) last before
     (λ i h. ap (λ (x : List ℕ). bucket_in (upper (key_hash 0 x)) many) (sym (list_before keys key i h))) a) in
     let own : bucket_of (keys ++ key ∷ []) many n ≡ b =
     ap (λ (x : List ℕ). bucket_in (upper (key_hash 0 x)) many) (list_last keys key n c)
     ∙ sym (f ∙ ap (λ (x : ℕ). bucket_in (upper hash) x) g ∙ ap (λ (x : ℕ). bucket_in (upper x) many) h) in
     let long : n + 1 ≡ length more = let l = length-append keys (key ∷ []) in let s = ap length e in omega (arith, l, s, c) in
-    subst (λ (i : ℕ). AreChained (bucket_of more i) (length more) last1 before1) (sym m)
-    (subst (λ (i : ℕ). AreChained (bucket_of more many) i last1 before1) long
-    (subst (λ (ks : List (List ℕ)). AreChained (bucket_of ks many) (n + 1) last1 before1) (sym e)
+    subst (λ (i : ℕ). KeysChained (bucket_of more i) (length more) last1 before1) (sym m)
+    (subst (λ (i : ℕ). KeysChained (bucket_of more many) i last1 before1) long
+    (subst (λ (ks : List (List ℕ)). KeysChained (bucket_of ks many) (n + 1) last1 before1) (sym e)
     (step (bucket_of (keys ++ key ∷ []) many) old own)))
 
 take_many : (k : ℕ) (xs : List (List ℕ)) → k ≤ length xs → length (take k xs) ≡ k
@@ -278,22 +278,22 @@ take_many (suc k) [] h = absurd (let bad : ⊥ = omega (arith, h) in bad)
 take_many (suc k) (y ∷ ys) h = ap (λ (m : ℕ). suc m) (take_many k ys (omega (arith, h)))
 
 pub dropped_kept : (keys more : List (List ℕ)) (many k hash b n x : ℕ) (last before b1 : List ℕ)
-    → AreChained (bucket_of keys many) (length keys) last before → many ≡ length last → 0 < length keys → n ≡ length keys - 1
+    → KeysChained (bucket_of keys many) (length keys) last before → many ≡ length last → 0 < length keys → n ≡ length keys - 1
     → hash ≡ key_hash 0 (key_at keys n) → b ≡ bucket_in (upper hash) k → k ≡ many → b < length last → x ≡ get_or before n x → b1 ≡ take n before
-    → more ≡ take n keys → AreChained (bucket_of more (length (set last b x))) (length more) (set last b x) b1
+    → more ≡ take n keys → KeysChained (bucket_of more (length (set last b x))) (length more) (set last b x) b1
 dropped_kept keys more many k hash b n x last before b1 a m some c h f g room is s e =
     let size : length keys ≡ suc n = omega (arith, c, some) in
     let w = a.many in
     let own : bucket_of keys many n ≡ b = sym (f ∙ ap (λ (y : ℕ). bucket_in (upper hash) y) g ∙ ap (λ (y : ℕ). bucket_in (upper y) many) h) in
-    let less : AreChained (bucket_of keys many) n (set last b x) (take n before) =
+    let less : KeysChained (bucket_of keys many) n (set last b x) (take n before) =
     chained_less (bucket_of keys many) n b x last before
-    (subst (λ (i : ℕ). AreChained (bucket_of keys many) i last before) size a) own room
+    (subst (λ (i : ℕ). KeysChained (bucket_of keys many) i last before) size a) own room
     (is ∙ get_or_default_zero before n x (omega (arith, w, size))) in
-    let again : AreChained (bucket_of (take n keys) many) n (set last b x) (take n before) =
+    let again : KeysChained (bucket_of (take n keys) many) n (set last b x) (take n before) =
     chained_alike (bucket_of keys many) (bucket_of (take n keys) many) n (set last b x) (take n before)
     (λ i h. ap (λ (y : List ℕ). bucket_in (upper (key_hash 0 y)) many) (sym (get_or-take n keys i [] h))) less in
     let long : n ≡ length more = sym (ap length e ∙ take_many n keys (omega (arith, size))) in
-    subst (λ (i : ℕ). AreChained (bucket_of more i) (length more) (set last b x) b1) (m ∙ sym (length-set last b x))
-    (subst (λ (zs : List ℕ). AreChained (bucket_of more many) (length more) (set last b x) zs) (sym s)
-    (subst (λ (i : ℕ). AreChained (bucket_of more many) i (set last b x) (take n before)) long
-    (subst (λ (ks : List (List ℕ)). AreChained (bucket_of ks many) n (set last b x) (take n before)) (sym e) again)))
+    subst (λ (i : ℕ). KeysChained (bucket_of more i) (length more) (set last b x) b1) (m ∙ sym (length-set last b x))
+    (subst (λ (zs : List ℕ). KeysChained (bucket_of more many) (length more) (set last b x) zs) (sym s)
+    (subst (λ (i : ℕ). KeysChained (bucket_of more many) i (set last b x) (take n before)) long
+    (subst (λ (ks : List (List ℕ)). KeysChained (bucket_of ks many) n (set last b x) (take n before)) (sym e) again)))

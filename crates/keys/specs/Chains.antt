@@ -16,7 +16,7 @@ bucket_of keys many n = bucket_in (upper (key_hash 0 (key_at keys n))) many
 
 -- For each bucket one more than its last number, and for each of the first n numbers one more than the number before it in its bucket;
 -- 0 where there is none.
-pub record AreChained (bucket : ℕ → ℕ) (n : ℕ) (last before : List ℕ) : Type 0 where
+pub record KeysChained (bucket : ℕ → ℕ) (n : ℕ) (last before : List ℕ) : Type 0 where
   pub many : length before ≡ n
   pub lasts : (i : ℕ) → i < n → i < slice_index last (bucket i)
   pub befores : (i j : ℕ) → i < j → j < n → bucket i ≡ bucket j → i < slice_index before j
@@ -25,5 +25,5 @@ pub record AreChained (bucket : ℕ → ℕ) (n : ℕ) (last before : List ℕ) 
   pub links : (j : ℕ) → j < n → 0 < slice_index before j → bucket (slice_index before j - 1) ≡ bucket j
 
 -- the terms of keys are in the buckets of their keys
-abbrev pub AreKept : List (List ℕ) → Chains → Type 0
-AreKept keys c = AreChained (bucket_of keys (length c.last.items)) (length keys) c.last.items c.before.items
+abbrev pub KeysKept : List (List ℕ) → Chains → Type 0
+KeysKept keys c = KeysChained (bucket_of keys (length c.last.items)) (length keys) c.last.items c.before.items

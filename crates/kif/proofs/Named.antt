@@ -6,7 +6,7 @@ use Rattle.statement.specs.Lexical.{visible, opening, closing, stray, spots}
 use Rattle.statement.specs.Tree.{Trees}
 use Rattle.statement.specs.Reading.{text_limit, Reads, TextFault, too_long, bad_byte, too_deep, unclosed, unopened, name_too_long, or_text_fault, fault_where}
 use Rattle.statement.specs.Reading.{first_fault, first_unclosed, text_fault_in}
-use Rattle.kif.specs.Offsets.{stage, offset, Stands, Precedes, IsFirstFault}
+use Rattle.kif.specs.Offsets.{stage, offset, FaultStands, Precedes, IsFirstFault}
 use Rattle.kif.proofs.Visible.{length-visible}
 use Rattle.kif.proofs.Here.{first_place}
 use Rattle.kif.proofs.Tokens.{run_in, run_at, token_in, token_at}
@@ -17,21 +17,21 @@ use Rattle.kif.proofs.Faults.{reads_if_no_fault, no_fault_if_reads}
 
 -- the two ways to say which faults stand
 
-left_in : (text : List ℕ) (o : ℕ) → Stands text (unclosed o) → IsLeftOpen (visible text) o
+left_in : (text : List ℕ) (o : ℕ) → FaultStands text (unclosed o) → IsLeftOpen (visible text) o
 left_in text o s = record {
   it = token_in text o opening s.0;
   never = λ p l w same. s.1 p l (let size = length-visible text in omega arith)
       (difference_of_same (opened (visible text) p) (closed (visible text) p) (opened (visible text) o) (closed (visible text) o) same);
 }
 
-left_stands : (text : List ℕ) (o : ℕ) → IsLeftOpen (visible text) o → Stands text (unclosed o)
+left_stands : (text : List ℕ) (o : ℕ) → IsLeftOpen (visible text) o → FaultStands text (unclosed o)
 left_stands text o i = (
   token_at text o opening i.it,
   λ p l w e. i.never p l (let size = length-visible text in omega arith)
       (same_of_difference (opened (visible text) p) (closed (visible text) p) (opened (visible text) o) (closed (visible text) o) e),
 )
 
-fault_in_text : (text : List ℕ) (f : TextFault) → stage f ≡ 1 → Stands text f → IsFaultIn (visible text) f
+fault_in_text : (text : List ℕ) (f : TextFault) → stage f ≡ 1 → FaultStands text f → IsFaultIn (visible text) f
 fault_in_text text too_long e s = absurd (omega arith)
 fault_in_text text (bad_byte o) e s = token_in text o stray s
 fault_in_text text (too_deep o) e s = (token_in text o opening s.0, open_of_difference (opened (visible text) o) (closed (visible text) o) 100 s.1)
@@ -39,7 +39,7 @@ fault_in_text text (unopened o) e s = (token_in text o closing s.0, open_of_diff
 fault_in_text text (name_too_long o) e s = (s.0, run_in text o s.0 s.1, s.2)
 fault_in_text text (unclosed o) e s = absurd (omega arith)
 
-fault_stands : (text : List ℕ) (f : TextFault) → IsFaultIn (visible text) f → (stage f ≡ 1) × Stands text f
+fault_stands : (text : List ℕ) (f : TextFault) → IsFaultIn (visible text) f → (stage f ≡ 1) × FaultStands text f
 fault_stands text too_long i = absurd i
 fault_stands text (bad_byte o) i = (refl, token_at text o stray i)
 fault_stands text (too_deep o) i =
@@ -52,12 +52,12 @@ fault_stands text (unclosed o) i = absurd i
 
 -- no fault of an earlier stage stands
 record IsPast (text : List ℕ) (n : ℕ) : Type 0 where
-  none_before : (g : TextFault) → Stands text g → stage g < n → ⊥
+  none_before : (g : TextFault) → FaultStands text g → stage g < n → ⊥
 
 short_is_past : (text : List ℕ) → nat_lt text_limit (length text) ≡ false → IsPast text 1
 short_is_past text e = record { none_before = go }
   where
-    go : (g : TextFault) → Stands text g → stage g < 1 → ⊥
+    go : (g : TextFault) → FaultStands text g → stage g < 1 → ⊥
     go too_long s l = grind (arith, nat_tests)
     go (bad_byte o) s l = absurd (omega arith)
     go (too_deep o) s l = absurd (omega arith)
@@ -68,7 +68,7 @@ short_is_past text e = record { none_before = go }
 walked_is_past : (text : List ℕ) → IsPast text 1 → IsFoundFrom (visible text) 0 None → IsPast text 2
 walked_is_past text p h = record { none_before = λ g s l. go g s (stage g) refl l }
   where
-    go : (g : TextFault) → Stands text g → (n : ℕ) → stage g ≡ n → n < 2 → ⊥
+    go : (g : TextFault) → FaultStands text g → (n : ℕ) → stage g ≡ n → n < 2 → ⊥
     go g s zero e l = p.none_before g s (omega arith)
     go g s (suc zero) e l = h g (fault_in_text text g e s) (omega arith)
     go g s (suc (suc n)) e l = absurd (omega arith)
@@ -78,14 +78,14 @@ first_at_token text f p i =
     let s = fault_stands text f i.it in
     record { stands = s.1; first = λ g t b. go g t s.0 b }
   where
-    go : (g : TextFault) → Stands text g → stage f ≡ 1 → Precedes g f → ⊥
+    go : (g : TextFault) → FaultStands text g → stage f ≡ 1 → Precedes g f → ⊥
     go g t e (inl l) = p.none_before g t (omega arith)
     go g t e (inr b) =
         let m = i.least g (fault_in_text text g (b.0 ∙ e) t) (omega arith) in
         let l = b.1 in
         absurd (omega arith)
 
-left_last : (text : List ℕ) (g : TextFault) → Stands text g → stage g ≡ 2 → IsLeftOpen (visible text) (offset g)
+left_last : (text : List ℕ) (g : TextFault) → FaultStands text g → stage g ≡ 2 → IsLeftOpen (visible text) (offset g)
 left_last text too_long s e = absurd (omega arith)
 left_last text (bad_byte o) s e = absurd (omega arith)
 left_last text (too_deep o) s e = absurd (omega arith)
@@ -96,14 +96,14 @@ left_last text (unclosed o) s e = left_in text o s
 first_left : (text : List ℕ) (f : TextFault) → IsPast text 2 → IsFirstLeft (visible text) 0 f → IsFirstFault text f
 first_left text f p i = subst (IsFirstFault text) (sym i.same) (record { stands = left_stands text i.place i.it; first = go })
   where
-    go : (g : TextFault) → Stands text g → Precedes g (unclosed i.place) → ⊥
+    go : (g : TextFault) → FaultStands text g → Precedes g (unclosed i.place) → ⊥
     go g t (inl l) = p.none_before g t l
     go g t (inr b) =
         let m = i.least (offset g) (left_last text g t b.0) (omega arith) in
         let l = b.1 in
         absurd (omega arith)
 
-none_left : (text : List ℕ) → IsPast text 2 → IsLeftFrom (visible text) 0 None → (g : TextFault) → Stands text g → ⊥
+none_left : (text : List ℕ) → IsPast text 2 → IsLeftFrom (visible text) 0 None → (g : TextFault) → FaultStands text g → ⊥
 none_left text p h g s = go (stage g) refl
   where
     two : (f : TextFault) → stage f ≤ 2
@@ -123,10 +123,10 @@ none_left text p h g s = go (stage g) refl
 -- the walk's answer, and that no other fault stands at that offset
 record IsNamedFault (text : List ℕ) (f : TextFault) : Type 0 where
   it : IsFirstFault text f
-  only : (g : TextFault) → Stands text g → stage g ≡ stage f → offset g ≡ offset f → g ≡ f
+  only : (g : TextFault) → FaultStands text g → stage g ≡ stage f → offset g ≡ offset f → g ≡ f
 
 abbrev IsNamed : List ℕ → Option TextFault → Type 0
-IsNamed text None = (g : TextFault) → Stands text g → ⊥
+IsNamed text None = (g : TextFault) → FaultStands text g → ⊥
 IsNamed text (Some f) = IsNamedFault text f
 
 same_length_fault : (g : TextFault) → stage g ≡ 0 → g ≡ too_long
@@ -188,7 +188,7 @@ named text = go (nat_lt text_limit (length text)) refl
 pub first_if_fault : (text : List ℕ) (f : TextFault) → text_fault_in text ≡ Some f → IsFirstFault text f
 first_if_fault text f e = let n = subst (IsNamed text) e (named text) in n.it
 
-pub none_stands : (text : List ℕ) (f : TextFault) → text_fault_in text ≡ None → Stands text f → ⊥
+pub none_stands : (text : List ℕ) (f : TextFault) → text_fault_in text ≡ None → FaultStands text f → ⊥
 none_stands text f e = subst (IsNamed text) e (named text) f
 
 neither_less : (a b : ℕ) → (a < b → ⊥) → (b < a → ⊥) → a ≡ b
@@ -221,5 +221,5 @@ one_of_two text = go (text_fault_in text) refl
     go None e = inl (reads_if_no_fault text e)
     go (Some f) e = inr (f, first_if_fault text f e)
 
-pub not_both : (text : List ℕ) (ts : Trees) (f : TextFault) → Reads text ts → Stands text f → ⊥
+pub not_both : (text : List ℕ) (ts : Trees) (f : TextFault) → Reads text ts → FaultStands text f → ⊥
 not_both text ts f r = none_stands text f (no_fault_if_reads text ts r)

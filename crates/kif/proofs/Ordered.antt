@@ -11,7 +11,7 @@ use Rattle.std.specs.declared.cmp.Ordering.TheVariants.{Less, Equal, Greater}
 use Rattle.kif.specs.declared.expr.Expr.{Expr}
 use Rattle.statement.specs.Tree.{Tree, list, Trees, trees_of}
 use Rattle.kif.specs.View.{tree_of, trees_in}
-use Rattle.kif.specs.Marks.{name_mark, marks, parts_marks, further_marks, Orders, Begins}
+use Rattle.kif.specs.Marks.{name_mark, marks, parts_marks, further_marks, Orders, BeginsWithMark}
 use Rattle.kif.proofs.Writing.{parts_from}
 
 -- what is left of both lists decides
@@ -30,7 +30,7 @@ settled Equal p q h = absurd (h refl)
 settled Greater p q h = refl
 
 -- two lists whose first marks differ
-pub apart : (xs ys : List ℕ) (c d a b : ℕ) → Begins xs c → Begins ys d → c ≢ d → Orders (nat_cmp c d) xs a ys b
+pub apart : (xs ys : List ℕ) (c d a b : ℕ) → BeginsWithMark xs c → BeginsWithMark ys d → c ≢ d → Orders (nat_cmp c d) xs a ys b
 apart xs ys c d a b h k e = record {
   law = λ r s.
       ap (λ (m : List ℕ). slice_cmp nat_cmp (m ++ a ∷ r) (ys ++ b ∷ s)) h.split

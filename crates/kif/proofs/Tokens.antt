@@ -5,7 +5,7 @@ use Rattle.std.specs.Prelude.{⊤, slice_range}
 use Rattle.std.specs.List.Sorted.{IsStrictlyIncreasing}
 use Rattle.std.proofs.lemmas.List.{get_or-drop}
 use Rattle.statement.specs.Lexical.{is_name_byte, lower, visible, Token, opening, closing, word, stray, Spot, token_here, spots_at, spots}
-use Rattle.kif.specs.Offsets.{is_opening, is_closing, is_stray, IsAt, IsRun, IsTokenAt}
+use Rattle.kif.specs.Offsets.{is_opening, is_closing, is_stray, IsByteAt, IsRun, IsTokenAt}
 use Rattle.kif.proofs.Comments.{others_stay}
 use Rattle.kif.proofs.Visible.{length-visible, seen_if_at, at_if_seen}
 use Rattle.kif.proofs.Here.{IsRunIn, IsTokenIn, IsPlace, first_place, next_place, Here, none, one, here}
@@ -30,7 +30,7 @@ token_within v o stray t = t.0
 within_text : (kind : ℕ → Bool) (text : List ℕ) (o : ℕ) → kind 0 ≡ false → kind (get_or (visible text) o 0) ≡ true → o < length text
 within_text kind text o e h = let size = length-visible text in let r = within_if_seen kind (visible text) o e h in omega arith
 
-not_seen : (text : List ℕ) (o : ℕ) → (IsAt is_name_byte text o → ⊥) → is_name_byte (get_or (visible text) o 0) ≡ false
+not_seen : (text : List ℕ) (o : ℕ) → (IsByteAt is_name_byte text o → ⊥) → is_name_byte (get_or (visible text) o 0) ≡ false
 not_seen text o h = go (is_name_byte (get_or (visible text) o 0)) refl
   where
     go : (t : Bool) → is_name_byte (get_or (visible text) o 0) ≡ t → t ≡ false
@@ -45,7 +45,7 @@ run_in text o end r = record {
   ends = not_seen text end r.ends;
 }
 
-not_at : (text : List ℕ) (o : ℕ) → is_name_byte (get_or (visible text) o 0) ≡ false → IsAt is_name_byte text o → ⊥
+not_at : (text : List ℕ) (o : ℕ) → is_name_byte (get_or (visible text) o 0) ≡ false → IsByteAt is_name_byte text o → ⊥
 not_at text o e h = let f = seen_if_at is_name_byte text o h in absurd cc
 
 pub run_at : (text : List ℕ) (o end : ℕ) → IsRunIn (visible text) o end → IsRun text o end
@@ -77,7 +77,7 @@ run_bytes text o end r =
     ∙ sym (same (o + k) (r.names (o + k) (omega arith) (let f = r.further in omega arith)))
     ∙ sym (get_or-drop o text k 0))
   where
-    same : (k : ℕ) → IsAt is_name_byte text k → get_or text k 0 ≡ get_or (visible text) k 0
+    same : (k : ℕ) → IsByteAt is_name_byte text k → get_or text k 0 ≡ get_or (visible text) k 0
     same k h = sym (others_stay text k h.outside)
 
 pub token_in : (text : List ℕ) (o : ℕ) (k : Token) → IsTokenAt text o k → IsTokenIn (visible text) o k

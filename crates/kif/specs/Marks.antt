@@ -40,6 +40,6 @@ pub record Orders (o : Ordering) (xs : List ℕ) (a : ℕ) (ys : List ℕ) (b : 
   pub law : (r s : List ℕ) → slice_cmp nat_cmp (xs ++ a ∷ r) (ys ++ b ∷ s) ≡ ordering_then o (slice_cmp nat_cmp r s)
 
 -- the list begins with the mark
-pub record Begins (xs : List ℕ) (a : ℕ) : Type 0 where
+pub record BeginsWithMark (xs : List ℕ) (a : ℕ) : Type 0 where
   pub rest : List ℕ
   pub split : xs ≡ a ∷ rest

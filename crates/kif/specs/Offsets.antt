@@ -16,7 +16,7 @@ abbrev pub is_stray : ℕ → Bool
 is_stray b = not (is_space b || is_name_byte b || is_opening b || is_closing b)
 
 -- byte o is outside comments, and is such a byte
-pub record IsAt (kind : ℕ → Bool) (text : List ℕ) (o : ℕ) : Type 0 where
+pub record IsByteAt (kind : ℕ → Bool) (text : List ℕ) (o : ℕ) : Type 0 where
   pub within : o < length text
   pub outside : IsInComment text o → ⊥
   pub byte : kind (slice_index text o) ≡ true
@@ -24,16 +24,16 @@ pub record IsAt (kind : ℕ → Bool) (text : List ℕ) (o : ℕ) : Type 0 where
 -- a longest run of name bytes outside comments goes from o up to end
 pub record IsRun (text : List ℕ) (o end : ℕ) : Type 0 where
   pub further : o < end
-  pub names : (k : ℕ) → o ≤ k → k < end → IsAt is_name_byte text k
-  pub begins : (k : ℕ) → suc k ≡ o → IsAt is_name_byte text k → ⊥
-  pub ends : IsAt is_name_byte text end → ⊥
+  pub names : (k : ℕ) → o ≤ k → k < end → IsByteAt is_name_byte text k
+  pub begins : (k : ℕ) → suc k ≡ o → IsByteAt is_name_byte text k → ⊥
+  pub ends : IsByteAt is_name_byte text end → ⊥
 
 -- the token stands at o: a bracket, a longest run of name bytes in lower case, or a stray byte
 abbrev pub IsTokenAt : List ℕ → ℕ → Token → Type 0
-IsTokenAt text o opening = IsAt is_opening text o
-IsTokenAt text o closing = IsAt is_closing text o
+IsTokenAt text o opening = IsByteAt is_opening text o
+IsTokenAt text o closing = IsByteAt is_closing text o
 IsTokenAt text o (word w) = (end : ℕ) × IsRun text o end × (w ≡ map lower (slice_range text o end))
-IsTokenAt text o stray = IsAt is_stray text o
+IsTokenAt text o stray = IsByteAt is_stray text o
 
 -- how many such bytes stand before o, outside comments
 abbrev pub count_before : (ℕ → Bool) → List ℕ → ℕ → ℕ
@@ -44,13 +44,13 @@ abbrev pub open_before : List ℕ → ℕ → ℤ
 open_before text o = pos (count_before is_opening text o) -ℤ pos (count_before is_closing text o)
 
 -- the fault stands in the text, alone or beside others
-abbrev pub Stands : List ℕ → TextFault → Type 0
-Stands text too_long = text_limit < length text
-Stands text (bad_byte o) = IsAt is_stray text o
-Stands text (too_deep o) = IsAt is_opening text o × (open_before text o ≡ pos open_limit)
-Stands text (unopened o) = IsAt is_closing text o × (open_before text o ≡ pos 0)
-Stands text (name_too_long o) = (end : ℕ) × IsRun text o end × (o + name_limit < end)
-Stands text (unclosed o) = IsAt is_opening text o × ((p : ℕ) → o < p → p ≤ length text → open_before text p ≢ open_before text o)
+abbrev pub FaultStands : List ℕ → TextFault → Type 0
+FaultStands text too_long = text_limit < length text
+FaultStands text (bad_byte o) = IsByteAt is_stray text o
+FaultStands text (too_deep o) = IsByteAt is_opening text o × (open_before text o ≡ pos open_limit)
+FaultStands text (unopened o) = IsByteAt is_closing text o × (open_before text o ≡ pos 0)
+FaultStands text (name_too_long o) = (end : ℕ) × IsRun text o end × (o + name_limit < end)
+FaultStands text (unclosed o) = IsByteAt is_opening text o × ((p : ℕ) → o < p → p ≤ length text → open_before text p ≢ open_before text o)
 
 -- the length is looked at before all else, and lists that are left open after all else
 abbrev pub stage : TextFault → ℕ
@@ -75,5 +75,5 @@ Precedes f g = (stage f < stage g) ⊎ ((stage f ≡ stage g) × (offset f < off
 
 -- the fault stands in the text, and none that stands there precedes it
 pub record IsFirstFault (text : List ℕ) (f : TextFault) : Type 0 where
-  pub stands : Stands text f
-  pub first : (g : TextFault) → Stands text g → Precedes g f → ⊥
+  pub stands : FaultStands text f
+  pub first : (g : TextFault) → FaultStands text g → Precedes g f → ⊥

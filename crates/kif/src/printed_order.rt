@@ -6,7 +6,7 @@ ghost use Rattle.statement.specs.Tree.{name, list, trees_of, printed_cmp};
 ghost use Rattle.statement.specs.Lexical.{HasNames};
 ghost use Rattle.statement.specs.Tree.{is_name_tree};
 ghost use Rattle.kif.specs.View.{tree_of, trees_in};
-ghost use Rattle.kif.specs.Marks.{Begins, Orders, compared_bytes, marked_cmp, marks, name_mark, parts_marks};
+ghost use Rattle.kif.specs.Marks.{BeginsWithMark, Orders, compared_bytes, marked_cmp, marks, name_mark, parts_marks};
 
 use crate::expr::Expr;
 use std::alloc::Allocator;
@@ -143,7 +143,7 @@ fn mark_behind(index: usize, count: usize) -> u16
 
 /// The first mark of a tree.
 fn first_mark<A: Allocator>(tree: &Expr<A>) -> u16
-    ensures begins { Begins (marks (tree_of tree.now)) result }
+    ensures begins { BeginsWithMark (marks (tree_of tree.now)) result }
     ensures opening { (result ≡ 80) ↔ (is_name_tree (tree_of tree.now) ≡ false) }
     ensures no_closing { result ≢ 82 }
 {
@@ -155,7 +155,7 @@ fn first_mark<A: Allocator>(tree: &Expr<A>) -> u16
 
 /// The first mark behind the opening bracket of a list.
 fn first_within<A: Allocator>(parts: &[Expr<A>]) -> u16
-    ensures begins { Begins (parts_marks (trees_of (trees_in parts.now))) result }
+    ensures begins { BeginsWithMark (parts_marks (trees_of (trees_in parts.now))) result }
     ensures closing { (result ≡ 82) ↔ (length parts.now ≡ 0) }
 {
     match parts.first() {

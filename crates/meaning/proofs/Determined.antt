@@ -9,7 +9,7 @@ use Rattle.profile.proofs.Facts.{not_true, not_false, relation_eq_yes, relation_
 use Rattle.statement.specs.Listing.{Instance, Listing, heads, kept_of_relation, with_atoms, list_relation, list_relations, context_atoms, fixed_listing, listing, fixed_part, other_part}
 use Rattle.statement.specs.Printed.{AreInOrder}
 use Rattle.meaning.specs.InOrder.{AreDistinct}
-use Rattle.meaning.specs.Numbers.{key, place_of, StandsBefore}
+use Rattle.meaning.specs.Numbers.{key, relation_place, StandsBefore}
 use Rattle.meaning.specs.Listed.{IsWellFormed}
 use Rattle.meaning.specs.Determined.{by_appearance, IsListing}
 use Rattle.meaning.proofs.Ordered.{less_never, less_trans, among_filter, among_filter_in, order_filter, one_list, parted, PlaceBefore, distinct_front}
@@ -107,7 +107,7 @@ module _ (rules : List Alternative) (w : IsWellFormed rules) (xs : List Atom) wh
     later_is : (i : Instance) → IsAmong i later → (b : Bool) → is_of p i ≡ b → b ≡ false
     later_is i a true e =
         let lt = later_place i a in
-        let s : place_of rules (relation_of i.head) ≡ place_of rules p = ap (place_of rules) (relation_eq_yes (relation_of i.head) p e) in
+        let s : relation_place rules (relation_of i.head) ≡ relation_place rules p = ap (relation_place rules) (relation_eq_yes (relation_of i.head) p e) in
         absurd (omega arith)
     later_is i a false e = refl
 
@@ -143,7 +143,7 @@ module _ (rules : List Alternative) (w : IsWellFormed rules) (xs : List Atom) wh
         wrong : (i j : Instance) → is_of p i ≡ false → is_of p j ≡ true → StandsBefore rules xs i j → IsAmong i new ⊎ IsAmong i later → ⊥
         wrong i j e f h (inl a) = let k = new_is i a in absurd cc
         wrong i j e f h (inr a) =
-            let s : place_of rules (relation_of j.head) ≡ place_of rules p = ap (place_of rules) (relation_eq_yes (relation_of j.head) p f) in
+            let s : relation_place rules (relation_of j.head) ≡ relation_place rules p = ap (relation_place rules) (relation_eq_yes (relation_of j.head) p f) in
             let lt = later_place i a in
             later_not_before i j (omega arith) h
 

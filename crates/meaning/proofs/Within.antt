@@ -40,7 +40,7 @@ use Rattle.statement.specs.declared.excess.Excess.TheVariants.{Base, Inputs, Ins
 use Rattle.statement.specs.Listing.{Instance, kept_of_relation, with_atoms, Listing, heads, list_relation, list_relations, context_atoms, fixed_listing, role_list, base_list}
 use Rattle.statement.specs.Limits.{or_excess, where_true, has_long_text, first_excess, count_inputs, excess_by}
 use Rattle.statement.specs.Most.{Limits}
-use Rattle.meaning.specs.Effects.{IsWithin}
+use Rattle.meaning.specs.Effects.{IsWithinLimits}
 use Rattle.meaning.proofs.Exact.{more_of, added}
 
 both_none : (a : Bool) (x : Excess) (o : Option Excess) → or_excess (where_true a x) o ≡ None → (a ≡ false) × (o ≡ None)
@@ -129,7 +129,7 @@ module _ (most : Limits) (rules : List Alternative) where
       (λ i a. here.1 i (IsAmong-append_right i g.kept (kept_of_relation rules g.atoms p zero rules) a)))
       (within_relations (list_relation rules g p) ps w))
 
-  pub excess_exact : (excess_by most rules ≡ None) ↔ IsWithin most rules
+  pub excess_exact : (excess_by most rules ≡ None) ↔ IsWithinLimits most rules
   excess_exact = (there, back)
     where
       rests : List Relation
@@ -147,7 +147,7 @@ module _ (most : Limits) (rules : List Alternative) where
       last : Option Excess
       last = first_excess most rules start rests
 
-      there : excess_by most rules ≡ None → IsWithin most rules
+      there : excess_by most rules ≡ None → IsWithinLimits most rules
       there h =
           let a = or_else_none first (or_excess (where_true (nat_lt most.base (length (base_list rules))) Base)
           (or_excess (where_true (nat_lt most.inputs (count_inputs rules (role_list rules))) Inputs) last)) h in
@@ -163,7 +163,7 @@ module _ (most : Limits) (rules : List Alternative) where
             inputs = not_above most.inputs (count_inputs rules (role_list rules)) c.0;
           }
 
-      back : IsWithin most rules → excess_by most rules ≡ None
+      back : IsWithinLimits most rules → excess_by most rules ≡ None
       back w =
           let whole : AreWithin (list_relations rules start rests) = (w.instances, w.heads) in
           let fixed : AreWithin start = less_within start rests whole in

@@ -17,7 +17,7 @@ HasNoEffect rules x =
     ⊎ ((r : Tree) × (m : Tree) × (x ≡ atom2 w_legal r m) × (IsInput rules r m → ⊥))
 
 -- no limit is passed
-pub record IsWithin (most : Limits) (rules : List Alternative) : Type 0 where
+pub record IsWithinLimits (most : Limits) (rules : List Alternative) : Type 0 where
   pub instances : length (listing rules).kept ≤ most.instances
   pub heads : (i : Instance) → IsAmong i (listing rules).kept → length (text (tree_of i.head)) ≤ most.text
   pub base : length (base_list rules) ≤ most.base

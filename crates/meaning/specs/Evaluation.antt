@@ -45,14 +45,14 @@ after_list rules S J = filter (λ p. is_atom_in (atom1 w_next p) (holding rules 
 abbrev pub legal_list : List Alternative → StateOfTerms → Tree → List Tree
 legal_list rules S r = filter (λ m. is_atom_in (atom2 w_legal r m) (holding rules S nobody)) (input_list rules r)
 
-abbrev pub is_empty : List Tree → Bool
-is_empty [] = true
-is_empty (t ∷ ts) = false
+abbrev pub has_none : List Tree → Bool
+has_none [] = true
+has_none (t ∷ ts) = false
 
 -- some role has no legal move
 abbrev pub some_stuck : List Alternative → StateOfTerms → List Tree → Bool
 some_stuck rules S [] = false
-some_stuck rules S (r ∷ rs) = is_empty (legal_list rules S r) || some_stuck rules S rs
+some_stuck rules S (r ∷ rs) = has_none (legal_list rules S r) || some_stuck rules S rs
 
 abbrev pub is_stuck : List Alternative → StateOfTerms → Bool
 is_stuck rules S = not (is_ended rules S) && some_stuck rules S (role_list rules)

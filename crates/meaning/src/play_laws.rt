@@ -15,7 +15,7 @@ ghost use Rattle.meaning.specs.Gates.{IsGateRight, IsBodyRight};
 ghost use Rattle.statement.specs.Kinds.{kind_of};
 ghost use Rattle.meaning.specs.Kinds.{MeansKind};
 ghost use Rattle.statement.specs.GoalsAndMoves.{AreInPrintedOrder, AreStart, AreAfter, AreLegal, IsGoal, starts, start_list, is_dropped};
-ghost use Rattle.meaning.specs.Effects.{HasNoEffect, IsWithin};
+ghost use Rattle.meaning.specs.Effects.{HasNoEffect, IsWithinLimits};
 ghost use Rattle.statement.specs.Limits.{excess_by};
 ghost use Rattle.statement.specs.Most.{Limits};
 
@@ -68,5 +68,5 @@ pub fn dropped_heads_have_no_effect()
 
 /// No limit is named exactly where all that is kept is within the limits.
 pub fn a_limit_is_named_if_passed()
-    ensures { (most : Limits) (rules : List Alternative) → (excess_by most rules ≡ None) ↔ IsWithin most rules }
+    ensures { (most : Limits) (rules : List Alternative) → (excess_by most rules ≡ None) ↔ IsWithinLimits most rules }
 {}

@@ -115,7 +115,7 @@ module _ (rules : List Alternative) (w : IsWellFormed rules) where
         omega arith) in
         ((λ h. same ∙ eq-eqb (state n) 1 h), (λ h. eqb-true (state n) 1 (sym same ∙ h)))
 
-    agree_bits_now : agreement.Agree rules (state_of rules s) nobody state no_turn
+    agree_bits_now : agreement.AgreeByNumber rules (state_of rules s) nobody state no_turn
     agree_bits_now = record {
       bits = is_bit;
       now = bits_now;
@@ -166,7 +166,7 @@ module _ (rules : List Alternative) (w : IsWellFormed rules) where
               let i : slice_index j k ≡ n = let z : Some (slice_index j k) ≡ Some n = sym place ∙ f in cc in
               test ∙ if_one (slice_index j k == n) (eq-eqb (slice_index j k) n i)
 
-      agree_bits_move : agreement.Agree rules (state_of rules s) (joint_of rules j) state j
+      agree_bits_move : agreement.AgreeByNumber rules (state_of rules s) (joint_of rules j) state j
       agree_bits_move = record { bits = is_bit; now = bits_now; does = given_told }
 
 -- What the views of a state and the transitions of a turn tell, in the words of the ground alone.

@@ -26,7 +26,7 @@ pub use Rattle.profile.proofs.FormLemmas.{one_of_all, compound_word, compound_te
 -- Facts of one variant of a result.
 pub use Rattle.profile.proofs.Results.{on_ok, if_ok, err_given}
 -- Roles at places, and the walk over the items.
-pub use Rattle.profile.proofs.RoleLists.{role_at-here}
+pub use Rattle.profile.proofs.RoleLists.{role_stated-here}
 -- The tests of a list of items say what the relations say.
 pub use Rattle.profile.proofs.Lawfulness.{law_said}
 -- The order of relations is total, and the relations that head an alternative rise in it.

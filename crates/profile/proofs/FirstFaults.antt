@@ -14,7 +14,7 @@ use Rattle.statement.specs.Profile.{role_in, roles_from, first_failing, first_to
 use Rattle.statement.specs.Profile.{bad_dependence, no_role, misuses_word, is_unsafe, is_recursive, depends_badly, rests_on_move, some_body}
 use Rattle.statement.specs.Profile.{does_relation, none_of, roles, item_fault_in}
 use Rattle.profile.specs.Lawful.{UsesWordsWell}
-use Rattle.profile.specs.Faults.{PassesWith, limit_place, StandsAt, IsFirst, RestsOn, HasForm, IsSafeItem, LeadsTo, RestsOnItself, IsOfTurn}
+use Rattle.profile.specs.Faults.{PassesWith, limit_place, ItemStandsAt, IsFirst, RestsOn, HasForm, IsSafeItem, LeadsTo, RestsOnItself, IsOfTurn}
 use Rattle.profile.specs.Faults.{IsOfAllTime, RestsBadly, Each, AllKeepLimits, IsFirstOver, HasFault}
 use Rattle.statement.specs.RuleLimits.{most_items, most_variables, most_alternatives, most_roles}
 use Rattle.profile.proofs.Equality.{relation_eq_yes, relation_eq_self}
@@ -30,9 +30,9 @@ record Found (fault : ℕ → ItemFault) (fails : Tree → Bool) (n : ℕ) (item
   place : ℕ
   fault_is : f ≡ fault (n + place)
   item : Tree
-  here : StandsAt items place item
+  here : ItemStandsAt items place item
   failing : fails item ≡ true
-  before : (k : ℕ) (t : Tree) → k < place → StandsAt items k t → fails t ≡ false
+  before : (k : ℕ) (t : Tree) → k < place → ItemStandsAt items k t → fails t ≡ false
 
 first_said : (fault : ℕ → ItemFault) (fails : Tree → Bool) (n : ℕ) (items : List Tree) (f : ItemFault) → first_failing fault fails n items ≡ Some f
     → Found fault fails n items f
@@ -60,13 +60,13 @@ first_said fault fails n (t ∷ ts) f h = go (fails t) refl h (λ k. first_said 
           before = earlier r.place r.before;
         }
       where
-        earlier : (place : ℕ) → ((j : ℕ) (u : Tree) → j < place → StandsAt ts j u → fails u ≡ false) → (j : ℕ) (u : Tree) → j < suc place
-            → StandsAt (t ∷ ts) j u → fails u ≡ false
+        earlier : (place : ℕ) → ((j : ℕ) (u : Tree) → j < place → ItemStandsAt ts j u → fails u ≡ false) → (j : ℕ) (u : Tree) → j < suc place
+            → ItemStandsAt (t ∷ ts) j u → fails u ≡ false
         earlier place b zero u lt s = ap fails s ∙ e
         earlier place b (suc j) u lt s = b j u (omega arith) s
 
-first_found : (fault : ℕ → ItemFault) (fails : Tree → Bool) (n : ℕ) (items : List Tree) (k : ℕ) (t : Tree) → StandsAt items k t → fails t ≡ true
-    → ((j : ℕ) (u : Tree) → j < k → StandsAt items j u → fails u ≡ false) → first_failing fault fails n items ≡ Some (fault (n + k))
+first_found : (fault : ℕ → ItemFault) (fails : Tree → Bool) (n : ℕ) (items : List Tree) (k : ℕ) (t : Tree) → ItemStandsAt items k t → fails t ≡ true
+    → ((j : ℕ) (u : Tree) → j < k → ItemStandsAt items j u → fails u ≡ false) → first_failing fault fails n items ≡ Some (fault (n + k))
 first_found fault fails n [] k t s f b = absurd s
 first_found fault fails n (u ∷ us) zero t s f b =
     rw (subst (λ (x : Tree). fails x ≡ true) s f) (ap (λ (m : ℕ). Some (fault m)) (let z : n ≡ n + 0 = omega arith in z))
@@ -364,9 +364,9 @@ record Over (n : ℕ) (rs : List Tree) (ts : List Tree) (f : ItemFault) : Type 0
   limit : Limit
   fault_is : f ≡ too_many (n + place) limit
   item : Tree
-  here : StandsAt ts place item
+  here : ItemStandsAt ts place item
   passes : PassesFirst (n + place) item (roles_from rs (take (suc place) ts)) limit
-  before : (k : ℕ) (t : Tree) (m : Limit) → k < place → StandsAt ts k t → PassesWith (roles_from rs (take (suc k) ts)) (n + k) t m → ⊥
+  before : (k : ℕ) (t : Tree) (m : Limit) → k < place → ItemStandsAt ts k t → PassesWith (roles_from rs (take (suc k) ts)) (n + k) t m → ⊥
 
 over_said : (n : ℕ) (rs ts : List Tree) (f : ItemFault) → first_too_many n rs ts ≡ Some f → Over n rs ts f
 over_said n rs [] f h = absurd cc
@@ -402,9 +402,9 @@ over_said n rs (t ∷ ts) f h = go (limit_passed n rs t) refl h (λ k. over_said
         shift : (k : ℕ) → suc n + k ≡ n + suc k
         shift k = omega arith
 
-        earlier : (place : ℕ) → ((j : ℕ) (u : Tree) (m : Limit) → j < place → StandsAt ts j u
+        earlier : (place : ℕ) → ((j : ℕ) (u : Tree) (m : Limit) → j < place → ItemStandsAt ts j u
             → PassesWith (roles_from (with_new rs (role_in t)) (take (suc j) ts)) (suc n + j) u m → ⊥)
-            → (j : ℕ) (u : Tree) (m : Limit) → j < suc place → StandsAt (t ∷ ts) j u → PassesWith (roles_from rs (take (suc j) (t ∷ ts))) (n + j) u m
+            → (j : ℕ) (u : Tree) (m : Limit) → j < suc place → ItemStandsAt (t ∷ ts) j u → PassesWith (roles_from rs (take (suc j) (t ∷ ts))) (n + j) u m
             → ⊥
         earlier place b zero u m lt s p =
             none_under rs n t e m (subst (λ (x : Tree). PassesWith (with_new rs (role_in t)) n x m) s
@@ -412,8 +412,8 @@ over_said n rs (t ∷ ts) f h = go (limit_passed n rs t) refl h (λ k. over_said
         earlier place b (suc j) u m lt s p =
             b j u m (omega arith) s (subst (λ (k : ℕ). PassesWith (roles_from (with_new rs (role_in t)) (take (suc j) ts)) k u m) (sym (shift j)) p)
 
-over_found : (n : ℕ) (rs ts : List Tree) (k : ℕ) (t : Tree) (l : Limit) → StandsAt ts k t → PassesFirst (n + k) t (roles_from rs (take (suc k) ts)) l
-    → ((j : ℕ) (u : Tree) (m : Limit) → j < k → StandsAt ts j u → PassesWith (roles_from rs (take (suc j) ts)) (n + j) u m → ⊥)
+over_found : (n : ℕ) (rs ts : List Tree) (k : ℕ) (t : Tree) (l : Limit) → ItemStandsAt ts k t → PassesFirst (n + k) t (roles_from rs (take (suc k) ts)) l
+    → ((j : ℕ) (u : Tree) (m : Limit) → j < k → ItemStandsAt ts j u → PassesWith (roles_from rs (take (suc j) ts)) (n + j) u m → ⊥)
     → first_too_many n rs ts ≡ Some (too_many (n + k) l)
 over_found n rs [] k t l s p b = absurd s
 over_found n rs (u ∷ us) zero t l s p b =

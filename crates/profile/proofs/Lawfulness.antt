@@ -14,7 +14,7 @@ use Rattle.statement.specs.Profile.{first_too_many, with_new, role_in, roles_fro
 use Rattle.statement.specs.Profile.{recursive, bad_dependence, none_of, Use, uses, heads_well, stands_well, body_stands_well, bodies_stand_well}
 use Rattle.statement.specs.Profile.{is_empty, is_role_well, misuses_word, is_unsafe, is_recursive, some_body, some_literal, does_relation}
 use Rattle.statement.specs.Profile.{rests_on_move, depends_badly, roles, HasNoFault}
-use Rattle.profile.specs.Lawful.{MayStand, UsesWordsWell, IsBound, IsSafe, KeepsLimits, relation, RestsWell, IsLawful}
+use Rattle.profile.specs.Lawful.{MayStand, UsesWordsWell, IsBound, IsSafe, KeepsLimits, relation, RestsWell, IsLawfulProfile}
 use Rattle.statement.specs.RuleLimits.{most_items, most_variables, most_alternatives, most_roles}
 use Rattle.profile.proofs.Equality.{relation_eq_yes, relation_eq_self}
 use Rattle.profile.proofs.Tests.{or_cases, or_left, or_right, not_true, IsAmong-append, IsAmong-append_left, IsAmong-append_right}
@@ -609,7 +609,7 @@ roles_found : (rs : List Tree) → 1 ≤ length rs → none_of rs ≡ None
 roles_found [] h = absurd (omega arith)
 roles_found (r ∷ rs) h = refl
 
-pub law_said : (items : List Tree) → HasNoFault items → IsLawful items
+pub law_said : (items : List Tree) → HasNoFault items → IsLawfulProfile items
 law_said items e =
     let p = parts_said items e in
     let k = many_said 1 [] items (omega arith) (omega arith) p.many in
@@ -630,7 +630,7 @@ law_said items e =
       some_role = roles_said (roles items) p.some;
     }
 
-pub law_found : (items : List Tree) → IsLawful items → HasNoFault items
+pub law_found : (items : List Tree) → IsLawfulProfile items → HasNoFault items
 law_found items l =
     let few = l.few_items in
     parts_found items (record {

@@ -14,7 +14,7 @@ use Rattle.statement.specs.Order.{rank, rank_by, relation_cmp, relations_in_orde
 use Rattle.statement.specs.Profile.{roles_from, with_new, role_in, first_of, is_tree_in, HasNoFault}
 use Rattle.statement.specs.Safety.{variables, variables_in}
 use Rattle.profile.specs.Standing.{literals_in, literals_of_all}
-use Rattle.profile.specs.Listed.{RisesStrictly, StandOnce, HeadsSome, IsOrderOfHeads, IsLawfulAtom, IsLawfulRole, HasLawfulNames}
+use Rattle.profile.specs.Listed.{RisesStrictly, RelationsOnce, HeadsSome, IsOrderOfHeads, IsLawfulAtom, IsLawfulRole, HasLawfulNames}
 use Rattle.profile.specs.Lawful.{UsesWordsWell}
 use Rattle.profile.proofs.Tests.{not_true, IsAmong-append}
 use Rattle.profile.proofs.Accepted.{rule_item, same_head, rank_steady}
@@ -28,7 +28,7 @@ rises : (rules : List Alternative) (ps : List Relation) → Rising (relation_cmp
 rises rules [] h = tt
 rises rules (p ∷ ps) h = (h.0, rises rules ps h.1)
 
-stand_once : (rules : List Alternative) (ps : List Relation) → Rising (relation_cmp rules) ps → StandOnce ps
+stand_once : (rules : List Alternative) (ps : List Relation) → Rising (relation_cmp rules) ps → RelationsOnce ps
 stand_once rules [] h = tt
 stand_once rules (p ∷ ps) h = ((λ a. twice (h.0 p a)), stand_once rules ps h.1)
   where

@@ -10,7 +10,7 @@ use Rattle.statement.specs.Tree.{Tree, name, trees_of, name_eq}
 use Rattle.kif.specs.View.{tree_of, trees_in}
 use Rattle.kif.specs.declared.expr.Expr.{Expr}
 use Rattle.kif.proofs.Facts.{name_eq_yes, name_eq_self, parts_from, no_parts}
-use Rattle.profile.specs.Names.{names_behind, HasSameNames, AreDifferent, Gathers}
+use Rattle.profile.specs.Names.{names_behind, HasSameNames, NamesOnce, Gathers}
 use Rattle.statement.specs.Safety.{is_name_in, variables, variables_in, count_different}
 use Rattle.statement.specs.RuleLimits.{most_variables}
 use Rattle.profile.proofs.Tests.{or_left, or_right}
@@ -108,10 +108,10 @@ same_count ms ns h =
 
 -- Gathering names.
 
-pub gathers_none : (old : List (List ℕ)) → AreDifferent old → Gathers old old []
+pub gathers_none : (old : List (List ℕ)) → NamesOnce old → Gathers old old []
 gathers_none old d = record { same = λ n. refl; different = d }
 
-pub gathers_old : (n : List ℕ) (old : List (List ℕ)) → AreDifferent old → true ≡ is_name_in n old → Gathers old old (n ∷ [])
+pub gathers_old : (n : List ℕ) (old : List (List ℕ)) → NamesOnce old → true ≡ is_name_in n old → Gathers old old (n ∷ [])
 gathers_old n old d h = record { same = λ m. go m (name_eq m n) refl; different = d }
   where
     go : (m : List ℕ) (b : Bool) → name_eq m n ≡ b → is_name_in m old ≡ (b || is_name_in m old)
@@ -130,7 +130,7 @@ new_same n old m = is_name_in-append m old (n ∷ []) ∙ or_swap (name_eq m n) 
 count_new : (n : List ℕ) (old : List (List ℕ)) → false ≡ is_name_in n old → count_different (n ∷ old) ≡ suc (count_different old)
 count_new n old h = rw (sym h) refl
 
-pub gathers_new : (n : List ℕ) (old new : List (List ℕ)) → AreDifferent old → false ≡ is_name_in n old → new ≡ old ++ n ∷ []
+pub gathers_new : (n : List ℕ) (old new : List (List ℕ)) → NamesOnce old → false ≡ is_name_in n old → new ≡ old ++ n ∷ []
     → Gathers old new (n ∷ [])
 gathers_new n old new d h e = record {
   same = λ m. ap (is_name_in m) e ∙ new_same n old m;
@@ -141,7 +141,7 @@ gathers_new n old new d h e = record {
       ap count_different e ∙ (let k : count_different (old ++ n ∷ []) ≡ length (old ++ n ∷ []) = omega arith in k) ∙ ap length (sym e);
 }
 
-pub too_many : (n : List ℕ) (old : List (List ℕ)) → AreDifferent old → false ≡ is_name_in n old → length old ≡ most_variables
+pub too_many : (n : List ℕ) (old : List (List ℕ)) → NamesOnce old → false ≡ is_name_in n old → length old ≡ most_variables
     → most_variables < count_different (n ∷ old)
 too_many n old d h e = let c = count_new n old h in omega arith
 
@@ -177,7 +177,7 @@ many_already rest v r s whole e h m =
     ∙ or_within (is_name_in n v) (is_name_in n r) (is_name_in n s) (sym (is_name_in-append n v s) ∙ j)) in
     omega arith
 
-pub all_gathered : (s whole old more : List (List ℕ)) → whole ≡ more ++ old → HasSameNames s whole → AreDifferent s → Gathers old s more
+pub all_gathered : (s whole old more : List (List ℕ)) → whole ≡ more ++ old → HasSameNames s whole → NamesOnce s → Gathers old s more
 all_gathered s whole old more e h d = record { same = λ n. h n ∙ ap (is_name_in n) e; different = d }
 
 pub variables_from : {A : Type 0} (es : List (Expr A)) (i : ℕ) (e : Expr A) → i < length es → e ≡ get_or es i e

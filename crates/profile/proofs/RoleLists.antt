@@ -18,7 +18,7 @@ use Rattle.statement.specs.Items.{atom_in, head_tree, body_trees, item_head, is_
 use Rattle.profile.specs.Parts.{HasNoWord}
 use Rattle.statement.specs.Profile.{Limit, roles_limit, too_many, or_item_fault, too_many_at, first_too_many, is_tree_in, limit_passed, first_of, role_in}
 use Rattle.statement.specs.Profile.{with_new, roles_from, roles}
-use Rattle.profile.specs.Stated.{AddsRole, AreRolePlaces, role_at, roles_at, HasExcess, HasRoleLimitAlone}
+use Rattle.profile.specs.Stated.{AddsRole, AreRolePlaces, role_stated, roles_at, HasExcess, HasRoleLimitAlone}
 use Rattle.statement.specs.RuleLimits.{most_roles}
 
 -- Lists of trees compared part by part.
@@ -50,21 +50,21 @@ lengths_differ (x ∷ xs) (y ∷ ys) d =
 
 -- Roles at places.
 
-pub role_at-here : {A : Type 0} (es : List (Expr A)) (i : ℕ) (e : Expr A) → i < length es → e ≡ get_or es i e
-    → role_at (trees_in es) i ≡ role_in (tree_of e)
-role_at-here [] i e h same = absurd (omega arith)
-role_at-here (d ∷ es) zero e h same = ap (λ x. role_in (tree_of x)) (sym same)
-role_at-here (d ∷ es) (suc i) e h same = role_at-here es i e (omega arith) same
+pub role_stated-here : {A : Type 0} (es : List (Expr A)) (i : ℕ) (e : Expr A) → i < length es → e ≡ get_or es i e
+    → role_stated (trees_in es) i ≡ role_in (tree_of e)
+role_stated-here [] i e h same = absurd (omega arith)
+role_stated-here (d ∷ es) zero e h same = ap (λ x. role_in (tree_of x)) (sym same)
+role_stated-here (d ∷ es) (suc i) e h same = role_stated-here es i e (omega arith) same
 
 append_none : {A : Type 0} (xs : List A) → xs ++ [] ≡ xs
 append_none [] = refl
 append_none (x ∷ xs) = ap (λ (l : List _). x ∷ l) (append_none xs)
 
-roles_at-last : (items : List Tree) (ks : List ℕ) (k : ℕ) → roles_at items (ks ++ k ∷ []) ≡ roles_at items ks ++ role_at items k
-roles_at-last items [] k = append_none (role_at items k)
+roles_at-last : (items : List Tree) (ks : List ℕ) (k : ℕ) → roles_at items (ks ++ k ∷ []) ≡ roles_at items ks ++ role_stated items k
+roles_at-last items [] k = append_none (role_stated items k)
 roles_at-last items (j ∷ ks) k =
-    ap (λ (ts : List Tree). role_at items j ++ ts) (roles_at-last items ks k)
-    ∙ sym (append_assoc (role_at items j) (roles_at items ks) (role_at items k))
+    ap (λ (ts : List Tree). role_stated items j ++ ts) (roles_at-last items ks k)
+    ∙ sym (append_assoc (role_stated items j) (roles_at items ks) (role_stated items k))
 
 with_new_old : (r : Tree) (rs : List Tree) → true ≡ is_tree_in r rs → with_new rs (r ∷ []) ≡ rs
 with_new_old r rs h = rw (sym h) refl
@@ -72,10 +72,10 @@ with_new_old r rs h = rw (sym h) refl
 with_new_new : (r : Tree) (rs : List Tree) → false ≡ is_tree_in r rs → with_new rs (r ∷ []) ≡ rs ++ r ∷ []
 with_new_new r rs h = rw (sym h) refl
 
-pub adds_none : (items : List Tree) (old : List ℕ) (place : ℕ) → AreRolePlaces items old → role_at items place ≡ [] → AddsRole items old old place
+pub adds_none : (items : List Tree) (old : List ℕ) (place : ℕ) → AreRolePlaces items old → role_stated items place ≡ [] → AddsRole items old old place
 adds_none items old place p e = record { roles = ap (with_new (roles_at items old)) (sym e); places = p }
 
-pub adds_old : (items : List Tree) (old : List ℕ) (place : ℕ) (r : Tree) → AreRolePlaces items old → role_at items place ≡ r ∷ []
+pub adds_old : (items : List Tree) (old : List ℕ) (place : ℕ) (r : Tree) → AreRolePlaces items old → role_stated items place ≡ r ∷ []
     → true ≡ is_tree_in r (roles_at items old) → AddsRole items old old place
 adds_old items old place r p e h = record {
   roles = sym (with_new_old r (roles_at items old) h) ∙ ap (with_new (roles_at items old)) (sym e);
@@ -84,7 +84,7 @@ adds_old items old place r p e h = record {
 }
 
 pub adds_new : (items : List Tree) (old new : List ℕ) (place : ℕ) (r : Tree) → AreRolePlaces items old → place < length items
-    → role_at items place ≡ r ∷ [] → false ≡ is_tree_in r (roles_at items old)
+    → role_stated items place ≡ r ∷ [] → false ≡ is_tree_in r (roles_at items old)
     → new ≡ old ++ place ∷ [] → length old < most_roles → AddsRole items old new place
 adds_new items old new place r p lt e h n room = record {
   roles = same ∙ sym (with_new_new r (roles_at items old) h) ∙ ap (with_new (roles_at items old)) (sym e);
@@ -100,9 +100,9 @@ adds_new items old new place r p lt e h n room = record {
     same : roles_at items new ≡ roles_at items old ++ r ∷ []
     same = ap (roles_at items) n ∙ roles_at-last items old place ∙ ap (λ (ts : List Tree). roles_at items old ++ ts) e
 
-pub adds_too_many : (items : List Tree) (old : List ℕ) (place : ℕ) (r : Tree) → AreRolePlaces items old → role_at items place ≡ r ∷ []
+pub adds_too_many : (items : List Tree) (old : List ℕ) (place : ℕ) (r : Tree) → AreRolePlaces items old → role_stated items place ≡ r ∷ []
     → false ≡ is_tree_in r (roles_at items old) → length old ≡ most_roles
-    → most_roles < length (with_new (roles_at items old) (role_at items place))
+    → most_roles < length (with_new (roles_at items old) (role_stated items place))
 adds_too_many items old place r p e h full =
     let P : List Tree → Type 0 = λ ts. most_roles < length ts in
     subst P (sym (ap (with_new (roles_at items old)) e ∙ with_new_new r (roles_at items old) h))
@@ -132,8 +132,8 @@ pub stated_from : {A : Type 0} (r : Tree) (es : List (Expr A)) (ks : List ℕ) (
     || is_tree_in r (roles_at (trees_in es) (drop (i + 1) ks)))
 stated_from r es ks i e h k same =
     ap (λ (js : List ℕ). is_tree_in r (roles_at (trees_in es) js)) (drop-cons ks i 0 h)
-    ∙ is_tree_in-append r (role_at (trees_in es) (get_or ks i 0)) (roles_at (trees_in es) (drop (suc i) ks))
-    ∙ ap (λ (ts : List Tree). is_tree_in r ts || is_tree_in r (roles_at (trees_in es) (drop (suc i) ks))) (role_at-here es (get_or ks i 0) e k same)
+    ∙ is_tree_in-append r (role_stated (trees_in es) (get_or ks i 0)) (roles_at (trees_in es) (drop (suc i) ks))
+    ∙ ap (λ (ts : List Tree). is_tree_in r ts || is_tree_in r (roles_at (trees_in es) (drop (suc i) ks))) (role_stated-here es (get_or ks i 0) e k same)
     ∙ ap (λ (j : ℕ). is_tree_in r (role_in (tree_of e)) || is_tree_in r (roles_at (trees_in es) (drop j ks))) (let one : suc i ≡ i + 1 =
     omega arith in one)
 
@@ -209,21 +209,21 @@ not_above : (n : ℕ) → n ≤ most_roles → nat_lt most_roles n ≡ false
 not_above n h = grind (arith, nat_tests)
 
 pub roles_here : {A : Type 0} (es : List (Expr A)) (i : ℕ) (e : Expr A) (places : List ℕ) → IsListedTo es i places → i < length es → e ≡ get_or es i e
-    → HasRoleLimitAlone (i + 1) (tree_of e) → most_roles < length (with_new (roles_at (trees_in es) places) (role_at (trees_in es) i))
+    → HasRoleLimitAlone (i + 1) (tree_of e) → most_roles < length (with_new (roles_at (trees_in es) places) (role_stated (trees_in es) i))
     → first_too_many 1 [] (trees_in es) ≡ Some (too_many (i + 1) roles_limit)
 roles_here es i e places l h same x many =
     l.fault ∙ ap (first_too_many (i + 1) (roles_at (trees_in es) places)) (parts_from es i e h same)
     ∙ too_many_here (i + 1) (roles_at (trees_in es) places) (tree_of e) _ roles_limit
     (x (roles_at (trees_in es) places)
     ∙ ap (λ (ts : List Tree). cond (nat_lt most_roles (length (with_new (roles_at (trees_in es) places) ts))) (Some roles_limit) None)
-    (sym (role_at-here es i e h same))
+    (sym (role_stated-here es i e h same))
     ∙ ap (λ (b : Bool). cond b (Some roles_limit) None) (above _ many))
 
 pub listed_more : {A : Type 0} (es : List (Expr A)) (i : ℕ) (e : Expr A) (places more : List ℕ) → IsListedTo es i places → i < length es
     → e ≡ get_or es i e
     → HasRoleLimitAlone (i + 1) (tree_of e) → AddsRole (trees_in es) places more i → IsListedTo es (i + 1) more
 listed_more es i e places more l h same x a =
-    let here = role_at-here es i e h same in
+    let here = role_stated-here es i e h same in
     let new : roles_at (trees_in es) more ≡ with_new (roles_at (trees_in es) places) (role_in (tree_of e)) = a.roles
     ∙ ap (with_new (roles_at (trees_in es) places)) here in
     let size = ap length new in

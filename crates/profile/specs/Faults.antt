@@ -13,19 +13,19 @@ use Rattle.statement.specs.Profile.{not_safe, recursive, bad_dependence, no_role
 use Rattle.profile.specs.Lawful.{UsesWordsWell, IsSafe, KeepsLimits, relation, RestsWell}
 
 -- the item at a place, counted from 0
-abbrev pub StandsAt : List Tree → ℕ → Tree → Type 0
-StandsAt [] k t = ⊥
-StandsAt (u ∷ us) zero t = t ≡ u
-StandsAt (u ∷ us) (suc k) t = StandsAt us k t
+abbrev pub ItemStandsAt : List Tree → ℕ → Tree → Type 0
+ItemStandsAt [] k t = ⊥
+ItemStandsAt (u ∷ us) zero t = t ≡ u
+ItemStandsAt (u ∷ us) (suc k) t = ItemStandsAt us k t
 
 -- item n is the first with a property
 pub record IsFirst (P : Tree → Type 0) (items : List Tree) (n : ℕ) : Type 0 where
   pub place : ℕ
   pub number : n ≡ suc place
   pub item : Tree
-  pub here : StandsAt items place item
+  pub here : ItemStandsAt items place item
   pub has : P item
-  pub before : (k : ℕ) (t : Tree) → k < place → StandsAt items k t → P t → ⊥
+  pub before : (k : ℕ) (t : Tree) → k < place → ItemStandsAt items k t → P t → ⊥
 
 -- a body atom of the item, `distinct` aside, has the relation
 pub record RestsOn (t : Tree) (q : Relation) : Type 0 where
@@ -95,10 +95,10 @@ pub record IsFirstOver (items : List Tree) (n : ℕ) (l : Limit) : Type 0 where
   pub place : ℕ
   pub number : n ≡ suc place
   pub item : Tree
-  pub here : StandsAt items place item
+  pub here : ItemStandsAt items place item
   pub passes : Passes items n item l
   pub sooner : (m : Limit) → limit_place m < limit_place l → Passes items n item m → ⊥
-  pub before : (k : ℕ) (t : Tree) (m : Limit) → k < place → StandsAt items k t → Passes items (suc k) t m → ⊥
+  pub before : (k : ℕ) (t : Tree) (m : Limit) → k < place → ItemStandsAt items k t → Passes items (suc k) t m → ⊥
 
 -- the fault, with no earlier one
 abbrev pub HasFault : List Tree → ItemFault → Type 0

@@ -56,7 +56,7 @@ pub record RestsWell (rules : List Alternative) : Type 0 where
   pub init : (q : Relation) → DependsDirectly rules (relation w_init 1) q → IsFixed rules q
 
 -- the whole
-pub record IsLawful (items : List Tree) : Type 0 where
+pub record IsLawfulProfile (items : List Tree) : Type 0 where
   pub forms : (t : Tree) → IsAmong t items → is_item t ≡ true
   pub words : (t : Tree) → IsAmong t items → UsesWordsWell t
   pub few_items : length items ≤ most_items

@@ -18,9 +18,9 @@ RisesStrictly rules [] = Unit {0}
 RisesStrictly rules (p ∷ ps) = ((q : Relation) → IsAmong q ps → relation_cmp rules p q ≡ Less) × RisesStrictly rules ps
 
 -- no relation stands twice
-abbrev pub StandOnce : List Relation → Type 0
-StandOnce [] = Unit {0}
-StandOnce (p ∷ ps) = (IsAmong p ps → ⊥) × StandOnce ps
+abbrev pub RelationsOnce : List Relation → Type 0
+RelationsOnce [] = Unit {0}
+RelationsOnce (p ∷ ps) = (IsAmong p ps → ⊥) × RelationsOnce ps
 
 -- the relation heads an alternative
 pub record HeadsSome (rules : List Alternative) (p : Relation) : Type 0 where
@@ -30,7 +30,7 @@ pub record HeadsSome (rules : List Alternative) (p : Relation) : Type 0 where
 
 pub record IsOrderOfHeads (rules : List Alternative) (ps : List Relation) : Type 0 where
   pub rising : RisesStrictly rules ps
-  pub once : StandOnce ps
+  pub once : RelationsOnce ps
   pub heads_only : (p : Relation) → IsAmong p ps → HeadsSome rules p
   pub all_heads : (p : Relation) → HeadsSome rules p → IsAmong p ps
 

@@ -13,10 +13,10 @@ abbrev pub HasSameNames : List (List ℕ) → List (List ℕ) → Type 0
 HasSameNames ms ns = (n : List ℕ) → is_name_in n ms ≡ is_name_in n ns
 
 -- each name once
-abbrev pub AreDifferent : List (List ℕ) → Type 0
-AreDifferent ns = count_different ns ≡ length ns
+abbrev pub NamesOnce : List (List ℕ) → Type 0
+NamesOnce ns = count_different ns ≡ length ns
 
 -- the new names are the old ones and these, each once
 pub record Gathers (old new more : List (List ℕ)) : Type 0 where
   pub same : HasSameNames new (more ++ old)
-  pub different : AreDifferent new
+  pub different : NamesOnce new

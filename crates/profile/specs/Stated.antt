@@ -10,14 +10,14 @@ use Rattle.statement.specs.declared.rule_fault.RuleFault.TheVariants as errors
 use Rattle.statement.specs.RuleFaults.{limit_of}
 
 -- the role that the item at a place states, if there is such an item and it states one
-abbrev pub role_at : List Tree → ℕ → List Tree
-role_at [] k = []
-role_at (t ∷ ts) zero = role_in t
-role_at (t ∷ ts) (suc k) = role_at ts k
+abbrev pub role_stated : List Tree → ℕ → List Tree
+role_stated [] k = []
+role_stated (t ∷ ts) zero = role_in t
+role_stated (t ∷ ts) (suc k) = role_stated ts k
 
 abbrev pub roles_at : List Tree → List ℕ → List Tree
 roles_at items [] = []
-roles_at items (k ∷ ks) = role_at items k ++ roles_at items ks
+roles_at items (k ∷ ks) = role_stated items k ++ roles_at items ks
 
 -- the first item that passes a limit, and which
 abbrev pub IsSurplus : List Tree → RuleFault → Type 0
@@ -47,5 +47,5 @@ pub record AreRolePlaces (items : List Tree) (places : List ℕ) : Type 0 where
 
 -- the new places have the role of one item more, if it was not there
 pub record AddsRole (items : List Tree) (old new : List ℕ) (place : ℕ) : Type 0 where
-  pub roles : roles_at items new ≡ with_new (roles_at items old) (role_at items place)
+  pub roles : roles_at items new ≡ with_new (roles_at items old) (role_stated items place)
   pub places : AreRolePlaces items new

@@ -9,22 +9,22 @@ use Rattle.profile.specs.declared.words.Word.{Word}
 use Rattle.profile.specs.declared.words.Word.TheVariants as words
 
 -- where a word stands in the table
-abbrev pub place_of : Word → ℕ
-place_of words.Role = 0
-place_of words.Base = 1
-place_of words.Input = 2
-place_of words.Init = 3
-place_of words.True = 4
-place_of words.Does = 5
-place_of words.Next = 6
-place_of words.Legal = 7
-place_of words.Goal = 8
-place_of words.Terminal = 9
-place_of words.Distinct = 10
+abbrev pub use_place : Word → ℕ
+use_place words.Role = 0
+use_place words.Base = 1
+use_place words.Input = 2
+use_place words.Init = 3
+use_place words.True = 4
+use_place words.Does = 5
+use_place words.Next = 6
+use_place words.Legal = 7
+use_place words.Goal = 8
+use_place words.Terminal = 9
+use_place words.Distinct = 10
 
 -- how the table says that a word is used
 abbrev pub use_in : Word → Use
-use_in w = slice_index_or uses (place_of w) (use_of [] 0 false false)
+use_in w = slice_index_or uses (use_place w) (use_of [] 0 false false)
 
 -- the row in memory is this row of the table
 pub record IsUseOf (row : Use) (use' : memory.Use) : Type 0 where

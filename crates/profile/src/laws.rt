@@ -4,7 +4,7 @@ ghost use Rattle.statement.specs.Tree.{Tree};
 ghost use Rattle.statement.specs.Clause.{Alternative, Relation, relation_of};
 ghost use Rattle.statement.specs.Dependence.{Depends, DependsDirectly, IsAcyclic, IsAmong, IsFixed, has_edge, dependences, is_fixed};
 ghost use Rattle.statement.specs.Items.{alternatives};
-ghost use Rattle.profile.specs.Lawful.{IsLawful};
+ghost use Rattle.profile.specs.Lawful.{IsLawfulProfile};
 ghost use Rattle.profile.specs.Listed.{HasLawfulNames, IsOrderOfHeads};
 ghost use Rattle.statement.specs.Order.{rank, rank_by, relations_in_order};
 ghost use Rattle.statement.specs.Safety.{is_safe};
@@ -49,7 +49,7 @@ pub fn acyclic_sets_are_ranked()
 /// places, the limits are kept, each alternative is safe, nothing depends on itself, the dependences
 /// of heads are allowed, and there is a role.
 pub fn lawful_items_have_no_fault()
-    ensures { (items : List Tree) → HasNoFault items ↔ IsLawful items }
+    ensures { (items : List Tree) → HasNoFault items ↔ IsLawfulProfile items }
 {}
 
 /// The fault of a list of items is the one that its definition names: the first item that has it,

@@ -5,7 +5,7 @@ ghost use Rattle.kif.specs.View.{tree_of, trees_in};
 ghost use Rattle.std.specs.Bool.{OnTrue, OnFalse};
 ghost use Rattle.statement.specs.RuleLimits.{most_roles};
 ghost use Rattle.statement.specs.Profile.{first_too_many, is_tree_in, role_in, roles, with_new};
-ghost use Rattle.profile.specs.Stated.{AddsRole, AreRolePlaces, IsSurplus, role_at, roles_at, HasExcess, HasRoleLimitAlone};
+ghost use Rattle.profile.specs.Stated.{AddsRole, AreRolePlaces, IsSurplus, role_stated, roles_at, HasExcess, HasRoleLimitAlone};
 
 use crate::forms::{is_same_name, split_item, split_word};
 use crate::limits::{ITEMS_LIMIT, ROLES_LIMIT, has_many_alternatives};
@@ -115,7 +115,7 @@ fn add_role<A: Allocator>(
     requires places { AreRolePlaces (trees_in items.now) places.old.items }
     ensures added { OnTrue result (AddsRole (trees_in items.now) places.old.items places.new.items place) }
     ensures many { OnFalse result (most_roles < length
-        (with_new (roles_at (trees_in items.now) places.old.items) (role_at (trees_in items.now) place))) }
+        (with_new (roles_at (trees_in items.now) places.old.items) (role_stated (trees_in items.now) place))) }
 {
     let Some(role) = role_of(&items[place]) else {
         return true;

@@ -4,7 +4,7 @@ ghost use Rattle.std.specs.Bool.{OnTrue, OnFalse};
 ghost use Rattle.statement.specs.Tree.{name, trees_of};
 ghost use Rattle.kif.specs.View.{tree_of, trees_in};
 ghost use Rattle.statement.specs.RuleLimits.{most_variables};
-ghost use Rattle.profile.specs.Names.{names_behind, AreDifferent, Gathers};
+ghost use Rattle.profile.specs.Names.{names_behind, NamesOnce, Gathers};
 ghost use Rattle.statement.specs.Safety.{is_name_in, variables, variables_in, count_different};
 
 use crate::forms::{is_same_name, is_variable_name};
@@ -27,7 +27,7 @@ fn is_among(name: &[u8], names: &[&[u8]]) -> bool
 
 /// Adds a name that is a variable and not there yet, where there is room.
 fn gather_name<'a>(word: &'a [u8], seen: &mut ArrayVec<&'a [u8], VARIABLES_LIMIT>) -> bool
-    requires different { AreDifferent (names_behind seen.old.items) }
+    requires different { NamesOnce (names_behind seen.old.items) }
     requires few { length seen.old.items ≤ most_variables }
     ensures all { OnTrue result (Gathers (names_behind seen.old.items) (names_behind seen.new.items) (variables (name word.now))) }
     ensures many { OnFalse result (most_variables < count_different (variables (name word.now) ++ names_behind seen.old.items)) }
@@ -48,7 +48,7 @@ fn gather_name<'a>(word: &'a [u8], seen: &mut ArrayVec<&'a [u8], VARIABLES_LIMIT
 /// Adds the variables of a tree that are not there yet, as long as there is room.
 #[cycle(gathering)]
 fn gather<'a, A: Allocator>(e: &'a Expr<A>, seen: &mut ArrayVec<&'a [u8], VARIABLES_LIMIT>) -> bool
-    requires different { AreDifferent (names_behind seen.old.items) }
+    requires different { NamesOnce (names_behind seen.old.items) }
     requires few { length seen.old.items ≤ most_variables }
     ensures all { OnTrue result (Gathers (names_behind seen.old.items) (names_behind seen.new.items) (variables (tree_of e.now))) }
     ensures many { OnFalse result (most_variables < count_different (variables (tree_of e.now) ++ names_behind seen.old.items)) }
@@ -65,7 +65,7 @@ fn gather_all<'a, A: Allocator>(
     parts: &'a [Expr<A>],
     seen: &mut ArrayVec<&'a [u8], VARIABLES_LIMIT>,
 ) -> bool
-    requires different { AreDifferent (names_behind seen.old.items) }
+    requires different { NamesOnce (names_behind seen.old.items) }
     requires few { length seen.old.items ≤ most_variables }
     ensures all { OnTrue result (Gathers (names_behind seen.old.items) (names_behind seen.new.items) (variables_in (trees_of (trees_in parts.now)))) }
     ensures many { OnFalse result (most_variables < count_different (variables_in (trees_of (trees_in parts.now)) ++ names_behind seen.old.items)) }

@@ -45,7 +45,7 @@ use Rattle.statement.specs.Most.{limits}
 use Rattle.ground.specs.GroundView.{base_of, inputs_of, kinds_of, instances_of}
 use Rattle.statement.specs.declared.node_name.Name.{Name}
 use Rattle.statement.specs.declared.node_name.Name.TheVariants.{Base, Input, Not, And, View, Transition}
-use Rattle.propnet.specs.NodeNames.{has_gate, gates_from, gates_of, has_view, is_negated, atom_names, base_names, role_names, input_names, node_names}
+use Rattle.propnet.specs.NodeNames.{has_gate, gates_from, gates_of_atom, has_view, is_negated, atom_names, base_names, role_names, input_names, node_names}
 use Rattle.propnet.specs.Builders.{input_counts, names_below}
 use Rattle.propnet.proofs.GroundFacts.{fits}
 
@@ -128,24 +128,24 @@ one_beside : {X : Type 0} → (n : ℕ) (x : X) → length (cond (not (n == 0)) 
 one_beside zero x = omega arith
 one_beside (suc n) x = let one = at_most_one (not (suc n == 0)) x in omega arith
 
-atom_size : (kinds : List Kind) (kept : List Kept) (a : ℕ) → length (atom_names kinds kept a) ≤ 2 * length (gates_of kinds kept a) + 1
+atom_size : (kinds : List Kind) (kept : List Kept) (a : ℕ) → length (atom_names kinds kept a) ≤ 2 * length (gates_of_atom kinds kept a) + 1
 atom_size kinds kept a =
-    let gates = length-map (gates_of kinds kept a) And in
-    let view = one_beside (length (gates_of kinds kept a)) (View a) in
+    let gates = length-map (gates_of_atom kinds kept a) And in
+    let view = one_beside (length (gates_of_atom kinds kept a)) (View a) in
     let negated = at_most_one (is_negated kinds kept a) (Not a) in
     let tail = length-append (cond (has_view kinds kept a) (View a ∷ []) []) (cond (is_negated kinds kept a) (Not a ∷ []) []) in
-    let all = length-append (map And (gates_of kinds kept a))
+    let all = length-append (map And (gates_of_atom kinds kept a))
     (cond (has_view kinds kept a) (View a ∷ []) [] ++ cond (is_negated kinds kept a) (Not a ∷ []) []) in
     omega arith
 
 atoms_size : (kinds : List Kind) (kept : List Kept) (s n : ℕ)
-    → length (flat_map (atom_names kinds kept) (range_with_len s n)) ≤ 2 * sum_by (λ a. length (gates_of kinds kept a)) (range_with_len s n) + n
+    → length (flat_map (atom_names kinds kept) (range_with_len s n)) ≤ 2 * sum_by (λ a. length (gates_of_atom kinds kept a)) (range_with_len s n) + n
 atoms_size kinds kept s zero = omega arith
 atoms_size kinds kept s (suc n) =
     let first = atom_size kinds kept s in
     let rest = atoms_size kinds kept (s + 1) n in
     let all = length-append (atom_names kinds kept s) (flat_map (atom_names kinds kept) (range_with_len (s + 1) n)) in
-    let sum = sum_by-cons (λ a. length (gates_of kinds kept a)) s (range_with_len (s + 1) n) in
+    let sum = sum_by-cons (λ a. length (gates_of_atom kinds kept a)) s (range_with_len (s + 1) n) in
     omega arith
 
 -- Base propositions and inputs.
@@ -201,7 +201,7 @@ few_nodes g =
 
 -- room for the nodes of an atom, and for the transitions
 pub room_for_atom : (g : FlatGround) (a : ℕ) → a < length (kinds_of g)
-    → length (names_below g a) + (length (gates_of (kinds_of g) (instances_of g) a) + 2) < 2 ^ 32
+    → length (names_below g a) + (length (gates_of_atom (kinds_of g) (instances_of g) a) + 2) < 2 ^ 32
 room_for_atom g a lt =
     let below = below_size g a in
     let gates = few_gates 0 (kinds_of g) (instances_of g) a in

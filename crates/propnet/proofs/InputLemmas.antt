@@ -42,10 +42,10 @@ use Rattle.statement.specs.declared.node_name.Name.{Name}
 use Rattle.statement.specs.declared.node_name.Name.TheVariants.{Base, Input, Not, And, View, Transition}
 use Rattle.propnet.specs.Values.{lane}
 use Rattle.propnet.specs.Network.{Gate, given}
-use Rattle.propnet.specs.NodeNames.{has_view, is_negated, gates_of, atom_names, base_names, role_names, input_names, node_names}
+use Rattle.propnet.specs.NodeNames.{has_view, is_negated, gates_of_atom, atom_names, base_names, role_names, input_names, node_names}
 use Rattle.game.specs.Joints.{joint_at}
 use Rattle.propnet.specs.Building.{names_of, Stands}
-use Rattle.propnet.specs.Placing.{input_number, ArePlaced}
+use Rattle.propnet.specs.Placing.{input_number, InputsPlaced}
 use Rattle.propnet.specs.Given.{AreGiven, IsGivenAs}
 use Rattle.propnet.proofs.BuildLemmas.{at_below, size_named}
 use Rattle.propnet.proofs.Counts.{length-row, sources_size}
@@ -135,7 +135,7 @@ input_named k (c ∷ cs) i r m e = go (at_split (role_names k c) (input_names (s
 -- no node of an atom is an input
 not_of_atom : (kinds : List Kind) (kept : List Kept) (a n r m : ℕ) → slice_get (atom_names kinds kept a) n ≡ Some (Input r m) → ⊥
 not_of_atom kinds kept a n r m e =
-    go (at_either (map And (gates_of kinds kept a)) (cond (has_view kinds kept a) (View a ∷ []) [] ++ cond (is_negated kinds kept a) (Not a ∷ []) [])
+    go (at_either (map And (gates_of_atom kinds kept a)) (cond (has_view kinds kept a) (View a ∷ []) [] ++ cond (is_negated kinds kept a) (Not a ∷ []) [])
     n (Input r m) e)
   where
     in_tail : (j : ℕ) → (slice_get (cond (has_view kinds kept a) (View a ∷ []) []) j ≡ Some (Input r m))
@@ -143,11 +143,11 @@ not_of_atom kinds kept a n r m e =
     in_tail j (inl h) = let o = at_cond (has_view kinds kept a) (View a) j (Input r m) h in let k = o.1 in absurd cc
     in_tail j (inr (p, h)) = let o = at_cond (is_negated kinds kept a) (Not a) p (Input r m) h in let k = o.1 in absurd cc
 
-    go : (slice_get (map And (gates_of kinds kept a)) n ≡ Some (Input r m))
+    go : (slice_get (map And (gates_of_atom kinds kept a)) n ≡ Some (Input r m))
         ⊎ ((p : ℕ) × (slice_get (cond (has_view kinds kept a) (View a ∷ []) [] ++ cond (is_negated kinds kept a) (Not a ∷ []) []) p ≡ Some (Input r
         m)))
         → ⊥
-    go (inl h) = let o = at_map And (gates_of kinds kept a) n (Input r m) h in let k = o.2 in absurd cc
+    go (inl h) = let o = at_map And (gates_of_atom kinds kept a) n (Input r m) h in let k = o.2 in absurd cc
     go (inr (p, h)) = in_tail p (at_either (cond (has_view kinds kept a) (View a ∷ []) []) (cond (is_negated kinds kept a) (Not a ∷ []) []) p
         (Input r m) h)
 
@@ -185,7 +185,7 @@ place_named base inputs kinds kept n r m e =
     top (inr (p, h)) = let o = at_map Transition (range_with_len 0 base) p (Input r m) h in let k = o.2 in absurd cc
 
 pub placed_named : (base : ℕ) (inputs : List ℕ) (kinds : List Kind) (kept : List Kept) (gates : List Gate)
-    → names_of gates ≡ node_names base inputs kinds kept → ArePlaced base inputs gates
+    → names_of gates ≡ node_names base inputs kinds kept → InputsPlaced base inputs gates
 placed_named base inputs kinds kept gates e = record {
   places = λ n r m s. place_named base inputs kinds kept n r m (ap (λ (xs : List Name). slice_get xs n) (sym e) ∙ s);
   fit =
@@ -201,7 +201,7 @@ placed_named base inputs kinds kept gates e = record {
 
 -- the word of an input is given, whatever node stands there
 pub given_at : (base : ℕ) (inputs : List ℕ) (gates : List Gate) (joints : List (SmallVec ℕ)) (words : List ℕ) (n k : ℕ) (gate : Gate)
-    → ArePlaced base inputs gates → AreGiven base inputs joints words → slice_get gates n ≡ Some gate → k < length joints
+    → InputsPlaced base inputs gates → AreGiven base inputs joints words → slice_get gates n ≡ Some gate → k < length joints
     → IsGivenAs gate.name (joint_at joints k) (lane words k n)
 given_at base inputs gates joints words n k gate placed given_words e lt = go gate.name (got_map (λ (g : Gate). g.name) gates n gate e)
   where

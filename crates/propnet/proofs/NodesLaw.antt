@@ -19,7 +19,7 @@ use Rattle.statement.specs.declared.node_name.Name.TheVariants.{Base, Input, Not
 use Rattle.meaning.specs.InOrder.{AreDistinct}
 use Rattle.meaning.specs.Gates.{atom_at}
 use Rattle.meaning.proofs.Facts.{one_number, atom_found, atom_test, place_below, is_atom_yes, is_atom_in_yes}
-use Rattle.propnet.specs.NodeNames.{has_gate, gates_from, gates_of, has_view, is_negated, atom_names, base_names, role_names, input_names, node_names}
+use Rattle.propnet.specs.NodeNames.{has_gate, gates_from, gates_of_atom, has_view, is_negated, atom_names, base_names, role_names, input_names, node_names}
 use Rattle.statement.specs.Nodes.{NetNode, base, input, conjunction, view, negation, transition, gated, is_negative_of, is_negated_in, inner_nodes, AreNodesOf}
 use Rattle.propnet.specs.Standing.{no_instance, meant}
 use Rattle.ground.specs.declared.flat_ground.FlatGround.{FlatGround}
@@ -279,7 +279,7 @@ module _ (rules : List Alternative) where
   kept = map (numbered rules) (listing rules).kept
 
   abbrev gates_meant : ℕ → List NetNode
-  gates_meant a = map gate_meant (gates_of kinds kept a)
+  gates_meant a = map gate_meant (gates_of_atom kinds kept a)
 
   abbrev view_meant : ℕ → List NetNode
   view_meant a = cond (has_view kinds kept a) (view (atom_at atoms a) ∷ []) []
@@ -293,10 +293,10 @@ module _ (rules : List Alternative) where
 
   atom_meant : (a : ℕ) → map (meant rules) (atom_names kinds kept a) ≡ gates_meant a ++ (view_meant a ++ not_meant a)
   atom_meant a =
-      map-append (meant rules) (map And (gates_of kinds kept a)) (cond (has_view kinds kept a) (View a ∷ []) []
+      map-append (meant rules) (map And (gates_of_atom kinds kept a)) (cond (has_view kinds kept a) (View a ∷ []) []
       ++ cond (is_negated kinds kept a) (Not a ∷ []) [])
       ∙ ap (λ l. l ++ map (meant rules) (cond (has_view kinds kept a) (View a ∷ []) [] ++ cond (is_negated kinds kept a) (Not a ∷ []) []))
-      (map_twice (meant rules) And (gates_of kinds kept a))
+      (map_twice (meant rules) And (gates_of_atom kinds kept a))
       ∙ ap (λ l. gates_meant a ++ l)
       (map-append (meant rules) (cond (has_view kinds kept a) (View a ∷ []) []) (cond (is_negated kinds kept a) (Not a ∷ []) [])
       ∙ ap (λ l. l ++ map (meant rules) (cond (is_negated kinds kept a) (Not a ∷ []) [])) (map_one (View a) (has_view kinds kept a))

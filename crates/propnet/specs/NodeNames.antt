@@ -31,8 +31,8 @@ gates_from n kinds [] a = []
 gates_from n kinds (k ∷ ks) a =
     let rest = gates_from (suc n) kinds ks a in if has_gate kinds k && (k.head == a) then n ∷ rest else rest
 
-abbrev pub gates_of : List Kind → List Kept → ℕ → List ℕ
-gates_of kinds kept a = gates_from 0 kinds kept a
+abbrev pub gates_of_atom : List Kind → List Kept → ℕ → List ℕ
+gates_of_atom kinds kept a = gates_from 0 kinds kept a
 
 abbrev pub negates : ℕ → Kept → Bool
 negates a k = list_any (λ (l : ℕ × Bool). l.1 && (l.0 == a)) k.body
@@ -43,12 +43,12 @@ is_negated kinds kept a = list_any (λ (k : Kept). has_gate kinds k && negates a
 
 -- it has a view where it has and gates
 abbrev pub has_view : List Kind → List Kept → ℕ → Bool
-has_view kinds kept a = not (length (gates_of kinds kept a) == 0)
+has_view kinds kept a = not (length (gates_of_atom kinds kept a) == 0)
 
 -- the nodes of an atom: its and gates, its view, and its not gate
 abbrev pub atom_names : List Kind → List Kept → ℕ → List Name
 atom_names kinds kept a =
-    map And (gates_of kinds kept a)
+    map And (gates_of_atom kinds kept a)
     ++ ((if has_view kinds kept a then View a ∷ [] else []) ++ (if is_negated kinds kept a then Not a ∷ [] else []))
 
 -- the base propositions, and the inputs by role

@@ -10,6 +10,6 @@ abbrev pub input_number : ℕ → List ℕ → ℕ → ℕ → ℕ
 input_number base inputs r m = (base + sum (take r inputs)) + m
 
 -- each input stands at its number, and there are as many as the roles have
-pub record ArePlaced (base : ℕ) (inputs : List ℕ) (gates : List Gate) : Type 0 where
+pub record InputsPlaced (base : ℕ) (inputs : List ℕ) (gates : List Gate) : Type 0 where
   pub places : (n r m : ℕ) → Stands gates n (Input r m) → (n ≡ input_number base inputs r m) × (m < slice_index inputs r)
   pub fit : base + sum inputs ≤ length gates

@@ -6,10 +6,10 @@ abbrev pub number_of_ticket : ℕ → Option ℕ
 number_of_ticket zero = None
 number_of_ticket (suc n) = Some n
 
-abbrev pub ticket_of : Option ℕ → ℕ
-ticket_of None = zero
-ticket_of (Some n) = suc n
+abbrev pub slot_ticket : Option ℕ → ℕ
+slot_ticket None = zero
+slot_ticket (Some n) = suc n
 
-pub ticket_of-number : (ticket : ℕ) → ticket_of (number_of_ticket ticket) ≡ ticket
-ticket_of-number zero = refl
-ticket_of-number (suc n) = refl
+pub slot_ticket-number : (ticket : ℕ) → slot_ticket (number_of_ticket ticket) ≡ ticket
+slot_ticket-number zero = refl
+slot_ticket-number (suc n) = refl

@@ -15,15 +15,15 @@ pub(crate) struct Slot {
 impl Model for Slot {
     ghost use Rattle.std.specs.Prelude.{ℕ, Option};
     ghost use Rattle.std.proofs.Common.{ap};
-    ghost use Rattle.propnet.specs.Slots.{number_of_ticket, ticket_of, ticket_of-number};
+    ghost use Rattle.propnet.specs.Slots.{number_of_ticket, slot_ticket, slot_ticket-number};
 
     ghost Value = { Option ℕ };
 
     ghost view = { λ slot. number_of_ticket slot.ticket };
 
-    ghost inverse = { λ number. record { ticket = ticket_of number } };
+    ghost inverse = { λ number. record { ticket = slot_ticket number } };
 
-    ghost inverse_ok = { λ slot h. ap (λ ticket. record { ticket = ticket }) (ticket_of-number slot.ticket) };
+    ghost inverse_ok = { λ slot h. ap (λ ticket. record { ticket = ticket }) (slot_ticket-number slot.ticket) };
 }
 
 impl Slot {

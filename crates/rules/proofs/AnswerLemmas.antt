@@ -17,8 +17,8 @@ use Rattle.statement.specs.Profile.{ItemFault, bad_keyword, not_safe, recursive,
 use Rattle.statement.specs.Profile.{misuses_word, is_unsafe, is_recursive, depends_badly, none_of, roles, item_fault_in}
 use Rattle.rules.specs.RuleSets.{rules_of, AreWhole, AreKeywords, HasItems, IsSound}
 use Rattle.profile.specs.Stated.{AreRolePlaces, roles_at}
-use Rattle.clauses.specs.Numbers.{AreDifferent}
-use Rattle.clauses.specs.Store.{Data, relation_at, literal_at}
+use Rattle.clauses.specs.Numbers.{NamesDiffer}
+use Rattle.clauses.specs.Store.{Data, relation_at, stated_literal}
 use Rattle.clauses.proofs.Facts.{is_inside, are_inside}
 
 -- The tests, each with those behind it.
@@ -73,16 +73,16 @@ roles_left items d fixed order p e l = past_safety items p e ∙ past _ (from_ba
 
 -- Alternatives.
 
-body_stands : (from : ℕ) (d : Data) (ns : List ℕ) (ls : List said.Literal) → StandForEach from d ns ls → map (literal_at d from) ns ≡ ls
+body_stands : (from : ℕ) (d : Data) (ns : List ℕ) (ls : List said.Literal) → StandForEach from d ns ls → map (stated_literal d from) ns ≡ ls
 body_stands from d [] [] s = refl
 body_stands from d [] (l ∷ ls) s = absurd s
 body_stands from d (n ∷ ns) [] s = absurd s
-body_stands from d (n ∷ ns) (l ∷ ls) s = ap (λ (k : said.Literal). k ∷ map (literal_at d from) ns) s.0.same
+body_stands from d (n ∷ ns) (l ∷ ls) s = ap (λ (k : said.Literal). k ∷ map (stated_literal d from) ns) s.0.same
     ∙ ap (λ (ks : List said.Literal). l ∷ ks) (body_stands from d ns ls s.1)
 
 alternative_stands : (d : Data) (n : Numbered) (a : said.Alternative) → AlternativeStandsFor d n a → alternative_of d n ≡ a
 alternative_stands d n a s =
-    ap (λ (h : said.Atom). record { head = h; body = map (literal_at d n.variables.from) n.body }) s.head.same
+    ap (λ (h : said.Atom). record { head = h; body = map (stated_literal d n.variables.from) n.body }) s.head.same
     ∙ ap (λ (ls : List said.Literal). record { head = a.head; body = ls }) (body_stands n.variables.from d n.body a.body s.body)
 
 pub rules_stand : (d : Data) (ns : List Numbered) (rules : List said.Alternative) → StandForAlternatives d ns rules → rules_of d ns ≡ rules
@@ -128,7 +128,7 @@ pub has_items : (items : List Tree) (d : Data) (ns : List Numbered) (texts : Lis
     → HasItems (rules_of d ns) texts
 has_items items d ns texts none s e = record { items = items; accepted = none; same = sym (rules_stand d ns (alternatives items) s); roles_are = e }
 
-pub is_sound : (items : List Tree) (d : Data) (ns : List Numbered) (fixed : List Bool) (order : List ℕ) (k : Keywords) → AreDifferent d.words
+pub is_sound : (items : List Tree) (d : Data) (ns : List Numbered) (fixed : List Bool) (order : List ℕ) (k : Keywords) → NamesDiffer d.words
     → AreDifferentSignatures d.signatures → HaveNames d
     → StandForAlternatives d ns (alternatives items) → IsLayoutOf d items fixed order → AreKeywords d.words k → IsSound d ns fixed order k
 is_sound items d ns fixed order k words signatures named s l keywords =

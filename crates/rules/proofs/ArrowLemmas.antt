@@ -12,13 +12,13 @@ use Rattle.digraph.specs.declared.graph.Graph.{Graph}
 use Rattle.rules.specs.declared.item_links.Links.{Links}
 use Rattle.clauses.specs.declared.signatures.Signature.{Signature}
 use Rattle.digraph.specs.Graph.{arrow_at, Leads, ReachesIn, Reaches, IsCyclic, IsReachedFrom}
-use Rattle.clauses.specs.Numbers.{AreDifferent}
+use Rattle.clauses.specs.Numbers.{NamesDiffer}
 use Rattle.clauses.specs.Signatures.{signature_at}
 use Rattle.clauses.specs.Store.{Data, relation_at}
 use Rattle.clauses.specs.Adding.{AreDifferentSignatures, HaveNames}
 use Rattle.rules.specs.Numbering.{IsGraphOf, IsInBodies}
 use Rattle.rules.specs.Drafts.{LinkStandsFor, StandForItems}
-use Rattle.rules.specs.ItemLinks.{IsWithin}
+use Rattle.rules.specs.ItemLinks.{LinksWithin}
 use Rattle.rules.specs.Arrows.{arrows_from, arrows_in}
 use Rattle.profile.proofs.Facts.{IsAmong-append, IsAmong-append_left, IsAmong-append_right, rule_item, same_head}
 
@@ -121,7 +121,7 @@ body_at d l t b s h =
       subst (λ (x : ℕ). IsInBodies (item_alternatives t) (relation_at d x)) p.2 (s.body.sound p.0 p.1),
     )
 
-same_relations : (d : Data) → AreDifferent d.words → AreDifferentSignatures d.signatures → HaveNames d → (i j : ℕ) → i < length d.signatures
+same_relations : (d : Data) → NamesDiffer d.words → AreDifferentSignatures d.signatures → HaveNames d → (i j : ℕ) → i < length d.signatures
     → j < length d.signatures → relation_at d i ≡ relation_at d j → i ≡ j
 same_relations d words signatures there i j h k e =
     let s : Signature = signature_at d.signatures i in
@@ -131,7 +131,7 @@ same_relations d words signatures there i j h k e =
     signatures i j h k (ap (λ (x : ℕ). let g : Signature = record { word = x; arity = s.arity } in g) w
     ∙ ap (λ (x : ℕ). let g : Signature = record { word = t.word; arity = x } in g) a)
 
-pub graph_stands : (d : Data) (links : List Links) (items : List Tree) → AreDifferent d.words → AreDifferentSignatures d.signatures → HaveNames d
+pub graph_stands : (d : Data) (links : List Links) (items : List Tree) → NamesDiffer d.words → AreDifferentSignatures d.signatures → HaveNames d
     → StandForItems d links items
     → IsGraphOf (length d.signatures) (λ r. relation_at d r) (arrows_in links) (alternatives items)
 graph_stands d links items words signatures there s =

@@ -14,10 +14,10 @@ use Rattle.statement.specs.Dependence.{is_distinct}
 use Rattle.statement.specs.Items.{item_head, item_alternatives, alternatives, body_trees, readings_of_all}
 use Rattle.statement.specs.Profile.{first_failing, not_safe, is_unsafe}
 use Rattle.statement.specs.Safety.{are_safe}
-use Rattle.clauses.specs.Numbers.{AreDifferent}
+use Rattle.clauses.specs.Numbers.{NamesDiffer}
 use Rattle.clauses.specs.Spread.{lists_of}
 use Rattle.clauses.specs.Store.{Data, relation_at, no_literal}
-use Rattle.clauses.specs.Adding.{Extends, HasVariables, StandsFor, LiteralStandsFor, StandForEach, StandForLists}
+use Rattle.clauses.specs.Adding.{Extends, HasVariables, AtomStandsFor, LiteralStandsFor, StandForEach, StandForLists}
 use Rattle.clauses.specs.ItemView.{ItemStandsFor, ReadsItem}
 use Rattle.rules.specs.declared.draft.Draft.{Draft}
 use Rattle.rules.specs.declared.item_links.Links.{Links}
@@ -66,7 +66,7 @@ item_inside d i t s = all_inside i.variables.from d (lists_of i.bodies.items) (r
 
 all_safe : (from many : ℕ) (d : Data) (a : Atom) (atom : said.Atom) (lists : List (List ℕ)) (rs : List (List said.Literal)) → AreDistinct d from
     → length d.variables ≡ from + many
-    → StandsFor from d a atom → StandForLists from d lists rs
+    → AtomStandsFor from d a atom → StandForLists from d lists rs
     → are_safe_by many d a lists ≡ are_safe (map (λ (b : List said.Literal). record { head = atom; body = b }) rs)
 all_safe from many d a atom [] [] x e s t = refl
 all_safe from many d a atom [] (r ∷ rs) x e s t = absurd t
@@ -75,7 +75,7 @@ all_safe from many d a atom (b ∷ lists) (r ∷ rs) x e s t =
     cc (safe_is from many d a atom b r x e s t.0, all_safe from many d a atom lists rs x e s t.1)
 
 -- the test over numbers decides whether an item is safe
-pub item_safe : (old d : Data) (i : Item) (t : Tree) → ReadsItem old d i t → AreDifferent old.words → i.variables.from ≤ i.variables.to
+pub item_safe : (old d : Data) (i : Item) (t : Tree) → ReadsItem old d i t → NamesDiffer old.words → i.variables.from ≤ i.variables.to
     → are_safe_by (i.variables.to - i.variables.from) d i.head (lists_of i.bodies.items) ≡ are_safe (item_alternatives t)
 item_safe old d i t r words order =
     let s = r.stands d (extends_refl d) in
@@ -86,7 +86,7 @@ item_safe old d i t r words order =
 pub head_inside : (d : Data) (i : Item) (t : Tree) → ItemStandsFor d i t → IsInside i.variables.from d i.head
 head_inside d i t s = is_inside i.variables.from d i.head (item_head t) s.head
 
-pub not_safe_item : (old d : Data) (i : Item) (t : Tree) (b : Bool) → ReadsItem old d i t → AreDifferent old.words
+pub not_safe_item : (old d : Data) (i : Item) (t : Tree) (b : Bool) → ReadsItem old d i t → NamesDiffer old.words
     → b ≡ are_safe_by (i.variables.to - i.variables.from) d i.head (lists_of i.bodies.items) → is_unsafe t ≡ not b
 not_safe_item old d i t b r words e = ap not (sym (e ∙ item_safe old d i t r words r.order))
 
@@ -112,7 +112,7 @@ adds_safe old new i l t r alternatives links head body rests =
 -- Drafts of the items so far.
 
 numbered_stand : (d : Data) (i : Item) (atom : said.Atom) (lists : List (List ℕ)) (rs : List (List said.Literal)) → HasVariables d i.variables
-    → StandsFor i.variables.from d i.head atom → StandForLists i.variables.from d lists rs
+    → AtomStandsFor i.variables.from d i.head atom → StandForLists i.variables.from d lists rs
     → StandForAlternatives d (numbered_with i.variables i.head lists) (map (λ (b : List said.Literal). record { head = atom; body = b }) rs)
 numbered_stand d i atom [] [] v h s = tt
 numbered_stand d i atom [] (r ∷ rs) v h s = absurd s

@@ -13,13 +13,13 @@ use Rattle.rules.specs.declared.item_links.Links.{Links}
 use Rattle.clauses.specs.Store.{Data, relation_at}
 use Rattle.rules.specs.Numbering.{HasBody, AreBodies}
 use Rattle.rules.specs.Drafts.{numbered, StandForAlternatives, StandForItems, some_literal_in, rests_on_any}
-use Rattle.rules.specs.Heads.{with_heads, with_passing}
+use Rattle.rules.specs.Heads.{with_marked_heads, with_passing}
 use Rattle.profile.proofs.Facts.{IsAmong-append, IsAmong-append_left, IsAmong-append_right, same_head}
 use Rattle.rules.proofs.LinkLemmas.{in_map, of_map}
 
 -- the marks, with those of the alternatives that are left, are those of all
 pub record Heading (nodes : ℕ) (marks : List Bool) (all rest : List Alternative) : Type 0 where
-  pub same : with_heads marks rest ≡ with_heads (replicate nodes false) all
+  pub same : with_marked_heads marks rest ≡ with_marked_heads (replicate nodes false) all
   pub counted : length marks ≡ nodes
 
 pub record Passing (nodes : ℕ) (marks : List Bool) (all : List Links) (all_tests : List Bool) (rest : List Links)
@@ -60,11 +60,11 @@ pub no_marks_long : (n : ℕ) → length (replicate n false) ≡ n
 no_marks_long zero = refl
 no_marks_long (suc n) = ap (λ (x : ℕ). suc x) (no_marks_long n)
 
-heads_long : (marks : List Bool) (as' : List Alternative) → length (with_heads marks as') ≡ length marks
+heads_long : (marks : List Bool) (as' : List Alternative) → length (with_marked_heads marks as') ≡ length marks
 heads_long marks [] = refl
 heads_long marks (a ∷ as') = heads_long (slice_set marks a.head.relation true) as' ∙ length-set marks a.head.relation true
 
-pub all_heads_long : (n : ℕ) (as' : List Alternative) (marks : List Bool) → marks ≡ with_heads (replicate n false) as' → length marks ≡ n
+pub all_heads_long : (n : ℕ) (as' : List Alternative) (marks : List Bool) → marks ≡ with_marked_heads (replicate n false) as' → length marks ≡ n
 all_heads_long n as' marks e = ap length e ∙ heads_long (replicate n false) as' ∙ no_marks_long n
 
 passing_long : (marks : List Bool) (links : List Links) (tests : List Bool) → length (with_passing marks links tests) ≡ length marks
@@ -83,7 +83,7 @@ abbrev IsHeaded : List Alternative → ℕ → Type 0
 IsHeaded [] r = ⊥
 IsHeaded (a ∷ as') r = (a.head.relation ≡ r) ⊎ IsHeaded as' r
 
-heads_out : (marks : List Bool) (as' : List Alternative) (r : ℕ) → get_or (with_heads marks as') r false ≡ true
+heads_out : (marks : List Bool) (as' : List Alternative) (r : ℕ) → get_or (with_marked_heads marks as') r false ≡ true
     → (get_or marks r false ≡ true) ⊎ IsHeaded as' r
 heads_out marks [] r h = inl h
 heads_out marks (a ∷ as') r h = elim (heads_out (slice_set marks a.head.relation true) as' r h) [
@@ -91,11 +91,11 @@ heads_out marks (a ∷ as') r h = elim (heads_out (slice_set marks a.head.relati
   | inr i ↦ inr (inr i)
 ]
 
-heads_kept : (marks : List Bool) (as' : List Alternative) (r : ℕ) → get_or marks r false ≡ true → get_or (with_heads marks as') r false ≡ true
+heads_kept : (marks : List Bool) (as' : List Alternative) (r : ℕ) → get_or marks r false ≡ true → get_or (with_marked_heads marks as') r false ≡ true
 heads_kept marks [] r h = h
 heads_kept marks (a ∷ as') r h = heads_kept (slice_set marks a.head.relation true) as' r (set_kept marks a.head.relation r h)
 
-heads_in : (marks : List Bool) (as' : List Alternative) (r : ℕ) → r < length marks → IsHeaded as' r → get_or (with_heads marks as') r false ≡ true
+heads_in : (marks : List Bool) (as' : List Alternative) (r : ℕ) → r < length marks → IsHeaded as' r → get_or (with_marked_heads marks as') r false ≡ true
 heads_in marks [] r h i = absurd i
 heads_in marks (a ∷ as') r h (inl e) = heads_kept (slice_set marks a.head.relation true) as' r (set_at marks a.head.relation r e h)
 heads_in marks (a ∷ as') r h (inr i) =
@@ -135,7 +135,7 @@ heads_within d (a ∷ as') (rule ∷ rules) s (suc k) e h = heads_within d as' r
 
 -- what is marked heads an alternative
 pub marked_heads : (d : Data) (as' : List Alternative) (rules : List said.Alternative) (marks : List Bool)
-    → StandForAlternatives d (map numbered as') rules → marks ≡ with_heads (replicate (length d.signatures) false) as'
+    → StandForAlternatives d (map numbered as') rules → marks ≡ with_marked_heads (replicate (length d.signatures) false) as'
     → (r : ℕ) → r < length d.signatures → get_or marks r false ≡ true → IsAmong (relation_at d r) (heads_of rules)
 marked_heads d as' rules marks s e r h m =
     elim (heads_out (replicate (length d.signatures) false) as' r (subst (λ (bs : List Bool). get_or bs r false ≡ true) e m)) [
@@ -145,7 +145,7 @@ marked_heads d as' rules marks s e r h m =
 
 -- what heads an alternative has a number that is marked
 pub heads_marked : (d : Data) (as' : List Alternative) (rules : List said.Alternative) (marks : List Bool)
-    → StandForAlternatives d (map numbered as') rules → marks ≡ with_heads (replicate (length d.signatures) false) as'
+    → StandForAlternatives d (map numbered as') rules → marks ≡ with_marked_heads (replicate (length d.signatures) false) as'
     → (p : Relation) → IsAmong p (heads_of rules) → (r : ℕ) × (r < length d.signatures) × (relation_at d r ≡ p) × (get_or marks r false ≡ true)
 heads_marked d as' rules marks s e p i =
     let m = among_headed d as' rules p s i in

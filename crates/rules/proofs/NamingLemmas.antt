@@ -5,7 +5,7 @@ use Rattle.rules.specs.declared.draft.Draft.{Draft}
 use Rattle.clauses.specs.declared.store.Store.{Store}
 use Rattle.statement.specs.Tree.{Tree}
 use Rattle.statement.specs.Words.{w_role, w_base, w_input, w_init, w_true, w_does, w_next, w_legal, w_goal, w_terminal, w_distinct}
-use Rattle.clauses.specs.Adding.{Grows}
+use Rattle.clauses.specs.Adding.{DataGrows}
 use Rattle.rules.specs.Drafts.{IsDraftOf}
 use Rattle.rules.specs.Naming.{NumbersName, NumbersKeywords}
 use Rattle.clauses.specs.Numbers.{word_at, with_word}
@@ -74,7 +74,7 @@ numbers_keywords a0 a1 a2 a3 a4 a5 a6 a7 a8 a9 a10 a11 k x1 x2 x3 x4 x5 x6 x7 x8
     }
 
 -- a draft stays one of the items where its lists grow
-pub draft_grown : (draft : Draft) (s : Store) (items : List Tree) → IsDraftOf draft items → Grows 0 (data_of draft.store) (data_of s)
+pub draft_grown : (draft : Draft) (s : Store) (items : List Tree) → IsDraftOf draft items → DataGrows 0 (data_of draft.store) (data_of s)
     → IsDraftOf (record draft { store = s }) items
 draft_grown draft s items d g =
     record {

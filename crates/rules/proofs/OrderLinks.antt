@@ -15,7 +15,7 @@ use Rattle.rules.specs.declared.order_of_relations.Ranked.{Ranked}
 use Rattle.statement.specs.Clause.{Alternative, Relation}
 use Rattle.statement.specs.Dependence.{IsAmong, is_fixed}
 use Rattle.statement.specs.Order.{rank, then_by, fixed_place, relation_cmp, sorted, relations_in_order}
-use Rattle.rules.specs.Placing.{entry_cmp, AreInOrder, IsEntry, AreEntries}
+use Rattle.rules.specs.Placing.{entry_cmp, EntriesInOrder, IsEntry, AreEntries}
 use Rattle.profile.proofs.Facts.{Rising, relation_total}
 use Rattle.profile.proofs.Facts.{tied_equal, rising_same, relations_rising, relations_are_heads, heads_are_relations}
 
@@ -162,7 +162,7 @@ map_numbers name [] = refl
 map_numbers name (e ∷ es) = ap (λ (ps : List Relation). name e.number ∷ ps) (map_numbers name es)
 
 pub order_is : (n : ℕ) (name : ℕ → Relation) (rules : List Alternative) (entries : List Ranked) → AreEntries n name rules entries → (numbers : List ℕ)
-    → AreInOrder entries numbers
+    → EntriesInOrder entries numbers
     → map name numbers ≡ relations_in_order rules
 unfolding AreFar
 order_is n name rules entries a numbers o =

@@ -11,7 +11,7 @@ use Rattle.kif.specs.declared.expr.Expr.{Expr}
 use Rattle.statement.specs.Profile.{role_in}
 use Rattle.rules.specs.RuleSets.{texts_of}
 use Rattle.profile.specs.Stated.{roles_at}
-use Rattle.profile.proofs.Facts.{role_at-here}
+use Rattle.profile.proofs.Facts.{role_stated-here}
 
 -- what was written, and the texts of the roles at the places that are left, are the texts of all roles
 abbrev pub AreWritten : {A : Type 0} → List (List ℕ) → List (Expr A) → List ℕ → ℕ → Type 0
@@ -22,7 +22,7 @@ roles_from : {A : Type 0} (es : List (Expr A)) (ks : List ℕ) (i : ℕ) (e : Ex
     → roles_at (trees_in es) (drop i ks) ≡ role_in (tree_of e) ++ roles_at (trees_in es) (drop (i + 1) ks)
 roles_from es ks i e h k same =
     ap (λ (js : List ℕ). roles_at (trees_in es) js) (drop-cons ks i 0 h)
-    ∙ ap (λ (ts : List Tree). ts ++ roles_at (trees_in es) (drop (suc i) ks)) (role_at-here es (get_or ks i 0) e k same)
+    ∙ ap (λ (ts : List Tree). ts ++ roles_at (trees_in es) (drop (suc i) ks)) (role_stated-here es (get_or ks i 0) e k same)
     ∙ ap (λ (j : ℕ). role_in (tree_of e) ++ roles_at (trees_in es) (drop j ks)) (let one : suc i ≡ i + 1 = omega arith in one)
 
 pub written_on : {A : Type 0} (old new : List (List ℕ)) (es : List (Expr A)) (ks : List ℕ) (i : ℕ) (e : Expr A) → AreWritten old es ks i

@@ -14,11 +14,11 @@ use Rattle.statement.specs.declared.rule_fault.RuleFault.{RuleFault}
 use Rattle.statement.specs.declared.rule_fault.RuleFault.TheVariants as errors
 use Rattle.rules.specs.Numbering.{AreBodyNumbers}
 use Rattle.statement.specs.Profile.{first_failing, not_safe, is_unsafe}
-use Rattle.clauses.specs.Numbers.{AreDifferent}
+use Rattle.clauses.specs.Numbers.{NamesDiffer}
 use Rattle.clauses.specs.Spread.{lists_of}
-use Rattle.clauses.specs.Store.{Data, relation_at, atom_of, literal_at}
+use Rattle.clauses.specs.Store.{Data, relation_at, stated_atom, stated_literal}
 use Rattle.clauses.specs.StoreView.{data_of}
-use Rattle.clauses.specs.Adding.{Extends, AreDifferentSignatures, HasVariables, HaveNames, StandsFor, StandForEach}
+use Rattle.clauses.specs.Adding.{Extends, AreDifferentSignatures, HasVariables, HaveNames, AtomStandsFor, StandForEach}
 use Rattle.clauses.specs.ItemView.{ItemStandsFor}
 use Rattle.rules.specs.Bodies.{all_named_relations, HaveSame, has_literal}
 
@@ -33,11 +33,11 @@ numbered a = record { variables = a.variables; head = a.head; body = a.body.item
 
 -- the alternative that stands for an item
 abbrev pub alternative_of : Data → Numbered → said.Alternative
-alternative_of d a = record { head = atom_of d a.variables.from a.head; body = map (literal_at d a.variables.from) a.body }
+alternative_of d a = record { head = stated_atom d a.variables.from a.head; body = map (stated_literal d a.variables.from) a.body }
 
 -- the numbers stand for the alternative
 pub record AlternativeStandsFor (d : Data) (n : Numbered) (a : said.Alternative) : Type 0 where
-  pub head : StandsFor n.variables.from d n.head a.head
+  pub head : AtomStandsFor n.variables.from d n.head a.head
   pub body : StandForEach n.variables.from d n.body a.body
   pub variables : HasVariables d n.variables
 
@@ -63,7 +63,7 @@ pub record LinksItem (d : Data) (i : Item) (l : Links) : Type 0 where
 -- an item that is safe was added behind the others
 pub record AddsSafe (old new : Draft) (t : Tree) : Type 0 where
   pub extends : Extends (data_of old.store) (data_of new.store)
-  pub words : AreDifferent (data_of old.store).words → AreDifferent (data_of new.store).words
+  pub words : NamesDiffer (data_of old.store).words → NamesDiffer (data_of new.store).words
   pub signatures : AreDifferentSignatures (data_of old.store).signatures → AreDifferentSignatures (data_of new.store).signatures
   pub named : HaveNames (data_of old.store) → HaveNames (data_of new.store)
   pub item : Item
@@ -114,7 +114,7 @@ rests_on_any t = some_literal_in (readings_of_all (body_trees t))
 
 -- the draft is that of the items
 pub record IsDraftOf (draft : Draft) (items : List Tree) : Type 0 where
-  pub words : AreDifferent (data_of draft.store).words
+  pub words : NamesDiffer (data_of draft.store).words
   pub signatures : AreDifferentSignatures (data_of draft.store).signatures
   pub named : HaveNames (data_of draft.store)
   pub alternatives : (later : Data) → Extends (data_of draft.store) later

@@ -5,9 +5,9 @@ use Rattle.clauses.specs.declared.numbered.Alternative.{Alternative}
 use Rattle.rules.specs.declared.item_links.Links.{Links}
 
 -- the marks, and those of the heads of alternatives
-abbrev pub with_heads : List Bool → List Alternative → List Bool
-with_heads marks [] = marks
-with_heads marks (a ∷ as') = with_heads (slice_set marks a.head.relation true) as'
+abbrev pub with_marked_heads : List Bool → List Alternative → List Bool
+with_marked_heads marks [] = marks
+with_marked_heads marks (a ∷ as') = with_marked_heads (slice_set marks a.head.relation true) as'
 
 -- the marks, and those of the heads of the items that pass a test
 abbrev pub with_passing : List Bool → List Links → List Bool → List Bool

@@ -16,7 +16,7 @@ use Rattle.statement.specs.Items.{item_head, item_alternatives}
 use Rattle.rules.specs.Numbering.{AreBodyNumbers}
 
 -- the numbers are below n
-pub record IsWithin (n : ℕ) (link : Links) : Type 0 where
+pub record LinksWithin (n : ℕ) (link : Links) : Type 0 where
   pub head : link.head < n
   pub body : All (λ number. number < n) link.body.items
 
@@ -27,16 +27,16 @@ pub record IsNumberOfFirst {X : Type 0} (P : X → Type 0) (xs : List X) (n : �
   pub has : HoldsAt P xs (n - 1)
   pub before : AllWithin (λ x. ¬ P x) xs 0 (n - 1)
 
-abbrev pub IsFirst : {X : Type 0} → (X → Type 0) → List X → Option ℕ → Type 0
-IsFirst P xs found = MatchOption found (All (λ x. ¬ P x) xs) (IsNumberOfFirst P xs)
+abbrev pub IsFirstSuch : {X : Type 0} → (X → Type 0) → List X → Option ℕ → Type 0
+IsFirstSuch P xs found = MatchOption found (All (λ x. ¬ P x) xs) (IsNumberOfFirst P xs)
 
 -- some number of the list is marked
-abbrev pub any_marked : List Bool → List ℕ → Bool
-any_marked marks numbers = list_any (λ number. slice_index_or marks number false) numbers
+abbrev pub some_marked : List Bool → List ℕ → Bool
+some_marked marks numbers = list_any (λ number. slice_index_or marks number false) numbers
 
 abbrev pub leads_badly_under : Bound → List Bool → List Bool → List ℕ → Bool
-leads_badly_under NoMove on_moves moving body = any_marked on_moves body
-leads_badly_under FixedOnly on_moves moving body = any_marked moving body
+leads_badly_under NoMove on_moves moving body = some_marked on_moves body
+leads_badly_under FixedOnly on_moves moving body = some_marked moving body
 leads_badly_under Free on_moves moving body = false
 
 -- the body rests on what the head may not rest on

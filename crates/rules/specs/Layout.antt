@@ -77,7 +77,7 @@ pub record IsOrderOfDraft (draft : Draft) (order : List ℕ) : Type 0 where
   pub exact : OfAcyclic draft (λ items. map (λ r. relation_at (data_of draft.store) r) order ≡ relations_in_order (alternatives items))
 
 -- these relations are fixed, and those that head an alternative stand in this order
-pub record AreLaid (draft : Draft) (fixed : List Bool) (order : List ℕ) : Type 0 where
+pub record RelationsLaid (draft : Draft) (fixed : List Bool) (order : List ℕ) : Type 0 where
   pub each_fixed : length fixed ≡ relation_count draft
   pub fixed_are : OfAcyclic draft (λ items. (r : ℕ) → r < relation_count draft
       → slice_index_or fixed r false ≡ is_fixed (alternatives items) (relation_at (data_of draft.store) r))

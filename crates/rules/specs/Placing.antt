@@ -19,7 +19,7 @@ entry_cmp a b =
     (then_by (nat_cmp a.arity b.arity) (nat_cmp a.number b.number))))
 
 -- the numbers are those of the entries, in order
-pub record AreInOrder (entries : List Ranked) (numbers : List ℕ) : Type 0 where
+pub record EntriesInOrder (entries : List Ranked) (numbers : List ℕ) : Type 0 where
   pub placed : List Ranked
   pub moved : IsPermutation entries placed
   pub sorted : IsSorted entry_cmp placed

@@ -6,7 +6,7 @@ use Rattle.rules.specs.declared.rule_set.Keywords.{Keywords}
 use Rattle.statement.specs.Words.{w_role, w_base, w_input, w_init, w_true, w_does, w_next, w_legal, w_goal, w_terminal, w_distinct}
 use Rattle.statement.specs.Dependence.{is_fixed}
 use Rattle.statement.specs.Items.{alternatives}
-use Rattle.clauses.specs.Numbers.{word_at, AreDifferent}
+use Rattle.clauses.specs.Numbers.{word_at, NamesDiffer}
 use Rattle.statement.specs.Order.{relations_in_order}
 use Rattle.statement.specs.Profile as profile
 use Rattle.statement.specs.Profile.{HasNoFault}
@@ -17,22 +17,22 @@ use Rattle.clauses.specs.Marks.{IsInside, AreInside}
 use Rattle.rules.specs.Drafts.{Numbered, alternative_of}
 
 -- the number is that of the name
-pub record IsNumberOf (words : List (List ℕ)) (number : ℕ) (word : List ℕ) : Type 0 where
+pub record IsNameNumber (words : List (List ℕ)) (number : ℕ) (word : List ℕ) : Type 0 where
   pub inside : number < length words
   pub same : word_at words number ≡ word
 
 pub record AreKeywords (words : List (List ℕ)) (k : Keywords) : Type 0 where
-  pub role : IsNumberOf words k.role w_role
-  pub base : IsNumberOf words k.base w_base
-  pub input : IsNumberOf words k.input w_input
-  pub init : IsNumberOf words k.init w_init
-  pub now : IsNumberOf words k.now w_true
-  pub does : IsNumberOf words k.does w_does
-  pub next : IsNumberOf words k.next w_next
-  pub legal : IsNumberOf words k.legal w_legal
-  pub goal : IsNumberOf words k.goal w_goal
-  pub terminal : IsNumberOf words k.terminal w_terminal
-  pub distinct : IsNumberOf words k.distinct w_distinct
+  pub role : IsNameNumber words k.role w_role
+  pub base : IsNameNumber words k.base w_base
+  pub input : IsNameNumber words k.input w_input
+  pub init : IsNameNumber words k.init w_init
+  pub now : IsNameNumber words k.now w_true
+  pub does : IsNameNumber words k.does w_does
+  pub next : IsNameNumber words k.next w_next
+  pub legal : IsNameNumber words k.legal w_legal
+  pub goal : IsNameNumber words k.goal w_goal
+  pub terminal : IsNameNumber words k.terminal w_terminal
+  pub distinct : IsNameNumber words k.distinct w_distinct
 
 -- the alternatives that numbers stand for
 abbrev pub rules_of : Data → List Numbered → List said.Alternative
@@ -56,7 +56,7 @@ AreWhole d (n ∷ ns) = IsWhole d n × AreWhole d ns
 -- different numbers are different names and relations, each number has what it names, and the marks
 -- and the order are those of the alternatives
 pub record IsSound (d : Data) (ns : List Numbered) (fixed : List Bool) (order : List ℕ) (k : Keywords) : Type 0 where
-  pub words : AreDifferent d.words
+  pub words : NamesDiffer d.words
   pub signatures : AreDifferentSignatures d.signatures
   pub named : HaveNames d
   pub whole : AreWhole d ns
@@ -70,5 +70,5 @@ pub record IsSound (d : Data) (ns : List Numbered) (fixed : List Bool) (order : 
 abbrev pub texts_of : {G : Type 0} → List (Vec ℕ G) → List (List ℕ)
 texts_of vs = map (λ v. v.items) vs
 
-abbrev pub text_at : List (List ℕ) → ℕ → List ℕ
-text_at texts n = slice_index_or texts n []
+abbrev pub text_of_role : List (List ℕ) → ℕ → List ℕ
+text_of_role texts n = slice_index_or texts n []

@@ -3,7 +3,7 @@ ghost use Rattle.std.specs.Prelude.{◌≡◌, ◌++◌, true, map, IfOk, IfErr,
 ghost use Rattle.kif.specs.View.{tree_of, trees_in};
 ghost use Rattle.rules.specs.Drafts.{numbered, numbered_of, AddsItem, IsDraftOf, IsSafetyFault};
 ghost use Rattle.statement.specs.Items.{is_item};
-ghost use Rattle.clauses.specs.Numbers.{AreDifferent};
+ghost use Rattle.clauses.specs.Numbers.{NamesDiffer};
 ghost use Rattle.profile.specs.Parts.{AreItems};
 ghost use Rattle.statement.specs.Profile.{first_failing, not_safe, is_unsafe};
 ghost use Rattle.clauses.specs.StoreView.{data_of};
@@ -48,7 +48,7 @@ pub(crate) fn add_item<A: Allocator>(
     e: &Expr<A>,
 ) -> Result<bool, AllocError>
     requires item { is_item (tree_of e.now) ≡ true }
-    requires words { AreDifferent (data_of draft.old.store).words }
+    requires words { NamesDiffer (data_of draft.old.store).words }
     ensures { IfOk result (λ is_safe. AddsItem draft.old draft.new (tree_of e.now) is_safe) }
 {
     let item = read_item(alloc, &mut draft.store, e)?;

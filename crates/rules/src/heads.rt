@@ -1,7 +1,7 @@
 //! Which relations head an alternative, and which of those rest on anything, by number.
 ghost use Rattle.std.specs.Prelude.{◌≡◌, ◌<◌, All, IfOk, length, replicate, vec_len, false, true, slice_set, if◌then◌else◌};
-ghost use Rattle.rules.specs.Heads.{with_heads, with_passing};
-ghost use Rattle.rules.specs.ItemLinks.{IsWithin};
+ghost use Rattle.rules.specs.Heads.{with_marked_heads, with_passing};
+ghost use Rattle.rules.specs.ItemLinks.{LinksWithin};
 
 use crate::item_links::Links;
 use clauses::Alternative;
@@ -14,7 +14,7 @@ pub(crate) fn heads_of(
     alternatives: &[Alternative],
 ) -> Result<Vec<bool>, AllocError>
     requires { All (λ a. a.head.relation < nodes) alternatives.now }
-    ensures { IfOk result (λ marks. marks.items ≡ with_heads (replicate nodes false) alternatives.now) }
+    ensures { IfOk result (λ marks. marks.items ≡ with_marked_heads (replicate nodes false) alternatives.now) }
 {
     let mut marks = vec![in alloc; false; nodes]?;
     for alternative in alternatives {
@@ -40,7 +40,7 @@ pub(crate) fn passing_heads_of(
     links: &[Links],
     tests: &[bool],
 ) -> Result<Vec<bool>, AllocError>
-    requires links { All (IsWithin nodes) links.now }
+    requires links { All (LinksWithin nodes) links.now }
     requires tests { length tests.now ≡ length links.now }
     ensures { IfOk result (λ marks. marks.items ≡ with_passing (replicate nodes false) links.now tests.now) }
 {

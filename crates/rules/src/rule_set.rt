@@ -42,7 +42,7 @@ impl RuleSet {
     ghost use Rattle.std.specs.Prelude.{◌≡◌, ◌<◌, ◌≤◌, ◌+◌, false, length, slice_index, slice_index_or, slice_range};
     ghost use Rattle.clauses.specs.Marks.{literal_in};
     ghost use Rattle.clauses.specs.Numbers.{word_at};
-    ghost use Rattle.rules.specs.RuleSets.{text_at};
+    ghost use Rattle.rules.specs.RuleSets.{text_of_role};
     ghost use Rattle.rules.specs.RuleSetView.{alternatives_in, fixed_in, keywords_in, lists_of_set, order_in, roles_in};
     ghost use Rattle.clauses.specs.Signatures.{signature_at};
 
@@ -141,7 +141,7 @@ impl RuleSet {
     /// The canonical text of a role, in the order in which the items state them first.
     pub fn role_text(&self, role: usize) -> &[u8]
         requires { role < length (roles_in self.now) }
-        ensures { result.now ≡ text_at (roles_in self.now) role }
+        ensures { result.now ≡ text_of_role (roles_in self.now) role }
     {
         &self.roles[role]
     }

@@ -41,19 +41,19 @@ use Rattle.propnet.specs.declared.net.Net.{Net}
 use Rattle.statement.specs.declared.node_name.Name.{Name}
 use Rattle.statement.specs.declared.node_name.Name.TheVariants.{Base, Input, Not, And, View, Transition}
 use Rattle.propnet.specs.Values as net
-use Rattle.propnet.specs.Network.{Gate, value_by, value_of as value_at, base_needed, given, value as node_value}
+use Rattle.propnet.specs.Network.{Gate, value_by, signal_value as value_at, base_needed, given, value as node_value}
 use Rattle.propnet.specs.Nets.{gates_of}
 use Rattle.propnet.specs.NetView.{gate_with}
 use Rattle.tape.proofs.Marks.{same_gate}
 use Rattle.propnet.specs.Building.{Stands}
 use Rattle.propnet.proofs.Facts.{all_of_lt, any_of_lt, value_lt, value_solves, got_map}
 use Rattle.gates.specs.declared.builder.Builder.{Builder}
-use Rattle.gates.specs.Building.{IsBuilt, IsStep, IsLiteral, slots_of, value_of, all_of, any_of}
+use Rattle.gates.specs.Building.{IsBuilt, IsStep, IsLiteral, slots_of, signal_value, all_of, any_of}
 use Rattle.tape.specs.Marks.{is_and_gate, is_or_gate, is_marked, term_nodes, AllMarked, TermsMarked, IsCovered, IsClosedFrom}
 use Rattle.tape.specs.Tapes.{AreSources}
 use Rattle.tape.specs.Sources.{is_source, source_word, IsGivenAt, AreSourcesOf}
-use Rattle.tape.specs.Translating.{AreKept, AreTermsOf, IsTermAdded, IsTermOf, IsMeant, IsTranslated}
-use Rattle.gates.specs.Terms.{some_of, AreBelow}
+use Rattle.tape.specs.Translating.{NodesKept, NodeTerms, IsTermAdded, IsTermOf, IsMeant, IsTranslated}
+use Rattle.gates.specs.Terms.{some_of, LiteralsBelow}
 use Rattle.gates.proofs.Facts.{and_true}
 use Rattle.gates.proofs.Facts.{groups_before}
 use Rattle.gates.proofs.Facts.{given_slot, is_one_min, is_one_not}
@@ -82,12 +82,12 @@ all_on v u literals (x ∷ xs) bits h =
     rw (e, f) (sym (is_one_min (v x) (net.all_of v xs) (bits x) (all_of_lt v xs)))
 
 any_on : (v : ℕ → ℕ) (u : ℕ → Bool) (literals reads : List ℕ) → ((n : ℕ) → v n < 2) → AreReadAs v u literals reads
-    → any_of u (map (λ m. get_or literals m 0) reads) ≡ (net.any_of v reads == 1)
+    → any_of u (map (λ m. get_or literals m 0) reads) ≡ (net.any_bit v reads == 1)
 any_on v u literals [] bits h = refl
 any_on v u literals (x ∷ xs) bits h =
     let e : u (get_or literals x 0) ≡ (v x == 1) = h 0 (omega arith) in
-    let f : any_of u (map (λ m. get_or literals m 0) xs) ≡ (net.any_of v xs == 1) = any_on v u literals xs bits (λ k l. h (suc k) (omega arith)) in
-    rw (e, f) (sym (is_one_max (v x) (net.any_of v xs) (bits x) (any_of_lt v xs bits)))
+    let f : any_of u (map (λ m. get_or literals m 0) xs) ≡ (net.any_bit v xs == 1) = any_on v u literals xs bits (λ k l. h (suc k) (omega arith)) in
+    rw (e, f) (sym (is_one_max (v x) (net.any_bit v xs) (bits x) (any_of_lt v xs bits)))
 
 -- the value of a node is that of what it stands for
 solved : (n : Net) (state : ℕ → ℕ) (joint : List ℕ) (m : ℕ) (gate : Gate) → slice_get (gates_of n) m ≡ Some gate
@@ -105,7 +105,7 @@ all_by v state joint (View a) reads e = absurd cc
 all_by v state joint (Transition p) reads e = absurd cc
 
 none_by : (v state : ℕ → ℕ) (joint : List ℕ) (x : Name) (reads : List ℕ) → is_source x ≡ false → is_or_gate x ≡ false → is_and_gate x ≡ false
-    → value_by v state joint x reads ≡ 1 - net.any_of v reads
+    → value_by v state joint x reads ≡ 1 - net.any_bit v reads
 none_by v state joint (Base p) reads e f g = absurd cc
 none_by v state joint (Input r m) reads e f g = absurd cc
 none_by v state joint (Not a) reads e f g = refl
@@ -132,31 +132,31 @@ module _ (n : Net) (marks : List Bool) (words : List ℕ) (m : ℕ) (gate : Gate
       t.values (get_or gate.reads k 0) ((n.in_order m gate e).smaller k 0 l) (all k 0 l)
 
   -- the literal of such a node by those of the nodes that it reads
-  pub meant_all : (c : Builder) (z : ℕ) → IsStep b c → is_and_gate gate.name ≡ true → IsLiteral c z (λ bits. all_of (value_of b bits) queue)
+  pub meant_all : (c : Builder) (z : ℕ) → IsStep b c → is_and_gate gate.name ≡ true → IsLiteral c z (λ bits. all_of (signal_value b bits) queue)
       → IsMeant n words c z m
   meant_all c z step is l = record {
     slot = l.slot;
     value = λ state joint w s one.
         let v : ℕ → ℕ = node_value (gates_of n) state joint in
         l.value (λ i. w (get_or words i 0)) one
-        ∙ ap (λ (xs : List ℕ). all_of (value_of b (λ i. w (get_or words i 0))) xs) q
-        ∙ all_on v (value_of b (λ i. w (get_or words i 0))) literals gate.reads (λ k. value_lt (gates_of n) state joint s.bits k)
+        ∙ ap (λ (xs : List ℕ). all_of (signal_value b (λ i. w (get_or words i 0))) xs) q
+        ∙ all_on v (signal_value b (λ i. w (get_or words i 0))) literals gate.reads (λ k. value_lt (gates_of n) state joint s.bits k)
         (λ k i. (read_meant k i).value state joint w s (groups_before b c step (λ i. w (get_or words i 0)) one))
         ∙ sym (ap (λ (x : ℕ). x == 1) (solved n state joint m gate e ∙ all_by v state joint gate.name gate.reads is));
   }
 
   pub meant_none : (c : Builder) (z : ℕ) → IsStep b c → is_source gate.name ≡ false → is_and_gate gate.name ≡ false
-      → IsLiteral c z (λ bits. not (any_of (value_of b bits) queue)) → IsMeant n words c z m
+      → IsLiteral c z (λ bits. not (any_of (signal_value b bits) queue)) → IsMeant n words c z m
   meant_none c z step g h l = record {
     slot = l.slot;
     value = λ state joint w s one.
         let v : ℕ → ℕ = node_value (gates_of n) state joint in
         let small : (k : ℕ) → v k < 2 = λ k. value_lt (gates_of n) state joint s.bits k in
         l.value (λ i. w (get_or words i 0)) one
-        ∙ ap (λ (xs : List ℕ). not (any_of (value_of b (λ i. w (get_or words i 0))) xs)) q
-        ∙ ap not (any_on v (value_of b (λ i. w (get_or words i 0))) literals gate.reads small
+        ∙ ap (λ (xs : List ℕ). not (any_of (signal_value b (λ i. w (get_or words i 0))) xs)) q
+        ∙ ap not (any_on v (signal_value b (λ i. w (get_or words i 0))) literals gate.reads small
         (λ k i. (read_meant k i).value state joint w s (groups_before b c step (λ i. w (get_or words i 0)) one)))
-        ∙ sym (is_one_not (net.any_of v gate.reads) (any_of_lt v gate.reads small))
+        ∙ sym (is_one_not (net.any_bit v gate.reads) (any_of_lt v gate.reads small))
         ∙ sym (ap (λ (x : ℕ). x == 1) (solved n state joint m gate e ∙ none_by v state joint gate.name gate.reads g f h));
   }
 
@@ -190,16 +190,16 @@ term_on v state joint u literals bits (Transition p) r reads e h = and_true (u (
 
 terms_on : (v : ℕ → ℕ) (u : ℕ → Bool) → ((n : ℕ) → v n < 2) → (reads : List ℕ) (terms : List (List ℕ)) → length terms ≡ length reads
     → ((k : ℕ) (d : List ℕ) → k < length reads → all_of u (get_or terms k d) ≡ (v (get_or reads k 0) == 1))
-    → some_of u terms ≡ (net.any_of v reads == 1)
+    → some_of u terms ≡ (net.any_bit v reads == 1)
 terms_on v u bits [] [] s h = refl
 terms_on v u bits [] (t ∷ ts) s h = absurd (omega arith)
 terms_on v u bits (x ∷ xs) [] s h = absurd (omega arith)
 terms_on v u bits (x ∷ xs) (t ∷ ts) s h =
     let e : all_of u t ≡ (v x == 1) = h 0 t (omega arith) in
-    let f : some_of u ts ≡ (net.any_of v xs == 1) = terms_on v u bits xs ts (omega arith) (λ k d l. h (suc k) d (omega arith)) in
-    rw (e, f) (sym (is_one_max (v x) (net.any_of v xs) (bits x) (any_of_lt v xs bits)))
+    let f : some_of u ts ≡ (net.any_bit v xs == 1) = terms_on v u bits xs ts (omega arith) (λ k d l. h (suc k) d (omega arith)) in
+    rw (e, f) (sym (is_one_max (v x) (net.any_bit v xs) (bits x) (any_of_lt v xs bits)))
 
-or_by : (v state : ℕ → ℕ) (joint : List ℕ) (x : Name) (reads : List ℕ) → is_or_gate x ≡ true → value_by v state joint x reads ≡ net.any_of v reads
+or_by : (v state : ℕ → ℕ) (joint : List ℕ) (x : Name) (reads : List ℕ) → is_or_gate x ≡ true → value_by v state joint x reads ≡ net.any_bit v reads
 or_by v state joint (Base p) reads e = absurd cc
 or_by v state joint (Input r m) reads e = absurd cc
 or_by v state joint (Not a) reads e = absurd cc
@@ -220,7 +220,7 @@ module _ (n : Net) (marks : List Bool) (words : List ℕ) (m : ℕ) (gate : Gate
     (e : slice_get (gates_of n) m ≡ Some gate) (inside : m < length (gates_of n))
     (is : is_or_gate gate.name ≡ true) (closed : IsClosedFrom (gates_of n) 0 marks) (on : is_marked marks m ≡ true)
     (t : IsTranslated n marks words m b literals)
-    (are : AreTermsOf (gates_of n) literals gate.reads terms) where
+    (are : NodeTerms (gates_of n) literals gate.reads terms) where
   smaller : (k : ℕ) → k < length gate.reads → get_or gate.reads k 0 < m
   smaller k h = (n.in_order m gate e).smaller k 0 h
 
@@ -246,14 +246,14 @@ module _ (n : Net) (marks : List Bool) (words : List ℕ) (m : ℕ) (gate : Gate
   unfolding nodes there
   term_is k d h = are.each k d h (there k h).0 (there k h).1
 
-  pub terms_within : AreBelow (slots_of b) terms
+  pub terms_within : LiteralsBelow (slots_of b) terms
   terms_within k d h =
       let l : k < length gate.reads = omega (arith, are.size) in
       subst (λ (xs : List ℕ). All (λ i. i < slots_of b) xs) (sym (term_is k d l))
       (map_within (λ i. get_or literals i 0) (slots_of b) (nodes k l) (λ i j. (meant k l i j).slot))
 
   -- the literal of the or of the terms is that of the node
-  pub meant_or : (c : Builder) (z : ℕ) → IsStep b c → IsLiteral c z (λ bits. some_of (value_of b bits) terms) → IsMeant n words c z m
+  pub meant_or : (c : Builder) (z : ℕ) → IsStep b c → IsLiteral c z (λ bits. some_of (signal_value b bits) terms) → IsMeant n words c z m
   unfolding nodes there
   meant_or c z step l = record {
     slot = l.slot;
@@ -261,9 +261,9 @@ module _ (n : Net) (marks : List Bool) (words : List ℕ) (m : ℕ) (gate : Gate
         let v : ℕ → ℕ = node_value (gates_of n) state joint in
         let small : (k : ℕ) → v k < 2 = λ k. value_lt (gates_of n) state joint s.bits k in
         l.value (λ i. w (get_or words i 0)) one
-        ∙ terms_on v (value_of b (λ i. w (get_or words i 0))) small gate.reads terms are.size
-        (λ k d h. ap (λ (xs : List ℕ). all_of (value_of b (λ i. w (get_or words i 0))) xs) (term_is k d h)
-        ∙ term_on v state joint (value_of b (λ i. w (get_or words i 0))) literals small (there k h).0.name (get_or gate.reads k 0) (there k h).0.reads
+        ∙ terms_on v (signal_value b (λ i. w (get_or words i 0))) small gate.reads terms are.size
+        (λ k d h. ap (λ (xs : List ℕ). all_of (signal_value b (λ i. w (get_or words i 0))) xs) (term_is k d h)
+        ∙ term_on v state joint (signal_value b (λ i. w (get_or words i 0))) literals small (there k h).0.name (get_or gate.reads k 0) (there k h).0.reads
         (solved n state joint (get_or gate.reads k 0) (there k h).0 (there k h).1)
         (λ i j. (meant k h i j).value state joint w s (groups_before b c step (λ i. w (get_or words i 0)) one)))
         ∙ sym (ap (λ (x : ℕ). x == 1) (solved n state joint m gate e ∙ or_by v state joint gate.name gate.reads is));
@@ -414,7 +414,7 @@ translated_first n marks words b literals h f e = rw e (record { built = h; firs
 
 pub are_kept : (n : Net) (marks : List Bool) (words : List ℕ) (m many : ℕ) (b : Builder) (literals kept : List ℕ)
     → IsTranslated n marks words m b literals → many ≡ length (gates_of n) → m ≤ many → many ≤ m
-    → AllMarked marks kept → All (λ k. k < length (gates_of n)) kept → AreKept n words kept b literals
+    → AllMarked marks kept → All (λ k. k < length (gates_of n)) kept → NodesKept n words kept b literals
 are_kept n marks words m many b literals kept t f below above a w = record {
   built = t.built;
   first = t.first;

@@ -14,7 +14,7 @@ use Rattle.gates.specs.declared.builder.Builder.{Builder}
 use Rattle.gates.specs.declared.builder.Group.{Group}
 use Rattle.gates.specs.Building.{slots_of, AreOneOf}
 use Rattle.tape.specs.Grouping.{AreGroups}
-use Rattle.tape.specs.Translating.{AreKept, IsGroupTapeOf}
+use Rattle.tape.specs.Translating.{NodesKept, IsGroupTapeOf}
 use Rattle.std.proofs.lemmas.List.Elements.{All-nil}
 use Rattle.tape.specs.Tapes.{AreSources, IsTapeOf, IsTurnTapeOf, HasRun, IsLane, IsWordOf, IsTurnWordOf}
 use Rattle.gates.proofs.Facts.{pass_agree}
@@ -71,7 +71,7 @@ run_values t words filled room ss gs e f fills runs size = record {
 
 -- The tape of a network.
 
-pub kept_slots : (net : Net) (words kept : List ℕ) (b : Builder) (literals xs slots : List ℕ) → AreKept net words kept b literals → xs ≡ literals
+pub kept_slots : (net : Net) (words kept : List ℕ) (b : Builder) (literals xs slots : List ℕ) → NodesKept net words kept b literals → xs ≡ literals
     → slots ≡ map (λ n. get_or xs n 0) kept
     → All (λ l. l < slots_of b) slots
 kept_slots net words kept b literals xs slots a e f =
@@ -86,7 +86,7 @@ length_mapped : (f : ℕ → ℕ) (xs : List ℕ) → length (map f xs) ≡ leng
 length_mapped f [] = refl
 length_mapped f (x ∷ xs) = ap suc (length_mapped f xs)
 
-tape_with : (net : Net) (words kept : List ℕ) (b : Builder) (literals xs : List ℕ) (t : Tape) → AreKept net words kept b literals → xs ≡ literals
+tape_with : (net : Net) (words kept : List ℕ) (b : Builder) (literals xs : List ℕ) (t : Tape) → NodesKept net words kept b literals → xs ≡ literals
     → t.first ≡ b.first → t.gates.items ≡ b.gates.items → t.sources.items ≡ words → t.kept.items ≡ map (λ n. get_or xs n 0) kept
     → IsGroupTapeOf net kept words b.groups.items t
 tape_with net words kept b literals xs t a e first gates given slots_are = record {
@@ -104,7 +104,7 @@ tape_with net words kept b literals xs t a e first gates given slots_are = recor
 }
 
 pub tape_of : (net : Net) (words kept : List ℕ) (b : Builder) (groups : List Group) (literals xs : List ℕ) (t : Tape) → b.groups.items ≡ groups
-    → AreKept net words kept b literals → xs ≡ literals
+    → NodesKept net words kept b literals → xs ≡ literals
     → t.first ≡ b.first → t.gates.items ≡ b.gates.items → t.sources.items ≡ words → t.kept.items ≡ map (λ n. get_or xs n 0) kept
     → IsGroupTapeOf net kept words groups t
 tape_of net words kept b groups literals xs t g a e first gates given slots_are =

@@ -19,8 +19,8 @@ abbrev pub kept_in : Tape → ℕ
 kept_in t = length t.kept.items
 
 -- the value of a literal, where w tells the bit of each given word
-abbrev pub value_in : Tape → (ℕ → Bool) → ℕ → Bool
-value_in t w l = value t.first t.gates.items (λ i. w (slice_index t.sources.items i)) l
+abbrev pub literal_value : Tape → (ℕ → Bool) → ℕ → Bool
+literal_value t w l = value t.first t.gates.items (λ i. w (slice_index t.sources.items i)) l
 
 -- w tells which base propositions are in a state, and which inputs a joint move gives; base propositions come first, and then
 -- the inputs by role
@@ -33,7 +33,7 @@ pub record AreSources (net : Net) (state : ℕ → ℕ) (joint : List ℕ) (w : 
 pub record IsTapeOf (net : Net) (kept : List ℕ) (t : Tape) : Type 0 where
   pub size : kept_in t ≡ length kept
   pub values : (k : ℕ) → k < length kept → (state : ℕ → ℕ) (joint : List ℕ) (w : ℕ → Bool) → AreSources net state joint w
-      → value_in t w (slice_index t.kept.items k) ≡ (node_value (gates_of net) state joint (slice_index kept k) == 1)
+      → literal_value t w (slice_index t.kept.items k) ≡ (node_value (gates_of net) state joint (slice_index kept k) == 1)
 
 -- the joint move has for each role one of its inputs
 abbrev pub IsJointOf : Net → List ℕ → Type 0
@@ -43,12 +43,12 @@ IsJointOf net joint = (r : ℕ) → r < length net.inputs.items → (r < length 
 pub record IsTurnTapeOf (net : Net) (kept : List ℕ) (t : Tape) : Type 0 where
   pub size : kept_in t ≡ length kept
   pub values : (k : ℕ) → k < length kept → (state : ℕ → ℕ) (joint : List ℕ) (w : ℕ → Bool) → IsJointOf net joint → AreSources net state joint w
-      → value_in t w (slice_index t.kept.items k) ≡ (node_value (gates_of net) state joint (slice_index kept k) == 1)
+      → literal_value t w (slice_index t.kept.items k) ≡ (node_value (gates_of net) state joint (slice_index kept k) == 1)
 
 -- the room has what a pass over the given words writes: in each lane, the value of each literal
 pub record HasRun (t : Tape) (words room : List ℕ) : Type 0 where
   pub size : length room ≡ slots_in t
-  pub values : (l s : ℕ) → l < 64 → s < slots_in t → is_lane_on room l s ≡ value_in t (is_lane_on words l) s
+  pub values : (l s : ℕ) → l < 64 → s < slots_in t → is_lane_on room l s ≡ literal_value t (is_lane_on words l) s
 
 -- lane l of the given words tells a state and a joint move: base propositions come first, and then the inputs by role; a word
 -- that is not there is 0

@@ -5,11 +5,11 @@ use Rattle.propnet.specs.declared.net.Net.{Net}
 use Rattle.propnet.specs.Network.{Gate, value as node_value}
 use Rattle.propnet.specs.Nets.{gates_of}
 use Rattle.gates.specs.declared.builder.Builder.{Builder}
-use Rattle.gates.specs.Building.{slots_of, value_of, AreOneOf, IsBuilt}
+use Rattle.gates.specs.Building.{slots_of, signal_value, AreOneOf, IsBuilt}
 use Rattle.tape.specs.Marks.{is_and_gate, is_marked, term_nodes}
 use Rattle.gates.specs.declared.builder.Group.{Group}
 use Rattle.tape.specs.declared.tape.Tape.{Tape}
-use Rattle.tape.specs.Tapes.{AreSources, kept_in, value_in}
+use Rattle.tape.specs.Tapes.{AreSources, kept_in, literal_value}
 
 -- what an or takes for node n: the and of what it reads if it is an and gate, else its literal
 abbrev pub IsTermOf : List Gate → List ℕ → ℕ → List ℕ → Type 0
@@ -23,7 +23,7 @@ pub record IsTermAdded (gates : List Gate) (literals : List ℕ) (n : ℕ) (old 
   pub added : new ≡ old ++ term ∷ []
 
 -- a term for each of some nodes
-pub record AreTermsOf (gates : List Gate) (literals numbers : List ℕ) (terms : List (List ℕ)) : Type 0 where
+pub record NodeTerms (gates : List Gate) (literals numbers : List ℕ) (terms : List (List ℕ)) : Type 0 where
   pub size : length terms ≡ length numbers
   pub each : (k : ℕ) (d : List ℕ) → k < length numbers → IsTermOf gates literals (slice_index numbers k) (slice_index_or terms k d)
 
@@ -32,7 +32,7 @@ pub record AreTermsOf (gates : List Gate) (literals numbers : List ℕ) (terms :
 pub record IsMeant (net : Net) (words : List ℕ) (b : Builder) (l n : ℕ) : Type 0 where
   pub slot : l < slots_of b
   pub value : (state : ℕ → ℕ) (joint : List ℕ) (w : ℕ → Bool) → AreSources net state joint w → AreOneOf b.groups.items (λ i. w (slice_index words i))
-      → value_of b (λ i. w (slice_index words i)) l ≡ (node_value (gates_of net) state joint n == 1)
+      → signal_value b (λ i. w (slice_index words i)) l ≡ (node_value (gates_of net) state joint n == 1)
 
 -- the literals of the marked nodes below n
 pub record IsTranslated (net : Net) (marks : List Bool) (words : List ℕ) (n : ℕ) (b : Builder) (literals : List ℕ) : Type 0 where
@@ -42,7 +42,7 @@ pub record IsTranslated (net : Net) (marks : List Bool) (words : List ℕ) (n : 
   pub values : (m : ℕ) → m < n → is_marked marks m ≡ true → IsMeant net words b (slice_index literals m) m
 
 -- each kept node has its literal, and there is one for each node
-pub record AreKept (net : Net) (words kept : List ℕ) (b : Builder) (literals : List ℕ) : Type 0 where
+pub record NodesKept (net : Net) (words kept : List ℕ) (b : Builder) (literals : List ℕ) : Type 0 where
   pub built : IsBuilt b
   pub first : b.first ≡ 2 + 2 * length words
   pub count : length literals ≡ length (gates_of net)
@@ -54,4 +54,4 @@ pub record IsGroupTapeOf (net : Net) (kept words : List ℕ) (groups : List Grou
   pub given : t.sources.items ≡ words
   pub values : (k : ℕ) → k < length kept → (state : ℕ → ℕ) (joint : List ℕ) (w : ℕ → Bool) → AreSources net state joint w
       → AreOneOf groups (λ i. w (slice_index words i))
-      → value_in t w (slice_index t.kept.items k) ≡ (node_value (gates_of net) state joint (slice_index kept k) == 1)
+      → literal_value t w (slice_index t.kept.items k) ≡ (node_value (gates_of net) state joint (slice_index kept k) == 1)

@@ -1,8 +1,8 @@
 //! The literals of what nodes read.
 ghost use Rattle.std.specs.Prelude.{ℕ, [], ◌≡◌, ◌<◌, ◌≤◌, length, map, All, OnOk, slice_index};
 ghost use Rattle.propnet.specs.Nets.{gates_of};
-ghost use Rattle.gates.specs.Terms.{terms_of, AreWhole};
-ghost use Rattle.tape.specs.Translating.{AreTermsOf, IsTermAdded};
+ghost use Rattle.gates.specs.Terms.{terms_there, TermsWhole};
+ghost use Rattle.tape.specs.Translating.{NodeTerms, IsTermAdded};
 
 use crate::cones::is_and;
 use gates::{Literal, Terms};
@@ -29,9 +29,9 @@ pub(crate) fn gather(
 fn add_term(net: &Net, n: u32, literals: &[Literal], terms: &mut Terms) -> Result<(), AllocError>
     requires node { n < length (gates_of net.now) }
     requires within { n < length literals.now }
-    requires whole { AreWhole terms.old }
-    ensures whole { OnOk result (AreWhole terms.new) }
-    ensures term { OnOk result (IsTermAdded (gates_of net.now) literals.now n (terms_of terms.old) (terms_of terms.new)) }
+    requires whole { TermsWhole terms.old }
+    ensures whole { OnOk result (TermsWhole terms.new) }
+    ensures term { OnOk result (IsTermAdded (gates_of net.now) literals.now n (terms_there terms.old) (terms_there terms.new)) }
 {
     let (name, reads) = net.gate(n as usize);
     if is_and(name) {
@@ -49,10 +49,10 @@ pub(crate) fn add_terms(
 ) -> Result<(), AllocError>
     requires within { All (λ n. n < length literals.now) numbers.now }
     requires nodes { length literals.now ≤ length (gates_of net.now) }
-    requires whole { AreWhole terms.old }
-    requires none { terms_of terms.old ≡ [] }
-    ensures whole { OnOk result (AreWhole terms.new) }
-    ensures terms { OnOk result (AreTermsOf (gates_of net.now) literals.now numbers.now (terms_of terms.new)) }
+    requires whole { TermsWhole terms.old }
+    requires none { terms_there terms.old ≡ [] }
+    ensures whole { OnOk result (TermsWhole terms.new) }
+    ensures terms { OnOk result (NodeTerms (gates_of net.now) literals.now numbers.now (terms_there terms.new)) }
 {
     for number in numbers {
         add_term(net, *number, literals, terms)?;

@@ -5,7 +5,7 @@ ghost use Rattle.gates.specs.Building.{IsBuilt, IsStep};
 ghost use Rattle.tape.specs.Marks.{is_marked, AllMarked, IsClosedFrom};
 ghost use Rattle.tape.specs.Sources.{AreSourcesOf};
 ghost use Rattle.tape.specs.Tapes.{IsTapeOf, IsTurnTapeOf};
-ghost use Rattle.tape.specs.Translating.{AreKept, IsGroupTapeOf, IsMeant, IsTranslated};
+ghost use Rattle.tape.specs.Translating.{NodesKept, IsGroupTapeOf, IsMeant, IsTranslated};
 
 use crate::cones::{cones, is_and, is_or};
 use crate::gathering::{add_terms, gather};
@@ -79,7 +79,7 @@ fn translate(
     requires sources { AreSourcesOf (gates_of net.now) marks.now (length (gates_of net.now)) sources.now.words.items sources.now.literals.items }
     requires built { IsBuilt builder.old }
     requires first { builder.old.first ≡ 2 + 2 * length sources.now.words.items }
-    ensures kept { IfOk result (λ literals. AreKept net.now sources.now.words.items kept.now builder.new literals.items) }
+    ensures kept { IfOk result (λ literals. NodesKept net.now sources.now.words.items kept.now builder.new literals.items) }
     ensures groups { OnOk result (builder.new.groups.items ≡ builder.old.groups.items) }
 {
     let mut literals = Vec::with_capacity(alloc, net.nodes())?;

@@ -31,9 +31,9 @@ use Rattle.statement.specs.Tree.{Tree, trees_of}
 use Rattle.statement.specs.Clause.{Atom, tree_at, tree_of}
 use Rattle.statement.specs.Safety.{is_name_in}
 use Rattle.terms.specs.Arena.{Held, AreNumbered, cut}
-use Rattle.clauses.specs.Numbers.{Begins, word_at}
-use Rattle.terms.specs.Atoms.{with_number, with_numbers, AreTermsOf, AddsAtoms}
-use Rattle.clauses.specs.Marks.{AreBelow}
+use Rattle.clauses.specs.Numbers.{BeginsWith, word_at}
+use Rattle.terms.specs.Atoms.{with_number, with_numbers, WordTerms, AddsAtoms}
+use Rattle.clauses.specs.Marks.{NumbersBelow}
 use Rattle.terms.specs.Keys.{IsKey, with_key, word_of, parts_of, term_at, tree_of_key, trees}
 use Rattle.keys.specs.KeyLists.{key_at}
 use Rattle.statement.specs.Meaning.{atom1, atom2}
@@ -53,10 +53,10 @@ use Rattle.terms.proofs.AtomLemmas.{
 }
 use Rattle.terms.proofs.KeyTrees.{tree_of_number, length_trees}
 
-pub key_front : (keys : List (List ℕ)) (key : List ℕ) (all : List (List ℕ)) → all ≡ with_key keys key → Begins keys all
-key_front keys key all e = subst (λ (ks : List (List ℕ)). Begins keys ks) (sym e) (go (is_name_in key keys))
+pub key_front : (keys : List (List ℕ)) (key : List ℕ) (all : List (List ℕ)) → all ≡ with_key keys key → BeginsWith keys all
+key_front keys key all e = subst (λ (ks : List (List ℕ)). BeginsWith keys ks) (sym e) (go (is_name_in key keys))
   where
-    go : (b : Bool) → Begins keys (cond b keys (keys ++ key ∷ []))
+    go : (b : Bool) → BeginsWith keys (cond b keys (keys ++ key ∷ []))
     go true = front_itself keys
     go false = (key ∷ [], refl)
 
@@ -64,21 +64,21 @@ pub with_both : (ns ms ks : List ℕ) → with_numbers (with_numbers ns ms) ks �
 with_both ns [] ks = refl
 with_both ns (m ∷ ms) ks = with_both (with_number ns m) ms ks
 
-below_parts : (many n : ℕ) (key : List ℕ) → IsKey many n key → AreBelow n (parts_of key)
+below_parts : (many n : ℕ) (key : List ℕ) → IsKey many n key → NumbersBelow n (parts_of key)
 below_parts many n [] h = absurd h
 below_parts many n (w ∷ ps) h = h.1
 
 pub added_one : (words : List (List ℕ)) (old new : Held) (before after key : List ℕ) (k : ℕ) (x : Atom)
     → IsKey (length old.sizes) (length old.keys) key → new.keys ≡ with_key old.keys key → new.sizes ≡ old.sizes
     → AreNumbered (length new.sizes) new.keys → k < length new.keys → key_at new.keys k ≡ key → after ≡ with_number before k
-    → AreTermsOf words old → tree_of x ≡ tree_of_key words (trees words old.keys) key → AddsAtoms words old new before after (x ∷ [])
+    → WordTerms words old → tree_of x ≡ tree_of_key words (trees words old.keys) key → AddsAtoms words old new before after (x ∷ [])
 added_one words old new before after key k x is_key keys sizes numbered inside is same t tree =
     let front = key_front old.keys key new.keys keys in
     let many : length new.sizes ≡ length words = ap length (sizes ∙ sym t.sizes) ∙ length-map words (λ (w : List ℕ). cut (length w)) in
     let own : AreNumbered (length words) new.keys = subst (λ (n : ℕ). AreNumbered n new.keys) many numbered in
     let long = length_trees words [] new.keys in
     let long_old = length_trees words [] old.keys in
-    let below : AreBelow (length (trees words old.keys)) (parts_of key)
+    let below : NumbersBelow (length (trees words old.keys)) (parts_of key)
     = below_more (length old.keys) (length (trees words old.keys)) (parts_of key) (omega (arith, long_old))
     (below_parts (length old.sizes) (length old.keys) key is_key) in
     let parts = terms_front (trees words old.keys) (trees words new.keys) (trees_front words old.keys new.keys front) (parts_of key) below in
@@ -94,13 +94,13 @@ added_one words old new before after key k x is_key keys sizes numbered inside i
 
 -- the loop over terms
 pub record AddingEach (old now : Held) (before after : List ℕ) (atom : List (List ℕ) → Tree → Atom) (all rest : List ℕ) : Type 0 where
-  pub front : Begins old.keys now.keys
+  pub front : BeginsWith old.keys now.keys
   pub sizes : now.sizes ≡ old.sizes
-  pub below : AreBelow (length old.keys) rest
-  pub adds : (words : List (List ℕ)) → AreTermsOf words old → (done : List Atom) × (AddsAtoms words old now before after done
+  pub below : NumbersBelow (length old.keys) rest
+  pub adds : (words : List (List ℕ)) → WordTerms words old → (done : List Atom) × (AddsAtoms words old now before after done
       × (map (atom words) (map (term_at (trees words old.keys)) all) ≡ done ++ map (atom words) (map (term_at (trees words old.keys)) rest)))
 
-pub each_begins : (held : Held) (atoms : List ℕ) (atom : List (List ℕ) → Tree → Atom) (all : List ℕ) → AreBelow (length held.keys) all
+pub each_begins : (held : Held) (atoms : List ℕ) (atom : List (List ℕ) → Tree → Atom) (all : List ℕ) → NumbersBelow (length held.keys) all
     → AddingEach held held atoms atoms atom all all
 each_begins held atoms atom all b = record {
   front = front_itself held.keys;
@@ -110,10 +110,10 @@ each_begins held atoms atom all b = record {
 }
 
 pub each_next : (old now new : Held) (before after more : List ℕ) (atom : List (List ℕ) → Tree → Atom) (all : List ℕ) (n : ℕ) (rest key : List ℕ)
-    → AddingEach old now before after atom all (n ∷ rest) → Begins now.keys new.keys → new.sizes ≡ now.sizes
-    → ((words : List (List ℕ)) → AreTermsOf words old → Begins old.keys now.keys
+    → AddingEach old now before after atom all (n ∷ rest) → BeginsWith now.keys new.keys → new.sizes ≡ now.sizes
+    → ((words : List (List ℕ)) → WordTerms words old → BeginsWith old.keys now.keys
     → tree_of (atom words (term_at (trees words old.keys) n)) ≡ tree_of_key words (trees words now.keys) key)
-    → ((words : List (List ℕ)) → AreTermsOf words now → (x : Atom) → tree_of x ≡ tree_of_key words (trees words now.keys) key
+    → ((words : List (List ℕ)) → WordTerms words now → (x : Atom) → tree_of x ≡ tree_of_key words (trees words now.keys) key
     → AddsAtoms words now new after more (x ∷ []))
     → AddingEach old new before more atom all rest
 each_next old now new before after more atom all n rest key s front sizes tree adds = record {
@@ -146,7 +146,7 @@ append_nil {A} (x ∷ xs) = ap (λ (l : List A). x ∷ l) (append_nil xs)
 
 pub each_ends : (old now : Held) (before after : List ℕ) (atom : List (List ℕ) → Tree → Atom) (all : List ℕ)
     → AddingEach old now before after atom all []
-    → (words : List (List ℕ)) → AreTermsOf words old
+    → (words : List (List ℕ)) → WordTerms words old
     → AddsAtoms words old now before after (map (atom words) (map (term_at (trees words old.keys)) all))
 each_ends old now before after atom all s words t =
     let d = s.adds words t in
@@ -160,20 +160,20 @@ number_next all xs i e h =
 
 pub fits_key : (old now : Held) (before after : List ℕ) (atom : List (List ℕ) → Tree → Atom) (all : List ℕ) (n : ℕ) (rest : List ℕ) (w : ℕ)
     (ps : List ℕ)
-    → AddingEach old now before after atom all (n ∷ rest) → w < length old.sizes → AreBelow (length old.keys) ps
+    → AddingEach old now before after atom all (n ∷ rest) → w < length old.sizes → NumbersBelow (length old.keys) ps
     → IsKey (length now.sizes) (length now.keys) (w ∷ ps)
 fits_key old now before after atom all n rest w ps s h b =
     let e = ap length s.sizes in
     (omega (arith, h, e), below_more (length old.keys) (length now.keys) ps (front_length old.keys now.keys s.front) b)
 
-pub single_tree : (words : List (List ℕ)) (old now : Held) (w n : ℕ) → n < length old.keys → Begins old.keys now.keys
+pub single_tree : (words : List (List ℕ)) (old now : Held) (w n : ℕ) → n < length old.keys → BeginsWith old.keys now.keys
     → tree_of (atom1 (word_at words w) (term_at (trees words old.keys) n)) ≡ tree_of_key words (trees words now.keys) (w ∷ (n ∷ []))
 single_tree words old now w n h f =
     let long = length_trees words [] old.keys in
     ap (λ (t : Tree). tree_of (atom1 (word_at words w) t))
     (sym (term_front (trees words old.keys) (trees words now.keys) (trees_front words old.keys now.keys f) n (omega (arith, h, long))))
 
-pub pair_tree : (words : List (List ℕ)) (old now : Held) (w r n : ℕ) → r < length old.keys → n < length old.keys → Begins old.keys now.keys
+pub pair_tree : (words : List (List ℕ)) (old now : Held) (w r n : ℕ) → r < length old.keys → n < length old.keys → BeginsWith old.keys now.keys
     → tree_of (atom2 (word_at words w) (term_at (trees words old.keys) r) (term_at (trees words old.keys) n)) ≡ tree_of_key words
     (trees words now.keys) (w ∷ (r ∷ (n ∷ [])))
 pair_tree words old now w r n k h f =

@@ -34,13 +34,13 @@ use Rattle.rules.specs.declared.rule_set.Keywords.{Keywords}
 use Rattle.statement.specs.Tree.{Tree, trees_of, name_eq, tree_eq}
 use Rattle.kif.proofs.Facts.{name_eq_yes, name_eq_self, tree_eq_yes, tree_eq_self}
 use Rattle.statement.specs.Clause.{Atom, Alternative, tree_of}
-use Rattle.rules.specs.RuleSets.{IsNumberOf, AreKeywords}
+use Rattle.rules.specs.RuleSets.{IsNameNumber, AreKeywords}
 use Rattle.statement.specs.Words.{w_init, w_next, w_legal}
 use Rattle.terms.specs.Dropping.{is_input_in, is_dropped_in, dropped_in, AreListsBelow, AreShown}
 use Rattle.terms.specs.Atoms.{AreAtoms}
 use Rattle.statement.specs.Printed.{first_place}
-use Rattle.clauses.specs.Marks.{AreBelow}
-use Rattle.clauses.specs.Numbers.{word_at, AreDifferent}
+use Rattle.clauses.specs.Marks.{NumbersBelow}
+use Rattle.clauses.specs.Numbers.{word_at, NamesDiffer}
 use Rattle.terms.specs.Keys.{word_of, parts_of, term_at, trees, IsKey, AreKeys}
 use Rattle.keys.specs.KeyLists.{key_at}
 use Rattle.statement.specs.Listing.{role_list, base_list, input_list}
@@ -102,8 +102,8 @@ two_missed false true false d = refl
 two_missed false false true d = refl
 two_missed false false false d = refl
 
-module _ (words : List (List ℕ)) (differ : AreDifferent words) where
-  word_same : (v k : ℕ) (word : List ℕ) → v < length words → IsNumberOf words k word → (v == k) ≡ name_eq (word_at words v) word
+module _ (words : List (List ℕ)) (differ : NamesDiffer words) where
+  word_same : (v k : ℕ) (word : List ℕ) → v < length words → IsNameNumber words k word → (v == k) ≡ name_eq (word_at words v) word
   word_same v k word h n = same_test (v == k) (name_eq (word_at words v) word) there back
     where
       there : (v == k) ≡ true → name_eq (word_at words v) word ≡ true
@@ -131,7 +131,7 @@ module _ (words : List (List ℕ)) (differ : AreDifferent words) where
             (different words differ keys keyed t r h k (tree_eq_yes (term_at (trees words keys) t) (term_at (trees words keys) r) e)) (nat_eq_self t)
 
     -- a term is among some exactly where its number is
-    among_same : (t : ℕ) → t < length (trees words keys) → (ns : List ℕ) → AreBelow (length (trees words keys)) ns
+    among_same : (t : ℕ) → t < length (trees words keys) → (ns : List ℕ) → NumbersBelow (length (trees words keys)) ns
         → list_any (nat_eq t) ns ≡ is_tree_in (term_at (trees words keys) t) (map (term_at (trees words keys)) ns)
     among_same t h [] b = refl
     among_same t h (n ∷ ns) b =
@@ -140,7 +140,7 @@ module _ (words : List (List ℕ)) (differ : AreDifferent words) where
 
     input_same : (r m : ℕ) → r < length (trees words keys) → m < length (trees words keys)
         → (f : Tree → List Tree) (roles : List ℕ) (inputs : List (List ℕ))
-        → AreBelow (length (trees words keys)) roles → AreListsBelow (length (trees words keys)) inputs
+        → NumbersBelow (length (trees words keys)) roles → AreListsBelow (length (trees words keys)) inputs
         → map (λ ns. map (term_at (trees words keys)) ns) inputs ≡ map f (map (term_at (trees words keys)) roles)
         → is_input_in roles inputs r m ≡ (is_tree_in (term_at (trees words keys) r) (map (term_at (trees words keys)) roles) && is_tree_in
         (term_at (trees words keys) m) (f (term_at (trees words keys) r)))

@@ -30,13 +30,13 @@ use Rattle.std.proofs.Common.{
 use Rattle.statement.specs.Tree.{Tree, Trees, no_trees, tree, trees_of}
 use Rattle.statement.specs.Clause.{tree_at}
 use Rattle.statement.specs.Safety.{is_name_in}
-use Rattle.clauses.specs.Marks.{AreBelow}
-use Rattle.clauses.specs.Numbers.{word_at, AreDifferent}
+use Rattle.clauses.specs.Marks.{NumbersBelow}
+use Rattle.clauses.specs.Numbers.{word_at, NamesDiffer}
 use Rattle.terms.specs.Keys.{with_key, word_of, parts_of, term_at, tree_of_key, trees_behind, trees, IsKey, AreKeys, AreDifferentTerms}
 use Rattle.keys.specs.KeyLists.{key_at}
 use Rattle.terms.proofs.KeyNumbers.{is_in, last_or_before, more_different, true_or_false}
 
-pub below_more : (m n : ℕ) (xs : List ℕ) → m ≤ n → AreBelow m xs → AreBelow n xs
+pub below_more : (m n : ℕ) (xs : List ℕ) → m ≤ n → NumbersBelow m xs → NumbersBelow n xs
 below_more m n [] h b = tt
 below_more m n (x ∷ xs) h b = (let less = b.0 in omega (arith, h, less), below_more m n xs h b.1)
 
@@ -62,7 +62,7 @@ stays words done (k ∷ ks) i h =
     let more = length_more done t in
     stays words (done ++ t ∷ []) ks i (omega (arith, h, more)) ∙ term_before done (t ∷ []) i h
 
-pub map_same : (f g : ℕ → Tree) (n : ℕ) (xs : List ℕ) → AreBelow n xs → ((i : ℕ) → i < n → f i ≡ g i) → map f xs ≡ map g xs
+pub map_same : (f g : ℕ → Tree) (n : ℕ) (xs : List ℕ) → NumbersBelow n xs → ((i : ℕ) → i < n → f i ≡ g i) → map f xs ≡ map g xs
 map_same f g n [] b h = refl
 map_same f g n (x ∷ xs) b h =
     ap (λ (t : Tree). t ∷ map f xs) (h x b.0) ∙ ap (λ (ts : List Tree). g x ∷ ts) (map_same f g n xs b.1 h)
@@ -75,7 +75,7 @@ length_trees words done (k ∷ ks) =
 
 -- the tree of each number is that of its key over all trees
 pub tree_is : (words : List (List ℕ)) (done : List Tree) (ks : List (List ℕ)) (i : ℕ) → i < length ks
-    → AreBelow (length done + i) (parts_of (key_at ks i))
+    → NumbersBelow (length done + i) (parts_of (key_at ks i))
     → term_at (trees_behind words done ks) (length done + i) ≡ tree_of_key words (trees_behind words done ks) (key_at ks i)
 tree_is words done [] i h b = absurd (let bad : ⊥ = omega (arith, h) in bad)
 tree_is words done (k ∷ ks) zero h b =
@@ -84,7 +84,7 @@ tree_is words done (k ∷ ks) zero h b =
     let more = length_more done t in
     let at : length done + 0 ≡ length done = omega arith in
     let parts_same : map (term_at done) (parts_of k) ≡ map (term_at all) (parts_of k) =
-    map_same (term_at done) (term_at all) (length done) (parts_of k) (subst (λ (n : ℕ). AreBelow n (parts_of k)) at b)
+    map_same (term_at done) (term_at all) (length done) (parts_of k) (subst (λ (n : ℕ). NumbersBelow n (parts_of k)) at b)
     (λ i less. sym (stays words (done ++ t ∷ []) ks i (omega (arith, less, more)) ∙ term_before done (t ∷ []) i less)) in
     ap (λ (n : ℕ). term_at all n) at
     ∙ stays words (done ++ t ∷ []) ks (length done) (omega (arith, more))
@@ -96,9 +96,9 @@ tree_is words done (k ∷ ks) (suc i) h b =
     let more = length_more done t in
     let at : length done + suc i ≡ length (done ++ t ∷ []) + i = omega (arith, more) in
     ap (λ (n : ℕ). term_at all n) at
-    ∙ tree_is words (done ++ t ∷ []) ks i (omega (arith, h)) (subst (λ (n : ℕ). AreBelow n (parts_of (key_at ks i))) at b)
+    ∙ tree_is words (done ++ t ∷ []) ks i (omega (arith, h)) (subst (λ (n : ℕ). NumbersBelow n (parts_of (key_at ks i))) at b)
 
-pub below_of : (many n : ℕ) (k : List ℕ) → IsKey many n k → AreBelow n (parts_of k)
+pub below_of : (many n : ℕ) (k : List ℕ) → IsKey many n k → NumbersBelow n (parts_of k)
 below_of many n [] h = absurd h
 below_of many n (w ∷ ps) h = h.1
 
@@ -116,7 +116,7 @@ pub tree_of_number : (words : List (List ℕ)) (many : ℕ) (keys : List (List �
 tree_of_number words many keys w i h =
     let at : 0 + i ≡ i = omega arith in
     subst (λ (n : ℕ). term_at (trees words keys) n ≡ tree_of_key words (trees words keys) (key_at keys i)) at
-    (tree_is words [] keys i h (subst (λ (n : ℕ). AreBelow n (parts_of (key_at keys i))) (sym at) (below_of many i (key_at keys i) (w.each i h))))
+    (tree_is words [] keys i h (subst (λ (n : ℕ). NumbersBelow n (parts_of (key_at keys i))) (sym at) (below_of many i (key_at keys i) (w.each i h))))
 
 -- a tree has one word and one list of parts
 pub record Same (v w : List ℕ) (ts us : Trees) : Type 0 where
@@ -131,7 +131,7 @@ parts_of_tree v w (tree t ts) (tree u us) e = record { word = cc; parts = cc }
 
 -- where the parts' trees are the same, so are their numbers
 same_parts : (terms : List Tree) (n : ℕ) → ((i j : ℕ) → i < n → j < length terms → term_at terms i ≡ term_at terms j → i ≡ j)
-    → (ps qs : List ℕ) → AreBelow n ps → AreBelow (length terms) qs → trees_of (map (term_at terms) ps) ≡ trees_of (map (term_at terms) qs) → ps ≡ qs
+    → (ps qs : List ℕ) → NumbersBelow n ps → NumbersBelow (length terms) qs → trees_of (map (term_at terms) ps) ≡ trees_of (map (term_at terms) qs) → ps ≡ qs
 same_parts terms n h [] [] b c e = refl
 same_parts terms n h [] (q ∷ qs) b c e = absurd cc
 same_parts terms n h (p ∷ ps) [] b c e = absurd cc
@@ -140,7 +140,7 @@ same_parts terms n h (p ∷ ps) (q ∷ qs) b c e =
     let rest : trees_of (map (term_at terms) ps) ≡ trees_of (map (term_at terms) qs) = cc in
     ap (λ (k : ℕ). k ∷ ps) (h p q b.0 c.0 first) ∙ ap (λ (xs : List ℕ). q ∷ xs) (same_parts terms n h ps qs b.1 c.1 rest)
 
-different_up_to : (words : List (List ℕ)) → AreDifferent words → (keys : List (List ℕ)) → AreKeys (length words) keys
+different_up_to : (words : List (List ℕ)) → NamesDiffer words → (keys : List (List ℕ)) → AreKeys (length words) keys
     → (n i j : ℕ) → i < n → i < length keys → j < length keys → term_at (trees words keys) i ≡ term_at (trees words keys) j → i ≡ j
 different_up_to words d keys w zero i j h a b e = absurd (let bad : ⊥ = omega (arith, h) in bad)
 different_up_to words d keys w (suc n) i j h a b e =
@@ -158,7 +158,7 @@ different_up_to words d keys w (suc n) i j h a b e =
     let word = d (word_of p) (word_of q) (word_in (length words) i p (w.each i a)) (word_in (length words) j q (w.each j b)) s.word in
     w.once i j a b (same_key (length words) i j p q (w.each i a) (w.each j b) word parts)
 
-pub different : (words : List (List ℕ)) → AreDifferent words → (keys : List (List ℕ)) → AreKeys (length words) keys
+pub different : (words : List (List ℕ)) → NamesDiffer words → (keys : List (List ℕ)) → AreKeys (length words) keys
     → AreDifferentTerms (trees words keys)
 different words d keys w i j a b e =
     let long = length_trees words [] keys in

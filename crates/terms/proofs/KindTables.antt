@@ -38,13 +38,13 @@ use Rattle.statement.specs.Tree.{Tree, Trees, name, no_trees, tree, trees_of, na
 use Rattle.kif.proofs.Facts.{name_eq_yes, name_eq_self, tree_eq_yes, tree_eq_self}
 use Rattle.statement.specs.Clause.{Atom, Alternative, relation_of, tree_of, tree_at}
 use Rattle.statement.specs.Dependence.{is_fixed}
-use Rattle.rules.specs.RuleSets.{IsNumberOf, AreKeywords}
+use Rattle.rules.specs.RuleSets.{IsNameNumber, AreKeywords}
 use Rattle.statement.specs.Words.{w_true, w_does, w_next, w_legal, w_goal, w_terminal}
 use Rattle.rules.specs.declared.rule_set.Keywords.{Keywords}
 use Rattle.statement.specs.declared.kind.Kind.{Kind}
 use Rattle.statement.specs.declared.kind.Kind.TheVariants.{Fixed, Now, Does, Next, Legal, Goal, Terminal, Other}
-use Rattle.clauses.specs.Marks.{AreBelow}
-use Rattle.clauses.specs.Numbers.{word_at, AreDifferent}
+use Rattle.clauses.specs.Marks.{NumbersBelow}
+use Rattle.clauses.specs.Numbers.{word_at, NamesDiffer}
 use Rattle.terms.specs.Keys.{term_at, tree_of_key, trees, AreDifferentTerms, IsKey}
 use Rattle.keys.specs.KeyLists.{key_at}
 use Rattle.terms.specs.Arena.{AreNumbered}
@@ -55,7 +55,7 @@ use Rattle.terms.proofs.KeyTrees.{different, length_trees, tree_of_number, parts
 
 -- A word by its number.
 
-pub word_test : (words : List (List ℕ)) → AreDifferent words → (n : ℕ) (v : List ℕ) → IsNumberOf words n v → (w : ℕ) → w < length words
+pub word_test : (words : List (List ℕ)) → NamesDiffer words → (n : ℕ) (v : List ℕ) → IsNameNumber words n v → (w : ℕ) → w < length words
     → name_eq (word_at words w) v ≡ (w == n)
 word_test words d n v i w h = go (w == n) refl
   where
@@ -90,7 +90,7 @@ none_up : (o : Option ℕ) → option_map (λ (k : ℕ). k + 0) o ≡ o
 none_up None = refl
 none_up (Some k) = ap (λ (n : ℕ). Some n) (let e : k + 0 ≡ k = omega arith in e)
 
-places_from : (terms : List Tree) → AreDifferentTerms terms → (n : ℕ) → n < length terms → (i : ℕ) (ms : List ℕ) → AreBelow (length terms) ms
+places_from : (terms : List Tree) → AreDifferentTerms terms → (n : ℕ) → n < length terms → (i : ℕ) (ms : List ℕ) → NumbersBelow (length terms) ms
     → position_from (λ (m : ℕ). n == m) i ms ≡ option_map (λ (k : ℕ). k + i) (place_in (term_at terms n) (map (term_at terms) ms))
 places_from terms d n h i [] b = refl
 places_from terms d n h i (m ∷ ms) b =
@@ -108,7 +108,7 @@ places_from terms d n h i (m ∷ ms) b =
         ∙ ap (λ (t : Bool). option_map (λ (k : ℕ). k + i) (cond t (Some zero) (option_map suc (place_in (term_at terms n) (map (term_at terms) ms)))))
         (sym e)
 
-pub place_is : (terms : List Tree) → AreDifferentTerms terms → (n : ℕ) → n < length terms → (ms : List ℕ) → AreBelow (length terms) ms
+pub place_is : (terms : List Tree) → AreDifferentTerms terms → (n : ℕ) → n < length terms → (ms : List ℕ) → NumbersBelow (length terms) ms
     → place_in (term_at terms n) (map (term_at terms) ms) ≡ place_of n ms
 place_is terms d n h ms b =
     sym (position_from-zero (λ (m : ℕ). n == m) ms ∙ places_from terms d n h 0 ms b ∙ none_up (place_in (term_at terms n) (map (term_at terms) ms)))
@@ -154,11 +154,11 @@ atom_kind rules x w ts b e f t =
 
 -- what is known of the numbers
 pub record Known (words : List (List ℕ)) (k : Keywords) (keys : List (List ℕ)) : Type 0 where
-  pub different_words : AreDifferent words
+  pub different_words : NamesDiffer words
   pub keywords : AreKeywords words k
   pub numbered : AreNumbered (length words) keys
 
-pub known : (words : List (List ℕ)) (k l : Keywords) (keys : List (List ℕ)) (sizes : List ℕ) → AreDifferent words → AreKeywords words l → k ≡ l
+pub known : (words : List (List ℕ)) (k l : Keywords) (keys : List (List ℕ)) (sizes : List ℕ) → NamesDiffer words → AreKeywords words l → k ≡ l
     → length sizes ≡ length words → AreNumbered (length sizes) keys → Known words k keys
 known words k l keys sizes d a e f n = record {
   different_words = d;

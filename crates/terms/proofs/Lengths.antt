@@ -39,7 +39,7 @@ use Rattle.std.proofs.lemmas.Grind.{same_number_lists}
 use Rattle.statement.specs.Tree.{Tree, name, text, further_text, trees_of}
 use Rattle.statement.specs.Clause.{tree_at}
 use Rattle.statement.specs.Safety.{is_name_in}
-use Rattle.clauses.specs.Marks.{AreBelow}
+use Rattle.clauses.specs.Marks.{NumbersBelow}
 use Rattle.clauses.specs.Numbers.{word_at}
 use Rattle.terms.specs.Keys.{with_key, word_of, term_at, tree_of_key, trees_behind, trees, IsKey, AreKeys}
 use Rattle.keys.specs.KeyLists.{key_at}
@@ -53,7 +53,7 @@ use Rattle.terms.proofs.KeyTrees.{keys_kept, length_trees, tree_of_number}
 -- what is left to add is the same
 pub record Adding (lengths : List ℕ) (before : ℕ) (parts : List ℕ) (i total : ℕ) : Type 0 where
   pub same : with_parts lengths before parts ≡ with_parts lengths total (drop i parts)
-  pub rest : AreBelow (length lengths) (drop i parts)
+  pub rest : NumbersBelow (length lengths) (drop i parts)
   pub small : total ≤ suc limits.text
 
 -- The lengths of a list of trees.

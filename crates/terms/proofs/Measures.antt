@@ -9,7 +9,7 @@ use Rattle.clauses.specs.declared.numbered.Part.TheVariants as parts
 use Rattle.clauses.specs.Numbers.{word_at}
 use Rattle.statement.specs.Most.{limits}
 use Rattle.terms.specs.Arena.{Held, AreNumbered, cut, sizes_of}
-use Rattle.terms.specs.Building.{ArePlaced, value_in, ground_terms}
+use Rattle.terms.specs.Building.{PartsPlaced, place_value, ground_terms}
 use Rattle.terms.specs.Keys.{term_at, trees}
 use Rattle.terms.specs.Measuring.{bytes_of}
 use Rattle.terms.proofs.Built.{symbol_tree}
@@ -60,39 +60,39 @@ atom_bytes word (t ∷ ts) = let l = list_length word (t ∷ ts) in omega (arith
 -- what is left of the limit once some parts were counted: all of it and the bytes of the other parts are no more than that and the text
 abbrev pub LeavesRoom : Held → List ℕ → List Part → List Part → ℕ → Type 0
 LeavesRoom a values all rest left = (words : List (List ℕ)) → sizes_of words ≡ a.sizes → (word : List ℕ)
-    → limits.text + all_bytes words (value_in (trees words a.keys) values) rest
-    ≤ left + length (text (tree_at word (trees_of (ground_terms words (value_in (trees words a.keys) values) all []))))
+    → limits.text + all_bytes words (place_value (trees words a.keys) values) rest
+    ≤ left + length (text (tree_at word (trees_of (ground_terms words (place_value (trees words a.keys) values) all []))))
 
 pub room_begins : (a : Held) (values : List ℕ) (ps : List Part) → LeavesRoom a values ps ps limits.text
 room_begins a values ps words e word =
-    let value = value_in (trees words a.keys) values in
+    let value = place_value (trees words a.keys) values in
     let f = further_bytes words value ps in
     let l = atom_bytes word (ground_terms words value ps []) in omega (arith, f, l)
 
 -- one more part is counted
 pub room_next : (a : Held) (values : List ℕ) (all parts : List Part) (d : Part) (i left bytes : ℕ) → i < length parts
     → LeavesRoom a values all (drop i parts) left
-    → ((words : List (List ℕ)) → sizes_of words ≡ a.sizes → bytes ≤ bytes_of words (value_in (trees words a.keys) values) (get_or parts i d))
+    → ((words : List (List ℕ)) → sizes_of words ≡ a.sizes → bytes ≤ bytes_of words (place_value (trees words a.keys) values) (get_or parts i d))
     → bytes ≤ left
     → LeavesRoom a values all (drop (i + 1) parts) (left - bytes)
 room_next a values all parts d i left bytes h room small less words sized word =
     let r = room words sized word in
     let s = small words sized in
     let n : suc i ≡ i + 1 = omega arith in
-    let e = ap (all_bytes words (value_in (trees words a.keys) values)) (drop-cons parts i d h ∙ ap (λ (j : ℕ). get_or parts i d ∷ drop j parts) n) in
+    let e = ap (all_bytes words (place_value (trees words a.keys) values)) (drop-cons parts i d h ∙ ap (λ (j : ℕ). get_or parts i d ∷ drop j parts) n) in
     omega (arith, r, s, e, less)
 
 -- a part has no room
 pub room_over : (a : Held) (values : List ℕ) (all parts : List Part) (d : Part) (i left bytes : ℕ) → i < length parts
     → LeavesRoom a values all (drop i parts) left
-    → ((words : List (List ℕ)) → sizes_of words ≡ a.sizes → bytes ≤ bytes_of words (value_in (trees words a.keys) values) (get_or parts i d))
+    → ((words : List (List ℕ)) → sizes_of words ≡ a.sizes → bytes ≤ bytes_of words (place_value (trees words a.keys) values) (get_or parts i d))
     → left < bytes
     → (words : List (List ℕ)) → sizes_of words ≡ a.sizes → (word : List ℕ)
-    → nat_lt limits.text (length (text (tree_at word (trees_of (ground_terms words (value_in (trees words a.keys) values) all []))))) ≡ true
+    → nat_lt limits.text (length (text (tree_at word (trees_of (ground_terms words (place_value (trees words a.keys) values) all []))))) ≡ true
 room_over a values all parts d i left bytes h room small less words sized word =
     let r = room words sized word in
     let s = small words sized in
-    let e = ap (all_bytes words (value_in (trees words a.keys) values)) (drop-cons parts i d h) in
+    let e = ap (all_bytes words (place_value (trees words a.keys) values)) (drop-cons parts i d h) in
     above limits.text _ (omega (arith, r, s, e, less))
   where
     above : (m n : ℕ) → m < n → nat_lt m n ≡ true
@@ -100,18 +100,18 @@ room_over a values all parts d i left bytes h room small less words sized word =
 
 -- Parts by place.
 
-pub placed_one : (many places : ℕ) (p : Part) (ps : List Part) → ArePlaced many places (p ∷ ps) → ArePlaced many places (p ∷ [])
+pub placed_one : (many places : ℕ) (p : Part) (ps : List Part) → PartsPlaced many places (p ∷ ps) → PartsPlaced many places (p ∷ [])
 placed_one many places (parts.Variable q) ps h = (h.0, tt)
 placed_one many places (parts.Constant s) ps h = (h.0, tt)
 placed_one many places (parts.List s n) ps h = (h.0, h.1, tt)
 
-placed_rest : (many places : ℕ) (p : Part) (ps : List Part) → ArePlaced many places (p ∷ ps) → ArePlaced many places ps
+placed_rest : (many places : ℕ) (p : Part) (ps : List Part) → PartsPlaced many places (p ∷ ps) → PartsPlaced many places ps
 placed_rest many places (parts.Variable q) ps h = h.1
 placed_rest many places (parts.Constant s) ps h = h.1
 placed_rest many places (parts.List s n) ps h = h.2
 
-pub placed_at : (many places : ℕ) (ps : List Part) (d : Part) (i : ℕ) → ArePlaced many places ps → i < length ps
-    → ArePlaced many places (get_or ps i d ∷ [])
+pub placed_at : (many places : ℕ) (ps : List Part) (d : Part) (i : ℕ) → PartsPlaced many places ps → i < length ps
+    → PartsPlaced many places (get_or ps i d ∷ [])
 placed_at many places [] d i h less = absurd (omega (arith, less))
 placed_at many places (q ∷ ps) d zero h less = placed_one many places q ps h
 placed_at many places (q ∷ ps) d (suc i) h less = placed_at many places ps d i (placed_rest many places q ps h) (omega (arith, less))

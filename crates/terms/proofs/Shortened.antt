@@ -4,8 +4,8 @@ use Rattle.std.proofs.Math.Seq.{take-append_seam}
 use Rattle.std.proofs.lemmas.List.{get_or-take, take-map, take-take, take-append-drop}
 use Rattle.statement.specs.Tree.{Tree, text}
 use Rattle.terms.specs.Arena.{Held, IsHeld, AreNumbered, cut}
-use Rattle.clauses.specs.Numbers.{Begins}
-use Rattle.terms.specs.Atoms.{AreTermsOf, HasGrown}
+use Rattle.clauses.specs.Numbers.{BeginsWith}
+use Rattle.terms.specs.Atoms.{WordTerms, HasGrown}
 use Rattle.terms.specs.Keys.{trees, IsKey}
 use Rattle.keys.specs.KeyLists.{key_at}
 use Rattle.terms.proofs.AtomLemmas.{trees_front, front_itself}
@@ -75,7 +75,7 @@ cut_inside count lengths keys a many ls ks h e low high ls_are ks_are =
     (held_take count many lengths keys h (omega (arith, sizes, own)) room))
 
 -- cut back to what there was before, the terms are those before
-pub again : (words : List (List ℕ)) (old after new : Held) (n : ℕ) → AreTermsOf words old → HasGrown words old after → n ≡ length old.keys
+pub again : (words : List (List ℕ)) (old after new : Held) (n : ℕ) → WordTerms words old → HasGrown words old after → n ≡ length old.keys
     → new.keys ≡ take n after.keys → new.sizes ≡ after.sizes → HasGrown words old new
 again words old after new n t g n_is keys sizes =
     let same : new.keys ≡ old.keys = keys ∙ ap (λ (m : ℕ). take m after.keys) n_is ∙ ap (λ (ks : List (List ℕ)). take (length old.keys) ks) g.front.1
@@ -85,5 +85,5 @@ again words old after new n t g n_is keys sizes =
         numbered = subst (λ (ks : List (List ℕ)). AreNumbered (length words) ks) (sym same) t.numbered;
         sizes = g.terms.sizes ∙ sym sizes;
       };
-      front = subst (λ (ks : List (List ℕ)). Begins old.keys ks) (sym same) (front_itself old.keys);
+      front = subst (λ (ks : List (List ℕ)). BeginsWith old.keys ks) (sym same) (front_itself old.keys);
     }

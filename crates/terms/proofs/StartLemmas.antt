@@ -11,8 +11,8 @@ use Rattle.statement.specs.Words.{w_init}
 use Rattle.profile.proofs.Facts.{atom_eq_yes, atom_eq_self, IsAmong-append_left}
 use Rattle.terms.specs.Arena.{AreNumbered}
 use Rattle.terms.specs.Atoms.{AreAtoms}
-use Rattle.clauses.specs.Marks.{AreBelow}
-use Rattle.clauses.specs.Numbers.{word_at, AreDifferent}
+use Rattle.clauses.specs.Marks.{NumbersBelow}
+use Rattle.clauses.specs.Numbers.{word_at, NamesDiffer}
 use Rattle.terms.specs.Keys.{term_at, trees, tree_of_key, IsKey, AreKeys}
 use Rattle.keys.specs.KeyLists.{key_at}
 use Rattle.meaning.specs.Listed.{IsWellFormed}
@@ -27,7 +27,7 @@ use Rattle.terms.proofs.KeyTrees.{below_more, parts_of_tree, tree_of_number, dif
 -- Looking a key up by its number.
 
 pub known_key : (many : ℕ) (keys : List (List ℕ)) (key : List ℕ) (k : ℕ) → AreNumbered many keys → k < length keys → key_at keys k ≡ key
-    → (ns : List ℕ) → AreBelow (length keys) ns → list_any (nat_eq k) ns ≡ has_key keys ns key
+    → (ns : List ℕ) → NumbersBelow (length keys) ns → list_any (nat_eq k) ns ≡ has_key keys ns key
 known_key many keys key k numbered h e [] b = refl
 known_key many keys key k numbered h e (n ∷ ns) b =
     let first : nat_eq k n ≡ name_eq (key_at keys n) key = same_test (nat_eq k n) (name_eq (key_at keys n) key) there back in
@@ -44,7 +44,7 @@ known_key many keys key k numbered h e (n ∷ ns) b =
         subst (λ (m : ℕ). nat_eq k m ≡ true) same (nat_eq_self k)
 
 pub unknown_key : (keys : List (List ℕ)) (key : List ℕ) → ((k : ℕ) → k < length keys → key_at keys k ≡ key → ⊥) → (ns : List ℕ)
-    → AreBelow (length keys) ns → false ≡ has_key keys ns key
+    → NumbersBelow (length keys) ns → false ≡ has_key keys ns key
 unknown_key keys key none [] b = refl
 unknown_key keys key none (n ∷ ns) b =
     let first : false ≡ name_eq (key_at keys n) key = same_test false (name_eq (key_at keys n) key) (λ t. absurd cc)
@@ -53,8 +53,8 @@ unknown_key keys key none (n ∷ ns) b =
 
 -- What keys of atoms are.
 
-module _ (words : List (List ℕ)) (differ : AreDifferent words) (keys : List (List ℕ)) (keyed : AreKeys (length words) keys) where
-  numbers_same : (ps qs : List ℕ) → AreBelow (length (trees words keys)) ps → AreBelow (length (trees words keys)) qs
+module _ (words : List (List ℕ)) (differ : NamesDiffer words) (keys : List (List ℕ)) (keyed : AreKeys (length words) keys) where
+  numbers_same : (ps qs : List ℕ) → NumbersBelow (length (trees words keys)) ps → NumbersBelow (length (trees words keys)) qs
       → trees_of (map (term_at (trees words keys)) ps) ≡ trees_of (map (term_at (trees words keys)) qs) → ps ≡ qs
   numbers_same [] [] b c e = refl
   numbers_same [] (q ∷ qs) b c e = absurd cc
@@ -65,7 +65,7 @@ module _ (words : List (List ℕ)) (differ : AreDifferent words) (keys : List (L
       let same : p ≡ q = different words differ keys keyed p q b.0 c.0 first in
       let more = numbers_same ps qs b.1 c.1 rest in cc
 
-  module _ (w : ℕ) (w_in : w < length words) (ps : List ℕ) (ps_in : AreBelow (length (trees words keys)) ps) where
+  module _ (w : ℕ) (w_in : w < length words) (ps : List ℕ) (ps_in : NumbersBelow (length (trees words keys)) ps) where
     key_of : (n : ℕ) → n < length keys → term_at (trees words keys) n ≡ tree_of_key words (trees words keys) (w ∷ ps) → key_at keys n ≡ w ∷ ps
     key_of n h e = go (key_at keys n) (keyed.each n h) (sym (tree_of_number words (length words) keys keyed n h) ∙ e)
       where
@@ -137,7 +137,7 @@ module _ (rules : List Alternative) (w : IsWellFormed rules) where
           is_atom_in_yes (atom1 w_init p) (listing rules).atoms
           (subst (λ (xs : List Atom). IsAmong (atom1 w_init p) xs) (sym front.1) (IsAmong-append_left (atom1 w_init p) start.atoms front.0 b))
 
-  module _ (words : List (List ℕ)) (differ : AreDifferent words) (keys : List (List ℕ)) (keyed : AreKeys (length words) keys) (init : ℕ)
+  module _ (words : List (List ℕ)) (differ : NamesDiffer words) (keys : List (List ℕ)) (keyed : AreKeys (length words) keys) (init : ℕ)
       (init_in : init < length words) (init_is : word_at words init ≡ w_init)
       (atoms : List ℕ) (are : AreAtoms (trees words keys) atoms (listing rules).atoms) where
     start_same : (p : ℕ) → p < length (trees words keys) → starts_in keys atoms init p ≡ play.starts rules (term_at (trees words keys) p)
@@ -146,7 +146,7 @@ module _ (rules : List Alternative) (w : IsWellFormed rules) where
         (ap (λ (v : List ℕ). tree_of (atom1 v (term_at (trees words keys) p))) init_is) atoms (listing rules).atoms are
         ∙ init_fixed (term_at (trees words keys) p)
 
-    pub starts_same : (ps : List ℕ) (ts : List Tree) → AreBelow (length (trees words keys)) ps → map (term_at (trees words keys)) ps ≡ ts
+    pub starts_same : (ps : List ℕ) (ts : List Tree) → NumbersBelow (length (trees words keys)) ps → map (term_at (trees words keys)) ps ≡ ts
         → map (starts_in keys atoms init) ps ≡ map (play.starts rules) ts
     starts_same [] [] b e = refl
     starts_same [] (t ∷ ts) b e = absurd cc

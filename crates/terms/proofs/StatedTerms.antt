@@ -28,7 +28,7 @@ use Rattle.std.proofs.lemmas.List.{map-append}
 use Rattle.statement.specs.Tree.{Tree, Trees, trees_of, name_eq, tree_eq}
 use Rattle.kif.proofs.Facts.{name_eq_yes, name_eq_self, tree_eq_yes, tree_eq_self}
 use Rattle.statement.specs.Clause.{Atom, relation_of, is_word, tree_of, count_trees}
-use Rattle.clauses.specs.Numbers.{word_at, AreDifferent}
+use Rattle.clauses.specs.Numbers.{word_at, NamesDiffer}
 use Rattle.terms.specs.Keys.{word_of, parts_of, term_at, trees, IsKey, AreKeys}
 use Rattle.keys.specs.KeyLists.{key_at}
 use Rattle.terms.specs.Atoms.{AreAtoms}
@@ -42,7 +42,7 @@ if_none : {A : Type 0} (b : Bool) → ◌≡◌ {A = List A} (cond b [] []) []
 if_none true = refl
 if_none false = refl
 
-module _ (words : List (List ℕ)) (differ : AreDifferent words) where
+module _ (words : List (List ℕ)) (differ : NamesDiffer words) where
   -- names are the same exactly where their numbers are
   words_same : (v w : ℕ) → v < length words → w < length words → (v == w) ≡ name_eq (word_at words v) (word_at words w)
   words_same v w h k = same_test (v == w) (name_eq (word_at words v) (word_at words w)) there back

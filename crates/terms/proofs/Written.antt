@@ -26,7 +26,7 @@ use Rattle.std.proofs.lemmas.List.{append-nil, reverse-append, reverse-reverse}
 use Rattle.statement.specs.Tree.{Tree, text, further_text, trees_of}
 use Rattle.terms.specs.declared.writing.Pending.{Pending}
 use Rattle.terms.specs.declared.writing.Pending.TheVariants.{Term, Closing}
-use Rattle.clauses.specs.Marks.{AreBelow}
+use Rattle.clauses.specs.Marks.{NumbersBelow}
 use Rattle.clauses.specs.Numbers.{word_at}
 use Rattle.terms.specs.Keys.{term_at, tree_of_key, trees, IsKey}
 use Rattle.keys.specs.KeyLists.{key_at}
@@ -56,7 +56,7 @@ known_first n Closing ps h = tt
 
 -- The beginning of a term.
 
-known_terms : (n : ℕ) (ps : List ℕ) → AreBelow n ps → AreKnown n (map (λ (k : ℕ). Term k) ps ++ Closing ∷ [])
+known_terms : (n : ℕ) (ps : List ℕ) → NumbersBelow n ps → AreKnown n (map (λ (k : ℕ). Term k) ps ++ Closing ∷ [])
 known_terms n [] h = tt
 known_terms n (p ∷ ps) h = (h.0, known_terms n ps h.1)
 

@@ -6,7 +6,7 @@ use Rattle.statement.specs.Tree.{Tree}
 use Rattle.statement.specs.Clause.{Alternative}
 use Rattle.rules.specs.declared.rule_set.Keywords.{Keywords}
 use Rattle.statement.specs.Printed.{first_place}
-use Rattle.clauses.specs.Marks.{AreBelow}
+use Rattle.clauses.specs.Marks.{NumbersBelow}
 use Rattle.terms.specs.Keys.{term_at}
 use Rattle.keys.specs.KeyLists.{key_at}
 use Rattle.statement.specs.Listing.{role_list, base_list, input_list}
@@ -36,12 +36,12 @@ dropped_in keys words bases roles inputs atoms = length (filter (λ n. is_droppe
 -- the numbers of each list are below n
 abbrev pub AreListsBelow : ℕ → List (List ℕ) → Type 0
 AreListsBelow n [] = ⊤
-AreListsBelow n (ns ∷ nss) = AreBelow n ns × AreListsBelow n nss
+AreListsBelow n (ns ∷ nss) = NumbersBelow n ns × AreListsBelow n nss
 
 -- the numbers of base propositions, of roles and of the inputs of each are those of the rules
 pub record AreShown (rules : List Alternative) (terms : List Tree) (bases roles : List ℕ) (inputs : List (List ℕ)) : Type 0 where
-  pub bases_in : AreBelow (length terms) bases
-  pub roles_in : AreBelow (length terms) roles
+  pub bases_in : NumbersBelow (length terms) bases
+  pub roles_in : NumbersBelow (length terms) roles
   pub inputs_in : AreListsBelow (length terms) inputs
   pub bases_are : map (term_at terms) bases ≡ base_list rules
   pub roles_are : map (term_at terms) roles ≡ role_list rules

@@ -5,7 +5,7 @@ use Rattle.std.specs.Prelude.{ℕ, zero, ◌≡◌, ◌<◌, cond, List, [], ◌
 use Rattle.statement.specs.Tree.{Tree, name, trees_of}
 use Rattle.statement.specs.Clause.{tree_at}
 use Rattle.clauses.specs.Numbers.{word_at}
-use Rattle.clauses.specs.Marks.{AreBelow}
+use Rattle.clauses.specs.Marks.{NumbersBelow}
 use Rattle.statement.specs.Safety.{is_name_in}
 use Rattle.keys.specs.KeyLists.{key_at}
 
@@ -39,7 +39,7 @@ trees words keys = trees_behind words [] keys
 -- the number of one of so many words, and then numbers below n
 abbrev pub IsKey : ℕ → ℕ → List ℕ → Type 0
 IsKey many n [] = ⊥
-IsKey many n (w ∷ ps) = (w < many) × AreBelow n ps
+IsKey many n (w ∷ ps) = (w < many) × NumbersBelow n ps
 
 -- each key stands once, behind its parts, with one of so many words
 pub record AreKeys (many : ℕ) (keys : List (List ℕ)) : Type 0 where

@@ -6,7 +6,7 @@ use Rattle.statement.specs.Clause.{Alternative}
 use Rattle.rules.specs.declared.rule_set.Keywords.{Keywords}
 use Rattle.statement.specs.declared.kind.Kind.{Kind}
 use Rattle.statement.specs.declared.kind.Kind.TheVariants.{Now, Does, Next, Legal, Goal, Terminal, Other}
-use Rattle.clauses.specs.Marks.{AreBelow}
+use Rattle.clauses.specs.Marks.{NumbersBelow}
 use Rattle.terms.specs.Keys.{term_at}
 use Rattle.statement.specs.Kinds.{one_number, two_numbers}
 use Rattle.statement.specs.Listing.{role_list, base_list, input_list}
@@ -20,9 +20,9 @@ pub record AreTables (rules : List Alternative) (terms : List Tree) (roles base 
   pub base_are : map (term_at terms) base ≡ base_list rules
   pub each : length inputs ≡ length roles
   pub inputs_are : (k : ℕ) → k < length roles → map (term_at terms) (inputs_at inputs k) ≡ input_list rules (term_at terms (slice_index roles k))
-  pub roles_within : AreBelow (length terms) roles
-  pub base_within : AreBelow (length terms) base
-  pub inputs_within : (k : ℕ) → AreBelow (length terms) (inputs_at inputs k)
+  pub roles_within : NumbersBelow (length terms) roles
+  pub base_within : NumbersBelow (length terms) base
+  pub inputs_within : (k : ℕ) → NumbersBelow (length terms) (inputs_at inputs k)
   pub few_roles : length roles < 2 ^ 32
   pub few_base : length base < 2 ^ 32
   pub few_inputs : (k : ℕ) → length (inputs_at inputs k) < 2 ^ 32

@@ -1,9 +1,9 @@
 //! Further atoms by number.
 ghost use Rattle.std.specs.Prelude.{ℕ, List, [], ◌∷◌, ◌≡◌, ◌<◌, length, map, IfOk, OnOk};
 ghost use Rattle.statement.specs.Clause.{Atom, tree_of};
-ghost use Rattle.clauses.specs.Numbers.{Begins, word_at};
-ghost use Rattle.terms.specs.Atoms.{AreTermsOf, AddsAtoms};
-ghost use Rattle.clauses.specs.Marks.{AreBelow};
+ghost use Rattle.clauses.specs.Numbers.{BeginsWith, word_at};
+ghost use Rattle.terms.specs.Atoms.{WordTerms, AddsAtoms};
+ghost use Rattle.clauses.specs.Marks.{NumbersBelow};
 ghost use Rattle.terms.specs.Keys.{IsKey, term_at, tree_of_key, trees};
 ghost use Rattle.statement.specs.Meaning.{atom1, atom2};
 
@@ -29,9 +29,9 @@ fn key_of_three(word: usize, first: usize, second: usize) -> Result<[u32; 3], Al
 /// Numbers the atom of a key, if it has no number yet.
 fn add_atom(arena: &mut Arena, atoms: &mut NumberSet, key: &[u32]) -> Result<(), AllocError>
     requires { IsKey (length arena.old.sizes) (length arena.old.keys) key.now }
-    ensures front { OnOk result (Begins arena.old.keys arena.new.keys) }
+    ensures front { OnOk result (BeginsWith arena.old.keys arena.new.keys) }
     ensures sizes { OnOk result (arena.new.sizes ≡ arena.old.sizes) }
-    ensures added { OnOk result ((words : List (List ℕ)) → AreTermsOf words arena.old → (x : Atom)
+    ensures added { OnOk result ((words : List (List ℕ)) → WordTerms words arena.old → (x : Atom)
         → tree_of x ≡ tree_of_key words (trees words arena.old.keys) key.now
         → AddsAtoms words arena.old arena.new atoms.old.keys atoms.new.keys (x ∷ [])) }
 {
@@ -48,10 +48,10 @@ pub fn add_singles(
     terms: &[usize],
 ) -> Result<(), AllocError>
     requires word { word < length arena.old.sizes }
-    requires terms { AreBelow (length arena.old.keys) terms.now }
-    ensures front { OnOk result (Begins arena.old.keys arena.new.keys) }
+    requires terms { NumbersBelow (length arena.old.keys) terms.now }
+    ensures front { OnOk result (BeginsWith arena.old.keys arena.new.keys) }
     ensures sizes { OnOk result (arena.new.sizes ≡ arena.old.sizes) }
-    ensures added { OnOk result ((words : List (List ℕ)) → AreTermsOf words arena.old
+    ensures added { OnOk result ((words : List (List ℕ)) → WordTerms words arena.old
         → AddsAtoms words arena.old arena.new atoms.old.keys atoms.new.keys
         (map (λ t. atom1 (word_at words word) t) (map (term_at (trees words arena.old.keys)) terms.now))) }
 {
@@ -72,10 +72,10 @@ pub fn add_pairs(
 ) -> Result<(), AllocError>
     requires word { word < length arena.old.sizes }
     requires first { first < length arena.old.keys }
-    requires terms { AreBelow (length arena.old.keys) terms.now }
-    ensures front { OnOk result (Begins arena.old.keys arena.new.keys) }
+    requires terms { NumbersBelow (length arena.old.keys) terms.now }
+    ensures front { OnOk result (BeginsWith arena.old.keys arena.new.keys) }
     ensures sizes { OnOk result (arena.new.sizes ≡ arena.old.sizes) }
-    ensures added { OnOk result ((words : List (List ℕ)) → AreTermsOf words arena.old
+    ensures added { OnOk result ((words : List (List ℕ)) → WordTerms words arena.old
         → AddsAtoms words arena.old arena.new atoms.old.keys atoms.new.keys
         (map (λ t. atom2 (word_at words word) (term_at (trees words arena.old.keys) first) t) (map (term_at (trees words arena.old.keys)) terms.now))) }
 {

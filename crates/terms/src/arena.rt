@@ -22,7 +22,7 @@ ghost use Rattle.std.specs.Prelude.{
 };
 ghost use Rattle.statement.specs.Tree.{text};
 ghost use Rattle.rules.specs.RuleSetView.{lists_of_set};
-ghost use Rattle.clauses.specs.Marks.{AreBelow};
+ghost use Rattle.clauses.specs.Marks.{NumbersBelow};
 ghost use Rattle.terms.specs.Keys.{term_at, trees, with_key, IsKey, parts_of, word_of};
 ghost use Rattle.keys.specs.KeyLists.{key_at};
 ghost use Rattle.terms.specs.Arena.{cut, sizes_of, with_parts, key_length, AreNumbered};
@@ -230,7 +230,7 @@ fn cut(length: usize) -> u16
 fn key_length(lengths: &[u16], key: &[u32]) -> u16
     requires short { (i : ℕ) → slice_index lengths.now i ≤ limits.text + 1 }
     requires some { 0 < length key.now }
-    requires within { AreBelow (length lengths.now) key.now }
+    requires within { NumbersBelow (length lengths.now) key.now }
     ensures exact { result ≡ key_length lengths.now key.now }
     ensures cut { result ≤ limits.text + 1 }
 {
@@ -245,7 +245,7 @@ fn key_length(lengths: &[u16], key: &[u32]) -> u16
 fn with_parts(lengths: &[u16], before: u16, parts: &[u32]) -> u16
     requires short { (i : ℕ) → slice_index lengths.now i ≤ limits.text + 1 }
     requires before { before ≤ limits.text + 1 }
-    requires within { AreBelow (length lengths.now) parts.now }
+    requires within { NumbersBelow (length lengths.now) parts.now }
     ensures exact { result ≡ with_parts lengths.now before parts.now }
     ensures cut { result ≤ limits.text + 1 }
 {

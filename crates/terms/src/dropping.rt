@@ -1,7 +1,7 @@
 //! How many atoms have no effect on play.
 ghost use Rattle.std.specs.Prelude.{◌≡◌, length, map};
 ghost use Rattle.terms.specs.Dropping.{is_input_in, misses_base_in, misses_input_in, is_dropped_in, dropped_in};
-ghost use Rattle.clauses.specs.Marks.{AreBelow};
+ghost use Rattle.clauses.specs.Marks.{NumbersBelow};
 
 use crate::arena::Arena;
 use indexmap::IndexSet;
@@ -71,7 +71,7 @@ pub fn count_dropped(
     inputs: &[IndexSet<usize>],
     atoms: &[u32],
 ) -> usize
-    requires atoms { AreBelow (length arena.now.keys) atoms.now }
+    requires atoms { NumbersBelow (length arena.now.keys) atoms.now }
     requires beside { length inputs.now ≡ length roles.now.keys }
     ensures { result ≡ dropped_in arena.now.keys words bases.now.keys roles.now.keys (map (λ s. s.keys) inputs.now) atoms.now }
 {

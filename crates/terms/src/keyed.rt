@@ -1,7 +1,7 @@
 //! Ground terms by number: each different one has one.
 ghost use Rattle.std.specs.Prelude.{ℕ, ◌≡◌, ◌<◌, ◌≢◌, List, length, take, IfOk, OnOk, OnErr, MatchOption};
 ghost use Rattle.keys.specs.Chains.{key_hash};
-ghost use Rattle.clauses.specs.Numbers.{AreDifferent};
+ghost use Rattle.clauses.specs.Numbers.{NamesDiffer};
 ghost use Rattle.terms.specs.Keys.{with_key, IsKey, AreKeys, AreDifferentTerms, trees};
 ghost use Rattle.keys.specs.KeyLists.{key_at};
 
@@ -20,13 +20,13 @@ pub struct Terms {
 
 impl Model for Terms {
     ghost use Rattle.std.specs.Prelude.{ℕ, List};
-    ghost use Rattle.keys.specs.Chains.{AreKept};
+    ghost use Rattle.keys.specs.Chains.{KeysKept};
 
     ghost Value = { List (List ℕ) };
 
     ghost view = { λ s. s.keys };
 
-    ghost invariant = { λ s. AreKept s.keys s.chains };
+    ghost invariant = { λ s. KeysKept s.keys s.chains };
 }
 
 impl Terms {
@@ -118,7 +118,7 @@ impl Terms {
 /// Different numbers are different trees, and keys stay so when one more is numbered whose parts are
 /// numbered already.
 pub fn numbers_are_trees()
-    ensures different { (words : List (List ℕ)) → AreDifferent words
+    ensures different { (words : List (List ℕ)) → NamesDiffer words
         → (keys : List (List ℕ)) → AreKeys (length words) keys → AreDifferentTerms (trees words keys) }
     ensures kept { (many : ℕ) (keys : List (List ℕ)) (key : List ℕ) → AreKeys many keys → IsKey many (length keys) key
         → AreKeys many (with_key keys key) }

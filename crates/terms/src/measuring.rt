@@ -2,9 +2,9 @@
 ghost use Rattle.std.specs.Prelude.{ℕ, List, [], ◌∷◌, ◌≡◌, ◌<◌, ◌≤◌, length, nat_lt, true};
 ghost use Rattle.statement.specs.Tree.{text, trees_of};
 ghost use Rattle.statement.specs.Clause.{tree_at};
-ghost use Rattle.clauses.specs.Marks.{AreBelow};
+ghost use Rattle.clauses.specs.Marks.{NumbersBelow};
 ghost use Rattle.terms.specs.Arena.{sizes_of, AreNumbered};
-ghost use Rattle.terms.specs.Building.{ArePlaced, value_in, ground_terms};
+ghost use Rattle.terms.specs.Building.{PartsPlaced, place_value, ground_terms};
 ghost use Rattle.terms.specs.Keys.{trees};
 ghost use Rattle.terms.specs.Measuring.{bytes_of};
 ghost use Rattle.statement.specs.Most.{limits};
@@ -16,10 +16,10 @@ impl Arena {
     /// The bytes that a part adds to a text, with the space before it: a list adds its symbol and its brackets, as its terms are parts of
     /// their own. The length of a name or of a term counts to one more than the limit.
     fn bytes_of(&self, part: Part, values: &[u32]) -> usize
-        requires placed { ArePlaced (length self.now.sizes) (length values.now) (part ∷ []) }
-        requires values { AreBelow (length self.now.keys) values.now }
+        requires placed { PartsPlaced (length self.now.sizes) (length values.now) (part ∷ []) }
+        requires values { NumbersBelow (length self.now.keys) values.now }
         ensures { (words : List (List ℕ)) → sizes_of words ≡ self.now.sizes
-            → result ≤ bytes_of words (value_in (trees words self.now.keys) values.now) part }
+            → result ≤ bytes_of words (place_value (trees words self.now.keys) values.now) part }
     {
         match part {
             Part::Variable(place) => self.length_of(values[place] as usize).saturating_add(1),
@@ -31,11 +31,11 @@ impl Arena {
     /// Whether placed parts alone are longer, as text, than the head of a kept instance may be, so that each atom of them is. The word of
     /// an atom is not counted. No term is built, and no more parts are looked at than there may be bytes.
     pub fn are_too_long(&self, parts: &[Part], values: &[u32]) -> bool
-        requires placed { ArePlaced (length self.now.sizes) (length values.now) parts.now }
-        requires values { AreBelow (length self.now.keys) values.now }
+        requires placed { PartsPlaced (length self.now.sizes) (length values.now) parts.now }
+        requires values { NumbersBelow (length self.now.keys) values.now }
         ensures { result ≡ true → (words : List (List ℕ)) → sizes_of words ≡ self.now.sizes → (word : List ℕ)
             → nat_lt limits.text (length (text (tree_at word
-            (trees_of (ground_terms words (value_in (trees words self.now.keys) values.now) parts.now []))))) ≡ true }
+            (trees_of (ground_terms words (place_value (trees words self.now.keys) values.now) parts.now []))))) ≡ true }
     {
         let mut left = TEXT_LIMIT;
         for part in parts {

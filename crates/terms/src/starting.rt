@@ -1,7 +1,7 @@
 //! Which base propositions hold at the start.
 ghost use Rattle.std.specs.Prelude.{◌≡◌, length, map, IfOk};
 ghost use Rattle.terms.specs.Arena.{AreNumbered};
-ghost use Rattle.clauses.specs.Marks.{AreBelow};
+ghost use Rattle.clauses.specs.Marks.{NumbersBelow};
 ghost use Rattle.terms.specs.Starting.{has_key, starts_in};
 
 use crate::arena::Arena;
@@ -12,7 +12,7 @@ use std::alloc::{AllocError, Global};
 /// Whether the term with a key is an atom.
 fn is_atom(arena: &Arena, atoms: &NumberSet, key: &[u32]) -> bool
     requires numbered { AreNumbered (length arena.now.sizes) arena.now.keys }
-    requires atoms { AreBelow (length arena.now.keys) atoms.now.keys }
+    requires atoms { NumbersBelow (length arena.now.keys) atoms.now.keys }
     ensures { result ≡ has_key arena.now.keys atoms.now.keys key.now }
 {
     match arena.number(key) {
@@ -30,7 +30,7 @@ pub fn starts_of(
     bases: &[usize],
 ) -> Result<Vec<bool>, AllocError>
     requires numbered { AreNumbered (length arena.now.sizes) arena.now.keys }
-    requires atoms { AreBelow (length arena.now.keys) atoms.now.keys }
+    requires atoms { NumbersBelow (length arena.now.keys) atoms.now.keys }
     ensures { IfOk result (λ starts. starts.items ≡ map (starts_in arena.now.keys atoms.now.keys init) bases.now) }
 {
     let mut starts = Vec::with_capacity(alloc, bases.len())?;

@@ -1,6 +1,6 @@
 //! The terms that the fixed relations state: roles, base propositions and inputs.
 ghost use Rattle.std.specs.Prelude.{◌≡◌, ◌<◌, ◌++◌, length, OnOk};
-ghost use Rattle.clauses.specs.Marks.{AreBelow};
+ghost use Rattle.clauses.specs.Marks.{NumbersBelow};
 ghost use Rattle.terms.specs.Stated.{one_part, second_part, only_parts, second_parts};
 
 use crate::arena::Arena;
@@ -30,7 +30,7 @@ pub fn add_only_parts(
     atoms: &[u32],
     terms: &mut Vec<usize>,
 ) -> Result<(), AllocError>
-    requires { AreBelow (length arena.now.keys) atoms.now }
+    requires { NumbersBelow (length arena.now.keys) atoms.now }
     ensures { OnOk result (terms.new.items ≡ terms.old.items ++ only_parts arena.now.keys word atoms.now) }
 {
     for atom in atoms {
@@ -65,7 +65,7 @@ pub fn add_second_parts(
     atoms: &[u32],
     terms: &mut Vec<usize>,
 ) -> Result<(), AllocError>
-    requires { AreBelow (length arena.now.keys) atoms.now }
+    requires { NumbersBelow (length arena.now.keys) atoms.now }
     ensures { OnOk result (terms.new.items ≡ terms.old.items ++ second_parts arena.now.keys word role atoms.now) }
 {
     for atom in atoms {

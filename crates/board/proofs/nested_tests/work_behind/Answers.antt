@@ -1,7 +1,7 @@
 use Rattle.std.proofs.Common.{rules, ◌≡◌, ◌+◌, ◌-◌, min, max, ap, ◌∙◌, arith}
 use Rattle.board.specs.Boards.{kept}
 use Rattle.board.specs.Books.{seen}
-use Rattle.board.specs.Windows.{IsWithin}
+use Rattle.board.specs.Windows.{BoundsWithin}
 use Rattle.board.specs.Seats.{book, setup_on, task_own}
 use Rattle.board.specs.declared.book.Book.{Book}
 use Rattle.board.proofs.nested_tests.work_behind.Goals as goal
@@ -19,7 +19,7 @@ loop-reply-preserved-in-Some-window c =
     ap (λ (u : Book). u.low) c.window.ensures.read ∙ ap (λ (u : Book). u.low) c.in-Some.ensures.hand in
     let high_same : (book c.window.new.s).high ≡ (book c.loop-reply.seat).high =
     ap (λ (u : Book). u.high) c.window.ensures.read ∙ ap (λ (u : Book). u.high) c.in-Some.ensures.hand in
-    let within : IsWithin (k.best - (setup_on c.args.outer.now).margin) (seen k (task_own c.args.task.now)) (setup_on c.args.inner.now) l = (
+    let within : BoundsWithin (k.best - (setup_on c.args.outer.now).margin) (seen k (task_own c.args.task.now)) (setup_on c.args.inner.now) l = (
       omega (arith, was.0, c.look-lo.ensures.narrower.best, low_now, low_next, low_same, c.requires.ties),
       omega (arith, was.1, c.look-lo.ensures.narrower.uppers (task_own c.args.task.now), high_now, high_next, high_same),
     ) in

@@ -1,5 +1,5 @@
 use Rattle.std.proofs.Common.{ℕ, List, length, ap, subst, sym, ◌∙◌, arith}
-use Rattle.keys.specs.Chains.{bucket_of, key_hash, AreChained}
+use Rattle.keys.specs.Chains.{bucket_of, key_hash, KeysChained}
 use Rattle.keys.specs.Hashes.{upper, bucket_in}
 use Rattle.keys.proofs.chains.chains_over.Goals as goal
 
@@ -15,7 +15,7 @@ pub returns-clause-kept : goal.returns-clause-kept
 returns-clause-kept c =
     let last = c.loop-number.chains.last.items in
     let before = c.loop-number.chains.before.items in
-    subst (λ (many : ℕ). AreChained (bucket_of c.args.keys.now many) (length c.args.keys.now) last before) (sym c.loop-number.invariant.many)
-    (subst (λ (n : ℕ). AreChained (bucket_of c.args.keys.now c.args.many) n last before)
+    subst (λ (many : ℕ). KeysChained (bucket_of c.args.keys.now many) (length c.args.keys.now) last before) (sym c.loop-number.invariant.many)
+    (subst (λ (n : ℕ). KeysChained (bucket_of c.args.keys.now c.args.many) n last before)
     (let h = c.loop-number-test.false in let k = c.loop-number.auto.number-end in let e = c.len-number-end.ensures in omega (arith, h, k, e))
     c.loop-number.invariant.linked)

@@ -1,10 +1,10 @@
 use Rattle.std.proofs.Common.{◌≡◌, length, take}
-use Rattle.keys.specs.Chains.{AreKept}
+use Rattle.keys.specs.Chains.{KeysKept}
 use Rattle.keys.proofs.chains.drop_behind.Given as goal
 
 abbrev pub invariant-loop-keys : goal.invariant-loop-keys
 invariant-loop-keys l = record {
-  kept : AreKept l.keys l.chains;
+  kept : KeysKept l.keys l.chains;
   front : take l.many l.keys ≡ take l.many l.initial.keys;
 }
 

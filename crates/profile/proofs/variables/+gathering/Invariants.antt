@@ -1,7 +1,7 @@
 use Rattle.std.proofs.Common.{◌++◌, ◌≤◌, length, drop}
 use Rattle.statement.specs.Tree.{trees_of}
 use Rattle.kif.specs.View.{tree_of, trees_in}
-use Rattle.profile.specs.Names.{names_behind, HasSameNames, AreDifferent}
+use Rattle.profile.specs.Names.{names_behind, HasSameNames, NamesOnce}
 use Rattle.statement.specs.Safety.{variables_in}
 use Rattle.statement.specs.RuleLimits.{most_variables}
 use Rattle.profile.proofs.Sizes.{tree_size, trees_size}
@@ -17,5 +17,5 @@ abbrev pub invariant-gather_all-loop-part : goal.invariant-gather_all-loop-part
 invariant-gather_all-loop-part g l =
     HasSameNames (variables_in (trees_of (trees_in (drop l.part-index l.parts))) ++ names_behind l.seen.items)
     (variables_in (trees_of (trees_in l.parts)) ++ names_behind l.fn.seen.items)
-    × AreDifferent (names_behind l.seen.items)
+    × NamesOnce (names_behind l.seen.items)
     × (length l.seen.items ≤ most_variables)

@@ -3,7 +3,7 @@ use Rattle.propnet.specs.NetView.{gate_with}
 use Rattle.gates.proofs.Facts.{nor_literal}
 use Rattle.tape.proofs.Meaning.{meant_source, meant_all, meant_none, meant_or, terms_within, queue_within, reads_below}
 use Rattle.gates.proofs.Facts.{ok_then}
-use Rattle.gates.specs.Terms.{terms_of}
+use Rattle.gates.specs.Terms.{terms_there}
 use Rattle.tape.proofs.translating.literal_for.Goals as goal
 
 pub returns-then-is_source-clause-value : goal.returns-then-is_source-clause-value
@@ -23,7 +23,7 @@ pub any_of_all-requires-clause-terms : goal.any_of_all-requires-clause-terms
 any_of_all-requires-clause-terms c =
     terms_within c.args.net.now c.args.marks.now c.args.sources.now.words.items c.args.n (gate_with c.gate-name.result.0 c.gate-name.result.1.now)
     c.args.builder.now
-    c.args.literals.now (terms_of c.add_terms.new.terms)
+    c.args.literals.now (terms_there c.add_terms.new.terms)
     c.gate-name.ensures c.requires.node (sym c.is_or.ensures ∙ c.if-is_or.true) c.requires.closed c.if-not-marks-n.false c.requires.so_far
     c.in_ok-add_terms.ensures.terms
 
@@ -32,7 +32,7 @@ returns-then-is_or-clause-value c = ok_then c.any_of_all.result _ _
     (λ l h on.
     meant_or c.args.net.now c.args.marks.now c.args.sources.now.words.items c.args.n (gate_with c.gate-name.result.0 c.gate-name.result.1.now)
     c.args.builder.now
-    c.args.literals.now (terms_of c.add_terms.new.terms)
+    c.args.literals.now (terms_there c.add_terms.new.terms)
     c.gate-name.ensures c.requires.node (sym c.is_or.ensures ∙ c.if-is_or.true) c.requires.closed c.if-not-marks-n.false c.requires.so_far
     c.in_ok-add_terms.ensures.terms
     c.any_of_all.new.self l c.any_of_all.ensures.step h)

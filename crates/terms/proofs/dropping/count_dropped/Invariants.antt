@@ -1,11 +1,11 @@
 use Rattle.std.proofs.Common.{◌≡◌, ◌≤◌, ◌+◌, length, map, drop}
 use Rattle.terms.specs.Dropping.{dropped_in}
-use Rattle.clauses.specs.Marks.{AreBelow}
+use Rattle.clauses.specs.Marks.{NumbersBelow}
 use Rattle.terms.proofs.dropping.count_dropped.Given as goal
 
 abbrev pub invariant-loop-atom : goal.invariant-loop-atom
 invariant-loop-atom l =
     (l.count ≤ l.atom-index)
-    × (AreBelow (length l.arena.keys) (drop l.atom-index l.atoms)
+    × (NumbersBelow (length l.arena.keys) (drop l.atom-index l.atoms)
     × (l.count + dropped_in l.arena.keys l.words l.bases.keys l.roles.keys (map (λ s. s.keys) l.inputs) (drop l.atom-index l.atoms)
     ≡ dropped_in l.fn.arena.keys l.fn.words l.fn.bases.keys l.fn.roles.keys (map (λ s. s.keys) l.fn.inputs) l.fn.atoms))

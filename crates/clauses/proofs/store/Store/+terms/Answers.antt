@@ -5,7 +5,7 @@ use Rattle.kif.specs.View.{tree_of, trees_in}
 use Rattle.kif.proofs.Facts.{trees_in_take}
 use Rattle.statement.specs.Items.{is_term, are_terms}
 use Rattle.clauses.specs.StoreView.{data_of}
-use Rattle.clauses.specs.Adding.{Adds}
+use Rattle.clauses.specs.Adding.{AddsTerms}
 use Rattle.profile.proofs.Facts.{rest_smaller, part_smaller, tree_is_slice, tree_is_word, no_word_no_term, one_of_all, compound_word, compound_terms}
 use Rattle.profile.proofs.Facts.{on_ok}
 use Rattle.clauses.proofs.NumberLemmas.{true_or_false}
@@ -35,7 +35,7 @@ pub add_term-returns-in_ok-begin_list-in-Some : goal.add_term-returns-in_ok-begi
 add_term-returns-in_ok-begin_list-in-Some g t c =
     let h = tree_is_word _ _ _ _ _ c.in-List.is c.deref-in-List.ensures.value c.in-Some.ensures in
     on_ok c.add_terms.result _ _
-    (λ x. subst (λ (u : Tree). Adds c.args.from (data_of c.args.self.now) (data_of c.add_terms.new.self) (u ∷ [])) (sym h)
+    (λ x. subst (λ (u : Tree). AddsTerms c.args.from (data_of c.args.self.now) (data_of c.add_terms.new.self) (u ∷ [])) (sym h)
     (adds_list c.args.from _ _ _ _ _ _ (sym (length-map _ _))
     (compound_word c.in-Some.word.now (trees_of (trees_in c.in-Some.terms.now)) (sym (ap is_term h) ∙ c.requires.term))
     c.in_ok-begin_list-in-Some.ensures x))
@@ -57,6 +57,6 @@ add_terms-add_term-requires g t c κs within =
 
 pub add_terms-loop-term-preserved : goal.add_terms-loop-term-preserved
 add_terms-loop-term-preserved g t c =
-    subst (λ (ts : List Tree). Adds c.args.from (data_of c.args.self.now) (data_of c.add_term.new.self) ts)
+    subst (λ (ts : List Tree). AddsTerms c.args.from (data_of c.args.self.now) (data_of c.add_term.new.self) ts)
     (sym (trees_in_take c.args.terms.now c.loop-term.term-index c.term-item.result c.loop-term-test.true c.term-item.is))
     (adds_both c.args.from _ _ _ _ _ c.loop-term.invariant c.in_ok-add_term.ensures)

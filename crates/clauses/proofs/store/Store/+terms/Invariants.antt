@@ -1,7 +1,7 @@
 use Rattle.std.proofs.Common.{take}
 use Rattle.kif.specs.View.{tree_of, trees_in}
 use Rattle.clauses.specs.StoreView.{data_of}
-use Rattle.clauses.specs.Adding.{Adds}
+use Rattle.clauses.specs.Adding.{AddsTerms}
 use Rattle.profile.proofs.Facts.{tree_size, trees_size}
 use Rattle.clauses.proofs.store.Store.+terms.Given as goal
 
@@ -12,4 +12,4 @@ abbrev pub decreases-add_terms : goal.decreases-add_terms
 decreases-add_terms g l = trees_size (trees_in l.terms.now)
 
 abbrev pub invariant-add_terms-loop-term : goal.invariant-add_terms-loop-term
-invariant-add_terms-loop-term g l = Adds l.from (data_of l.fn.self) (data_of l.self) (trees_in (take l.term-index l.terms))
+invariant-add_terms-loop-term g l = AddsTerms l.from (data_of l.fn.self) (data_of l.self) (trees_in (take l.term-index l.terms))
