@@ -11,6 +11,6 @@ mod runs;
 mod tests;
 
 pub use atom_literal::AtomLiteral;
-pub use entry::{Entry, AlternativeRun};
+pub use entry::{AlternativeRun, Entry};
 pub use found_list::{FoundList, push_instance, push_literal};
 pub use leaving_out::leave_out;

@@ -40,7 +40,11 @@ fn is_last(runs: &[AlternativeRun], alternative: usize) -> bool
 }
 
 /// AddsRun the run of an instance behind those of all before it, unless it is of the last one's alternative.
-pub fn add_run(runs: &mut Vec<AlternativeRun>, alternative: usize, place: usize) -> Result<(), AllocError>
+pub fn add_run(
+    runs: &mut Vec<AlternativeRun>,
+    alternative: usize,
+    place: usize,
+) -> Result<(), AllocError>
     ensures { OnOk result (RunsRise 0 runs.old.items place → AddsRun alternative place runs.old.items runs.new.items) }
 {
     if is_last(runs, alternative) {
