@@ -1,13 +1,18 @@
 -- States and joint moves by number, and the trees that the numbers stand for.
-use Rattle.std.specs.Prelude.{ℕ, Bool, ◌==◌, List, false, Option, Some, None, map, slice_index}
+use Rattle.std.specs.Prelude.{ℕ, zero, suc, cond, Bool, ◌==◌, List, [], ◌∷◌, false, Option, Some, None, map, slice_index}
 use Rattle.std.specs.List.{list_any}
-use Rattle.statement.specs.Tree.{Tree}
+use Rattle.std.specs.Option.{option_map}
+use Rattle.statement.specs.Tree.{Tree, tree_eq}
 use Rattle.statement.specs.Played.{nth_tree}
 use Rattle.statement.specs.Clause.{Alternative}
 use Rattle.statement.specs.Meaning.{StateOfTerms, Joint}
-use Rattle.statement.specs.Kinds.{place_in}
 use Rattle.statement.specs.Listing.{role_list, base_list, input_list}
 use Rattle.statement.specs.Rules.{Turn}
+
+-- the place of a tree in a list, from 0
+abbrev pub place_in : Tree → List Tree → Option ℕ
+place_in t [] = None
+place_in t (u ∷ us) = cond (tree_eq t u) (Some zero) (option_map suc (place_in t us))
 
 abbrev pub stands_in : ℕ → List ℕ → Bool
 stands_in n ns = list_any (λ m. m == n) ns

@@ -1,18 +1,14 @@
+-- Beside the statement: what `run` promises does not rest on it.
 -- Where an atom stands in play, by the numbers of roles, base propositions, inputs and values.
-use Rattle.std.specs.Prelude.{ℕ, zero, suc, cond, List, [], ◌∷◌, Option, Some, None, decimal}
-use Rattle.std.specs.Option.{option_map}
-use Rattle.statement.specs.Tree.{Tree, name, list, Trees, no_trees, tree, name_eq, tree_eq}
+use Rattle.std.specs.Prelude.{ℕ, zero, suc, cond, List, Option, Some, None, decimal}
+use Rattle.statement.specs.Tree.{Tree, name, list, Trees, no_trees, tree, name_eq}
 use Rattle.statement.specs.Words.{w_true, w_does, w_next, w_legal, w_goal, w_terminal}
 use Rattle.statement.specs.Clause.{Atom, Alternative, relation_of}
 use Rattle.statement.specs.Dependence.{is_fixed}
 use Rattle.statement.specs.declared.kind.Kind.{Kind}
 use Rattle.statement.specs.declared.kind.Kind.TheVariants.{Fixed, Now, Does, Next, Legal, Goal, Terminal, Other}
 use Rattle.statement.specs.Listing.{role_list, base_list, input_list}
-
--- the place of a tree in a list, from 0
-abbrev pub place_in : Tree → List Tree → Option ℕ
-place_in t [] = None
-place_in t (u ∷ us) = cond (tree_eq t u) (Some zero) (option_map suc (place_in t us))
+pub use Rattle.statement.specs.GameNumbers.{place_in}
 
 -- the number from 0 to n that is written so, in decimal without a leading zero
 abbrev pub value_up_to : ℕ → List ℕ → Option ℕ

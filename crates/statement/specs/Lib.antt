@@ -26,8 +26,6 @@ pub mod GoalsAndMoves
 pub mod Limits
 pub mod LimitTexts
 -- The nodes of the network (propositional networks, Genesereth and Thielscher, General Game Playing)
-pub mod Kinds
-pub mod Kept
 pub mod Nodes
 -- Play (game model of GDL; `base` and `input` after Genesereth and Thielscher)
 pub mod Rules
@@ -50,3 +48,6 @@ pub mod Networks
 pub mod Solving
 pub mod Replies
 pub mod Input
+-- Beside the statement: kinds of atoms, and what and gates read, of which several crates speak
+pub mod Kinds
+pub mod Kept

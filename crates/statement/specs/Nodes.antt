@@ -6,8 +6,8 @@ use Rattle.statement.specs.Clause.{Atom, Literal, positive, negative, atom_eq, A
 use Rattle.statement.specs.Dependence.{is_fixed}
 use Rattle.statement.specs.Listing.{Instance, is_atom_in, heads, other_part, listing, role_list, base_list, input_list}
 
--- what a node stands for: a base proposition, an input of a role, all of the body of a kept instance, an atom as the head of such
--- instances, the negation of an atom, or a base proposition after the turn
+-- what a node stands for: a base proposition, an input of a role, the body of a kept instance (an and gate), an atom that heads such
+-- instances, the negation of an atom (a not gate), or a base proposition after the turn
 pub data NetNode : Type 0 where
   base : Tree → NetNode
   input : Tree → Tree → NetNode

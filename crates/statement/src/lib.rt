@@ -1,5 +1,6 @@
 //! What the promise of the program rests on: its definitions, in `specs/`, and the types that they speak of, with how each is
-//! written. There is no other code.
+//! written. Beside it stand the kinds of atoms, the names of nodes and what and gates read, of which several crates speak. There is no
+//! other code.
 #![tactic(auto)]
 
 mod at_bound;
