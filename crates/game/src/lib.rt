@@ -5,6 +5,7 @@
 mod game;
 mod joint;
 mod play_laws;
+mod question;
 mod refusal;
 mod replaying;
 mod stuck;
@@ -16,6 +17,7 @@ pub use play_laws::{
     nothing_at_the_bound_is_the_plain_value, play_stays_within_the_game,
     same_play_is_played_the_same,
 };
+pub use question::Question;
 pub use refusal::add_history_refusal;
 pub use replaying::replay;
 pub use statement::{AtBound, HistoryFault};

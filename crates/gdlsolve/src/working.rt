@@ -38,16 +38,12 @@ pub(crate) fn told_by_workers<T: Threads + Sync + AllocGlobal, G: Game + Drop>(
         (named (G.rules search.game) (G.role_name search.game) (G.move_name search.game))
         search.role search.depth search.at (G.state search.game search.here))) }
 {
-    let found = solve(
-        rt,
-        &search.game,
-        &search.here,
-        search.role,
-        search.depth,
-        search.at,
-        &search.cut,
-        &Open,
-    )?;
+    let asked = game::Question {
+        role: search.role,
+        depth: search.depth,
+        at: search.at,
+    };
+    let found = solve(rt, &search.game, &search.here, asked, &search.cut, &Open)?;
     search.told(rt.alloc(), found)
 }
 

@@ -2,10 +2,11 @@
 use Rattle.std.proofs.Common.{◌≡◌, ℕ, ◌<◌, ◌≤◌, List, [], ◌∷◌, refl, sym, ◌∙◌, ap, arith, w16}
 use Rattle.std.proofs.lemmas.Int.{ints, clamps, to_z-of_z}
 use mir.Val.{SFits, of_z, to_z}
-use Rattle.std.specs.Prelude.{ℤ, pos, ◌+ℤ◌, ◌-ℤ◌, ◌<ℤ◌, ◌≤ℤ◌, ◌==◌, min, map, Some}
+use Rattle.std.specs.Prelude.{ℤ, pos, negsuc, ◌+ℤ◌, ◌-ℤ◌, ◌<ℤ◌, ◌≤ℤ◌, ◌==◌, min, map, Some}
 use Rattle.std.specs.Int.{int_min, int_max}
 use Rattle.statement.specs.Rules.{Turn}
 use Rattle.game.specs.Value.{Answers}
+use Rattle.maximin.specs.Tools.{IsWindow}
 use Rattle.maximin.proofs.Reply.{least_worth, first_least, find_here, find_behind, test_true, test_false, least_part}
 
 -- a part of the window is enough where no value is outside of it
@@ -20,6 +21,10 @@ within_goals v a b low high r few l h is =
 pub outside_goals : (v : ℕ) (a b low high : ℤ) → v ≤ 100 → low ≡ int_max a (pos 0) → high ≡ int_min b (pos 100) → high ≤ℤ low → Answers v a b high
 outside_goals v a b low high few l h closed = record { at_least = omega (arith, ints, clamps); at_most = omega (arith, ints, clamps) }
 
+-- and that part is a window
+pub goals_window : (a b low high : ℤ) → low ≡ int_max a (pos 0) → high ≡ int_min b (pos 100) → low <ℤ high → IsWindow low high
+goals_window a b low high l h less = record { low = omega (arith, ints, clamps); order = less; high = omega (arith, ints, clamps) }
+
 -- the numbers beside a value, as they are kept
 pub fits_above : (v : ℕ) (z : ℤ) → v ≤ 100 → z ≡ pos v → SFits w16 (z +ℤ pos 1)
 fits_above v z few e = omega (arith, ints)
@@ -32,6 +37,9 @@ more_above v z few e = rw (to_z-of_z w16 (z +ℤ pos 1) (fits_above v z few e)) 
 
 pub less_below : (v : ℕ) (z : ℤ) → v ≤ 100 → z ≡ pos v → to_z w16 (of_z w16 (z -ℤ pos 1)) <ℤ z
 less_below v z few e = rw (to_z-of_z w16 (z -ℤ pos 1) (fits_below v z few e)) (omega (arith, ints))
+
+pub low_below : (v : ℕ) (z : ℤ) → v ≤ 100 → z ≡ pos v → negsuc 1 ≤ℤ to_z w16 (of_z w16 (z -ℤ pos 1))
+low_below v z few e = rw (to_z-of_z w16 (z -ℤ pos 1) (fits_below v z few e)) (omega (arith, ints))
 
 -- a move that is worth w, in a state that is worth v, in a window of v alone
 pub attained : (v w : ℕ) (a b r : ℤ) → w ≤ v → a <ℤ b → b ≡ pos v → Answers w a b r → b ≤ℤ r → w ≡ v

@@ -7,7 +7,8 @@ use Rattle.statement.specs.Rules.{Rules, State, is_stuck}
 use Rattle.statement.specs.declared.at_bound.AtBound.{AtBound}
 use Rattle.game.specs.Value.{Answers}
 use Rattle.statement.specs.Value.{value, worst, choice_of}
-use Rattle.maximin.proofs.Values.{IsOpen, value_reached, worst_le_value}
+use Rattle.maximin.specs.Open.{IsOpen}
+use Rattle.maximin.proofs.Values.{value_reached, worst_le_value}
 use Rattle.maximin.specs.Best.{IsBest, own_worth}
 
 pub best_none : (worth : ℕ → ℕ) → IsBest worth 0 (negsuc 0) 0

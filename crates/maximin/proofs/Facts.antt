@@ -10,6 +10,6 @@ pub use Rattle.maximin.proofs.Choices.{length-choices, choices_own, choices_othe
 -- What a search leaves as it was.
 pub use Rattle.maximin.proofs.Stays.{choice_stays, reply_stays}
 -- Values by the worths of moves.
-pub use Rattle.maximin.proofs.Values.{IsOpen, value_reached, worst_le_value}
+pub use Rattle.maximin.proofs.Values.{value_reached, worst_le_value}
 -- Comparisons in a window.
 pub use Rattle.maximin.proofs.Windows.{lt_z_true, lt_z_false}

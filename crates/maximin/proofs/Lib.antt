@@ -4,6 +4,7 @@ mod CursorSteps
 mod Windows
 mod Values
 mod Parts
+mod Kept
 mod Best
 mod Bounds
 mod Reply

@@ -60,7 +60,8 @@ use Rattle.maximin.specs.Run.{IsRunOf, turns_in}
 use Rattle.maximin.specs.Turns.{StandsAt}
 use Rattle.maximin.proofs.OwnTurns.{alone_worst, own_worths}
 use Rattle.maximin.proofs.Runs.{least_joined}
-use Rattle.maximin.proofs.Values.{IsOpen, value_open}
+use Rattle.maximin.specs.Open.{IsOpen}
+use Rattle.maximin.proofs.Values.{value_open}
 
 -- as many joint moves as the run counts
 pub turns_count : (roles : ℕ) (run : Run) → IsRunOf roles run → length (turns_in run) ≡ run.count

@@ -1,4 +1,4 @@
-use Rattle.std.proofs.Common.{◌≡◌, ◌≢◌, ℕ, ◌-◌, ◌<◌, ◌≤◌, true, false, List, [], length, zero, suc, refl, ◌∙◌, arith, get_or, inl, inr}
+use Rattle.std.proofs.Common.{◌≡◌, ℕ, ◌-◌, ◌<◌, ◌≤◌, true, false, List, [], length, zero, suc, refl, ◌∙◌, arith, get_or, inl, inr}
 use Rattle.std.specs.Prelude.{All, map}
 use Rattle.std.proofs.lemmas.Grind.{common_steps}
 use Rattle.std.proofs.lemmas.List.{get_or-map}
@@ -6,15 +6,10 @@ use Rattle.std.proofs.lemmas.Bool.{cases_eq}
 use Rattle.statement.specs.Rules.{Rules, State, Turn, is_stuck, choices, IsTurn}
 use Rattle.statement.specs.declared.at_bound.AtBound.{AtBound}
 use Rattle.statement.specs.Value.{value, worst, greatest}
+use Rattle.maximin.specs.Open.{IsOpen}
 use Rattle.maximin.specs.Turns.{StandsAt}
 use Rattle.maximin.proofs.Windows.{le_greatest, greatest_reached}
 use Rattle.maximin.proofs.Choices.{length-choices, choices_own, choices_other, legal_some}
-
--- a state that is not ended, nor stuck, with a turn to come
-pub record IsOpen (g : Rules) (depth : ℕ) (s : State) : Type 0 where
-  pub turn : depth ≢ 0
-  pub going : g.ended s ≡ false
-  pub free : is_stuck g s ≡ false
 
 -- the worst of each own move
 abbrev pub worsts : Rules → ℕ → ℕ → AtBound → State → List ℕ

@@ -7,18 +7,17 @@ ghost use Rattle.statement.specs.Rules.{State, IsTurn};
 ghost use Rattle.statement.specs.Value.{value};
 ghost use Rattle.statement.specs.declared.at_bound.AtBound.TheVariants.{Zero};
 ghost use Rattle.maximin.specs.Ahead.{IsAheadOf};
-ghost use Rattle.maximin.specs.Level.{IsLevelOf, level_capacities, all_capacities};
+ghost use Rattle.maximin.specs.Level.{IsLevelOf, level_capacities};
 ghost use Rattle.maximin.specs.Pack.{picked, packed_after, IsPartOf, IsPackOf};
 ghost use Rattle.maximin.specs.Run.{IsRunOf, turns_in, run_capacities};
-ghost use Rattle.maximin.specs.Tools.{tools_capacities};
+ghost use Rattle.maximin.specs.Tools.{AreFit, AreKept, tools_capacities};
 
 use crate::end::{greatest_of, least_of};
 use crate::level::Level;
 use crate::pack::{Pack, Part, Pick, pack_on};
 use crate::run::{LONGEST_RUN, Run};
-use crate::search::Asked;
 use crate::tools::Tools;
-use game::{AtBound, Game};
+use game::{AtBound, Game, Question};
 
 /// What is known of the states of a run before they are searched.
 #[derive(Drop)]
@@ -59,7 +58,7 @@ fn pack_states<G: Game>(
     many: &G::Many,
     first: usize,
     count: usize,
-    asked: Asked,
+    asked: Question,
     level: &mut Level<G::Pos, G::Many>,
     pack: &mut Pack,
 ) -> usize
@@ -69,13 +68,13 @@ fn pack_states<G: Game>(
     requires first { first < count }
     requires role { asked.role < (G.rules game.now).roles }
     requires turn { asked.depth ≢ 0 }
-    requires level { IsLevelOf (G.fits game.now) (G.fits_many game.now) (G.rules game.now).roles level.old }
+    requires level { IsLevelOf G.Game game.now level.old }
     requires pack { IsPackOf (G.rules game.now) (G.states game.now many.now) (value (G.rules game.now) asked.role asked.depth asked.at)
         (value (G.rules game.now) asked.role (asked.depth - 1) asked.at) pack.old level.old.run }
     ensures place { result ≤ count }
-    ensures level { IsLevelOf (G.fits game.now) (G.fits_many game.now) (G.rules game.now).roles level.new }
-    ensures capacities { level_capacities (G.capacities game.now) (G.many_capacities game.now) level.new
-        ≡ level_capacities (G.capacities game.now) (G.many_capacities game.now) level.old }
+    ensures level { IsLevelOf G.Game game.now level.new }
+    ensures capacities { level_capacities G.Game game.now level.new
+        ≡ level_capacities G.Game game.now level.old }
     ensures pack { IsPackOf (G.rules game.now) (G.states game.now many.now) (value (G.rules game.now) asked.role asked.depth asked.at)
         (value (G.rules game.now) asked.role (asked.depth - 1) asked.at) pack.new level.new.run }
 {
@@ -107,7 +106,7 @@ fn judge_pack<G: Game>(game: &G, many: &G::Many, pack: &Pack, run: &Run, wide: &
 }
 
 /// What the states of a part of those that were judged tell of the state that they come from.
-fn part_worth<G: Game>(game: &G, wide: &G::Wide, part: Part, asked: Asked) -> u8
+fn part_worth<G: Game>(game: &G, wide: &G::Wide, part: Part, asked: Question) -> u8
     requires wide { G.fits_wide game.now wide.now }
     requires few { length (G.judged game.now wide.now) ≤ 64 }
     requires some { 0 < part.count }
@@ -130,7 +129,7 @@ fn noted<G: Game>(
     wide: &G::Wide,
     part: Option<Part>,
     known: Option<u8>,
-    asked: Asked,
+    asked: Question,
 ) -> Option<u8>
     requires wide { G.fits_wide game.now wide.now }
     requires few { length (G.judged game.now wide.now) ≤ 64 }
@@ -155,7 +154,7 @@ fn note_worths<G: Game>(
     many: &G::Many,
     first: usize,
     end: usize,
-    asked: Asked,
+    asked: Question,
     pack: &Pack,
     run: &Run,
     tools: &mut Tools<G::Wide>,
@@ -173,14 +172,14 @@ fn note_worths<G: Game>(
     requires wide { G.fits_wide game.now tools.old.wide }
     requires ahead { IsAheadOf (G.states game.now many.now) (value (G.rules game.now) asked.role asked.depth asked.at) ahead.old }
     ensures wide { G.fits_wide game.now tools.new.wide }
-    ensures tools_capacities { tools_capacities (G.wide_capacities game.now) tools.new ≡ tools_capacities (G.wide_capacities game.now) tools.old }
+    ensures tools_capacities { tools_capacities G.Game game.now tools.new ≡ tools_capacities G.Game game.now tools.old }
     ensures ahead { IsAheadOf (G.states game.now many.now) (value (G.rules game.now) asked.role asked.depth asked.at) ahead.new }
 {
     tools.judges = judge_pack(game, many, pack, run, &mut tools.wide);
     if !tools.judges {
         return;
     }
-    let last = Asked {
+    let last = Question {
         depth: asked.depth - 1,
         ..asked
     };
@@ -195,7 +194,7 @@ fn look_on<G: Game>(
     game: &G,
     many: &G::Many,
     place: usize,
-    asked: Asked,
+    asked: Question,
     tools: &mut Tools<G::Wide>,
     level: &mut Level<G::Pos, G::Many>,
     ahead: &mut Ahead,
@@ -206,13 +205,13 @@ fn look_on<G: Game>(
     requires depth { asked.depth ≡ 1 }
     requires bound { asked.at ≡ Zero }
     requires wide { G.fits_wide game.now tools.old.wide }
-    requires level { IsLevelOf (G.fits game.now) (G.fits_many game.now) (G.rules game.now).roles level.old }
+    requires level { IsLevelOf G.Game game.now level.old }
     requires ahead { IsAheadOf (G.states game.now many.now) (value (G.rules game.now) asked.role asked.depth asked.at) ahead.old }
     ensures wide { G.fits_wide game.now tools.new.wide }
-    ensures tools_capacities { tools_capacities (G.wide_capacities game.now) tools.new ≡ tools_capacities (G.wide_capacities game.now) tools.old }
-    ensures level { IsLevelOf (G.fits game.now) (G.fits_many game.now) (G.rules game.now).roles level.new }
-    ensures capacities { level_capacities (G.capacities game.now) (G.many_capacities game.now) level.new
-        ≡ level_capacities (G.capacities game.now) (G.many_capacities game.now) level.old }
+    ensures tools_capacities { tools_capacities G.Game game.now tools.new ≡ tools_capacities G.Game game.now tools.old }
+    ensures level { IsLevelOf G.Game game.now level.new }
+    ensures capacities { level_capacities G.Game game.now level.new
+        ≡ level_capacities G.Game game.now level.old }
     ensures ahead { IsAheadOf (G.states game.now many.now) (value (G.rules game.now) asked.role asked.depth asked.at) ahead.new }
 {
     let mut pack = new_pack();
@@ -232,24 +231,16 @@ pub fn look_ahead<G: Game>(
     game: &G,
     many: &G::Many,
     place: usize,
-    asked: Asked,
+    asked: Question,
     tools: &mut Tools<G::Wide>,
     levels: &mut [Level<G::Pos, G::Many>],
     ahead: &mut Ahead,
 )
     requires many { G.fits_many game.now many.now }
     requires place { place < length (G.states game.now many.now) }
-    requires role { asked.role < (G.rules game.now).roles }
-    requires deep { asked.depth ≤ length levels.old }
-    requires wide { G.fits_wide game.now tools.old.wide }
-    requires levels { All (IsLevelOf (G.fits game.now) (G.fits_many game.now) (G.rules game.now).roles) levels.old }
+    requires fit { AreFit G.Game game.now asked.role asked.depth tools.old levels.old }
     requires ahead { IsAheadOf (G.states game.now many.now) (value (G.rules game.now) asked.role asked.depth asked.at) ahead.old }
-    ensures wide { G.fits_wide game.now tools.new.wide }
-    ensures tools_capacities { tools_capacities (G.wide_capacities game.now) tools.new ≡ tools_capacities (G.wide_capacities game.now) tools.old }
-    ensures levels { All (IsLevelOf (G.fits game.now) (G.fits_many game.now) (G.rules game.now).roles) levels.new }
-    ensures size { length levels.new ≡ length levels.old }
-    ensures capacities { all_capacities (G.capacities game.now) (G.many_capacities game.now) levels.new
-        ≡ all_capacities (G.capacities game.now) (G.many_capacities game.now) levels.old }
+    ensures kept { AreKept G.Game game.now tools.old levels.old tools.new levels.new }
     ensures ahead { IsAheadOf (G.states game.now many.now) (value (G.rules game.now) asked.role asked.depth asked.at) ahead.new }
 {
     if place < ahead.next || !tools.judges {

@@ -1,24 +1,25 @@
 //! The first best move of a state with a turn to come.
 ghost use Rattle.std.specs.Prelude.{◌≡◌, ◌+◌, ◌-◌, ◌<◌, ◌≤◌, ◌<ℤ◌, ◌≤ℤ◌, ◌^◌, ℕ, pos, negsuc, false, [], All, length, get_or, slice_get};
 ghost use Rattle.std.specs.Int.{int_max};
-ghost use Rattle.statement.specs.Rules.{is_stuck as stuck, IsTurn};
+ghost use Rattle.statement.specs.Rules.{is_stuck as stuck};
 ghost use Rattle.game.specs.Value.{Answers};
 ghost use Rattle.statement.specs.Value.{choice_of, value, worst};
 ghost use Rattle.maximin.specs.Ahead.{IsAheadOf};
 ghost use Rattle.maximin.specs.Alone.{IsAlone};
 ghost use Rattle.maximin.specs.Best.{IsBest, own_worth};
-ghost use Rattle.maximin.specs.Level.{IsLevelOf, level_capacities, all_capacities};
+ghost use Rattle.maximin.specs.Level.{IsFilled, IsLevelKept};
+ghost use Rattle.maximin.specs.Open.{IsOpen};
 ghost use Rattle.maximin.specs.Run.{turns_in};
-ghost use Rattle.maximin.specs.Tools.{tools_capacities};
+ghost use Rattle.maximin.specs.Tools.{AreFit, AreKept};
 
 use crate::ahead::{Ahead, new_ahead};
 use crate::alone::{gather_own, is_alone};
 use crate::cursor::start_turns;
 use crate::level::Level;
 use crate::run::LONGEST_RUN;
-use crate::search::{Asked, GREATEST, LEAST, child_at, worst_at};
+use crate::search::{GREATEST, LEAST, child_at, worst_at};
 use crate::tools::Tools;
-use game::{Game, is_stuck};
+use game::{Game, Question, is_stuck};
 
 /// The best of the moves up to some place.
 #[derive(Clone, Copy)]
@@ -46,7 +47,7 @@ fn child_above<G: Game>(
     game: &G,
     many: &G::Many,
     place: usize,
-    asked: Asked,
+    asked: Question,
     best: i16,
     tools: &mut Tools<G::Wide>,
     position: &mut G::Pos,
@@ -55,22 +56,15 @@ fn child_above<G: Game>(
 ) -> i16
     requires many { G.fits_many game.now many.now }
     requires place { place < length (G.states game.now many.now) }
-    requires role { asked.role < (G.rules game.now).roles }
-    requires deep { asked.depth ≤ length levels.old }
-    requires wide { G.fits_wide game.now tools.old.wide }
+    requires fit { AreFit G.Game game.now asked.role asked.depth tools.old levels.old }
     requires position { G.fits game.now position.old }
-    requires levels { All (IsLevelOf (G.fits game.now) (G.fits_many game.now) (G.rules game.now).roles) levels.old }
     requires ahead { IsAheadOf (G.states game.now many.now) (value (G.rules game.now) asked.role asked.depth asked.at) ahead.old }
     requires best { (negsuc 0 ≤ℤ best) × (best <ℤ pos 101) }
     ensures answers { Answers (value (G.rules game.now) asked.role asked.depth asked.at (get_or (G.states game.now many.now) place [])) best (pos 101)
         result }
-    ensures wide { G.fits_wide game.now tools.new.wide }
-    ensures tools_capacities { tools_capacities (G.wide_capacities game.now) tools.new ≡ tools_capacities (G.wide_capacities game.now) tools.old }
+    ensures kept { AreKept G.Game game.now tools.old levels.old tools.new levels.new }
     ensures position { G.fits game.now position.new }
     ensures position_capacities { G.capacities game.now position.new ≡ G.capacities game.now position.old }
-    ensures levels { All (IsLevelOf (G.fits game.now) (G.fits_many game.now) (G.rules game.now).roles) levels.new }
-    ensures capacities { all_capacities (G.capacities game.now) (G.many_capacities game.now) levels.new
-        ≡ all_capacities (G.capacities game.now) (G.many_capacities game.now) levels.old }
     ensures ahead { IsAheadOf (G.states game.now many.now) (value (G.rules game.now) asked.role asked.depth asked.at) ahead.new }
 {
     let low = best.max(LEAST);
@@ -88,7 +82,7 @@ fn best_among<G: Game>(
     game: &G,
     many: &G::Many,
     count: usize,
-    asked: Asked,
+    asked: Question,
     place: usize,
     best: Best,
     tools: &mut Tools<G::Wide>,
@@ -99,22 +93,15 @@ fn best_among<G: Game>(
     requires count { count ≡ length (G.states game.now many.now) }
     requires few { count ≤ 64 }
     requires places { place + count < 2 ^ 64 }
-    requires role { asked.role < (G.rules game.now).roles }
-    requires deep { asked.depth ≤ length levels.old }
-    requires wide { G.fits_wide game.now tools.old.wide }
+    requires fit { AreFit G.Game game.now asked.role asked.depth tools.old levels.old }
     requires position { G.fits game.now position.old }
-    requires levels { All (IsLevelOf (G.fits game.now) (G.fits_many game.now) (G.rules game.now).roles) levels.old }
     requires range { (negsuc 0 ≤ℤ best.worth) × (best.worth <ℤ pos 101) }
     ensures best { (own : ℕ → ℕ) → ((k : ℕ) → k < count
         → value (G.rules game.now) asked.role asked.depth asked.at (get_or (G.states game.now many.now) k []) ≡ own (place + k))
         → IsBest own place best.worth best.place → IsBest own (place + count) result.worth result.place }
-    ensures wide { G.fits_wide game.now tools.new.wide }
-    ensures tools_capacities { tools_capacities (G.wide_capacities game.now) tools.new ≡ tools_capacities (G.wide_capacities game.now) tools.old }
+    ensures kept { AreKept G.Game game.now tools.old levels.old tools.new levels.new }
     ensures position { G.fits game.now position.new }
     ensures position_capacities { G.capacities game.now position.new ≡ G.capacities game.now position.old }
-    ensures levels { All (IsLevelOf (G.fits game.now) (G.fits_many game.now) (G.rules game.now).roles) levels.new }
-    ensures capacities { all_capacities (G.capacities game.now) (G.many_capacities game.now) levels.new
-        ≡ all_capacities (G.capacities game.now) (G.many_capacities game.now) levels.old }
 {
     let mut ahead = new_ahead(count);
     let mut best = best;
@@ -131,7 +118,7 @@ fn best_among<G: Game>(
 fn best_after<G: Game>(
     game: &G,
     from: &G::Pos,
-    asked: Asked,
+    asked: Question,
     place: usize,
     best: Best,
     tools: &mut Tools<G::Wide>,
@@ -139,29 +126,17 @@ fn best_after<G: Game>(
     levels: &mut [Level<G::Pos, G::Many>],
 ) -> Best
     requires fits { G.fits game.now from.now }
-    requires role { asked.role < (G.rules game.now).roles }
-    requires deep { asked.depth ≤ length levels.old }
-    requires wide { G.fits_wide game.now tools.old.wide }
-    requires some { 0 < level.old.run.count }
+    requires fit { AreFit G.Game game.now asked.role asked.depth tools.old levels.old }
+    requires level { IsFilled G.Game game.now level.old }
     requires few { place + level.old.run.count ≤ length ((G.rules game.now).legal (G.state game.now from.now) asked.role) }
-    requires known { All (IsTurn (G.rules game.now)) (turns_in level.old.run) }
     requires worths { (k : ℕ) → k < level.old.run.count → value (G.rules game.now) asked.role asked.depth asked.at
         ((G.rules game.now).after (G.state game.now from.now) (get_or (turns_in level.old.run) k []))
         ≡ own_worth (G.rules game.now) asked.role asked.depth asked.at (G.state game.now from.now) (place + k) }
     requires best { IsBest (own_worth (G.rules game.now) asked.role asked.depth asked.at (G.state game.now from.now)) place best.worth best.place }
-    requires level { IsLevelOf (G.fits game.now) (G.fits_many game.now) (G.rules game.now).roles level.old }
-    requires levels { All (IsLevelOf (G.fits game.now) (G.fits_many game.now) (G.rules game.now).roles) levels.old }
     ensures best { IsBest (own_worth (G.rules game.now) asked.role asked.depth asked.at (G.state game.now from.now))
         (place + level.old.run.count) result.worth result.place }
-    ensures wide { G.fits_wide game.now tools.new.wide }
-    ensures tools_capacities { tools_capacities (G.wide_capacities game.now) tools.new ≡ tools_capacities (G.wide_capacities game.now) tools.old }
-    ensures cursor { level.new.cursor ≡ level.old.cursor }
-    ensures level { IsLevelOf (G.fits game.now) (G.fits_many game.now) (G.rules game.now).roles level.new }
-    ensures level_capacities { level_capacities (G.capacities game.now) (G.many_capacities game.now) level.new
-        ≡ level_capacities (G.capacities game.now) (G.many_capacities game.now) level.old }
-    ensures levels { All (IsLevelOf (G.fits game.now) (G.fits_many game.now) (G.rules game.now).roles) levels.new }
-    ensures capacities { all_capacities (G.capacities game.now) (G.many_capacities game.now) levels.new
-        ≡ all_capacities (G.capacities game.now) (G.many_capacities game.now) levels.old }
+    ensures kept { AreKept G.Game game.now tools.old levels.old tools.new levels.new }
+    ensures level { IsLevelKept G.Game game.now level.old level.new }
 {
     let count = level.run.count;
     let joints = &level.run.joints[..count];
@@ -183,24 +158,17 @@ fn best_after<G: Game>(
 fn best_alone<G: Game>(
     game: &G,
     from: &G::Pos,
-    asked: Asked,
+    asked: Question,
     tools: &mut Tools<G::Wide>,
     levels: &mut [Level<G::Pos, G::Many>],
 ) -> Best
     requires fits { G.fits game.now from.now }
-    requires role { asked.role < (G.rules game.now).roles }
+    requires fit { AreFit G.Game game.now asked.role (asked.depth + 1) tools.old levels.old }
     requires open { stuck (G.rules game.now) (G.state game.now from.now) ≡ false }
     requires alone { IsAlone (G.rules game.now) (G.state game.now from.now) asked.role }
-    requires deep { asked.depth < length levels.old }
-    requires wide { G.fits_wide game.now tools.old.wide }
-    requires levels { All (IsLevelOf (G.fits game.now) (G.fits_many game.now) (G.rules game.now).roles) levels.old }
     ensures best { IsBest (own_worth (G.rules game.now) asked.role asked.depth asked.at (G.state game.now from.now))
         (length ((G.rules game.now).legal (G.state game.now from.now) asked.role)) result.worth result.place }
-    ensures wide { G.fits_wide game.now tools.new.wide }
-    ensures tools_capacities { tools_capacities (G.wide_capacities game.now) tools.new ≡ tools_capacities (G.wide_capacities game.now) tools.old }
-    ensures levels { All (IsLevelOf (G.fits game.now) (G.fits_many game.now) (G.rules game.now).roles) levels.new }
-    ensures capacities { all_capacities (G.capacities game.now) (G.many_capacities game.now) levels.new
-        ≡ all_capacities (G.capacities game.now) (G.many_capacities game.now) levels.old }
+    ensures kept { AreKept G.Game game.now tools.old levels.old tools.new levels.new }
 {
     let (first, rest) = levels.split_at_mut(1);
     let level = &mut first[0];
@@ -233,26 +201,19 @@ fn best_alone<G: Game>(
 fn worst_above<G: Game>(
     game: &G,
     from: &G::Pos,
-    asked: Asked,
+    asked: Question,
     own: u32,
     best: i16,
     tools: &mut Tools<G::Wide>,
     levels: &mut [Level<G::Pos, G::Many>],
 ) -> i16
     requires fits { G.fits game.now from.now }
-    requires role { asked.role < (G.rules game.now).roles }
+    requires fit { AreFit G.Game game.now asked.role (asked.depth + 1) tools.old levels.old }
     requires own { own < (G.rules game.now).moves asked.role }
     requires open { stuck (G.rules game.now) (G.state game.now from.now) ≡ false }
-    requires deep { asked.depth < length levels.old }
-    requires wide { G.fits_wide game.now tools.old.wide }
-    requires levels { All (IsLevelOf (G.fits game.now) (G.fits_many game.now) (G.rules game.now).roles) levels.old }
     requires best { (negsuc 0 ≤ℤ best) × (best <ℤ pos 101) }
     ensures answers { Answers (worst (G.rules game.now) asked.role asked.depth asked.at (G.state game.now from.now) own) best (pos 101) result }
-    ensures wide { G.fits_wide game.now tools.new.wide }
-    ensures tools_capacities { tools_capacities (G.wide_capacities game.now) tools.new ≡ tools_capacities (G.wide_capacities game.now) tools.old }
-    ensures levels { All (IsLevelOf (G.fits game.now) (G.fits_many game.now) (G.rules game.now).roles) levels.new }
-    ensures capacities { all_capacities (G.capacities game.now) (G.many_capacities game.now) levels.new
-        ≡ all_capacities (G.capacities game.now) (G.many_capacities game.now) levels.old }
+    ensures kept { AreKept G.Game game.now tools.old levels.old tools.new levels.new }
 {
     let low = best.max(LEAST);
     if low >= GREATEST {
@@ -265,23 +226,16 @@ fn worst_above<G: Game>(
 fn best_of_each<G: Game>(
     game: &G,
     from: &G::Pos,
-    asked: Asked,
+    asked: Question,
     tools: &mut Tools<G::Wide>,
     levels: &mut [Level<G::Pos, G::Many>],
 ) -> Best
     requires fits { G.fits game.now from.now }
-    requires role { asked.role < (G.rules game.now).roles }
+    requires fit { AreFit G.Game game.now asked.role (asked.depth + 1) tools.old levels.old }
     requires open { stuck (G.rules game.now) (G.state game.now from.now) ≡ false }
-    requires deep { asked.depth < length levels.old }
-    requires wide { G.fits_wide game.now tools.old.wide }
-    requires levels { All (IsLevelOf (G.fits game.now) (G.fits_many game.now) (G.rules game.now).roles) levels.old }
     ensures best { IsBest (own_worth (G.rules game.now) asked.role asked.depth asked.at (G.state game.now from.now))
         (length ((G.rules game.now).legal (G.state game.now from.now) asked.role)) result.worth result.place }
-    ensures wide { G.fits_wide game.now tools.new.wide }
-    ensures tools_capacities { tools_capacities (G.wide_capacities game.now) tools.new ≡ tools_capacities (G.wide_capacities game.now) tools.old }
-    ensures levels { All (IsLevelOf (G.fits game.now) (G.fits_many game.now) (G.rules game.now).roles) levels.new }
-    ensures capacities { all_capacities (G.capacities game.now) (G.many_capacities game.now) levels.new
-        ≡ all_capacities (G.capacities game.now) (G.many_capacities game.now) levels.old }
+    ensures kept { AreKept G.Game game.now tools.old levels.old tools.new levels.new }
 {
     let mut best = Best {
         worth: -1,
@@ -300,29 +254,20 @@ fn best_of_each<G: Game>(
 pub fn best_move<G: Game>(
     game: &G,
     from: &G::Pos,
-    asked: Asked,
+    asked: Question,
     tools: &mut Tools<G::Wide>,
     levels: &mut [Level<G::Pos, G::Many>],
 ) -> Best
     requires fits { G.fits game.now from.now }
-    requires role { asked.role < (G.rules game.now).roles }
-    requires turn { 0 < asked.depth }
-    requires going { (G.rules game.now).ended (G.state game.now from.now) ≡ false }
-    requires open { stuck (G.rules game.now) (G.state game.now from.now) ≡ false }
-    requires deep { asked.depth ≤ length levels.old }
-    requires wide { G.fits_wide game.now tools.old.wide }
-    requires levels { All (IsLevelOf (G.fits game.now) (G.fits_many game.now) (G.rules game.now).roles) levels.old }
+    requires fit { AreFit G.Game game.now asked.role asked.depth tools.old levels.old }
+    requires turn { IsOpen (G.rules game.now) asked.depth (G.state game.now from.now) }
     ensures value { result.worth ≡ pos (value (G.rules game.now) asked.role asked.depth asked.at (G.state game.now from.now)) }
     ensures choice { choice_of (G.rules game.now) asked.role asked.depth asked.at (G.state game.now from.now)
         ≡ slice_get ((G.rules game.now).legal (G.state game.now from.now) asked.role) result.place }
     ensures within { result.place < length ((G.rules game.now).legal (G.state game.now from.now) asked.role) }
-    ensures wide { G.fits_wide game.now tools.new.wide }
-    ensures tools_capacities { tools_capacities (G.wide_capacities game.now) tools.new ≡ tools_capacities (G.wide_capacities game.now) tools.old }
-    ensures levels { All (IsLevelOf (G.fits game.now) (G.fits_many game.now) (G.rules game.now).roles) levels.new }
-    ensures capacities { all_capacities (G.capacities game.now) (G.many_capacities game.now) levels.new
-        ≡ all_capacities (G.capacities game.now) (G.many_capacities game.now) levels.old }
+    ensures kept { AreKept G.Game game.now tools.old levels.old tools.new levels.new }
 {
-    let next = Asked {
+    let next = Question {
         depth: asked.depth - 1,
         ..asked
     };
@@ -336,21 +281,14 @@ pub fn best_move<G: Game>(
 pub fn choice_at<G: Game>(
     game: &G,
     from: &G::Pos,
-    asked: Asked,
+    asked: Question,
     tools: &mut Tools<G::Wide>,
     levels: &mut [Level<G::Pos, G::Many>],
 ) -> Option<u32>
     requires fits { G.fits game.now from.now }
-    requires role { asked.role < (G.rules game.now).roles }
-    requires deep { asked.depth ≤ length levels.old }
-    requires wide { G.fits_wide game.now tools.old.wide }
-    requires levels { All (IsLevelOf (G.fits game.now) (G.fits_many game.now) (G.rules game.now).roles) levels.old }
+    requires fit { AreFit G.Game game.now asked.role asked.depth tools.old levels.old }
     ensures choice { result ≡ choice_of (G.rules game.now) asked.role asked.depth asked.at (G.state game.now from.now) }
-    ensures wide { G.fits_wide game.now tools.new.wide }
-    ensures tools_capacities { tools_capacities (G.wide_capacities game.now) tools.new ≡ tools_capacities (G.wide_capacities game.now) tools.old }
-    ensures levels { All (IsLevelOf (G.fits game.now) (G.fits_many game.now) (G.rules game.now).roles) levels.new }
-    ensures capacities { all_capacities (G.capacities game.now) (G.many_capacities game.now) levels.new
-        ≡ all_capacities (G.capacities game.now) (G.many_capacities game.now) levels.old }
+    ensures kept { AreKept G.Game game.now tools.old levels.old tools.new levels.new }
 {
     if asked.depth == 0 || game.ended(from) || is_stuck(game, from) {
         return None;

@@ -5,8 +5,7 @@ ghost use Rattle.statement.specs.Rules.{IsTurn};
 ghost use Rattle.game.specs.Value.{Answers};
 ghost use Rattle.statement.specs.Value.{greatest, least, value};
 
-use crate::search::Asked;
-use game::{AtBound, Game, Joint};
+use game::{AtBound, Game, Joint, Question};
 
 /// Plays joint moves for the end of the game alone, where the states after them are those of the last turn, and worth nothing unless
 /// the game has ended. The answer is false where they are to be stepped.
@@ -14,7 +13,7 @@ pub fn judge_last<G: Game>(
     game: &G,
     from: &G::Pos,
     joints: &[Joint],
-    asked: Asked,
+    asked: Question,
     wide: &mut G::Wide,
 ) -> bool
     requires from { G.fits game.now from.now }
@@ -36,7 +35,7 @@ pub fn judge_last<G: Game>(
 }
 
 /// The goal value in one of the judged states, or 0 where the game has not ended there: what the state is worth.
-fn judged_goal<G: Game>(game: &G, wide: &G::Wide, place: usize, asked: Asked) -> u8
+fn judged_goal<G: Game>(game: &G, wide: &G::Wide, place: usize, asked: Question) -> u8
     requires wide { G.fits_wide game.now wide.now }
     requires place { place < length (G.judged game.now wide.now) }
     requires role { asked.role < (G.rules game.now).roles }
@@ -48,7 +47,7 @@ fn judged_goal<G: Game>(game: &G, wide: &G::Wide, place: usize, asked: Asked) ->
 }
 
 /// What one of the judged states is worth.
-fn judged_worth<G: Game>(game: &G, wide: &G::Wide, place: usize, asked: Asked) -> i16
+fn judged_worth<G: Game>(game: &G, wide: &G::Wide, place: usize, asked: Question) -> i16
     requires wide { G.fits_wide game.now wide.now }
     requires place { place < length (G.judged game.now wide.now) }
     requires role { asked.role < (G.rules game.now).roles }
@@ -65,7 +64,7 @@ pub fn least_judged<G: Game>(
     game: &G,
     wide: &G::Wide,
     count: usize,
-    asked: Asked,
+    asked: Question,
     a: i16,
     b: i16,
 ) -> i16
@@ -92,7 +91,7 @@ pub fn greatest_judged<G: Game>(
     game: &G,
     wide: &G::Wide,
     count: usize,
-    asked: Asked,
+    asked: Question,
     a: i16,
     b: i16,
 ) -> i16
@@ -129,7 +128,13 @@ fn greater(goal: u8, other: u8) -> u8
 }
 
 /// The least value of some of the judged states, which stand one behind the other.
-pub fn least_of<G: Game>(game: &G, wide: &G::Wide, first: usize, count: usize, asked: Asked) -> u8
+pub fn least_of<G: Game>(
+    game: &G,
+    wide: &G::Wide,
+    first: usize,
+    count: usize,
+    asked: Question,
+) -> u8
     requires wide { G.fits_wide game.now wide.now }
     requires some { 0 < count }
     requires few { length (G.judged game.now wide.now) ≤ 64 }
@@ -153,7 +158,7 @@ pub fn greatest_of<G: Game>(
     wide: &G::Wide,
     first: usize,
     count: usize,
-    asked: Asked,
+    asked: Question,
 ) -> u8
     requires wide { G.fits_wide game.now wide.now }
     requires few { length (G.judged game.now wide.now) ≤ 64 }

@@ -81,10 +81,10 @@ impl History {
 
     /// Counts for the movers' moves that the search of a joint move, with so many turns behind it, cut off those that were left. A cut
     /// counts by the square of the turns that were to come, as it saves more where more of them are.
-    pub fn note_cut(&mut self, joint: &Joint, movers: Movers, turns: usize)
+    pub fn note_cut(&mut self, joint: &Joint, movers: Movers, turns: u32)
         ensures { history_capacities self.new ≡ history_capacities self.old }
     {
-        let turns = (turns as u64).saturating_add(1);
+        let turns = u64::from(turns).saturating_add(1);
         let weight = turns.saturating_mul(turns);
         for (role, number) in joint.as_slice().iter().enumerate() {
             self.note(role, *number, movers, weight);

@@ -1,38 +1,31 @@
 //! The choice and the reply where it is known what they are worth.
-ghost use Rattle.std.specs.Prelude.{◌≡◌, ◌<◌, ◌≤◌, pos, false, Some, All, length};
+ghost use Rattle.std.specs.Prelude.{◌≡◌, ◌+◌, ◌<◌, ◌≤◌, pos, false, Some, All, length};
 ghost use Rattle.statement.specs.Rules.{is_stuck as stuck};
 ghost use Rattle.statement.specs.Value.{choice_of, reply_of, value, worst};
-ghost use Rattle.maximin.specs.Level.{IsLevelOf, all_capacities};
-ghost use Rattle.maximin.specs.Tools.{tools_capacities};
+ghost use Rattle.maximin.specs.Replies.{IsWritten};
+ghost use Rattle.maximin.specs.Tools.{AreFit, AreKept};
 
 use crate::cursor::{next_turn, start_turns, write_joint};
 use crate::level::Level;
-use crate::search::{Asked, value_within, worst_at};
+use crate::search::{value_within, worst_at};
 use crate::tools::Tools;
-use game::{Game, Joint, is_stuck};
+use game::{Game, Joint, Question, is_stuck};
 
 /// The first move of the role that attains the value of the state, which is `worth`. A move that has no other behind it attains it
 /// where none before it does.
 pub fn choice_worth<G: Game>(
     game: &G,
     from: &G::Pos,
-    asked: Asked,
+    asked: Question,
     worth: i16,
     tools: &mut Tools<G::Wide>,
     levels: &mut [Level<G::Pos, G::Many>],
 ) -> Option<u32>
     requires fits { G.fits game.now from.now }
-    requires role { asked.role < (G.rules game.now).roles }
-    requires deep { asked.depth ≤ length levels.old }
+    requires fit { AreFit G.Game game.now asked.role asked.depth tools.old levels.old }
     requires worth { worth ≡ pos (value (G.rules game.now) asked.role asked.depth asked.at (G.state game.now from.now)) }
-    requires wide { G.fits_wide game.now tools.old.wide }
-    requires levels { All (IsLevelOf (G.fits game.now) (G.fits_many game.now) (G.rules game.now).roles) levels.old }
     ensures choice { result ≡ choice_of (G.rules game.now) asked.role asked.depth asked.at (G.state game.now from.now) }
-    ensures wide { G.fits_wide game.now tools.new.wide }
-    ensures tools_capacities { tools_capacities (G.wide_capacities game.now) tools.new ≡ tools_capacities (G.wide_capacities game.now) tools.old }
-    ensures levels { All (IsLevelOf (G.fits game.now) (G.fits_many game.now) (G.rules game.now).roles) levels.new }
-    ensures capacities { all_capacities (G.capacities game.now) (G.many_capacities game.now) levels.new
-        ≡ all_capacities (G.capacities game.now) (G.many_capacities game.now) levels.old }
+    ensures kept { AreKept G.Game game.now tools.old levels.old tools.new levels.new }
 {
     if asked.depth == 0 || game.ended(from) || is_stuck(game, from) {
         return None;
@@ -41,7 +34,7 @@ pub fn choice_worth<G: Game>(
     if worth == 0 {
         return first;
     }
-    let next = Asked {
+    let next = Question {
         depth: asked.depth - 1,
         ..asked
     };
@@ -62,7 +55,7 @@ pub fn choice_worth<G: Game>(
 pub fn reply_worth<G: Game>(
     game: &G,
     from: &G::Pos,
-    asked: Asked,
+    asked: Question,
     own: u32,
     worth: i16,
     tools: &mut Tools<G::Wide>,
@@ -70,21 +63,13 @@ pub fn reply_worth<G: Game>(
     out: &mut Joint,
 )
     requires fits { G.fits game.now from.now }
-    requires role { asked.role < (G.rules game.now).roles }
+    requires fit { AreFit G.Game game.now asked.role (asked.depth + 1) tools.old levels.old }
     requires own { own < (G.rules game.now).moves asked.role }
     requires open { stuck (G.rules game.now) (G.state game.now from.now) ≡ false }
-    requires deep { asked.depth < length levels.old }
     requires worth { worth ≡ pos (worst (G.rules game.now) asked.role asked.depth asked.at (G.state game.now from.now) own) }
-    requires wide { G.fits_wide game.now tools.old.wide }
-    requires levels { All (IsLevelOf (G.fits game.now) (G.fits_many game.now) (G.rules game.now).roles) levels.old }
     requires out { (G.rules game.now).roles ≤ out.old.capacity }
-    ensures reply { reply_of (G.rules game.now) asked.role asked.depth asked.at (G.state game.now from.now) own ≡ Some out.new.items }
-    ensures out { out.new.capacity ≡ out.old.capacity }
-    ensures wide { G.fits_wide game.now tools.new.wide }
-    ensures tools_capacities { tools_capacities (G.wide_capacities game.now) tools.new ≡ tools_capacities (G.wide_capacities game.now) tools.old }
-    ensures levels { All (IsLevelOf (G.fits game.now) (G.fits_many game.now) (G.rules game.now).roles) levels.new }
-    ensures capacities { all_capacities (G.capacities game.now) (G.many_capacities game.now) levels.new
-        ≡ all_capacities (G.capacities game.now) (G.many_capacities game.now) levels.old }
+    ensures reply { IsWritten (reply_of (G.rules game.now) asked.role asked.depth asked.at (G.state game.now from.now) own) out.old out.new }
+    ensures kept { AreKept G.Game game.now tools.old levels.old tools.new levels.new }
 {
     let (first, rest) = levels.split_at_mut(1);
     let level = &mut first[0];

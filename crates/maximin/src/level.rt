@@ -18,7 +18,7 @@ pub struct Level<P, M> {
 
 /// A level for a game.
 pub fn new_level<G: Game>(alloc: Global, game: &G) -> Result<Level<G::Pos, G::Many>, AllocError>
-    ensures { IfOk result (λ level. IsLevelOf (G.fits game.now) (G.fits_many game.now) (G.rules game.now).roles level) }
+    ensures { IfOk result (λ level. IsLevelOf G.Game game.now level) }
 {
     let cursor = Cursor::new(alloc, game.roles())?;
     let run = new_run(alloc, game.roles())?;

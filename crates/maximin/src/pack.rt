@@ -36,9 +36,8 @@ use crate::alone::{add_own, is_alone};
 use crate::cursor::{Cursor, next_turn, start_turns};
 use crate::level::Level;
 use crate::run::{LONGEST_RUN, Run, add_turn};
-use crate::search::Asked;
 use crate::told::told_worth;
-use game::{Game, Joint, is_stuck};
+use game::{Game, Joint, Question, is_stuck};
 
 /// The most joint moves of a state that stands beside others in a run.
 const MOST_TURNS: usize = 32;
@@ -146,7 +145,7 @@ fn add_replies<G: Game>(
 fn add_alone<G: Game>(
     game: &G,
     from: &G::Pos,
-    asked: Asked,
+    asked: Question,
     cursor: &mut Cursor,
     end: usize,
     run: &mut Run,
@@ -184,7 +183,7 @@ fn add_alone<G: Game>(
 fn add_forced<G: Game>(
     game: &G,
     from: &G::Pos,
-    asked: Asked,
+    asked: Question,
     cursor: &mut Cursor,
     end: usize,
     run: &mut Run,
@@ -228,7 +227,7 @@ fn add_forced<G: Game>(
 fn add_state<G: Game>(
     game: &G,
     from: &G::Pos,
-    asked: Asked,
+    asked: Question,
     cursor: &mut Cursor,
     run: &mut Run,
 ) -> Option<Pick>
@@ -289,7 +288,7 @@ pub fn pack_on<G: Game>(
     game: &G,
     many: &G::Many,
     place: usize,
-    asked: Asked,
+    asked: Question,
     level: &mut Level<G::Pos, G::Many>,
     pack: &mut Pack,
 ) -> bool
@@ -298,12 +297,12 @@ pub fn pack_on<G: Game>(
     requires few { length (G.states game.now many.now) ≤ 64 }
     requires role { asked.role < (G.rules game.now).roles }
     requires turn { asked.depth ≢ 0 }
-    requires level { IsLevelOf (G.fits game.now) (G.fits_many game.now) (G.rules game.now).roles level.old }
+    requires level { IsLevelOf G.Game game.now level.old }
     requires pack { IsPackOf (G.rules game.now) (G.states game.now many.now) (value (G.rules game.now) asked.role asked.depth asked.at)
         (value (G.rules game.now) asked.role (asked.depth - 1) asked.at) pack.old level.old.run }
-    ensures level { IsLevelOf (G.fits game.now) (G.fits_many game.now) (G.rules game.now).roles level.new }
-    ensures capacities { level_capacities (G.capacities game.now) (G.many_capacities game.now) level.new
-        ≡ level_capacities (G.capacities game.now) (G.many_capacities game.now) level.old }
+    ensures level { IsLevelOf G.Game game.now level.new }
+    ensures capacities { level_capacities G.Game game.now level.new
+        ≡ level_capacities G.Game game.now level.old }
     ensures pack { IsPackOf (G.rules game.now) (G.states game.now many.now) (value (G.rules game.now) asked.role asked.depth asked.at)
         (value (G.rules game.now) asked.role (asked.depth - 1) asked.at) pack.new level.new.run }
 {

@@ -1,16 +1,18 @@
 //! The memory of a search, and the calls that use it.
-ghost use Rattle.std.specs.Prelude.{◌≡◌, ◌-◌, ◌<◌, ◌≤◌, ◌<ℤ◌, ◌≤ℤ◌, pos, negsuc, false, length, slice_get, IfOk, Some, Contains};
-ghost use Rattle.statement.specs.Rules.{is_stuck as stuck};
+ghost use Rattle.std.specs.Prelude.{◌≡◌, ◌-◌, ◌<◌, ◌≤◌, pos, length, slice_get, IfOk, Contains};
 ghost use Rattle.game.specs.Value.{Answers};
 ghost use Rattle.statement.specs.Value.{value, worst, choice_of, reply_of};
-ghost use Rattle.maximin.specs.Room.{IsRoomOf, room_depth, room_capacities};
+ghost use Rattle.maximin.specs.Open.{IsOpen};
+ghost use Rattle.maximin.specs.Replies.{IsWritten};
+ghost use Rattle.maximin.specs.Room.{IsRoomOf, IsRoomFor, IsRoomKept, room_depth};
+ghost use Rattle.maximin.specs.Tools.{IsWindow};
 
 use crate::choosing::{best_move, choice_at};
 use crate::known::{choice_worth, reply_worth};
 use crate::level::{Level, new_level};
-use crate::search::{Asked, reply_at, value_within};
+use crate::search::{reply_at, value_within};
 use crate::tools::{Tools, new_tools};
-use game::{AtBound, Game, Joint};
+use game::{Game, Joint, Question};
 use std::alloc::{AllocError, Global};
 
 /// All the memory of a search: room to step many joint moves at once, what is remembered of moves, and for each turn that it looks
@@ -24,7 +26,7 @@ pub struct Room<G: Game> {
 impl<G: Game> Room<G> {
     /// A room for searches of this game to at most this depth, in turns. Nothing else here takes memory.
     pub fn new(alloc: Global, g: &G, depth: u32) -> Result<Room<G>, AllocError>
-        ensures room { IfOk result (λ room. IsRoomOf (G.fits g.now) (G.fits_wide g.now) (G.fits_many g.now) (G.rules g.now).roles room) }
+        ensures room { IfOk result (λ room. IsRoomOf G.Game g.now room) }
         ensures depth { IfOk result (λ room. room_depth room ≡ depth) }
     {
         let mut levels = Vec::new(alloc);
@@ -36,38 +38,24 @@ impl<G: Game> Room<G> {
     }
 }
 
-/// The value of a state for a role, within a window. The value is what the role can be sure of within `depth` turns, whatever the
+/// The value of a state for a role, within a window. The value is what the role can be sure of within so many turns, whatever the
 /// others do: its goal where the game ends in time, 0 where play comes to a state in which some role has no legal move, and else
 /// what `at` says of the state where the turns are over. An answer above a and below b is the value; a or less says that the value
 /// is no more than a, and b or more that it is no less than b.
 pub fn value_in<G: Game>(
     g: &G,
     p: &G::Pos,
-    role: usize,
-    depth: u32,
-    at: AtBound,
+    asked: Question,
     a: i16,
     b: i16,
     room: &mut Room<G>,
 ) -> i16
     requires fits { G.fits g.now p.now }
-    requires role { role < (G.rules g.now).roles }
-    requires room { IsRoomOf (G.fits g.now) (G.fits_wide g.now) (G.fits_many g.now) (G.rules g.now).roles room.old }
-    requires deep { depth ≤ room_depth room.old }
-    requires low { negsuc 1 ≤ℤ a }
-    requires order { a <ℤ b }
-    requires high { b ≤ℤ pos 101 }
-    ensures answers { Answers (value (G.rules g.now) role depth at (G.state g.now p.now)) a b result }
-    ensures room { IsRoomOf (G.fits g.now) (G.fits_wide g.now) (G.fits_many g.now) (G.rules g.now).roles room.new }
-    ensures deep { room_depth room.new ≡ room_depth room.old }
-    ensures capacities { room_capacities (G.capacities g.now) (G.wide_capacities g.now) (G.many_capacities g.now) room.new
-        ≡ room_capacities (G.capacities g.now) (G.wide_capacities g.now) (G.many_capacities g.now) room.old }
+    requires room { IsRoomFor G.Game g.now asked.role asked.depth room.old }
+    requires window { IsWindow a b }
+    ensures answers { Answers (value (G.rules g.now) asked.role asked.depth asked.at (G.state g.now p.now)) a b result }
+    ensures room { IsRoomKept G.Game g.now room.old room.new }
 {
-    let asked = Asked {
-        role,
-        depth: depth as usize,
-        at,
-    };
     let levels = room.levels.as_mut_slice();
     value_within(g, p, asked, a, b, &mut room.tools, levels)
 }
@@ -77,32 +65,18 @@ pub fn value_in<G: Game>(
 pub fn value_and_choice<G: Game>(
     g: &G,
     p: &G::Pos,
-    role: usize,
-    depth: u32,
-    at: AtBound,
+    asked: Question,
     room: &mut Room<G>,
 ) -> (i16, usize)
     requires fits { G.fits g.now p.now }
-    requires role { role < (G.rules g.now).roles }
-    requires going { (G.rules g.now).ended (G.state g.now p.now) ≡ false }
-    requires free { stuck (G.rules g.now) (G.state g.now p.now) ≡ false }
-    requires turn { 0 < depth }
-    requires room { IsRoomOf (G.fits g.now) (G.fits_wide g.now) (G.fits_many g.now) (G.rules g.now).roles room.old }
-    requires deep { depth ≤ room_depth room.old }
-    ensures value { result.0 ≡ pos (value (G.rules g.now) role depth at (G.state g.now p.now)) }
-    ensures choice { choice_of (G.rules g.now) role depth at (G.state g.now p.now)
-        ≡ slice_get ((G.rules g.now).legal (G.state g.now p.now) role) result.1 }
-    ensures within { result.1 < length ((G.rules g.now).legal (G.state g.now p.now) role) }
-    ensures room { IsRoomOf (G.fits g.now) (G.fits_wide g.now) (G.fits_many g.now) (G.rules g.now).roles room.new }
-    ensures deep { room_depth room.new ≡ room_depth room.old }
-    ensures capacities { room_capacities (G.capacities g.now) (G.wide_capacities g.now) (G.many_capacities g.now) room.new
-        ≡ room_capacities (G.capacities g.now) (G.wide_capacities g.now) (G.many_capacities g.now) room.old }
+    requires turn { IsOpen (G.rules g.now) asked.depth (G.state g.now p.now) }
+    requires room { IsRoomFor G.Game g.now asked.role asked.depth room.old }
+    ensures value { result.0 ≡ pos (value (G.rules g.now) asked.role asked.depth asked.at (G.state g.now p.now)) }
+    ensures choice { choice_of (G.rules g.now) asked.role asked.depth asked.at (G.state g.now p.now)
+        ≡ slice_get ((G.rules g.now).legal (G.state g.now p.now) asked.role) result.1 }
+    ensures within { result.1 < length ((G.rules g.now).legal (G.state g.now p.now) asked.role) }
+    ensures room { IsRoomKept G.Game g.now room.old room.new }
 {
-    let asked = Asked {
-        role,
-        depth: depth as usize,
-        at,
-    };
     let levels = room.levels.as_mut_slice();
     let best = best_move(g, p, asked, &mut room.tools, levels);
     (best.worth, best.place)
@@ -110,29 +84,12 @@ pub fn value_and_choice<G: Game>(
 
 /// The first legal move of the role, in printed order, that attains the value of the state. There is none where the game has ended,
 /// where some role has no legal move, and at depth 0.
-pub fn choice<G: Game>(
-    g: &G,
-    p: &G::Pos,
-    role: usize,
-    depth: u32,
-    at: AtBound,
-    room: &mut Room<G>,
-) -> Option<u32>
+pub fn choice<G: Game>(g: &G, p: &G::Pos, asked: Question, room: &mut Room<G>) -> Option<u32>
     requires fits { G.fits g.now p.now }
-    requires role { role < (G.rules g.now).roles }
-    requires room { IsRoomOf (G.fits g.now) (G.fits_wide g.now) (G.fits_many g.now) (G.rules g.now).roles room.old }
-    requires deep { depth ≤ room_depth room.old }
-    ensures choice { result ≡ choice_of (G.rules g.now) role depth at (G.state g.now p.now) }
-    ensures room { IsRoomOf (G.fits g.now) (G.fits_wide g.now) (G.fits_many g.now) (G.rules g.now).roles room.new }
-    ensures deep { room_depth room.new ≡ room_depth room.old }
-    ensures capacities { room_capacities (G.capacities g.now) (G.wide_capacities g.now) (G.many_capacities g.now) room.new
-        ≡ room_capacities (G.capacities g.now) (G.wide_capacities g.now) (G.many_capacities g.now) room.old }
+    requires room { IsRoomFor G.Game g.now asked.role asked.depth room.old }
+    ensures choice { result ≡ choice_of (G.rules g.now) asked.role asked.depth asked.at (G.state g.now p.now) }
+    ensures room { IsRoomKept G.Game g.now room.old room.new }
 {
-    let asked = Asked {
-        role,
-        depth: depth as usize,
-        at,
-    };
     let levels = room.levels.as_mut_slice();
     choice_at(g, p, asked, &mut room.tools, levels)
 }
@@ -142,28 +99,16 @@ pub fn choice<G: Game>(
 pub fn choice_by_value<G: Game>(
     g: &G,
     p: &G::Pos,
-    role: usize,
-    depth: u32,
-    at: AtBound,
+    asked: Question,
     worth: i16,
     room: &mut Room<G>,
 ) -> Option<u32>
     requires fits { G.fits g.now p.now }
-    requires role { role < (G.rules g.now).roles }
-    requires room { IsRoomOf (G.fits g.now) (G.fits_wide g.now) (G.fits_many g.now) (G.rules g.now).roles room.old }
-    requires deep { depth ≤ room_depth room.old }
-    requires worth { worth ≡ pos (value (G.rules g.now) role depth at (G.state g.now p.now)) }
-    ensures choice { result ≡ choice_of (G.rules g.now) role depth at (G.state g.now p.now) }
-    ensures room { IsRoomOf (G.fits g.now) (G.fits_wide g.now) (G.fits_many g.now) (G.rules g.now).roles room.new }
-    ensures deep { room_depth room.new ≡ room_depth room.old }
-    ensures capacities { room_capacities (G.capacities g.now) (G.wide_capacities g.now) (G.many_capacities g.now) room.new
-        ≡ room_capacities (G.capacities g.now) (G.wide_capacities g.now) (G.many_capacities g.now) room.old }
+    requires room { IsRoomFor G.Game g.now asked.role asked.depth room.old }
+    requires worth { worth ≡ pos (value (G.rules g.now) asked.role asked.depth asked.at (G.state g.now p.now)) }
+    ensures choice { result ≡ choice_of (G.rules g.now) asked.role asked.depth asked.at (G.state g.now p.now) }
+    ensures room { IsRoomKept G.Game g.now room.old room.new }
 {
-    let asked = Asked {
-        role,
-        depth: depth as usize,
-        at,
-    };
     let levels = room.levels.as_mut_slice();
     choice_worth(g, p, asked, worth, &mut room.tools, levels)
 }
@@ -173,36 +118,25 @@ pub fn choice_by_value<G: Game>(
 pub fn first_reply<G: Game>(
     g: &G,
     p: &G::Pos,
-    role: usize,
+    asked: Question,
     own: u32,
-    depth: u32,
-    at: AtBound,
     room: &mut Room<G>,
     out: &mut Joint,
 )
     requires fits { G.fits g.now p.now }
-    requires role { role < (G.rules g.now).roles }
-    requires own { Contains ((G.rules g.now).legal (G.state g.now p.now) role) own }
-    requires going { (G.rules g.now).ended (G.state g.now p.now) ≡ false }
-    requires free { stuck (G.rules g.now) (G.state g.now p.now) ≡ false }
-    requires turn { 0 < depth }
-    requires room { IsRoomOf (G.fits g.now) (G.fits_wide g.now) (G.fits_many g.now) (G.rules g.now).roles room.old }
-    requires deep { depth ≤ room_depth room.old }
+    requires own { Contains ((G.rules g.now).legal (G.state g.now p.now) asked.role) own }
+    requires turn { IsOpen (G.rules g.now) asked.depth (G.state g.now p.now) }
+    requires room { IsRoomFor G.Game g.now asked.role asked.depth room.old }
     requires out { (G.rules g.now).roles ≤ out.old.capacity }
-    ensures reply { reply_of (G.rules g.now) role (depth - 1) at (G.state g.now p.now) own ≡ Some out.new.items }
-    ensures out { out.new.capacity ≡ out.old.capacity }
-    ensures room { IsRoomOf (G.fits g.now) (G.fits_wide g.now) (G.fits_many g.now) (G.rules g.now).roles room.new }
-    ensures deep { room_depth room.new ≡ room_depth room.old }
-    ensures capacities { room_capacities (G.capacities g.now) (G.wide_capacities g.now) (G.many_capacities g.now) room.new
-        ≡ room_capacities (G.capacities g.now) (G.wide_capacities g.now) (G.many_capacities g.now) room.old }
+    ensures reply { IsWritten (reply_of (G.rules g.now) asked.role (asked.depth - 1) asked.at (G.state g.now p.now) own) out.old out.new }
+    ensures room { IsRoomKept G.Game g.now room.old room.new }
 {
-    let asked = Asked {
-        role,
-        depth: depth as usize - 1,
-        at,
+    let next = Question {
+        depth: asked.depth - 1,
+        ..asked
     };
     let levels = room.levels.as_mut_slice();
-    reply_at(g, p, asked, own, &mut room.tools, levels, out)
+    reply_at(g, p, next, own, &mut room.tools, levels, out)
 }
 
 /// The same as `first_reply`, where it is known that the least value that `own` leaves is `worth`: each joint move is searched for
@@ -210,36 +144,25 @@ pub fn first_reply<G: Game>(
 pub fn reply_by_value<G: Game>(
     g: &G,
     p: &G::Pos,
-    role: usize,
+    asked: Question,
     own: u32,
-    depth: u32,
-    at: AtBound,
     worth: i16,
     room: &mut Room<G>,
     out: &mut Joint,
 )
     requires fits { G.fits g.now p.now }
-    requires role { role < (G.rules g.now).roles }
-    requires own { Contains ((G.rules g.now).legal (G.state g.now p.now) role) own }
-    requires going { (G.rules g.now).ended (G.state g.now p.now) ≡ false }
-    requires free { stuck (G.rules g.now) (G.state g.now p.now) ≡ false }
-    requires turn { 0 < depth }
-    requires room { IsRoomOf (G.fits g.now) (G.fits_wide g.now) (G.fits_many g.now) (G.rules g.now).roles room.old }
-    requires deep { depth ≤ room_depth room.old }
-    requires worth { worth ≡ pos (worst (G.rules g.now) role (depth - 1) at (G.state g.now p.now) own) }
+    requires own { Contains ((G.rules g.now).legal (G.state g.now p.now) asked.role) own }
+    requires turn { IsOpen (G.rules g.now) asked.depth (G.state g.now p.now) }
+    requires room { IsRoomFor G.Game g.now asked.role asked.depth room.old }
+    requires worth { worth ≡ pos (worst (G.rules g.now) asked.role (asked.depth - 1) asked.at (G.state g.now p.now) own) }
     requires out { (G.rules g.now).roles ≤ out.old.capacity }
-    ensures reply { reply_of (G.rules g.now) role (depth - 1) at (G.state g.now p.now) own ≡ Some out.new.items }
-    ensures out { out.new.capacity ≡ out.old.capacity }
-    ensures room { IsRoomOf (G.fits g.now) (G.fits_wide g.now) (G.fits_many g.now) (G.rules g.now).roles room.new }
-    ensures deep { room_depth room.new ≡ room_depth room.old }
-    ensures capacities { room_capacities (G.capacities g.now) (G.wide_capacities g.now) (G.many_capacities g.now) room.new
-        ≡ room_capacities (G.capacities g.now) (G.wide_capacities g.now) (G.many_capacities g.now) room.old }
+    ensures reply { IsWritten (reply_of (G.rules g.now) asked.role (asked.depth - 1) asked.at (G.state g.now p.now) own) out.old out.new }
+    ensures room { IsRoomKept G.Game g.now room.old room.new }
 {
-    let asked = Asked {
-        role,
-        depth: depth as usize - 1,
-        at,
+    let next = Question {
+        depth: asked.depth - 1,
+        ..asked
     };
     let levels = room.levels.as_mut_slice();
-    reply_worth(g, p, asked, own, worth, &mut room.tools, levels, out)
+    reply_worth(g, p, next, own, worth, &mut room.tools, levels, out)
 }

@@ -1,14 +1,15 @@
 //! The search, level by level.
-ghost use Rattle.std.specs.Prelude.{◌≡◌, ◌<◌, ◌≤◌, ◌<ℤ◌, ◌≤ℤ◌, pos, negsuc, false, Some, [], All, length, map, get_or, if◌then◌else◌};
+ghost use Rattle.std.specs.Prelude.{◌≡◌, ◌+◌, ◌<◌, ◌≤◌, ◌<ℤ◌, pos, false, [], length, map, get_or, if◌then◌else◌};
 ghost use Rattle.statement.specs.AtBound.{bound_worth};
-ghost use Rattle.statement.specs.Rules.{is_stuck as stuck, IsTurn};
+ghost use Rattle.statement.specs.Rules.{is_stuck as stuck};
 ghost use Rattle.game.specs.Value.{Answers};
 ghost use Rattle.statement.specs.Value.{greatest, least, reply_of, value, worst};
 ghost use Rattle.maximin.specs.Ahead.{IsAheadOf};
 ghost use Rattle.maximin.specs.Alone.{IsAlone};
-ghost use Rattle.maximin.specs.Level.{IsLevelOf, level_capacities, all_capacities};
+ghost use Rattle.maximin.specs.Level.{IsFilled, IsLevelKept};
 ghost use Rattle.maximin.specs.Run.{turns_in};
-ghost use Rattle.maximin.specs.Tools.{tools_capacities};
+ghost use Rattle.maximin.specs.Replies.{IsWritten};
+ghost use Rattle.maximin.specs.Tools.{AreFit, AreKept, IsWindow};
 
 use crate::ahead::{Ahead, look_ahead, new_ahead};
 use crate::alone::{gather_own, is_alone};
@@ -20,15 +21,7 @@ use crate::order::order_of;
 use crate::run::{LONGEST_RUN, gather};
 use crate::told::{greatest_told, least_told, told_worth};
 use crate::tools::Tools;
-use game::{AtBound, Game, Joint, is_stuck};
-
-/// What is asked of a state: what a role can be sure of within some turns.
-#[derive(Clone, Copy)]
-pub struct Asked {
-    pub role: usize,
-    pub depth: usize,
-    pub at: AtBound,
-}
+use game::{AtBound, Game, Joint, Question, is_stuck};
 
 /// What a state that is not ended is worth where no turn is left.
 fn bound_at<G: Game>(game: &G, from: &G::Pos, role: usize, at: AtBound) -> i16
@@ -48,26 +41,17 @@ fn bound_at<G: Game>(game: &G, from: &G::Pos, role: usize, at: AtBound) -> i16
 fn value_at<G: Game>(
     game: &G,
     from: &G::Pos,
-    asked: Asked,
+    asked: Question,
     a: i16,
     b: i16,
     tools: &mut Tools<G::Wide>,
     levels: &mut [Level<G::Pos, G::Many>],
 ) -> i16
     requires fits { G.fits game.now from.now }
-    requires role { asked.role < (G.rules game.now).roles }
-    requires deep { asked.depth ≤ length levels.old }
-    requires wide { G.fits_wide game.now tools.old.wide }
-    requires levels { All (IsLevelOf (G.fits game.now) (G.fits_many game.now) (G.rules game.now).roles) levels.old }
-    requires low { negsuc 1 ≤ℤ a }
-    requires order { a <ℤ b }
-    requires high { b ≤ℤ pos 101 }
+    requires fit { AreFit G.Game game.now asked.role asked.depth tools.old levels.old }
+    requires window { IsWindow a b }
     ensures answers { Answers (value (G.rules game.now) asked.role asked.depth asked.at (G.state game.now from.now)) a b result }
-    ensures wide { G.fits_wide game.now tools.new.wide }
-    ensures tools_capacities { tools_capacities (G.wide_capacities game.now) tools.new ≡ tools_capacities (G.wide_capacities game.now) tools.old }
-    ensures levels { All (IsLevelOf (G.fits game.now) (G.fits_many game.now) (G.rules game.now).roles) levels.new }
-    ensures capacities { all_capacities (G.capacities game.now) (G.many_capacities game.now) levels.new
-        ≡ all_capacities (G.capacities game.now) (G.many_capacities game.now) levels.old }
+    ensures kept { AreKept G.Game game.now tools.old levels.old tools.new levels.new }
 {
     if game.ended(from) {
         return i16::from(game.goal(from, asked.role));
@@ -78,7 +62,7 @@ fn value_at<G: Game>(
     if is_stuck(game, from) {
         return 0;
     }
-    let next = Asked {
+    let next = Question {
         depth: asked.depth - 1,
         ..asked
     };
@@ -102,7 +86,7 @@ fn value_at<G: Game>(
 pub fn worst_at<G: Game>(
     game: &G,
     from: &G::Pos,
-    asked: Asked,
+    asked: Question,
     own: u32,
     a: i16,
     b: i16,
@@ -110,21 +94,12 @@ pub fn worst_at<G: Game>(
     levels: &mut [Level<G::Pos, G::Many>],
 ) -> i16
     requires fits { G.fits game.now from.now }
-    requires role { asked.role < (G.rules game.now).roles }
+    requires fit { AreFit G.Game game.now asked.role (asked.depth + 1) tools.old levels.old }
     requires own { own < (G.rules game.now).moves asked.role }
     requires open { stuck (G.rules game.now) (G.state game.now from.now) ≡ false }
-    requires deep { asked.depth < length levels.old }
-    requires wide { G.fits_wide game.now tools.old.wide }
-    requires levels { All (IsLevelOf (G.fits game.now) (G.fits_many game.now) (G.rules game.now).roles) levels.old }
-    requires low { negsuc 1 ≤ℤ a }
-    requires order { a <ℤ b }
-    requires high { b ≤ℤ pos 101 }
+    requires window { IsWindow a b }
     ensures answers { Answers (worst (G.rules game.now) asked.role asked.depth asked.at (G.state game.now from.now) own) a b result }
-    ensures wide { G.fits_wide game.now tools.new.wide }
-    ensures tools_capacities { tools_capacities (G.wide_capacities game.now) tools.new ≡ tools_capacities (G.wide_capacities game.now) tools.old }
-    ensures levels { All (IsLevelOf (G.fits game.now) (G.fits_many game.now) (G.rules game.now).roles) levels.new }
-    ensures capacities { all_capacities (G.capacities game.now) (G.many_capacities game.now) levels.new
-        ≡ all_capacities (G.capacities game.now) (G.many_capacities game.now) levels.old }
+    ensures kept { AreKept G.Game game.now tools.old levels.old tools.new levels.new }
 {
     let (first, rest) = levels.split_at_mut(1);
     let level = &mut first[0];
@@ -155,7 +130,7 @@ pub fn worst_at<G: Game>(
 fn least_after<G: Game>(
     game: &G,
     from: &G::Pos,
-    asked: Asked,
+    asked: Question,
     a: i16,
     b: i16,
     tools: &mut Tools<G::Wide>,
@@ -163,27 +138,13 @@ fn least_after<G: Game>(
     levels: &mut [Level<G::Pos, G::Many>],
 ) -> i16
     requires fits { G.fits game.now from.now }
-    requires role { asked.role < (G.rules game.now).roles }
-    requires deep { asked.depth ≤ length levels.old }
-    requires wide { G.fits_wide game.now tools.old.wide }
-    requires some { 0 < level.old.run.count }
-    requires known { All (IsTurn (G.rules game.now)) (turns_in level.old.run) }
-    requires level { IsLevelOf (G.fits game.now) (G.fits_many game.now) (G.rules game.now).roles level.old }
-    requires levels { All (IsLevelOf (G.fits game.now) (G.fits_many game.now) (G.rules game.now).roles) levels.old }
-    requires low { negsuc 1 ≤ℤ a }
-    requires order { a <ℤ b }
-    requires high { b ≤ℤ pos 101 }
+    requires fit { AreFit G.Game game.now asked.role asked.depth tools.old levels.old }
+    requires level { IsFilled G.Game game.now level.old }
+    requires window { IsWindow a b }
     ensures answers { Answers (least (map (λ j. value (G.rules game.now) asked.role asked.depth asked.at
         ((G.rules game.now).after (G.state game.now from.now) j)) (turns_in level.old.run))) a b result }
-    ensures wide { G.fits_wide game.now tools.new.wide }
-    ensures tools_capacities { tools_capacities (G.wide_capacities game.now) tools.new ≡ tools_capacities (G.wide_capacities game.now) tools.old }
-    ensures cursor { level.new.cursor ≡ level.old.cursor }
-    ensures level { IsLevelOf (G.fits game.now) (G.fits_many game.now) (G.rules game.now).roles level.new }
-    ensures level_capacities { level_capacities (G.capacities game.now) (G.many_capacities game.now) level.new
-        ≡ level_capacities (G.capacities game.now) (G.many_capacities game.now) level.old }
-    ensures levels { All (IsLevelOf (G.fits game.now) (G.fits_many game.now) (G.rules game.now).roles) levels.new }
-    ensures capacities { all_capacities (G.capacities game.now) (G.many_capacities game.now) levels.new
-        ≡ all_capacities (G.capacities game.now) (G.many_capacities game.now) levels.old }
+    ensures kept { AreKept G.Game game.now tools.old levels.old tools.new levels.new }
+    ensures level { IsLevelKept G.Game game.now level.old level.new }
 {
     let count = level.run.count;
     let joints = &level.run.joints[..count];
@@ -210,7 +171,7 @@ pub fn child_at<G: Game>(
     game: &G,
     many: &G::Many,
     place: usize,
-    asked: Asked,
+    asked: Question,
     a: i16,
     b: i16,
     tools: &mut Tools<G::Wide>,
@@ -220,23 +181,14 @@ pub fn child_at<G: Game>(
 ) -> i16
     requires many { G.fits_many game.now many.now }
     requires place { place < length (G.states game.now many.now) }
-    requires role { asked.role < (G.rules game.now).roles }
-    requires deep { asked.depth ≤ length levels.old }
-    requires wide { G.fits_wide game.now tools.old.wide }
+    requires fit { AreFit G.Game game.now asked.role asked.depth tools.old levels.old }
     requires position { G.fits game.now position.old }
-    requires levels { All (IsLevelOf (G.fits game.now) (G.fits_many game.now) (G.rules game.now).roles) levels.old }
     requires ahead { IsAheadOf (G.states game.now many.now) (value (G.rules game.now) asked.role asked.depth asked.at) ahead.old }
-    requires low { negsuc 1 ≤ℤ a }
-    requires order { a <ℤ b }
-    requires high { b ≤ℤ pos 101 }
+    requires window { IsWindow a b }
     ensures answers { Answers (value (G.rules game.now) asked.role asked.depth asked.at (get_or (G.states game.now many.now) place [])) a b result }
-    ensures wide { G.fits_wide game.now tools.new.wide }
-    ensures tools_capacities { tools_capacities (G.wide_capacities game.now) tools.new ≡ tools_capacities (G.wide_capacities game.now) tools.old }
+    ensures kept { AreKept G.Game game.now tools.old levels.old tools.new levels.new }
     ensures position { G.fits game.now position.new }
     ensures position_capacities { G.capacities game.now position.new ≡ G.capacities game.now position.old }
-    ensures levels { All (IsLevelOf (G.fits game.now) (G.fits_many game.now) (G.rules game.now).roles) levels.new }
-    ensures capacities { all_capacities (G.capacities game.now) (G.many_capacities game.now) levels.new
-        ≡ all_capacities (G.capacities game.now) (G.many_capacities game.now) levels.old }
     ensures ahead { IsAheadOf (G.states game.now many.now) (value (G.rules game.now) asked.role asked.depth asked.at) ahead.new }
 {
     if let Some(worth) = told_worth(game, many, place, asked) {
@@ -256,7 +208,7 @@ fn least_at<G: Game>(
     game: &G,
     joints: &[Joint],
     many: &G::Many,
-    asked: Asked,
+    asked: Question,
     a: i16,
     b: i16,
     tools: &mut Tools<G::Wide>,
@@ -267,22 +219,13 @@ fn least_at<G: Game>(
     requires count { length joints.now ≡ length (G.states game.now many.now) }
     requires some { 0 < length joints.now }
     requires few { length joints.now ≤ 64 }
-    requires role { asked.role < (G.rules game.now).roles }
-    requires deep { asked.depth ≤ length levels.old }
-    requires wide { G.fits_wide game.now tools.old.wide }
+    requires fit { AreFit G.Game game.now asked.role asked.depth tools.old levels.old }
     requires position { G.fits game.now position.old }
-    requires levels { All (IsLevelOf (G.fits game.now) (G.fits_many game.now) (G.rules game.now).roles) levels.old }
-    requires low { negsuc 1 ≤ℤ a }
-    requires order { a <ℤ b }
-    requires high { b ≤ℤ pos 101 }
+    requires window { IsWindow a b }
     ensures answers { Answers (least (map (value (G.rules game.now) asked.role asked.depth asked.at) (G.states game.now many.now))) a b result }
-    ensures wide { G.fits_wide game.now tools.new.wide }
-    ensures tools_capacities { tools_capacities (G.wide_capacities game.now) tools.new ≡ tools_capacities (G.wide_capacities game.now) tools.old }
+    ensures kept { AreKept G.Game game.now tools.old levels.old tools.new levels.new }
     ensures position { G.fits game.now position.new }
     ensures position_capacities { G.capacities game.now position.new ≡ G.capacities game.now position.old }
-    ensures levels { All (IsLevelOf (G.fits game.now) (G.fits_many game.now) (G.rules game.now).roles) levels.new }
-    ensures capacities { all_capacities (G.capacities game.now) (G.many_capacities game.now) levels.new
-        ≡ all_capacities (G.capacities game.now) (G.many_capacities game.now) levels.old }
 {
     let count = joints.len();
     let mut upper = least_told(game, many, count, asked, b);
@@ -312,29 +255,20 @@ fn least_at<G: Game>(
 fn best_at<G: Game>(
     game: &G,
     from: &G::Pos,
-    asked: Asked,
+    asked: Question,
     a: i16,
     b: i16,
     tools: &mut Tools<G::Wide>,
     levels: &mut [Level<G::Pos, G::Many>],
 ) -> i16
     requires fits { G.fits game.now from.now }
-    requires role { asked.role < (G.rules game.now).roles }
+    requires fit { AreFit G.Game game.now asked.role (asked.depth + 1) tools.old levels.old }
     requires open { stuck (G.rules game.now) (G.state game.now from.now) ≡ false }
     requires alone { IsAlone (G.rules game.now) (G.state game.now from.now) asked.role }
-    requires deep { asked.depth < length levels.old }
-    requires wide { G.fits_wide game.now tools.old.wide }
-    requires levels { All (IsLevelOf (G.fits game.now) (G.fits_many game.now) (G.rules game.now).roles) levels.old }
-    requires low { negsuc 1 ≤ℤ a }
-    requires order { a <ℤ b }
-    requires high { b ≤ℤ pos 101 }
+    requires window { IsWindow a b }
     ensures answers { Answers (greatest (map (worst (G.rules game.now) asked.role asked.depth asked.at (G.state game.now from.now))
         ((G.rules game.now).legal (G.state game.now from.now) asked.role))) a b result }
-    ensures wide { G.fits_wide game.now tools.new.wide }
-    ensures tools_capacities { tools_capacities (G.wide_capacities game.now) tools.new ≡ tools_capacities (G.wide_capacities game.now) tools.old }
-    ensures levels { All (IsLevelOf (G.fits game.now) (G.fits_many game.now) (G.rules game.now).roles) levels.new }
-    ensures capacities { all_capacities (G.capacities game.now) (G.many_capacities game.now) levels.new
-        ≡ all_capacities (G.capacities game.now) (G.many_capacities game.now) levels.old }
+    ensures kept { AreKept G.Game game.now tools.old levels.old tools.new levels.new }
 {
     let (first, rest) = levels.split_at_mut(1);
     let level = &mut first[0];
@@ -371,7 +305,7 @@ fn best_at<G: Game>(
 fn greatest_after<G: Game>(
     game: &G,
     from: &G::Pos,
-    asked: Asked,
+    asked: Question,
     a: i16,
     b: i16,
     tools: &mut Tools<G::Wide>,
@@ -379,27 +313,13 @@ fn greatest_after<G: Game>(
     levels: &mut [Level<G::Pos, G::Many>],
 ) -> i16
     requires fits { G.fits game.now from.now }
-    requires role { asked.role < (G.rules game.now).roles }
-    requires deep { asked.depth ≤ length levels.old }
-    requires wide { G.fits_wide game.now tools.old.wide }
-    requires some { 0 < level.old.run.count }
-    requires known { All (IsTurn (G.rules game.now)) (turns_in level.old.run) }
-    requires level { IsLevelOf (G.fits game.now) (G.fits_many game.now) (G.rules game.now).roles level.old }
-    requires levels { All (IsLevelOf (G.fits game.now) (G.fits_many game.now) (G.rules game.now).roles) levels.old }
-    requires low { negsuc 1 ≤ℤ a }
-    requires order { a <ℤ b }
-    requires high { b ≤ℤ pos 101 }
+    requires fit { AreFit G.Game game.now asked.role asked.depth tools.old levels.old }
+    requires level { IsFilled G.Game game.now level.old }
+    requires window { IsWindow a b }
     ensures answers { Answers (greatest (map (λ j. value (G.rules game.now) asked.role asked.depth asked.at
         ((G.rules game.now).after (G.state game.now from.now) j)) (turns_in level.old.run))) a b result }
-    ensures wide { G.fits_wide game.now tools.new.wide }
-    ensures tools_capacities { tools_capacities (G.wide_capacities game.now) tools.new ≡ tools_capacities (G.wide_capacities game.now) tools.old }
-    ensures cursor { level.new.cursor ≡ level.old.cursor }
-    ensures level { IsLevelOf (G.fits game.now) (G.fits_many game.now) (G.rules game.now).roles level.new }
-    ensures level_capacities { level_capacities (G.capacities game.now) (G.many_capacities game.now) level.new
-        ≡ level_capacities (G.capacities game.now) (G.many_capacities game.now) level.old }
-    ensures levels { All (IsLevelOf (G.fits game.now) (G.fits_many game.now) (G.rules game.now).roles) levels.new }
-    ensures capacities { all_capacities (G.capacities game.now) (G.many_capacities game.now) levels.new
-        ≡ all_capacities (G.capacities game.now) (G.many_capacities game.now) levels.old }
+    ensures kept { AreKept G.Game game.now tools.old levels.old tools.new levels.new }
+    ensures level { IsLevelKept G.Game game.now level.old level.new }
 {
     let count = level.run.count;
     let joints = &level.run.joints[..count];
@@ -426,7 +346,7 @@ fn greatest_at<G: Game>(
     game: &G,
     joints: &[Joint],
     many: &G::Many,
-    asked: Asked,
+    asked: Question,
     a: i16,
     b: i16,
     tools: &mut Tools<G::Wide>,
@@ -437,22 +357,13 @@ fn greatest_at<G: Game>(
     requires count { length joints.now ≡ length (G.states game.now many.now) }
     requires some { 0 < length joints.now }
     requires few { length joints.now ≤ 64 }
-    requires role { asked.role < (G.rules game.now).roles }
-    requires deep { asked.depth ≤ length levels.old }
+    requires fit { AreFit G.Game game.now asked.role asked.depth tools.old levels.old }
     requires position { G.fits game.now position.old }
-    requires wide { G.fits_wide game.now tools.old.wide }
-    requires levels { All (IsLevelOf (G.fits game.now) (G.fits_many game.now) (G.rules game.now).roles) levels.old }
-    requires low { negsuc 1 ≤ℤ a }
-    requires order { a <ℤ b }
-    requires high { b ≤ℤ pos 101 }
+    requires window { IsWindow a b }
     ensures answers { Answers (greatest (map (value (G.rules game.now) asked.role asked.depth asked.at) (G.states game.now many.now))) a b result }
-    ensures wide { G.fits_wide game.now tools.new.wide }
-    ensures tools_capacities { tools_capacities (G.wide_capacities game.now) tools.new ≡ tools_capacities (G.wide_capacities game.now) tools.old }
+    ensures kept { AreKept G.Game game.now tools.old levels.old tools.new levels.new }
     ensures position { G.fits game.now position.new }
     ensures position_capacities { G.capacities game.now position.new ≡ G.capacities game.now position.old }
-    ensures levels { All (IsLevelOf (G.fits game.now) (G.fits_many game.now) (G.rules game.now).roles) levels.new }
-    ensures capacities { all_capacities (G.capacities game.now) (G.many_capacities game.now) levels.new
-        ≡ all_capacities (G.capacities game.now) (G.many_capacities game.now) levels.old }
 {
     let count = joints.len();
     let mut lower = greatest_told(game, many, count, asked, a);
@@ -486,24 +397,17 @@ pub const GREATEST: i16 = 100;
 pub fn value_within<G: Game>(
     game: &G,
     from: &G::Pos,
-    asked: Asked,
+    asked: Question,
     a: i16,
     b: i16,
     tools: &mut Tools<G::Wide>,
     levels: &mut [Level<G::Pos, G::Many>],
 ) -> i16
     requires fits { G.fits game.now from.now }
-    requires role { asked.role < (G.rules game.now).roles }
-    requires deep { asked.depth ≤ length levels.old }
-    requires wide { G.fits_wide game.now tools.old.wide }
-    requires levels { All (IsLevelOf (G.fits game.now) (G.fits_many game.now) (G.rules game.now).roles) levels.old }
+    requires fit { AreFit G.Game game.now asked.role asked.depth tools.old levels.old }
     requires order { a <ℤ b }
     ensures answers { Answers (value (G.rules game.now) asked.role asked.depth asked.at (G.state game.now from.now)) a b result }
-    ensures wide { G.fits_wide game.now tools.new.wide }
-    ensures tools_capacities { tools_capacities (G.wide_capacities game.now) tools.new ≡ tools_capacities (G.wide_capacities game.now) tools.old }
-    ensures levels { All (IsLevelOf (G.fits game.now) (G.fits_many game.now) (G.rules game.now).roles) levels.new }
-    ensures capacities { all_capacities (G.capacities game.now) (G.many_capacities game.now) levels.new
-        ≡ all_capacities (G.capacities game.now) (G.many_capacities game.now) levels.old }
+    ensures kept { AreKept G.Game game.now tools.old levels.old tools.new levels.new }
 {
     let low = a.max(LEAST);
     let high = b.min(GREATEST);
@@ -517,27 +421,19 @@ pub fn value_within<G: Game>(
 pub fn reply_at<G: Game>(
     game: &G,
     from: &G::Pos,
-    asked: Asked,
+    asked: Question,
     own: u32,
     tools: &mut Tools<G::Wide>,
     levels: &mut [Level<G::Pos, G::Many>],
     out: &mut Joint,
 )
     requires fits { G.fits game.now from.now }
-    requires role { asked.role < (G.rules game.now).roles }
+    requires fit { AreFit G.Game game.now asked.role (asked.depth + 1) tools.old levels.old }
     requires own { own < (G.rules game.now).moves asked.role }
     requires open { stuck (G.rules game.now) (G.state game.now from.now) ≡ false }
-    requires deep { asked.depth < length levels.old }
-    requires wide { G.fits_wide game.now tools.old.wide }
-    requires levels { All (IsLevelOf (G.fits game.now) (G.fits_many game.now) (G.rules game.now).roles) levels.old }
     requires out { (G.rules game.now).roles ≤ out.old.capacity }
-    ensures reply { reply_of (G.rules game.now) asked.role asked.depth asked.at (G.state game.now from.now) own ≡ Some out.new.items }
-    ensures out { out.new.capacity ≡ out.old.capacity }
-    ensures wide { G.fits_wide game.now tools.new.wide }
-    ensures tools_capacities { tools_capacities (G.wide_capacities game.now) tools.new ≡ tools_capacities (G.wide_capacities game.now) tools.old }
-    ensures levels { All (IsLevelOf (G.fits game.now) (G.fits_many game.now) (G.rules game.now).roles) levels.new }
-    ensures capacities { all_capacities (G.capacities game.now) (G.many_capacities game.now) levels.new
-        ≡ all_capacities (G.capacities game.now) (G.many_capacities game.now) levels.old }
+    ensures reply { IsWritten (reply_of (G.rules game.now) asked.role asked.depth asked.at (G.state game.now from.now) own) out.old out.new }
+    ensures kept { AreKept G.Game game.now tools.old levels.old tools.new levels.new }
 {
     let (first, rest) = levels.split_at_mut(1);
     let level = &mut first[0];

@@ -3,11 +3,10 @@ ghost use Rattle.std.specs.Prelude.{◌≡◌, ◌<◌, ◌≤ℤ◌, pos, [], l
 ghost use Rattle.std.specs.Int.{int_min, int_max};
 ghost use Rattle.statement.specs.Value.{greatest, least, value};
 
-use crate::search::Asked;
-use game::{AtBound, Game, Told};
+use game::{AtBound, Game, Question, Told};
 
 /// What one of many states is worth, where that is told before it is taken.
-pub fn told_worth<G: Game>(game: &G, many: &G::Many, place: usize, asked: Asked) -> Option<i16>
+pub fn told_worth<G: Game>(game: &G, many: &G::Many, place: usize, asked: Question) -> Option<i16>
     requires many { G.fits_many game.now many.now }
     requires place { place < length (G.states game.now many.now) }
     requires role { asked.role < (G.rules game.now).roles }
@@ -22,7 +21,7 @@ pub fn told_worth<G: Game>(game: &G, many: &G::Many, place: usize, asked: Asked)
 }
 
 /// The lesser of a bound and the least value among those of many states that are told before they are taken.
-pub fn least_told<G: Game>(game: &G, many: &G::Many, count: usize, asked: Asked, b: i16) -> i16
+pub fn least_told<G: Game>(game: &G, many: &G::Many, count: usize, asked: Question, b: i16) -> i16
     requires many { G.fits_many game.now many.now }
     requires count { count ≡ length (G.states game.now many.now) }
     requires role { asked.role < (G.rules game.now).roles }
@@ -39,7 +38,13 @@ pub fn least_told<G: Game>(game: &G, many: &G::Many, count: usize, asked: Asked,
 }
 
 /// The greater of a bound and the greatest value among those of many states that are told before they are taken.
-pub fn greatest_told<G: Game>(game: &G, many: &G::Many, count: usize, asked: Asked, a: i16) -> i16
+pub fn greatest_told<G: Game>(
+    game: &G,
+    many: &G::Many,
+    count: usize,
+    asked: Question,
+    a: i16,
+) -> i16
     requires many { G.fits_many game.now many.now }
     requires count { count ≡ length (G.states game.now many.now) }
     requires role { asked.role < (G.rules game.now).roles }

@@ -2,7 +2,7 @@
 ghost use Rattle.std.specs.Prelude.{◌<ℤ◌, ◌≤ℤ◌, pos, negsuc, IfOk};
 
 use crate::plays::{FOUR, LIVE, game_of};
-use game::{AtBound, Game, Joint, replay};
+use game::{AtBound, Game, Joint, Question, replay};
 use kif::read;
 use maximin::{Room, value_in};
 use std::alloc::{AllocError, AllocGlobal, Global};
@@ -41,7 +41,12 @@ fn value_of<G: Game>(
         return Err(AllocError);
     }
     let mut room = Room::new(alloc, g, 1)?;
-    Ok(value_in(g, p, 0, 1, AtBound::Zero, window.0, window.1, &mut room))
+    let asked = Question {
+        role: 0,
+        depth: 1,
+        at: AtBound::Zero,
+    };
+    Ok(value_in(g, p, asked, window.0, window.1, &mut room))
 }
 
 /// How many steps were made.

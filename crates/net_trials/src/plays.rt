@@ -2,7 +2,7 @@
 ghost use Rattle.std.specs.Prelude.{◌<◌};
 
 use cut::Cut;
-use game::{AtBound, Game, Joint};
+use game::{AtBound, Game, Joint, Question};
 use ground::instantiate_flat_alone;
 use kif::read;
 use position::RuleGame;
@@ -103,8 +103,13 @@ fn solved<R: Threads + Abort + Sync + AllocGlobal, G: Game, K: Gate>(
     let Some(cut) = Cut::parse(cut) else {
         panic!(rt; "no cut")
     };
+    let asked = Question {
+        role: 0,
+        depth,
+        at: AtBound::Zero,
+    };
     mark(rt.alloc());
-    let found = solve(rt, game, &start, 0, depth, AtBound::Zero, &cut, gate);
+    let found = solve(rt, game, &start, asked, &cut, gate);
     mark(rt.alloc());
     Ok(found?)
 }

@@ -1,6 +1,6 @@
 //! Texts of cuts, and answers over the table.
 use cut::Cut;
-use game::{AtBound, Game};
+use game::{AtBound, Game, Question};
 use share::{Gate, solve};
 use std::alloc::AllocGlobal;
 use std::process::Abort;
@@ -48,7 +48,12 @@ fn answers<R: Threads + Abort + Sync + AllocGlobal>(
         let Some(cut) = Cut::new(levels) else {
             panic!(rt; "no cut")
         };
-        let answer = solve(rt, table, &start, 0, 1, at, &cut, &tally)?;
+        let asked = Question {
+            role: 0,
+            depth: 1,
+            at,
+        };
+        let answer = solve(rt, table, &start, asked, &cut, &tally)?;
         assert_eq!(rt; answer.value, value);
         assert_eq!(rt; answer.choice, Some(choice));
         // Tasks 0 to 7, each once.
@@ -83,7 +88,12 @@ fn no_turn_to_come(rt: HostRuntime) -> Result<(), Fail> {
     let Some(cut) = Cut::parse(b"4x2") else {
         panic!(rt; "no cut")
     };
-    let answer = solve(&rt, &table, &start, 1, 0, AtBound::Zero, &cut, &tally)?;
+    let asked = Question {
+        role: 1,
+        depth: 0,
+        at: AtBound::Zero,
+    };
+    let answer = solve(&rt, &table, &start, asked, &cut, &tally)?;
     assert_eq!(rt; answer.value, 0);
     assert_eq!(rt; answer.choice, None);
     assert_eq!(rt; tally.passed.load(Ordering::SeqCst), 0);

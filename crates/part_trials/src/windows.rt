@@ -1,14 +1,21 @@
 //! Values, choices and replies over the table.
-ghost use Rattle.std.specs.Prelude.{◌<◌, ◌<ℤ◌, ◌≤ℤ◌, pos, negsuc};
+ghost use Rattle.std.specs.Prelude.{◌≡◌, ◌<◌, ◌<ℤ◌, ◌≤ℤ◌, pos, negsuc};
 
 use game::AtBound::{Goal, Zero};
-use game::{AtBound, Game, Joint};
+use game::{AtBound, Game, Joint, Question};
 use maximin::{Room, choice, choice_by_value, first_reply, reply_by_value, value_in};
 use smallvec::SmallVec;
 use std::alloc::{AllocError, Global};
 use std::sync::atomic::{AtomicUsize, Ordering};
 use trial_games::table::{Chosen, Table};
 use trial_games::watched::Watched;
+
+/// What is asked of a state.
+fn ask(role: usize, depth: u32, at: AtBound) -> Question
+    ensures { result ≡ record { role = role; depth = depth; at = at } }
+{
+    Question { role, depth, at }
+}
 
 /// The value of the start state within a window, found through the bound alone, as in every caller.
 fn value_of<G: Game>(g: &G, alloc: Global, window: (i16, i16)) -> Result<i16, AllocError>
@@ -19,7 +26,7 @@ fn value_of<G: Game>(g: &G, alloc: Global, window: (i16, i16)) -> Result<i16, Al
 {
     let mut room = Room::new(alloc, g, 1)?;
     let start = g.fresh()?;
-    Ok(value_in(g, &start, 0, 1, Zero, window.0, window.1, &mut room))
+    Ok(value_in(g, &start, ask(0, 1, Zero), window.0, window.1, &mut room))
 }
 
 /// The row can be sure of 10 by its first side, and of 30 by its second.
@@ -33,22 +40,25 @@ fn each_role_has_its_value_and_choice(rt: HostRuntime) -> Result<(), AllocError>
     let mut room = Room::new(rt.alloc(), &LEVEL, 1)?;
     let start = LEVEL.fresh()?;
     assert_eq!(rt;
-        value_in(&LEVEL, &start, 0, 1, Zero, -1, 101, &mut room),
+        value_in(&LEVEL, &start, ask(0, 1, Zero), -1, 101, &mut room),
         30
     );
-    assert_eq!(rt; choice(&LEVEL, &start, 0, 1, Zero, &mut room), Some(1));
+    assert_eq!(rt; choice(&LEVEL, &start, ask(0, 1, Zero), &mut room), Some(1));
     assert_eq!(rt;
-        value_in(&LEVEL, &start, 1, 1, Zero, -1, 101, &mut room),
+        value_in(&LEVEL, &start, ask(1, 1, Zero), -1, 101, &mut room),
         50
     );
-    assert_eq!(rt; choice(&LEVEL, &start, 1, 1, Zero, &mut room), Some(0));
+    assert_eq!(rt; choice(&LEVEL, &start, ask(1, 1, Zero), &mut room), Some(0));
     assert_eq!(rt;
-        value_in(&LEVEL, &start, 2, 1, Zero, -1, 101, &mut room),
+        value_in(&LEVEL, &start, ask(2, 1, Zero), -1, 101, &mut room),
         10
     );
-    assert_eq!(rt; choice(&LEVEL, &start, 2, 1, Zero, &mut room), Some(0));
-    assert_eq!(rt; value_in(&LEVEL, &start, 0, 0, Zero, -1, 101, &mut room), 0);
-    assert_eq!(rt; choice(&LEVEL, &start, 0, 0, Zero, &mut room), None);
+    assert_eq!(rt; choice(&LEVEL, &start, ask(2, 1, Zero), &mut room), Some(0));
+    assert_eq!(rt;
+        value_in(&LEVEL, &start, ask(0, 0, Zero), -1, 101, &mut room),
+        0
+    );
+    assert_eq!(rt; choice(&LEVEL, &start, ask(0, 0, Zero), &mut room), None);
     Ok(())
 }
 
@@ -61,10 +71,10 @@ fn first_of_equal_moves_is_chosen(rt: HostRuntime) -> Result<(), AllocError> {
     let mut room = Room::new(rt.alloc(), &table, 1)?;
     let start = table.fresh()?;
     assert_eq!(rt;
-        value_in(&table, &start, 0, 1, Zero, -1, 101, &mut room),
+        value_in(&table, &start, ask(0, 1, Zero), -1, 101, &mut room),
         40
     );
-    assert_eq!(rt; choice(&table, &start, 0, 1, Zero, &mut room), Some(0));
+    assert_eq!(rt; choice(&table, &start, ask(0, 1, Zero), &mut room), Some(0));
     Ok(())
 }
 
@@ -74,13 +84,13 @@ fn first_of_equal_replies_is_told(rt: HostRuntime) -> Result<(), AllocError> {
     let mut room = Room::new(rt.alloc(), &LEVEL, 1)?;
     let start = LEVEL.fresh()?;
     let mut reply = SmallVec::new(rt.alloc());
-    first_reply(&LEVEL, &start, 0, 0, 1, Zero, &mut room, &mut reply);
+    first_reply(&LEVEL, &start, ask(0, 1, Zero), 0, &mut room, &mut reply);
     assert_eq!(rt; reply.as_slice(), [0, 0, 1].as_slice());
-    first_reply(&LEVEL, &start, 0, 1, 1, Zero, &mut room, &mut reply);
+    first_reply(&LEVEL, &start, ask(0, 1, Zero), 1, &mut room, &mut reply);
     assert_eq!(rt; reply.as_slice(), [1, 0, 1].as_slice());
-    first_reply(&LEVEL, &start, 1, 0, 1, Zero, &mut room, &mut reply);
+    first_reply(&LEVEL, &start, ask(1, 1, Zero), 0, &mut room, &mut reply);
     assert_eq!(rt; reply.as_slice(), [0, 0, 0].as_slice());
-    first_reply(&LEVEL, &start, 2, 0, 1, Zero, &mut room, &mut reply);
+    first_reply(&LEVEL, &start, ask(2, 1, Zero), 0, &mut room, &mut reply);
     assert_eq!(rt; reply.as_slice(), [1, 1, 0].as_slice());
     Ok(())
 }
@@ -95,14 +105,17 @@ fn stuck_state_is_worth_nothing(rt: HostRuntime) -> Result<(), AllocError> {
     let mut room = Room::new(rt.alloc(), &table, 3)?;
     let start = table.fresh()?;
     assert_eq!(rt;
-        value_in(&table, &start, 0, 3, Zero, -1, 101, &mut room),
+        value_in(&table, &start, ask(0, 3, Zero), -1, 101, &mut room),
         20
     );
-    assert_eq!(rt; choice(&table, &start, 0, 3, Zero, &mut room), Some(0));
+    assert_eq!(rt; choice(&table, &start, ask(0, 3, Zero), &mut room), Some(0));
     let stuck = Chosen { cell: 5 };
     assert_eq!(rt; table.goal(&stuck, 0), 90);
-    assert_eq!(rt; value_in(&table, &stuck, 0, 3, Zero, -1, 101, &mut room), 0);
-    assert_eq!(rt; choice(&table, &stuck, 0, 3, Zero, &mut room), None);
+    assert_eq!(rt;
+        value_in(&table, &stuck, ask(0, 3, Zero), -1, 101, &mut room),
+        0
+    );
+    assert_eq!(rt; choice(&table, &stuck, ask(0, 3, Zero), &mut room), None);
     Ok(())
 }
 
@@ -116,26 +129,35 @@ fn goal_counts_at_the_bound_where_it_is_asked(rt: HostRuntime) -> Result<(), All
     let mut room = Room::new(rt.alloc(), &table, 1)?;
     let start = table.fresh()?;
     assert_eq!(rt;
-        value_in(&table, &start, 0, 0, Goal, -1, 101, &mut room),
+        value_in(&table, &start, ask(0, 0, Goal), -1, 101, &mut room),
         70
     );
     assert_eq!(rt;
-        value_in(&table, &start, 1, 0, Goal, -1, 101, &mut room),
+        value_in(&table, &start, ask(1, 0, Goal), -1, 101, &mut room),
         30
     );
-    assert_eq!(rt; value_in(&table, &start, 0, 0, Zero, -1, 101, &mut room), 0);
-    assert_eq!(rt; choice(&table, &start, 0, 0, Goal, &mut room), None);
+    assert_eq!(rt;
+        value_in(&table, &start, ask(0, 0, Zero), -1, 101, &mut room),
+        0
+    );
+    assert_eq!(rt; choice(&table, &start, ask(0, 0, Goal), &mut room), None);
     // A state without moves for some role is worth nothing at the bound either, and one that has ended its goal.
     let stuck = Chosen { cell: 5 };
-    assert_eq!(rt; value_in(&table, &stuck, 0, 0, Goal, -1, 101, &mut room), 0);
+    assert_eq!(rt;
+        value_in(&table, &stuck, ask(0, 0, Goal), -1, 101, &mut room),
+        0
+    );
     let over = Chosen { cell: 1 };
-    assert_eq!(rt; value_in(&table, &over, 0, 0, Zero, -1, 101, &mut room), 70);
+    assert_eq!(rt;
+        value_in(&table, &over, ask(0, 0, Zero), -1, 101, &mut room),
+        70
+    );
     // A turn later the game has ended, or is stuck.
     assert_eq!(rt;
-        value_in(&table, &start, 0, 1, Goal, -1, 101, &mut room),
+        value_in(&table, &start, ask(0, 1, Goal), -1, 101, &mut room),
         20
     );
-    assert_eq!(rt; choice(&table, &start, 0, 1, Goal, &mut room), Some(0));
+    assert_eq!(rt; choice(&table, &start, ask(0, 1, Goal), &mut room), Some(0));
     Ok(())
 }
 
@@ -144,17 +166,23 @@ fn deep_search_of_a_short_game(rt: HostRuntime) -> Result<(), AllocError> {
     let mut room = Room::new(rt.alloc(), &LEVEL, 64)?;
     let start = LEVEL.fresh()?;
     assert_eq!(rt;
-        value_in(&LEVEL, &start, 0, 64, Zero, -1, 101, &mut room),
+        value_in(&LEVEL, &start, ask(0, 64, Zero), -1, 101, &mut room),
         30
     );
-    assert_eq!(rt; choice(&LEVEL, &start, 0, 64, Zero, &mut room), Some(1));
+    assert_eq!(rt;
+        choice(&LEVEL, &start, ask(0, 64, Zero), &mut room),
+        Some(1)
+    );
     let over = Chosen { cell: 8 };
     assert_eq!(rt;
-        value_in(&LEVEL, &over, 0, 64, Zero, -1, 101, &mut room),
+        value_in(&LEVEL, &over, ask(0, 64, Zero), -1, 101, &mut room),
         95
     );
-    assert_eq!(rt; value_in(&LEVEL, &over, 0, 0, Zero, -1, 101, &mut room), 95);
-    assert_eq!(rt; choice(&LEVEL, &over, 0, 64, Zero, &mut room), None);
+    assert_eq!(rt;
+        value_in(&LEVEL, &over, ask(0, 0, Zero), -1, 101, &mut room),
+        95
+    );
+    assert_eq!(rt; choice(&LEVEL, &over, ask(0, 64, Zero), &mut room), None);
     Ok(())
 }
 
@@ -197,7 +225,7 @@ fn choice_by_a_known_value_steps_less(rt: HostRuntime) -> Result<(), AllocError>
     let mut room = Room::new(rt.alloc(), &game, 1)?;
     let start = game.fresh()?;
     assert_eq!(rt;
-        choice_by_value(&game, &start, 0, 1, Zero, 30, &mut room),
+        choice_by_value(&game, &start, ask(0, 1, Zero), 30, &mut room),
         Some(1)
     );
     assert_eq!(rt; game.watch.load(Ordering::SeqCst), 2);
@@ -214,7 +242,7 @@ fn reply_by_a_known_value_steps_less(rt: HostRuntime) -> Result<(), AllocError> 
     let mut room = Room::new(rt.alloc(), &game, 1)?;
     let start = game.fresh()?;
     let mut reply = SmallVec::new(rt.alloc());
-    reply_by_value(&game, &start, 0, 0, 1, Zero, 10, &mut room, &mut reply);
+    reply_by_value(&game, &start, ask(0, 1, Zero), 0, 10, &mut room, &mut reply);
     assert_eq!(rt; reply.as_slice(), [0, 0, 1].as_slice());
     assert_eq!(rt; game.watch.load(Ordering::SeqCst), 2);
     Ok(())
@@ -231,13 +259,21 @@ fn first_of_equals_by_a_known_value(rt: HostRuntime) -> Result<(), AllocError> {
     let start = table.fresh()?;
     let mut reply = SmallVec::new(rt.alloc());
     assert_eq!(rt;
-        choice_by_value(&table, &start, 0, 1, Zero, 40, &mut room),
+        choice_by_value(&table, &start, ask(0, 1, Zero), 40, &mut room),
         Some(0)
     );
-    reply_by_value(&table, &start, 0, 0, 1, Zero, 40, &mut room, &mut reply);
+    reply_by_value(
+        &table,
+        &start,
+        ask(0, 1, Zero),
+        0,
+        40,
+        &mut room,
+        &mut reply,
+    );
     assert_eq!(rt; reply.as_slice(), [0, 0, 1].as_slice());
     assert_eq!(rt;
-        choice_by_value(&table, &start, 0, 0, Zero, 0, &mut room),
+        choice_by_value(&table, &start, ask(0, 0, Zero), 0, &mut room),
         None
     );
     Ok(())
@@ -254,16 +290,24 @@ fn ends_of_the_range_are_known_values(rt: HostRuntime) -> Result<(), AllocError>
     let start = table.fresh()?;
     let mut reply = SmallVec::new(rt.alloc());
     assert_eq!(rt;
-        choice_by_value(&table, &start, 0, 1, Zero, 100, &mut room),
+        choice_by_value(&table, &start, ask(0, 1, Zero), 100, &mut room),
         Some(1)
     );
-    reply_by_value(&table, &start, 0, 1, 1, Zero, 100, &mut room, &mut reply);
+    reply_by_value(
+        &table,
+        &start,
+        ask(0, 1, Zero),
+        1,
+        100,
+        &mut room,
+        &mut reply,
+    );
     assert_eq!(rt; reply.as_slice(), [1, 0, 0].as_slice());
     assert_eq!(rt;
-        choice_by_value(&table, &start, 1, 1, Zero, 0, &mut room),
+        choice_by_value(&table, &start, ask(1, 1, Zero), 0, &mut room),
         Some(0)
     );
-    reply_by_value(&table, &start, 1, 0, 1, Zero, 0, &mut room, &mut reply);
+    reply_by_value(&table, &start, ask(1, 1, Zero), 0, 0, &mut room, &mut reply);
     assert_eq!(rt; reply.as_slice(), [0, 0, 0].as_slice());
     Ok(())
 }
@@ -274,7 +318,7 @@ fn value_for<G: Game>(g: &G, alloc: Global, role: usize, at: AtBound) -> Result<
 {
     let mut room = Room::new(alloc, g, 1)?;
     let start = g.fresh()?;
-    Ok(value_in(g, &start, role, 1, at, -1, 101, &mut room))
+    Ok(value_in(g, &start, ask(role, 1, at), -1, 101, &mut room))
 }
 
 /// The values of the start state for three roles, each by either bound.

@@ -38,18 +38,22 @@ fn found_alone<G: Game + Drop>(alloc: Global, search: &Search<G>) -> Result<Answ
     let game = &search.game;
     let here = &search.here;
     let mut room = Room::new(alloc, game, search.depth)?;
-    let (role, depth, at) = (search.role, search.depth, search.at);
-    if depth == 0 || game.ended(here) || is_stuck(game, here) {
-        let value = value_in(game, here, role, depth, at, -1, 101, &mut room);
+    let asked = game::Question {
+        role: search.role,
+        depth: search.depth,
+        at: search.at,
+    };
+    if search.depth == 0 || game.ended(here) || is_stuck(game, here) {
+        let value = value_in(game, here, asked, -1, 101, &mut room);
         return Ok(Answer {
             value,
             choice: None,
         });
     }
-    let (value, place) = value_and_choice(game, here, role, depth, at, &mut room);
+    let (value, place) = value_and_choice(game, here, asked, &mut room);
     Ok(Answer {
         value,
-        choice: game.legal(here, role, place),
+        choice: game.legal(here, search.role, place),
     })
 }
 

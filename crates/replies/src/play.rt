@@ -6,7 +6,7 @@ ghost use Rattle.statement.specs.Value.{value, choice_of, reply_of};
 ghost use Rattle.maximin.specs.Room.{room_depth};
 ghost use Rattle.replies.specs.Play.{IsPlayOf};
 
-use game::{AtBound, Game, Joint, new_joint};
+use game::{AtBound, Game, Joint, Question, new_joint};
 use maximin::{Room, reply_by_value};
 use std::alloc::{AllocError, Global};
 use std::mem;
@@ -25,7 +25,7 @@ impl<G: Game> Play<G> {
     pub(crate) fn new(alloc: Global, g: &G, depth: u32, here: G::Pos) -> Result<Play<G>, AllocError>
         requires { G.fits g.now here }
         ensures here { IfOk result (λ play. play.here ≡ here) }
-        ensures play { IfOk result (λ play. IsPlayOf (G.fits g.now) (G.fits_wide g.now) (G.fits_many g.now) (G.rules g.now).roles play) }
+        ensures play { IfOk result (λ play. IsPlayOf G.Game g.now play) }
         ensures deep { IfOk result (λ play. room_depth play.room ≡ depth) }
     {
         let room = Room::new(alloc, g, depth)?;
@@ -43,7 +43,7 @@ impl<G: Game> Play<G> {
     /// the state, which is `worth`, stays.
     pub(crate) fn turn(&mut self, g: &G, role: usize, own: u32, depth: u32, at: AtBound, worth: i16)
         requires role { role < (G.rules g.now).roles }
-        requires play { IsPlayOf (G.fits g.now) (G.fits_wide g.now) (G.fits_many g.now) (G.rules g.now).roles self.old }
+        requires play { IsPlayOf G.Game g.now self.old }
         requires deep { depth ≤ room_depth self.old.room }
         requires own { choice_of (G.rules g.now) role depth at (G.state g.now self.old.here) ≡ Some own }
         requires worth { worth ≡ pos (value (G.rules g.now) role depth at (G.state g.now self.old.here)) }
@@ -51,16 +51,15 @@ impl<G: Game> Play<G> {
         ensures turn { IsTurn (G.rules g.now) self.new.joint.items }
         ensures after { G.state g.now self.new.here ≡ (G.rules g.now).after (G.state g.now self.old.here) self.new.joint.items }
         ensures worth { worth ≡ pos (value (G.rules g.now) role (depth - 1) at (G.state g.now self.new.here)) }
-        ensures play { IsPlayOf (G.fits g.now) (G.fits_wide g.now) (G.fits_many g.now) (G.rules g.now).roles self.new }
+        ensures play { IsPlayOf G.Game g.now self.new }
         ensures deep { room_depth self.new.room ≡ room_depth self.old.room }
     {
+        let asked = Question { role, depth, at };
         reply_by_value(
             g,
             &self.here,
-            role,
+            asked,
             own,
-            depth,
-            at,
             worth,
             &mut self.room,
             &mut self.joint,

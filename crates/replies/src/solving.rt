@@ -10,7 +10,7 @@ ghost use Rattle.statement.specs.Solving.{move_line, choice_text, move_texts, tu
 
 use crate::play::Play;
 use crate::reply::add_count;
-use game::{AtBound, Game, Joint};
+use game::{AtBound, Game, Joint, Question};
 use maximin::choice_by_value;
 use share::Answer;
 use std::alloc::{AllocError, Global};
@@ -81,7 +81,7 @@ fn add_turns<G: Game>(
     output: &mut Vec<u8>,
 ) -> Result<(), AllocError>
     requires role { role < (G.rules g.now).roles }
-    requires play { IsPlayOf (G.fits g.now) (G.fits_wide g.now) (G.fits_many g.now) (G.rules g.now).roles play.old }
+    requires play { IsPlayOf G.Game g.now play.old }
     requires deep { depth ≤ room_depth play.old.room }
     requires worth { worth ≡ pos (value (G.rules g.now) role depth at (G.state g.now play.old.here)) }
     requires first { first ≡ choice_of (G.rules g.now) role depth at (G.state g.now play.old.here) }
@@ -95,7 +95,12 @@ fn add_turns<G: Game>(
         play.turn(g, role, own, left, at, worth);
         add_turn(g, (depth - left) as usize + 1, &play.joint, output)?;
         left -= 1;
-        chosen = choice_by_value(g, &play.here, role, left, at, worth, &mut play.room);
+        let asked = Question {
+            role,
+            depth: left,
+            at,
+        };
+        chosen = choice_by_value(g, &play.here, asked, worth, &mut play.room);
     }
     Ok(())
 }

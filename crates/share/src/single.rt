@@ -13,19 +13,16 @@ use maximin::value_and_choice;
 /// their order, also those that are not searched in the end.
 pub fn answer_single<G: Game, K: Gate>(node: &Node<'_, G>, gate: &K, desk: Desk<G>) -> (i16, u32)
     requires fits { G.fits node.now.game.now node.now.from.now }
-    requires room { HasRoom (G.fits node.now.game.now) (G.fits_wide node.now.game.now) (G.fits_many node.now.game.now)
-        (G.rules node.now.game.now).roles node.now.depth desk }
-    ensures value { result.0 ≡ pos (value (G.rules node.now.game.now) node.now.role node.now.depth node.now.at
+    requires room { HasRoom G.Game node.now.game.now node.now.asked.depth desk }
+    ensures value { result.0 ≡ pos (value (G.rules node.now.game.now) node.now.asked.role node.now.asked.depth node.now.asked.at
         (G.state node.now.game.now node.now.from.now)) }
-    ensures first { choice_of (G.rules node.now.game.now) node.now.role node.now.depth node.now.at (G.state node.now.game.now node.now.from.now)
-        ≡ slice_get ((G.rules node.now.game.now).legal (G.state node.now.game.now node.now.from.now) node.now.role) result.1 }
+    ensures first { choice_of (G.rules node.now.game.now) node.now.asked.role node.now.asked.depth node.now.asked.at (G.state node.now.game.now node.now.from.now)
+        ≡ slice_get ((G.rules node.now.game.now).legal (G.state node.now.game.now node.now.from.now) node.now.asked.role) result.1 }
 {
     for task in 0..node.plan.moves * node.plan.replies {
         gate.at(task as usize);
     }
     let mut room = desk.room;
-    let (value, first) = value_and_choice(
-        node.game, node.from, node.role, node.depth, node.at, &mut room,
-    );
+    let (value, first) = value_and_choice(node.game, node.from, node.asked, &mut room);
     (value, first as u32)
 }

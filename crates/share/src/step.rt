@@ -26,7 +26,7 @@ fn blank_joint(alloc: Global, roles: usize) -> Result<Joint, AllocError>
 
 /// A step of this game.
 pub fn new_step<G: Game>(alloc: Global, game: &G) -> Result<Step<G::Pos>, AllocError>
-    ensures { IfOk result (λ step. IsStepOf (G.fits game.now) (G.rules game.now).roles step) }
+    ensures { IfOk result (λ step. IsStepOf G.Game game.now step) }
 {
     let joint = blank_joint(alloc, game.roles())?;
     let position = game.fresh()?;

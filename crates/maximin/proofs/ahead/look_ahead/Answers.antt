@@ -1,10 +1,12 @@
 use Rattle.std.proofs.lemmas.List.Elements.{All-set}
-use Rattle.maximin.specs.declared.level.Level.{Level}
-use Rattle.maximin.specs.Level.{IsLevelOf}
+use Rattle.maximin.specs.Level.{IsLevelOf, level_capacities}
+use Rattle.maximin.proofs.Parts.{map_set_kept}
 use Rattle.maximin.proofs.ahead.look_ahead.Goals as goal
 
-pub returns-in-1-Zero-clause-levels : goal.returns-in-1-Zero-clause-levels
-returns-in-1-Zero-clause-levels g c =
-    let P = λ (level : Level g.row.G-Pos.Denot g.row.G-Many.Denot). IsLevelOf (g.G.Game.fits c.args.game.now) (g.G.Game.fits_many c.args.game.now)
-    (g.G.Game.rules c.args.game.now).roles level in
-    All-set P c.args.levels.now 0 c.look_on.new.level c.look_on.ensures.level c.requires.levels
+pub returns-in-1-Zero-clause-kept : goal.returns-in-1-Zero-clause-kept
+returns-in-1-Zero-clause-kept g c = record {
+  wide = c.look_on.ensures.wide;
+  levels = All-set (IsLevelOf g.G.Game c.args.game.now) c.args.levels.now 0 c.look_on.new.level c.look_on.ensures.level c.requires.fit.levels;
+  of_tools = c.look_on.ensures.tools_capacities;
+  of_levels = map_set_kept (level_capacities g.G.Game c.args.game.now) c.args.levels.now 0 c.look_on.new.level _ c.look_on.ensures.capacities;
+}

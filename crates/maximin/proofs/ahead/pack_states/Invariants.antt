@@ -9,9 +9,9 @@ invariant-states g l =
     let rules = g.G.Game.rules l.game in
     record {
       place : l.place ≤ l.count;
-      level : IsLevelOf (g.G.Game.fits l.game) (g.G.Game.fits_many l.game) rules.roles l.level;
-      capacities : level_capacities (g.G.Game.capacities l.game) (g.G.Game.many_capacities l.game) l.level
-          ≡ level_capacities (g.G.Game.capacities l.game) (g.G.Game.many_capacities l.game) l.initial.level;
+      level : IsLevelOf g.G.Game l.game l.level;
+      capacities : level_capacities g.G.Game l.game l.level
+          ≡ level_capacities g.G.Game l.game l.initial.level;
       pack : IsPackOf rules (g.G.Game.states l.game l.many) (value rules l.asked.role l.asked.depth l.asked.at)
           (value rules l.asked.role (l.asked.depth - 1) l.asked.at) l.pack l.level.run;
     }

@@ -1,8 +1,8 @@
-use Rattle.std.proofs.Common.{◌≡◌, ◌-◌, ◌≤◌, length, All}
+use Rattle.std.proofs.Common.{◌≡◌, ◌-◌, ◌≤◌, length}
 use Rattle.statement.specs.Rules.{choices}
 use Rattle.maximin.specs.Best.{IsBest, own_worth}
-use Rattle.maximin.specs.Level.{IsLevelOf, level_capacities, all_capacities}
-use Rattle.maximin.specs.Tools.{tools_capacities}
+use Rattle.maximin.specs.Level.{IsLevelOf, level_capacities}
+use Rattle.maximin.specs.Tools.{AreKept}
 use Rattle.maximin.specs.Turns.{StandsAt}
 use Rattle.maximin.proofs.choosing.best_alone.Given as goal
 
@@ -10,15 +10,10 @@ abbrev pub invariant-runs : goal.invariant-runs
 invariant-runs g l =
     let rules = g.G.Game.rules l.game in
     let state = g.G.Game.state l.game l.from in
-    let of_position = g.G.Game.capacities l.game in
-    let of_many = g.G.Game.many_capacities l.game in
     record {
-      level : IsLevelOf (g.G.Game.fits l.game) (g.G.Game.fits_many l.game) rules.roles l.level;
-      rest : All (IsLevelOf (g.G.Game.fits l.game) (g.G.Game.fits_many l.game) rules.roles) l.rest;
-      wide : g.G.Game.fits_wide l.game l.tools.wide;
-      capacities : level_capacities of_position of_many l.level ≡ level_capacities of_position of_many l.initial.level;
-      rest_capacities : all_capacities of_position of_many l.rest ≡ all_capacities of_position of_many l.initial.rest;
-      tools_capacities : tools_capacities (g.G.Game.wide_capacities l.game) l.tools ≡ tools_capacities (g.G.Game.wide_capacities l.game) l.fn.tools;
+      level : IsLevelOf g.G.Game l.game l.level;
+      capacities : level_capacities g.G.Game l.game l.level ≡ level_capacities g.G.Game l.game l.initial.level;
+      kept : AreKept g.G.Game l.game l.fn.tools l.initial.rest l.tools l.rest;
       deep : l.asked.depth ≤ length l.rest;
       stands : StandsAt (choices rules state l.asked.role 0) l.level.cursor.places.items l.level.cursor.joint.items;
       in_list : l.place ≤ length (rules.legal state l.asked.role);

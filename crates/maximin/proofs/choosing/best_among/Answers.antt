@@ -6,6 +6,7 @@ use Rattle.std.specs.Int.{int_max}
 use Rattle.game.specs.Value.{Answers}
 use Rattle.statement.specs.Value.{value}
 use Rattle.maximin.proofs.Bounds.{value_at_most}
+use Rattle.maximin.proofs.Kept.{kept_at_first, kept_then}
 use Rattle.maximin.proofs.choosing.best_among.Goals as goal
 
 pub loop-child-init : goal.loop-child-init
@@ -14,11 +15,8 @@ loop-child-init g c =
     let states = g.G.Game.states c.args.game.now c.args.many.now in
     record {
       position = c.requires.position;
-      levels = c.requires.levels;
-      wide = c.requires.wide;
+      kept = kept_at_first c.requires.fit;
       position_capacities = refl;
-      capacities = refl;
-      tools_capacities = refl;
       deep = refl;
       ahead = c.new_ahead-ahead.ensures states (value rules c.args.asked.role c.args.asked.depth c.args.asked.at) (sym c.requires.count);
       range = c.requires.range;
@@ -48,11 +46,8 @@ loop-child-preserved g c =
     let inside : child < c.args.count = omega (arith, c.loop-child-test.true) in
     record {
       position = c.child_above-worth.ensures.position;
-      levels = c.child_above-worth.ensures.levels;
-      wide = c.child_above-worth.ensures.wide;
+      kept = kept_then c.loop-child.invariant.kept c.child_above-worth.ensures.kept;
       position_capacities = c.child_above-worth.ensures.position_capacities ∙ c.loop-child.invariant.position_capacities;
-      capacities = c.child_above-worth.ensures.capacities ∙ c.loop-child.invariant.capacities;
-      tools_capacities = c.child_above-worth.ensures.tools_capacities ∙ c.loop-child.invariant.tools_capacities;
       deep = omega arith;
       ahead = c.child_above-worth.ensures.ahead;
       range = (omega (arith, ints, clamps, range.0, range.1), omega (arith, ints, clamps, range.0, range.1));

@@ -1,9 +1,8 @@
-use Rattle.std.proofs.Common.{◌≡◌, ◌+◌, ◌<◌, ◌<ℤ◌, ◌≤ℤ◌, ℕ, pos, negsuc, [], All, length, get_or}
+use Rattle.std.proofs.Common.{◌≡◌, ◌+◌, ◌<◌, ◌<ℤ◌, ◌≤ℤ◌, ℕ, pos, negsuc, [], length, get_or}
 use Rattle.statement.specs.Value.{value}
 use Rattle.maximin.specs.Ahead.{IsAheadOf}
 use Rattle.maximin.specs.Best.{IsBest}
-use Rattle.maximin.specs.Level.{IsLevelOf, all_capacities}
-use Rattle.maximin.specs.Tools.{tools_capacities}
+use Rattle.maximin.specs.Tools.{AreKept}
 use Rattle.maximin.proofs.choosing.best_among.Given as goal
 
 abbrev pub invariant-loop-child : goal.invariant-loop-child
@@ -11,15 +10,10 @@ invariant-loop-child g l =
     let rules = g.G.Game.rules l.game in
     let states = g.G.Game.states l.game l.many in
     let worth = value rules l.asked.role l.asked.depth l.asked.at in
-    let of_position = g.G.Game.capacities l.game in
-    let of_many = g.G.Game.many_capacities l.game in
     record {
       position : g.G.Game.fits l.game l.position;
-      levels : All (IsLevelOf (g.G.Game.fits l.game) (g.G.Game.fits_many l.game) rules.roles) l.levels;
-      wide : g.G.Game.fits_wide l.game l.tools.wide;
+      kept : AreKept g.G.Game l.game l.fn.tools l.initial.levels l.tools l.levels;
       position_capacities : g.G.Game.capacities l.game l.position ≡ g.G.Game.capacities l.game l.fn.position;
-      capacities : all_capacities of_position of_many l.levels ≡ all_capacities of_position of_many l.initial.levels;
-      tools_capacities : tools_capacities (g.G.Game.wide_capacities l.game) l.tools ≡ tools_capacities (g.G.Game.wide_capacities l.game) l.fn.tools;
       deep : length l.levels ≡ length l.initial.levels;
       ahead : IsAheadOf states worth l.ahead;
       range : (negsuc 0 ≤ℤ l.best.worth) × (l.best.worth <ℤ pos 101);

@@ -7,6 +7,7 @@ use Rattle.maximin.specs.Best.{own_worth}
 use Rattle.maximin.proofs.Bounds.{worst_at_most}
 use Rattle.maximin.proofs.Best.{best_none}
 use Rattle.game.proofs.Facts.{legal_known, legal_place, legal_count, none_past}
+use Rattle.maximin.proofs.Kept.{kept_at_first, kept_then}
 use Rattle.maximin.proofs.choosing.best_of_each.Goals as goal
 
 pub loop-own-init : goal.loop-own-init
@@ -14,10 +15,7 @@ loop-own-init g c =
     let rules = g.G.Game.rules c.args.game.now in
     let state = g.G.Game.state c.args.game.now c.args.from.now in
     record {
-      levels = c.requires.levels;
-      wide = c.requires.wide;
-      capacities = refl;
-      tools_capacities = refl;
+      kept = kept_at_first c.requires.fit;
       deep = refl;
       in_list = omega arith;
       is_best = best_none (own_worth rules c.args.asked.role c.args.asked.depth c.args.asked.at state);
@@ -29,7 +27,7 @@ worst_above-worth-requires-clause-own g c κs within =
     let state = g.G.Game.state c.args.game.now c.args.from.now in
     let law = g.met.G.Game g.world.𝓛 g.world.𝓜 g.world.𝓡 ((λ _ x. x), (λ x. x), (λ x. x), λ x. x) in
     legal_known rules state c.args.asked.role c.loop-own.place c.in-Some.own c.legal.result
-    (law.legal_within c.args.game.now state c.args.asked.role c.requires.role) c.legal.ensures c.in-Some.is
+    (law.legal_within c.args.game.now state c.args.asked.role c.requires.fit.role) c.legal.ensures c.in-Some.is
 
 pub worst_above-worth-requires-clause-best : goal.worst_above-worth-requires-clause-best
 worst_above-worth-requires-clause-best g c κs within =
@@ -42,9 +40,9 @@ overflow_add-place g c =
     let state = g.G.Game.state c.args.game.now c.args.from.now in
     let here = legal_place rules state c.args.asked.role c.loop-own.place c.in-Some.own c.legal.result c.legal.ensures c.in-Some.is in
     let law = g.met.G.Game g.world.𝓛 g.world.𝓜 g.world.𝓡 ((λ _ x. x), (λ x. x), (λ x. x), λ x. x) in
-    let few = legal_count rules state c.args.asked.role (law.legal_ascending c.args.game.now state c.args.asked.role c.requires.role)
-    (law.legal_within c.args.game.now state c.args.asked.role c.requires.role)
-    (law.moves_within c.args.game.now c.args.asked.role c.requires.role) in
+    let few = legal_count rules state c.args.asked.role (law.legal_ascending c.args.game.now state c.args.asked.role c.requires.fit.role)
+    (law.legal_within c.args.game.now state c.args.asked.role c.requires.fit.role)
+    (law.moves_within c.args.game.now c.args.asked.role c.requires.fit.role) in
     omega (arith, here.0)
 
 pub loop-own-smaller : goal.loop-own-smaller
@@ -73,10 +71,7 @@ loop-own-preserved g c =
     let answers : Answers (worth c.loop-own.place) old.worth (pos 101) r = rw (← here.1, to_z-of_z w16 old.worth fits) at
     c.worst_above-worth.ensures.answers in
     record {
-      levels = c.worst_above-worth.ensures.levels;
-      wide = c.worst_above-worth.ensures.wide;
-      capacities = c.worst_above-worth.ensures.capacities ∙ c.loop-own.invariant.capacities;
-      tools_capacities = c.worst_above-worth.ensures.tools_capacities ∙ c.loop-own.invariant.tools_capacities;
+      kept = kept_then c.loop-own.invariant.kept c.worst_above-worth.ensures.kept;
       deep = omega arith;
       in_list = omega (arith, here.0);
       is_best = c.better_of-best.ensures.best worth few (rw same answers) c.loop-own.invariant.is_best;

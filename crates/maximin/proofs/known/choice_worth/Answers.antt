@@ -7,10 +7,12 @@ use Rattle.statement.specs.Value.{value, worst}
 use Rattle.maximin.proofs.Windows.{le_z_true, le_z_false}
 use Rattle.maximin.proofs.Bounds.{value_at_most}
 use Rattle.maximin.proofs.Best.{choice_here, choice_last}
-use Rattle.maximin.proofs.Beside.{attained, missed, less_below}
+use Rattle.maximin.proofs.Beside.{attained, missed, less_below, low_below}
 use Rattle.maximin.proofs.Choices.{legal_some}
-use Rattle.maximin.proofs.Values.{IsOpen, worst_le_value}
+use Rattle.maximin.specs.Open.{IsOpen}
+use Rattle.maximin.proofs.Values.{worst_le_value}
 use Rattle.game.proofs.Facts.{legal_place, legal_count, none_past}
+use Rattle.maximin.proofs.Kept.{kept_at_first, kept_then}
 use Rattle.maximin.proofs.known.choice_worth.Goals as goal
 
 pub returns-then-worth-eq0-clause-choice : goal.returns-then-worth-eq0-clause-choice
@@ -22,7 +24,7 @@ returns-then-worth-eq0-clause-choice g c =
       going = sym c.ended.ensures ∙ c.if-ended.false;
       free = sym c.is_stuck.ensures ∙ c.if-is_stuck.false;
     } in
-    let some : 0 < length (rules.legal state c.args.asked.role) = legal_some rules state c.args.asked.role free.free c.requires.role in
+    let some : 0 < length (rules.legal state c.args.asked.role) = legal_some rules state c.args.asked.role free.free c.requires.fit.role in
     let part = worst_le_value rules c.args.asked.role c.args.asked.depth c.args.asked.at state 0 free some in
     let nothing = c.if-worth-eq0.true in
     let known = c.requires.worth in
@@ -34,7 +36,7 @@ pub returns-in_err-own-clause-choice : goal.returns-in_err-own-clause-choice
 returns-in_err-own-clause-choice g c =
     let rules = g.G.Game.rules c.args.game.now in
     let state = g.G.Game.state c.args.game.now c.args.from.now in
-    let some = legal_some rules state c.args.asked.role (sym c.is_stuck.ensures ∙ c.if-is_stuck.false) c.requires.role in
+    let some = legal_some rules state c.args.asked.role (sym c.is_stuck.ensures ∙ c.if-is_stuck.false) c.requires.fit.role in
     let past : length (rules.legal state c.args.asked.role) ≤ 0 = none_past (rules.legal state c.args.asked.role) 0 c.legal-first.result
     c.legal-first.ensures c.in_err-own.was in
     absurd (omega arith)
@@ -45,10 +47,7 @@ loop-further-init g c =
     let state = g.G.Game.state c.args.game.now c.args.from.now in
     let here = legal_place rules state c.args.asked.role 0 c.in_ok-own.own c.legal-first.result c.legal-first.ensures c.in_ok-own.was in
     record {
-      levels = c.requires.levels;
-      wide = c.requires.wide;
-      capacities = refl;
-      tools_capacities = refl;
+      kept = kept_at_first c.requires.fit;
       deep = refl;
       in_list = here.0;
       here = here.1;
@@ -60,9 +59,9 @@ overflow_add-place g c =
     let rules = g.G.Game.rules c.args.game.now in
     let state = g.G.Game.state c.args.game.now c.args.from.now in
     let law = g.met.G.Game g.world.𝓛 g.world.𝓜 g.world.𝓡 ((λ _ x. x), (λ x. x), (λ x. x), λ x. x) in
-    let few = legal_count rules state c.args.asked.role (law.legal_ascending c.args.game.now state c.args.asked.role c.requires.role)
-    (law.legal_within c.args.game.now state c.args.asked.role c.requires.role)
-    (law.moves_within c.args.game.now c.args.asked.role c.requires.role) in
+    let few = legal_count rules state c.args.asked.role (law.legal_ascending c.args.game.now state c.args.asked.role c.requires.fit.role)
+    (law.legal_within c.args.game.now state c.args.asked.role c.requires.fit.role)
+    (law.moves_within c.args.game.now c.args.asked.role c.requires.fit.role) in
     omega (arith, c.loop-further.invariant.in_list)
 
 pub overflow_add-place-in-Some : goal.overflow_add-place-in-Some
@@ -70,20 +69,22 @@ overflow_add-place-in-Some g c =
     let rules = g.G.Game.rules c.args.game.now in
     let state = g.G.Game.state c.args.game.now c.args.from.now in
     let law = g.met.G.Game g.world.𝓛 g.world.𝓜 g.world.𝓡 ((λ _ x. x), (λ x. x), (λ x. x), λ x. x) in
-    let few = legal_count rules state c.args.asked.role (law.legal_ascending c.args.game.now state c.args.asked.role c.requires.role)
-    (law.legal_within c.args.game.now state c.args.asked.role c.requires.role)
-    (law.moves_within c.args.game.now c.args.asked.role c.requires.role) in
+    let few = legal_count rules state c.args.asked.role (law.legal_ascending c.args.game.now state c.args.asked.role c.requires.fit.role)
+    (law.legal_within c.args.game.now state c.args.asked.role c.requires.fit.role)
+    (law.moves_within c.args.game.now c.args.asked.role c.requires.fit.role) in
     omega (arith, c.loop-further.invariant.in_list)
 
-pub worst_at-requires-clause-high : goal.worst_at-requires-clause-high
-worst_at-requires-clause-high g c κs within =
+pub worst_at-requires-clause-window : goal.worst_at-requires-clause-window
+worst_at-requires-clause-window g c κs within =
     let rules = g.G.Game.rules c.args.game.now in
     let state = g.G.Game.state c.args.game.now c.args.from.now in
     let law = g.met.G.Game g.world.𝓛 g.world.𝓜 g.world.𝓡 ((λ _ x. x), (λ x. x), (λ x. x), λ x. x) in
     let few = value_at_most rules c.args.asked.role (λ s r. law.goal_within c.args.game.now s r) c.args.asked.depth c.args.asked.at state in
     let known = c.requires.worth in
     let same = to_z-of_z w16 c.args.worth c.ranges.worth in
-    omega (arith, ints)
+    let whole = value rules c.args.asked.role c.args.asked.depth c.args.asked.at state in
+    let is : to_z w16 (of_z w16 c.args.worth) ≡ pos whole = same ∙ known in
+    record { low = low_below whole _ few is; order = less_below whole _ few is; high = omega (arith, ints) }
 
 pub returns-then-worst_at-worth-clause-choice : goal.returns-then-worst_at-worth-clause-choice
 returns-then-worst_at-worth-clause-choice g c =
@@ -126,10 +127,7 @@ loop-further-preserved g c =
     (le_z_false _ _ c.if-worst_at-worth.false) in
     let less : here < whole = missed whole here _ (to_z w16 (of_z w16 c.args.worth)) c.worst_at.result known c.worst_at.ensures.answers below in
     record {
-      levels = c.worst_at.ensures.levels;
-      wide = c.worst_at.ensures.wide;
-      capacities = c.worst_at.ensures.capacities ∙ c.loop-further.invariant.capacities;
-      tools_capacities = c.worst_at.ensures.tools_capacities ∙ c.loop-further.invariant.tools_capacities;
+      kept = kept_then c.loop-further.invariant.kept c.worst_at.ensures.kept;
       deep = omega arith;
       in_list = next.0;
       here = next.1;
@@ -149,5 +147,8 @@ returns-clause-choice g c =
     } in
     let last : length legal ≤ place + 1 = none_past legal (place + 1) c.legal.result c.legal.ensures c.in_default.is in
     sym (slice_get-get_or legal place 0 c.loop-further.invariant.in_list ∙ ap Some c.loop-further.invariant.here)
-    ∙ sym (choice_last rules c.args.asked.role c.args.asked.depth c.args.asked.at state place free c.requires.role c.loop-further.invariant.in_list
+    ∙ sym (choice_last rules c.args.asked.role c.args.asked.depth c.args.asked.at state place free c.requires.fit.role c.loop-further.invariant.in_list
     last c.loop-further.invariant.before)
+
+pub returns-then-worst_at-worth-clause-kept : goal.returns-then-worst_at-worth-clause-kept
+returns-then-worst_at-worth-clause-kept g c = kept_then c.loop-further.invariant.kept c.worst_at.ensures.kept

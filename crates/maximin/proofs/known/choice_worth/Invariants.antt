@@ -1,8 +1,6 @@
 use Rattle.std.proofs.Common.{◌≡◌, ℕ, ◌<◌, ◌-◌, length, get_or}
-use Rattle.std.specs.Prelude.{All}
 use Rattle.statement.specs.Value.{value}
-use Rattle.maximin.specs.Tools.{tools_capacities}
-use Rattle.maximin.specs.Level.{IsLevelOf, all_capacities}
+use Rattle.maximin.specs.Tools.{AreKept}
 use Rattle.maximin.proofs.Best.{worst_at_place}
 use Rattle.maximin.proofs.known.choice_worth.Given as goal
 
@@ -12,11 +10,7 @@ invariant-loop-further g l =
     let rules = g.G.Game.rules l.game in
     let state = g.G.Game.state l.game l.from in
     record {
-      levels : All (IsLevelOf (g.G.Game.fits l.game) (g.G.Game.fits_many l.game) rules.roles) l.levels;
-      wide : g.G.Game.fits_wide l.game l.tools.wide;
-      capacities : all_capacities (g.G.Game.capacities l.game) (g.G.Game.many_capacities l.game) l.levels
-          ≡ all_capacities (g.G.Game.capacities l.game) (g.G.Game.many_capacities l.game) l.initial.levels;
-      tools_capacities : tools_capacities (g.G.Game.wide_capacities l.game) l.tools ≡ tools_capacities (g.G.Game.wide_capacities l.game) l.fn.tools;
+      kept : AreKept g.G.Game l.game l.fn.tools l.initial.levels l.tools l.levels;
       deep : length l.levels ≡ length l.initial.levels;
       in_list : l.place < length (rules.legal state l.asked.role);
       here : get_or (rules.legal state l.asked.role) l.place 0 ≡ l.own;

@@ -1,10 +1,9 @@
 use Rattle.std.proofs.Common.{◌≡◌, ℕ, ◌≤◌, ◌∷◌, length}
-use Rattle.std.specs.Prelude.{All}
 use Rattle.statement.specs.Rules.{choices, turns_with, Turn}
 use Rattle.statement.specs.Value.{value, worst}
 use Rattle.maximin.specs.Turns.{StandsAt, later}
-use Rattle.maximin.specs.Tools.{tools_capacities}
-use Rattle.maximin.specs.Level.{IsLevelOf, level_capacities, all_capacities}
+use Rattle.maximin.specs.Tools.{AreKept}
+use Rattle.maximin.specs.Level.{IsLevelOf, level_capacities}
 use Rattle.maximin.proofs.Beside.{IsAhead}
 use Rattle.maximin.proofs.known.reply_worth.Given as goal
 
@@ -16,14 +15,9 @@ invariant-turns g l =
     let lists = choices rules state l.asked.role l.own in
     let worth : Turn → ℕ = λ j. value rules l.asked.role l.asked.depth l.asked.at (rules.after state j) in
     record {
-      level : IsLevelOf (g.G.Game.fits l.game) (g.G.Game.fits_many l.game) rules.roles l.level;
-      rest : All (IsLevelOf (g.G.Game.fits l.game) (g.G.Game.fits_many l.game) rules.roles) l.rest;
-      wide : g.G.Game.fits_wide l.game l.tools.wide;
-      capacities : level_capacities (g.G.Game.capacities l.game) (g.G.Game.many_capacities l.game) l.level
-          ≡ level_capacities (g.G.Game.capacities l.game) (g.G.Game.many_capacities l.game) l.initial.level;
-      rest_capacities : all_capacities (g.G.Game.capacities l.game) (g.G.Game.many_capacities l.game) l.rest
-          ≡ all_capacities (g.G.Game.capacities l.game) (g.G.Game.many_capacities l.game) l.initial.rest;
-      tools_capacities : tools_capacities (g.G.Game.wide_capacities l.game) l.tools ≡ tools_capacities (g.G.Game.wide_capacities l.game) l.fn.tools;
+      level : IsLevelOf g.G.Game l.game l.level;
+      capacities : level_capacities g.G.Game l.game l.level ≡ level_capacities g.G.Game l.game l.initial.level;
+      kept : AreKept g.G.Game l.game l.fn.tools l.initial.rest l.tools l.rest;
       deep : l.asked.depth ≤ length l.rest;
       capacity : l.out.capacity ≡ l.fn.out.capacity;
       stands : StandsAt lists l.level.cursor.places.items l.level.cursor.joint.items;

@@ -5,7 +5,8 @@ use Rattle.statement.specs.Rules.{Turn}
 use Rattle.maximin.specs.Run.{turns_in}
 use Rattle.maximin.proofs.Choices.{legal_some}
 use Rattle.maximin.proofs.Packs.{alone_picked, rest_list, turns_count}
-use Rattle.maximin.proofs.Values.{IsOpen, turn_known}
+use Rattle.maximin.specs.Open.{IsOpen}
+use Rattle.maximin.proofs.Values.{turn_known}
 use Rattle.maximin.proofs.pack.add_alone.Goals as goal
 
 pub add_own_turns-requires-clause-joint : goal.add_own_turns-requires-clause-joint

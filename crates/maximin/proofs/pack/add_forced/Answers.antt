@@ -5,7 +5,7 @@ use Rattle.maximin.specs.Run.{turns_in}
 use Rattle.maximin.specs.Turns.{later}
 use Rattle.maximin.proofs.OwnTurns.{one_element}
 use Rattle.maximin.proofs.Packs.{forced_picked, not_some, rest_list, turns_count}
-use Rattle.maximin.proofs.Values.{IsOpen}
+use Rattle.maximin.specs.Open.{IsOpen}
 use Rattle.maximin.proofs.pack.add_forced.Goals as goal
 
 pub add_replies-requires-clause-own : goal.add_replies-requires-clause-own

@@ -60,8 +60,10 @@ use Rattle.maximin.proofs.Windows.{
 use Rattle.maximin.proofs.Orders.{place_within, all_places}
 use Rattle.maximin.proofs.Choices.{legal_some}
 use Rattle.maximin.proofs.OwnTurns.{alone_worst, own_worths, run_seen, run_most, run_end, greatest_worth_above, greatest_worth_reached, map_part}
-use Rattle.maximin.proofs.Values.{turn_known, value_open, IsOpen, worst_le_value, value_reached, value_ended, value_stuck}
-use Rattle.maximin.proofs.Parts.{All-first_and_rest, four_joined, all_kept}
+use Rattle.maximin.specs.Open.{IsOpen}
+use Rattle.maximin.proofs.Values.{turn_known, value_open, worst_le_value, value_reached, value_ended, value_stuck}
+use Rattle.maximin.proofs.Parts.{four_joined}
+use Rattle.maximin.proofs.Kept.{kept_at_first, kept_then, all_levels_kept}
 use Rattle.maximin.proofs.Runs.{
   known_each,
   some_taken,
@@ -83,7 +85,7 @@ value_at-worst_at-requires-clause-own g t c κs within =
     let legal = rules.legal state c.args.asked.role in
     let law = g.met.G.Game g.world.𝓛 g.world.𝓜 g.world.𝓡 ((λ _ x. x), (λ x. x), (λ x. x), λ x. x) in
     legal_known rules state c.args.asked.role c.loop-own.place c.in-Some.own c.legal.result
-    (law.legal_within c.args.game.now state c.args.asked.role c.requires.role) c.legal.ensures c.in-Some.is
+    (law.legal_within c.args.game.now state c.args.asked.role c.requires.fit.role) c.legal.ensures c.in-Some.is
 
 pub value_at-returns-then-best-b-clause-answers : goal.value_at-returns-then-best-b-clause-answers
 value_at-returns-then-best-b-clause-answers g t c =
@@ -121,9 +123,9 @@ value_at-overflow_add-place g t c =
     let legal = rules.legal state c.args.asked.role in
     let here = legal_place rules state c.args.asked.role c.loop-own.place c.in-Some.own c.legal.result c.legal.ensures c.in-Some.is in
     let law = g.met.G.Game g.world.𝓛 g.world.𝓜 g.world.𝓡 ((λ _ x. x), (λ x. x), (λ x. x), λ x. x) in
-    let few = legal_count rules state c.args.asked.role (law.legal_ascending c.args.game.now state c.args.asked.role c.requires.role)
-    (law.legal_within c.args.game.now state c.args.asked.role c.requires.role)
-    (law.moves_within c.args.game.now c.args.asked.role c.requires.role) in
+    let few = legal_count rules state c.args.asked.role (law.legal_ascending c.args.game.now state c.args.asked.role c.requires.fit.role)
+    (law.legal_within c.args.game.now state c.args.asked.role c.requires.fit.role)
+    (law.moves_within c.args.game.now c.args.asked.role c.requires.fit.role) in
     omega (arith, here.0)
 
 pub value_at-loop-own-smaller : goal.value_at-loop-own-smaller
@@ -160,10 +162,7 @@ value_at-loop-own-preserved g t c =
     (rw here.1 at (worst_le_value rules c.args.asked.role c.args.asked.depth c.args.asked.at state c.loop-own.place free here.0))
     c.loop-own.invariant.at_most c.worst_at.ensures.answers in
     record {
-      levels = c.worst_at.ensures.levels;
-      wide = c.worst_at.ensures.wide;
-      capacities = c.worst_at.ensures.capacities ∙ c.loop-own.invariant.capacities;
-      tools_capacities = c.worst_at.ensures.tools_capacities ∙ c.loop-own.invariant.tools_capacities;
+      kept = kept_then c.loop-own.invariant.kept c.worst_at.ensures.kept;
       deep = omega arith;
       in_list = omega (arith, here.0);
       above = rw raised (raised_above a best r c.loop-own.invariant.above);
@@ -187,7 +186,7 @@ value_at-returns-clause-answers g t c =
       free = sym c.is_stuck.ensures ∙ c.if-is_stuck.false;
     } in
     let past : length legal ≤ c.loop-own.place = none_past legal c.loop-own.place c.legal.result c.legal.ensures c.in_default.is in
-    let top = value_reached rules c.args.asked.role c.args.asked.depth c.args.asked.at state free c.requires.role in
+    let top = value_reached rules c.args.asked.role c.args.asked.depth c.args.asked.at state free c.requires.fit.role in
     let a = to_z w16 (of_z w16 c.args.a) in
     let b = to_z w16 (of_z w16 c.args.b) in
     let ea : a ≡ c.args.a = to_z-of_z w16 c.args.a c.ranges.a in
@@ -238,11 +237,8 @@ least_at-loop-place-preserved g t c =
     let part : all ≤ here = least_worth_below worth states child (omega (arith, c.requires.count)) in
     record {
       position = c.child_at-worth.ensures.position;
-      levels = c.child_at-worth.ensures.levels;
-      wide = c.child_at-worth.ensures.wide;
+      kept = kept_then c.loop-place.invariant.kept c.child_at-worth.ensures.kept;
       position_capacities = c.child_at-worth.ensures.position_capacities ∙ c.loop-place.invariant.position_capacities;
-      capacities = c.child_at-worth.ensures.capacities ∙ c.loop-place.invariant.capacities;
-      tools_capacities = c.child_at-worth.ensures.tools_capacities ∙ c.loop-place.invariant.tools_capacities;
       deep = omega arith;
       ahead = c.child_at-worth.ensures.ahead;
       above = le_z_false _ a c.if-upper-a-2.false;
@@ -324,7 +320,7 @@ worst_at-runs-init g t c =
     let b = to_z w16 (of_z w16 c.args.b) in
     let left = least (map worth (c.start_turns.new.cursor.joint.items ∷ later lists c.start_turns.new.cursor.places.items)) in
     let same : all ≡ left = ap (λ (turns : List (List ℕ)). least (map worth turns)) c.start_turns.ensures.first in
-    let first = c.requires.levels 0 c.index-first-0.result (omega arith) in
+    let first = c.requires.fit.levels 0 c.index-first-0.result (omega arith) in
     let there = c.split_at_mut-first.ensures.by_index.0 0 c.index-first-0.result (omega arith) in
     record {
       level = record {
@@ -333,11 +329,13 @@ worst_at-runs-init g t c =
         run = rw there first.run;
         many = rw there first.many;
       };
-      rest = λ k d below. rw (c.split_at_mut-first.ensures.by_index.1 k d) (c.requires.levels (1 + k) d (omega arith));
-      wide = c.requires.wide;
       capacities = refl;
-      rest_capacities = refl;
-      tools_capacities = refl;
+      kept = record {
+        wide = c.requires.fit.wide;
+        levels = λ k d below. rw (c.split_at_mut-first.ensures.by_index.1 k d) (c.requires.fit.levels (1 + k) d (omega arith));
+        of_tools = refl;
+        of_levels = refl;
+      };
       deep = omega arith;
       some = omega arith;
       few = omega arith;
@@ -352,7 +350,12 @@ worst_at-runs-init g t c =
 pub worst_at-least_after-least-requires-clause-level : goal.worst_at-least_after-least-requires-clause-level
 worst_at-least_after-least-requires-clause-level g t c κs within =
     let kept = c.runs.invariant.level in
-    record { position = kept.position; cursor = c.gather-more.ensures.cursor; run = c.gather-more.ensures.run; many = kept.many }
+    let taken = c.gather-more.ensures in
+    record {
+      level = record { position = kept.position; cursor = taken.cursor; run = taken.run; many = kept.many };
+      some = taken.some;
+      known = taken.known;
+    }
 
 pub worst_at-returns-then-upper-a-clause-answers : goal.worst_at-returns-then-upper-a-clause-answers
 worst_at-returns-then-upper-a-clause-answers g t c =
@@ -396,44 +399,27 @@ worst_at-returns-then-upper-a-clause-answers g t c =
           record { at_least = low; at_most = lowered_end all here a upper r end answers }
     ])
 
-pub worst_at-returns-then-upper-a-clause-levels : goal.worst_at-returns-then-upper-a-clause-levels
-worst_at-returns-then-upper-a-clause-levels g t c =
-    let roles = (g.G.Game.rules c.args.game.now).roles in
-    let P = λ (level : Level g.row.G-Pos.Denot g.row.G-Many.Denot). IsLevelOf (g.G.Game.fits c.args.game.now) (g.G.Game.fits_many c.args.game.now)
-    roles level in
-    let front = c.split_at_mut-first.result.0.now in
-    let one = c.split_at_mut-first.ensures.front_len in
-    elim c.then-upper-a.branch [
-      | worst_at-then-upper-a-via-then-upper-a w ↦
-          rw w.levels-is (All-first_and_rest P front c.least_after-least.new.levels _ one
-          c.least_after-least.ensures.level c.least_after-least.ensures.levels)
-      | worst_at-then-upper-a-via-else-upper-a+then-not-more w ↦
-          rw w.levels-is (All-first_and_rest P front c.least_after-least.new.levels _ one
-          c.least_after-least.ensures.level c.least_after-least.ensures.levels)
-    ]
-
-pub worst_at-returns-then-upper-a-clause-capacities : goal.worst_at-returns-then-upper-a-clause-capacities
-worst_at-returns-then-upper-a-clause-capacities g t c =
+pub worst_at-returns-then-upper-a-clause-kept : goal.worst_at-returns-then-upper-a-clause-kept
+worst_at-returns-then-upper-a-clause-kept g t c =
     let of_position = g.G.Game.capacities c.args.game.now in
     let of_many = g.G.Game.many_capacities c.args.game.now in
     let split = c.split_at_mut-first.ensures in
     let old = get_or c.split_at_mut-first.result.0.now 0 c.index-first-0.result in
     let now = c.runs.level in
-    let begun : level_capacities of_position of_many now ≡ level_capacities of_position of_many old =
+    let begun : level_capacities g.G.Game c.args.game.now now ≡ level_capacities g.G.Game c.args.game.now old =
     c.runs.invariant.capacities
     ∙ four_joined (cursor_capacities c.start_turns.new.cursor) (run_capacities old.run) (of_position old.position) (of_many old.many)
     (cursor_capacities old.cursor) (run_capacities old.run) (of_position old.position) (of_many old.many) c.start_turns.ensures.capacities refl refl
     refl in
-    let turned : level_capacities of_position of_many c.least_after-least.new.level ≡ level_capacities of_position of_many now =
-    c.least_after-least.ensures.level_capacities
+    let turned : level_capacities g.G.Game c.args.game.now c.least_after-least.new.level ≡ level_capacities g.G.Game c.args.game.now now =
+    c.least_after-least.ensures.level.capacities
     ∙ four_joined (cursor_capacities c.gather-more.new.cursor) (run_capacities c.gather-more.new.run) (of_position now.position) (of_many now.many)
     (cursor_capacities now.cursor) (run_capacities now.run) (of_position now.position) (of_many now.many)
     c.gather-more.ensures.cursor_capacities c.gather-more.ensures.run_capacities refl refl in
-    let kept = all_kept (level_capacities of_position of_many) c.args.levels.now c.split_at_mut-first.result.0.now c.split_at_mut-first.result.1.now
-    c.least_after-least.new.levels
-    c.least_after-least.new.level c.index-first-0.result split.value split.front_len (turned ∙ begun) (c.least_after-least.ensures.capacities
-    ∙ c.runs.invariant.rest_capacities)
-    in
+    let kept =
+    all_levels_kept c.args.levels.now c.split_at_mut-first.result.0.now c.split_at_mut-first.result.1.now
+    c.least_after-least.new.levels c.least_after-least.new.level c.index-first-0.result split.value split.front_len c.least_after-least.ensures.level.level
+    (turned ∙ begun) (kept_then c.runs.invariant.kept c.least_after-least.ensures.kept) in
     elim c.then-upper-a.branch [
       | worst_at-then-upper-a-via-then-upper-a w ↦ rw w.levels-is kept
       | worst_at-then-upper-a-via-else-upper-a+then-not-more w ↦ rw w.levels-is kept
@@ -447,7 +433,7 @@ worst_at-runs-smaller g t c =
     let run = c.gather-more.new.run in
     let some : 0 < length (turns_in run) = some_taken run.joints.items run.count c.gather-more.ensures.some
     (omega (arith, c.gather-more.ensures.run.size)) in
-    rw c.least_after-least.ensures.cursor (fewer_behind c.runs.level.cursor.joint.items c.gather-more.new.cursor.joint.items (later lists
+    rw c.least_after-least.ensures.level.cursor (fewer_behind c.runs.level.cursor.joint.items c.gather-more.new.cursor.joint.items (later lists
     c.runs.level.cursor.places.items) (turns_in run)
     (later lists c.gather-more.new.cursor.places.items) c.if-not-more.ensures.more some)
 
@@ -484,25 +470,22 @@ worst_at-runs-preserved g t c =
     let of_position = g.G.Game.capacities c.args.game.now in
     let of_many = g.G.Game.many_capacities c.args.game.now in
     record {
-      level = c.least_after-least.ensures.level;
-      rest = c.least_after-least.ensures.levels;
-      wide = c.least_after-least.ensures.wide;
-      capacities = c.least_after-least.ensures.level_capacities
+      level = c.least_after-least.ensures.level.level;
+      capacities = c.least_after-least.ensures.level.capacities
           ∙ four_joined (cursor_capacities c.gather-more.new.cursor) (run_capacities c.gather-more.new.run) (of_position now.position)
           (of_many now.many) (cursor_capacities now.cursor) (run_capacities now.run) (of_position now.position) (of_many now.many)
           c.gather-more.ensures.cursor_capacities c.gather-more.ensures.run_capacities refl refl
           ∙ c.runs.invariant.capacities;
-      rest_capacities = c.least_after-least.ensures.capacities ∙ c.runs.invariant.rest_capacities;
-      tools_capacities = c.least_after-least.ensures.tools_capacities ∙ c.runs.invariant.tools_capacities;
+      kept = kept_then c.runs.invariant.kept c.least_after-least.ensures.kept;
       deep = omega arith;
       some = omega (arith, c.min-most.ensures, c.runs.invariant.some);
       few = omega (arith, c.min-most.ensures);
-      stands = rw c.least_after-least.ensures.cursor c.if-not-more.ensures.stands;
+      stands = rw c.least_after-least.ensures.level.cursor c.if-not-more.ensures.stands;
       above = le_z_false _ a c.if-upper-a.false;
       below = rw lowered (lowered_below b upper r c.runs.invariant.below);
       at_least = rw lowered low;
-      part = rw c.least_after-least.ensures.cursor (omega (arith, next, c.runs.invariant.part));
-      at_most = rw (lowered, c.least_after-least.ensures.cursor) (lowered_most all here left a upper r (rw next at c.runs.invariant.at_most) answers);
+      part = rw c.least_after-least.ensures.level.cursor (omega (arith, next, c.runs.invariant.part));
+      at_most = rw (lowered, c.least_after-least.ensures.level.cursor) (lowered_most all here left a upper r (rw next at c.runs.invariant.at_most) answers);
     }
 
 pub greatest_at-loop-place-preserved : goal.greatest_at-loop-place-preserved
@@ -528,11 +511,8 @@ greatest_at-loop-place-preserved g t c =
     let part : here ≤ all = greatest_worth_above worth states child (omega (arith, c.requires.count)) in
     record {
       position = c.child_at-worth.ensures.position;
-      levels = c.child_at-worth.ensures.levels;
-      wide = c.child_at-worth.ensures.wide;
+      kept = kept_then c.loop-place.invariant.kept c.child_at-worth.ensures.kept;
       position_capacities = c.child_at-worth.ensures.position_capacities ∙ c.loop-place.invariant.position_capacities;
-      capacities = c.child_at-worth.ensures.capacities ∙ c.loop-place.invariant.capacities;
-      tools_capacities = c.child_at-worth.ensures.tools_capacities ∙ c.loop-place.invariant.tools_capacities;
       deep = omega arith;
       ahead = c.child_at-worth.ensures.ahead;
       above = rw raised (raised_above a lower r c.loop-place.invariant.above);
@@ -621,7 +601,7 @@ pub best_at-runs-init : goal.best_at-runs-init
 best_at-runs-init g t c =
     let a = to_z w16 (of_z w16 c.args.a) in
     let ea : a ≡ c.args.a = to_z-of_z w16 c.args.a c.ranges.a in
-    let first = c.requires.levels 0 c.index-first-0.result (omega arith) in
+    let first = c.requires.fit.levels 0 c.index-first-0.result (omega arith) in
     let there = c.split_at_mut-first.ensures.by_index.0 0 c.index-first-0.result (omega arith) in
     record {
       level = record {
@@ -630,11 +610,13 @@ best_at-runs-init g t c =
         run = rw there first.run;
         many = rw there first.many;
       };
-      rest = λ k d below. rw (c.split_at_mut-first.ensures.by_index.1 k d) (c.requires.levels (1 + k) d (omega arith));
-      wide = c.requires.wide;
       capacities = refl;
-      rest_capacities = refl;
-      tools_capacities = refl;
+      kept = record {
+        wide = c.requires.fit.wide;
+        levels = λ k d below. rw (c.split_at_mut-first.ensures.by_index.1 k d) (c.requires.fit.levels (1 + k) d (omega arith));
+        of_tools = refl;
+        of_levels = refl;
+      };
       deep = omega arith;
       some = omega arith;
       few = omega arith;
@@ -651,15 +633,21 @@ best_at-gather_own-requires-clause-joint g t c κs within =
     let rules = g.G.Game.rules c.args.game.now in
     let state = g.G.Game.state c.args.game.now c.args.from.now in
     let law = g.met.G.Game g.world.𝓛 g.world.𝓜 g.world.𝓡 ((λ _ x. x), (λ x. x), (λ x. x), λ x. x) in
-    let some = legal_some rules state c.args.asked.role c.requires.«open» c.requires.role in
-    let first = law.legal_within c.args.game.now state c.args.asked.role c.requires.role 0 0 some in
+    let some = legal_some rules state c.args.asked.role c.requires.«open» c.requires.fit.role in
+    let first = law.legal_within c.args.game.now state c.args.asked.role c.requires.fit.role 0 0 some in
     turn_known rules state c.args.asked.role 0 c.runs.level.cursor.places.items c.runs.level.cursor.joint.items c.runs.invariant.stands (omega arith)
     (λ q below. law.legal_within c.args.game.now state q below)
 
 pub best_at-greatest_after-greatest-requires-clause-level : goal.best_at-greatest_after-greatest-requires-clause-level
 best_at-greatest_after-greatest-requires-clause-level g t c κs within =
     let kept = c.runs.invariant.level in
-    record { position = kept.position; cursor = kept.cursor; run = c.gather_own.ensures.run; many = kept.many }
+    let taken = c.gather_own.ensures in
+    let some = c.if-count-eq0.false in
+    record {
+      level = record { position = kept.position; cursor = kept.cursor; run = taken.run; many = kept.many };
+      some = omega arith;
+      known = taken.known;
+    }
 
 pub best_at-returns-then-count-eq0-clause-answers : goal.best_at-returns-then-count-eq0-clause-answers
 best_at-returns-then-count-eq0-clause-answers g t c =
@@ -668,7 +656,7 @@ best_at-returns-then-count-eq0-clause-answers g t c =
     let worths = map (worst rules c.args.asked.role c.args.asked.depth c.args.asked.at state) (rules.legal state c.args.asked.role) in
     let size : length worths ≡ length (rules.legal state c.args.asked.role) = length-map (rules.legal state c.args.asked.role)
     (worst rules c.args.asked.role c.args.asked.depth c.args.asked.at state) in
-    let some = legal_some rules state c.args.asked.role c.requires.«open» c.requires.role in
+    let some = legal_some rules state c.args.asked.role c.requires.«open» c.requires.fit.role in
     let none = c.if-count-eq0.true in
     let past = c.gather_own.ensures.all (omega (arith, c.runs.invariant.some)) in
     let a = to_z w16 (of_z w16 c.args.a) in
@@ -680,23 +668,14 @@ best_at-returns-then-count-eq0-clause-answers g t c =
       at_most = c.runs.invariant.at_most;
     }
 
-pub best_at-returns-then-count-eq0-clause-levels : goal.best_at-returns-then-count-eq0-clause-levels
-best_at-returns-then-count-eq0-clause-levels g t c =
-    let roles = (g.G.Game.rules c.args.game.now).roles in
-    let P = λ (level : Level g.row.G-Pos.Denot g.row.G-Many.Denot). IsLevelOf (g.G.Game.fits c.args.game.now) (g.G.Game.fits_many c.args.game.now)
-    roles level in
-    let kept = c.runs.invariant.level in
-    All-first_and_rest P c.split_at_mut-first.result.0.now c.runs.rest _ c.split_at_mut-first.ensures.front_len
-    (record { position = kept.position; cursor = kept.cursor; run = c.gather_own.ensures.run; many = kept.many }) c.runs.invariant.rest
-
-pub best_at-returns-then-count-eq0-clause-capacities : goal.best_at-returns-then-count-eq0-clause-capacities
-best_at-returns-then-count-eq0-clause-capacities g t c =
+pub best_at-returns-then-count-eq0-clause-kept : goal.best_at-returns-then-count-eq0-clause-kept
+best_at-returns-then-count-eq0-clause-kept g t c =
     let of_position = g.G.Game.capacities c.args.game.now in
     let of_many = g.G.Game.many_capacities c.args.game.now in
     let split = c.split_at_mut-first.ensures in
     let old = get_or c.split_at_mut-first.result.0.now 0 c.index-first-0.result in
     let now = c.runs.level in
-    let begun : level_capacities of_position of_many now ≡ level_capacities of_position of_many old =
+    let begun : level_capacities g.G.Game c.args.game.now now ≡ level_capacities g.G.Game c.args.game.now old =
     c.runs.invariant.capacities
     ∙ four_joined (cursor_capacities c.start_turns.new.cursor) (run_capacities old.run) (of_position old.position) (of_many old.many)
     (cursor_capacities old.cursor) (run_capacities old.run) (of_position old.position) (of_many old.many) c.start_turns.ensures.capacities refl refl
@@ -707,12 +686,14 @@ best_at-returns-then-count-eq0-clause-capacities g t c =
       run = c.gather_own.new.run;
       many = now.many;
     } in
-    let turned : level_capacities of_position of_many level ≡ level_capacities of_position of_many now =
+    let turned : level_capacities g.G.Game c.args.game.now level ≡ level_capacities g.G.Game c.args.game.now now =
     four_joined (cursor_capacities now.cursor) (run_capacities c.gather_own.new.run) (of_position now.position) (of_many now.many)
     (cursor_capacities now.cursor) (run_capacities now.run) (of_position now.position) (of_many now.many) refl c.gather_own.ensures.capacities refl
     refl in
-    all_kept (level_capacities of_position of_many) c.args.levels.now c.split_at_mut-first.result.0.now c.split_at_mut-first.result.1.now c.runs.rest
-    level c.index-first-0.result split.value split.front_len (turned ∙ begun) c.runs.invariant.rest_capacities
+    let is = c.runs.invariant.level in
+    all_levels_kept c.args.levels.now c.split_at_mut-first.result.0.now c.split_at_mut-first.result.1.now
+    c.runs.rest level c.index-first-0.result split.value split.front_len (record { position = is.position; cursor = is.cursor; run = c.gather_own.ensures.run; many = is.many })
+    (turned ∙ begun) (c.runs.invariant.kept)
 
 pub best_at-returns-then-best-b-clause-answers : goal.best_at-returns-then-best-b-clause-answers
 best_at-returns-then-best-b-clause-answers g t c =
@@ -732,7 +713,7 @@ best_at-returns-then-best-b-clause-answers g t c =
     let fits_m : SFits w16 c.max-best.result = search facts in
     let raised : to_z w16 (of_z w16 c.max-best.result) ≡ int_max best r =
     to_z-of_z w16 c.max-best.result fits_m ∙ c.max-best.ensures.value ∙ ap (λ z. int_max best z) (to_z-of_z w16 r fits_r) in
-    let each = alone_worst rules c.args.asked.role c.args.asked.depth c.args.asked.at state 0 c.runs.level.cursor.places.items joint c.requires.role
+    let each = alone_worst rules c.args.asked.role c.args.asked.depth c.args.asked.at state 0 c.runs.level.cursor.places.items joint c.requires.fit.role
     c.requires.alone c.runs.invariant.stands in
     let found : map (λ j. value_of (rules.after state j)) (turns_in run) ≡ take run.count (drop c.runs.place worths) =
     ap (λ (ts : List Turn). map (λ t. value_of (rules.after state t)) ts) c.gather_own.ensures.turns
@@ -748,36 +729,26 @@ best_at-returns-then-best-b-clause-answers g t c =
     let eb : b ≡ c.args.b = to_z-of_z w16 c.args.b c.ranges.b in
     rw (← ea, ← eb, raised) (cut_above (greatest worths) a b (int_max best r) (rw raised at (le_z_true b _ c.if-best-b.true)) most)
 
-pub best_at-returns-then-best-b-clause-levels : goal.best_at-returns-then-best-b-clause-levels
-best_at-returns-then-best-b-clause-levels g t c =
-    let roles = (g.G.Game.rules c.args.game.now).roles in
-    let P = λ (level : Level g.row.G-Pos.Denot g.row.G-Many.Denot). IsLevelOf (g.G.Game.fits c.args.game.now) (g.G.Game.fits_many c.args.game.now)
-    roles level in
-    All-first_and_rest P c.split_at_mut-first.result.0.now c.greatest_after-greatest.new.levels _ c.split_at_mut-first.ensures.front_len
-    c.greatest_after-greatest.ensures.level c.greatest_after-greatest.ensures.levels
-
-pub best_at-returns-then-best-b-clause-capacities : goal.best_at-returns-then-best-b-clause-capacities
-best_at-returns-then-best-b-clause-capacities g t c =
+pub best_at-returns-then-best-b-clause-kept : goal.best_at-returns-then-best-b-clause-kept
+best_at-returns-then-best-b-clause-kept g t c =
     let of_position = g.G.Game.capacities c.args.game.now in
     let of_many = g.G.Game.many_capacities c.args.game.now in
     let split = c.split_at_mut-first.ensures in
     let old = get_or c.split_at_mut-first.result.0.now 0 c.index-first-0.result in
     let now = c.runs.level in
-    let begun : level_capacities of_position of_many now ≡ level_capacities of_position of_many old =
+    let begun : level_capacities g.G.Game c.args.game.now now ≡ level_capacities g.G.Game c.args.game.now old =
     c.runs.invariant.capacities
     ∙ four_joined (cursor_capacities c.start_turns.new.cursor) (run_capacities old.run) (of_position old.position) (of_many old.many)
     (cursor_capacities old.cursor) (run_capacities old.run) (of_position old.position) (of_many old.many) c.start_turns.ensures.capacities refl refl
     refl in
-    let turned : level_capacities of_position of_many c.greatest_after-greatest.new.level ≡ level_capacities of_position of_many now =
-    c.greatest_after-greatest.ensures.level_capacities
+    let turned : level_capacities g.G.Game c.args.game.now c.greatest_after-greatest.new.level ≡ level_capacities g.G.Game c.args.game.now now =
+    c.greatest_after-greatest.ensures.level.capacities
     ∙ four_joined (cursor_capacities now.cursor) (run_capacities c.gather_own.new.run) (of_position now.position) (of_many now.many)
     (cursor_capacities now.cursor) (run_capacities now.run) (of_position now.position) (of_many now.many)
     refl c.gather_own.ensures.capacities refl refl in
-    all_kept (level_capacities of_position of_many) c.args.levels.now c.split_at_mut-first.result.0.now c.split_at_mut-first.result.1.now
-    c.greatest_after-greatest.new.levels
-    c.greatest_after-greatest.new.level c.index-first-0.result split.value split.front_len (turned
-    ∙ begun) (c.greatest_after-greatest.ensures.capacities
-    ∙ c.runs.invariant.rest_capacities)
+    all_levels_kept c.args.levels.now c.split_at_mut-first.result.0.now c.split_at_mut-first.result.1.now
+    c.greatest_after-greatest.new.levels c.greatest_after-greatest.new.level c.index-first-0.result split.value split.front_len c.greatest_after-greatest.ensures.level.level
+    (turned ∙ begun) (kept_then c.runs.invariant.kept c.greatest_after-greatest.ensures.kept)
 
 pub best_at-runs-preserved : goal.best_at-runs-preserved
 best_at-runs-preserved g t c =
@@ -797,7 +768,7 @@ best_at-runs-preserved g t c =
     let fits_m : SFits w16 c.max-best.result = search facts in
     let raised : to_z w16 (of_z w16 c.max-best.result) ≡ int_max best r =
     to_z-of_z w16 c.max-best.result fits_m ∙ c.max-best.ensures.value ∙ ap (λ z. int_max best z) (to_z-of_z w16 r fits_r) in
-    let each = alone_worst rules c.args.asked.role c.args.asked.depth c.args.asked.at state 0 c.runs.level.cursor.places.items joint c.requires.role
+    let each = alone_worst rules c.args.asked.role c.args.asked.depth c.args.asked.at state 0 c.runs.level.cursor.places.items joint c.requires.fit.role
     c.requires.alone c.runs.invariant.stands in
     let found : map (λ j. value_of (rules.after state j)) (turns_in run) ≡ take run.count (drop c.runs.place worths) =
     ap (λ (ts : List Turn). map (λ t. value_of (rules.after state t)) ts) c.gather_own.ensures.turns
@@ -812,20 +783,17 @@ best_at-runs-preserved g t c =
     let of_position = g.G.Game.capacities c.args.game.now in
     let of_many = g.G.Game.many_capacities c.args.game.now in
     record {
-      level = c.greatest_after-greatest.ensures.level;
-      rest = c.greatest_after-greatest.ensures.levels;
-      wide = c.greatest_after-greatest.ensures.wide;
-      capacities = c.greatest_after-greatest.ensures.level_capacities
+      level = c.greatest_after-greatest.ensures.level.level;
+      capacities = c.greatest_after-greatest.ensures.level.capacities
           ∙ four_joined (cursor_capacities now.cursor) (run_capacities c.gather_own.new.run) (of_position now.position) (of_many now.many)
           (cursor_capacities now.cursor) (run_capacities now.run) (of_position now.position) (of_many now.many)
           refl c.gather_own.ensures.capacities refl refl
           ∙ c.runs.invariant.capacities;
-      rest_capacities = c.greatest_after-greatest.ensures.capacities ∙ c.runs.invariant.rest_capacities;
-      tools_capacities = c.greatest_after-greatest.ensures.tools_capacities ∙ c.runs.invariant.tools_capacities;
+      kept = kept_then c.runs.invariant.kept c.greatest_after-greatest.ensures.kept;
       deep = omega arith;
       some = omega (arith, c.min-most.ensures, c.runs.invariant.some);
       few = omega (arith, c.min-most.ensures);
-      stands = rw c.greatest_after-greatest.ensures.cursor c.runs.invariant.stands;
+      stands = rw c.greatest_after-greatest.ensures.level.cursor c.runs.invariant.stands;
       in_list = omega (arith, c.gather_own.ensures.within);
       above = rw raised (raised_above a best r c.runs.invariant.above);
       below = le_z_false b _ c.if-best-b.false;
@@ -838,20 +806,20 @@ best_at-overflow_add-place g t c =
     let rules = g.G.Game.rules c.args.game.now in
     let state = g.G.Game.state c.args.game.now c.args.from.now in
     let law = g.met.G.Game g.world.𝓛 g.world.𝓜 g.world.𝓡 ((λ _ x. x), (λ x. x), (λ x. x), λ x. x) in
-    let few = legal_count rules state c.args.asked.role (law.legal_ascending c.args.game.now state c.args.asked.role c.requires.role)
-    (law.legal_within c.args.game.now state c.args.asked.role c.requires.role)
-    (law.moves_within c.args.game.now c.args.asked.role c.requires.role) in
+    let few = legal_count rules state c.args.asked.role (law.legal_ascending c.args.game.now state c.args.asked.role c.requires.fit.role)
+    (law.legal_within c.args.game.now state c.args.asked.role c.requires.fit.role)
+    (law.moves_within c.args.game.now c.args.asked.role c.requires.fit.role) in
     omega (arith, c.gather_own.ensures.within)
 
 pub least_after-judge_last-requires-clause-joints : goal.least_after-judge_last-requires-clause-joints
 least_after-judge_last-requires-clause-joints g t c κs within =
     let rules = g.G.Game.rules c.args.game.now in
-    known_each (λ j. IsTurn rules j) (take c.args.level.now.run.count c.deref.result.now) (rw c.deref.ensures.value c.requires.known)
+    known_each (λ j. IsTurn rules j) (take c.args.level.now.run.count c.deref.result.now) (rw c.deref.ensures.value c.requires.level.known)
 
 pub least_after-steps-requires-clause-joints : goal.least_after-steps-requires-clause-joints
 least_after-steps-requires-clause-joints g t c =
     let rules = g.G.Game.rules c.args.game.now in
-    known_each (λ j. IsTurn rules j) (take c.args.level.now.run.count c.deref.result.now) (rw c.deref.ensures.value c.requires.known)
+    known_each (λ j. IsTurn rules j) (take c.args.level.now.run.count c.deref.result.now) (rw c.deref.ensures.value c.requires.level.known)
 
 pub least_after-returns-then-judge_last-clause-answers : goal.least_after-returns-then-judge_last-clause-answers
 least_after-returns-then-judge_last-clause-answers g t c =
@@ -896,12 +864,12 @@ least_after-returns-clause-answers g t c =
 pub greatest_after-judge_last-requires-clause-joints : goal.greatest_after-judge_last-requires-clause-joints
 greatest_after-judge_last-requires-clause-joints g t c κs within =
     let rules = g.G.Game.rules c.args.game.now in
-    known_each (λ j. IsTurn rules j) (take c.args.level.now.run.count c.deref.result.now) (rw c.deref.ensures.value c.requires.known)
+    known_each (λ j. IsTurn rules j) (take c.args.level.now.run.count c.deref.result.now) (rw c.deref.ensures.value c.requires.level.known)
 
 pub greatest_after-steps-requires-clause-joints : goal.greatest_after-steps-requires-clause-joints
 greatest_after-steps-requires-clause-joints g t c =
     let rules = g.G.Game.rules c.args.game.now in
-    known_each (λ j. IsTurn rules j) (take c.args.level.now.run.count c.deref.result.now) (rw c.deref.ensures.value c.requires.known)
+    known_each (λ j. IsTurn rules j) (take c.args.level.now.run.count c.deref.result.now) (rw c.deref.ensures.value c.requires.level.known)
 
 pub greatest_after-returns-then-judge_last-clause-answers : goal.greatest_after-returns-then-judge_last-clause-answers
 greatest_after-returns-then-judge_last-clause-answers g t c =
@@ -991,11 +959,8 @@ least_at-loop-place-init g t c =
     let eb : b ≡ c.args.b = to_z-of_z w16 c.args.b c.ranges.b in
     record {
       position = c.requires.position;
-      levels = c.requires.levels;
-      wide = c.requires.wide;
+      kept = kept_at_first c.requires.fit;
       position_capacities = refl;
-      capacities = refl;
-      tools_capacities = refl;
       deep = refl;
       ahead = c.new_ahead-ahead.ensures states worth (sym c.requires.count);
       above = le_z_false _ a c.if-upper-a.false;
@@ -1018,11 +983,8 @@ greatest_at-loop-place-init g t c =
     let eb : b ≡ c.args.b = to_z-of_z w16 c.args.b c.ranges.b in
     record {
       position = c.requires.position;
-      levels = c.requires.levels;
-      wide = c.requires.wide;
+      kept = kept_at_first c.requires.fit;
       position_capacities = refl;
-      capacities = refl;
-      tools_capacities = refl;
       deep = refl;
       ahead = c.new_ahead-ahead.ensures states worth (sym c.requires.count);
       above = rw el c.greatest_told-lower.ensures.at_least;

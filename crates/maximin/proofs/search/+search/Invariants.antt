@@ -1,12 +1,12 @@
 use Rattle.std.proofs.Common.{◌≡◌, ℕ, ◌+◌, ◌*◌, ◌-◌, ◌<◌, ◌≤◌, length, [], ◌∷◌, get_or}
-use Rattle.std.specs.Prelude.{pos, ◌<ℤ◌, ◌≤ℤ◌, All, map}
+use Rattle.std.specs.Prelude.{pos, ◌<ℤ◌, ◌≤ℤ◌, map}
 use Rattle.std.specs.Int.{int_min, int_max}
 use Rattle.statement.specs.Rules.{choices}
 use Rattle.statement.specs.Value.{value, worst, least, greatest}
 use Rattle.maximin.specs.Turns.{StandsAt, later}
 use Rattle.maximin.specs.Ahead.{IsAheadOf}
-use Rattle.maximin.specs.Tools.{tools_capacities}
-use Rattle.maximin.specs.Level.{IsLevelOf, level_capacities, all_capacities}
+use Rattle.maximin.specs.Tools.{AreKept}
+use Rattle.maximin.specs.Level.{IsLevelOf, level_capacities}
 use Rattle.maximin.proofs.search.+search.Given as goal
 
 abbrev pub decreases-value_at : goal.decreases-value_at
@@ -30,11 +30,7 @@ invariant-value_at-loop-own g l =
     let rules = g.G.Game.rules l.game in
     let state = g.G.Game.state l.game l.from in
     record {
-      levels : All (IsLevelOf (g.G.Game.fits l.game) (g.G.Game.fits_many l.game) rules.roles) l.levels;
-      wide : g.G.Game.fits_wide l.game l.tools.wide;
-      capacities : all_capacities (g.G.Game.capacities l.game) (g.G.Game.many_capacities l.game) l.levels
-          ≡ all_capacities (g.G.Game.capacities l.game) (g.G.Game.many_capacities l.game) l.initial.levels;
-      tools_capacities : tools_capacities (g.G.Game.wide_capacities l.game) l.tools ≡ tools_capacities (g.G.Game.wide_capacities l.game) l.fn.tools;
+      kept : AreKept g.G.Game l.game l.fn.tools l.initial.levels l.tools l.levels;
       deep : length l.levels ≡ length l.initial.levels;
       in_list : l.place ≤ length (rules.legal state l.asked.role);
       above : l.a ≤ℤ l.best;
@@ -58,15 +54,10 @@ invariant-worst_at-runs g l =
     let all = worst rules l.asked.role l.asked.depth l.asked.at state l.own in
     let left = least (map (λ j. value rules l.asked.role l.asked.depth l.asked.at (rules.after state j))
     (l.level.cursor.joint.items ∷ later lists l.level.cursor.places.items)) in
-    let of_position = g.G.Game.capacities l.game in
-    let of_many = g.G.Game.many_capacities l.game in
     record {
-      level : IsLevelOf (g.G.Game.fits l.game) (g.G.Game.fits_many l.game) rules.roles l.level;
-      rest : All (IsLevelOf (g.G.Game.fits l.game) (g.G.Game.fits_many l.game) rules.roles) l.rest;
-      wide : g.G.Game.fits_wide l.game l.tools.wide;
-      capacities : level_capacities of_position of_many l.level ≡ level_capacities of_position of_many l.initial.level;
-      rest_capacities : all_capacities of_position of_many l.rest ≡ all_capacities of_position of_many l.initial.rest;
-      tools_capacities : tools_capacities (g.G.Game.wide_capacities l.game) l.tools ≡ tools_capacities (g.G.Game.wide_capacities l.game) l.fn.tools;
+      level : IsLevelOf g.G.Game l.game l.level;
+      capacities : level_capacities g.G.Game l.game l.level ≡ level_capacities g.G.Game l.game l.initial.level;
+      kept : AreKept g.G.Game l.game l.fn.tools l.initial.rest l.tools l.rest;
       deep : l.asked.depth ≤ length l.rest;
       some : 0 < l.most;
       few : l.most ≤ 64;
@@ -90,15 +81,10 @@ invariant-least_at-loop-place g l =
     let rules = g.G.Game.rules l.game in
     let states = g.G.Game.states l.game l.many in
     let all = least (map (value rules l.asked.role l.asked.depth l.asked.at) states) in
-    let of_position = g.G.Game.capacities l.game in
-    let of_many = g.G.Game.many_capacities l.game in
     record {
       position : g.G.Game.fits l.game l.position;
-      levels : All (IsLevelOf (g.G.Game.fits l.game) (g.G.Game.fits_many l.game) rules.roles) l.levels;
-      wide : g.G.Game.fits_wide l.game l.tools.wide;
+      kept : AreKept g.G.Game l.game l.fn.tools l.initial.levels l.tools l.levels;
       position_capacities : g.G.Game.capacities l.game l.position ≡ g.G.Game.capacities l.game l.fn.position;
-      capacities : all_capacities of_position of_many l.levels ≡ all_capacities of_position of_many l.initial.levels;
-      tools_capacities : tools_capacities (g.G.Game.wide_capacities l.game) l.tools ≡ tools_capacities (g.G.Game.wide_capacities l.game) l.fn.tools;
       deep : length l.levels ≡ length l.initial.levels;
       ahead : IsAheadOf states (value rules l.asked.role l.asked.depth l.asked.at) l.ahead;
       above : l.a <ℤ l.upper;
@@ -123,15 +109,10 @@ invariant-best_at-runs g l =
     let rules = g.G.Game.rules l.game in
     let state = g.G.Game.state l.game l.from in
     let worths = map (worst rules l.asked.role l.asked.depth l.asked.at state) (rules.legal state l.asked.role) in
-    let of_position = g.G.Game.capacities l.game in
-    let of_many = g.G.Game.many_capacities l.game in
     record {
-      level : IsLevelOf (g.G.Game.fits l.game) (g.G.Game.fits_many l.game) rules.roles l.level;
-      rest : All (IsLevelOf (g.G.Game.fits l.game) (g.G.Game.fits_many l.game) rules.roles) l.rest;
-      wide : g.G.Game.fits_wide l.game l.tools.wide;
-      capacities : level_capacities of_position of_many l.level ≡ level_capacities of_position of_many l.initial.level;
-      rest_capacities : all_capacities of_position of_many l.rest ≡ all_capacities of_position of_many l.initial.rest;
-      tools_capacities : tools_capacities (g.G.Game.wide_capacities l.game) l.tools ≡ tools_capacities (g.G.Game.wide_capacities l.game) l.fn.tools;
+      level : IsLevelOf g.G.Game l.game l.level;
+      capacities : level_capacities g.G.Game l.game l.level ≡ level_capacities g.G.Game l.game l.initial.level;
+      kept : AreKept g.G.Game l.game l.fn.tools l.initial.rest l.tools l.rest;
       deep : l.asked.depth ≤ length l.rest;
       some : 0 < l.most;
       few : l.most ≤ 64;
@@ -152,15 +133,10 @@ invariant-greatest_at-loop-place g l =
     let rules = g.G.Game.rules l.game in
     let states = g.G.Game.states l.game l.many in
     let all = greatest (map (value rules l.asked.role l.asked.depth l.asked.at) states) in
-    let of_position = g.G.Game.capacities l.game in
-    let of_many = g.G.Game.many_capacities l.game in
     record {
       position : g.G.Game.fits l.game l.position;
-      levels : All (IsLevelOf (g.G.Game.fits l.game) (g.G.Game.fits_many l.game) rules.roles) l.levels;
-      wide : g.G.Game.fits_wide l.game l.tools.wide;
+      kept : AreKept g.G.Game l.game l.fn.tools l.initial.levels l.tools l.levels;
       position_capacities : g.G.Game.capacities l.game l.position ≡ g.G.Game.capacities l.game l.fn.position;
-      capacities : all_capacities of_position of_many l.levels ≡ all_capacities of_position of_many l.initial.levels;
-      tools_capacities : tools_capacities (g.G.Game.wide_capacities l.game) l.tools ≡ tools_capacities (g.G.Game.wide_capacities l.game) l.fn.tools;
       deep : length l.levels ≡ length l.initial.levels;
       ahead : IsAheadOf states (value rules l.asked.role l.asked.depth l.asked.at) l.ahead;
       above : l.a ≤ℤ l.lower;

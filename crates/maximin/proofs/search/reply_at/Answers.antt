@@ -13,7 +13,8 @@ use Rattle.maximin.specs.Level.{IsLevelOf, level_capacities}
 use Rattle.maximin.proofs.Values.{turn_known}
 use Rattle.maximin.proofs.Bounds.{worst_at_most}
 use Rattle.maximin.proofs.Windows.{lt_z_true, lt_z_false}
-use Rattle.maximin.proofs.Parts.{All-first_and_rest, four_joined, all_kept}
+use Rattle.maximin.proofs.Parts.{four_joined}
+use Rattle.maximin.proofs.Kept.{kept_then, all_levels_kept}
 use Rattle.maximin.proofs.Reply.{IsFirstAt, first_start, first_lowered, first_kept, first_next, first_end}
 use Rattle.maximin.proofs.search.reply_at.Goals as goal
 use Rattle.maximin.proofs.search.reply_at.Goals.{then-worth-upper, else-worth-upper}
@@ -27,7 +28,7 @@ loop-upper-init g c =
     let all = worst rules c.args.asked.role c.args.asked.depth c.args.asked.at state c.args.own in
     let turns = turns_with rules state c.args.asked.role c.args.own in
     let law = g.met.G.Game g.world.𝓛 g.world.𝓜 g.world.𝓡 ((λ _ x. x), (λ x. x), (λ x. x), λ x. x) in
-    let first = c.requires.levels 0 c.index-first-0.result (omega arith) in
+    let first = c.requires.fit.levels 0 c.index-first-0.result (omega arith) in
     let there = c.split_at_mut-first.ensures.by_index.0 0 c.index-first-0.result (omega arith) in
     record {
       level = record {
@@ -36,11 +37,13 @@ loop-upper-init g c =
         run = rw there first.run;
         many = rw there first.many;
       };
-      rest = λ k d below. rw (c.split_at_mut-first.ensures.by_index.1 k d) (c.requires.levels (1 + k) d (omega arith));
-      wide = c.requires.wide;
       capacities = refl;
-      rest_capacities = refl;
-      tools_capacities = refl;
+      kept = record {
+        wide = c.requires.fit.wide;
+        levels = λ k d below. rw (c.split_at_mut-first.ensures.by_index.1 k d) (c.requires.fit.levels (1 + k) d (omega arith));
+        of_tools = refl;
+        of_levels = refl;
+      };
       deep = omega arith;
       capacity = refl;
       stands = c.start_turns.ensures.stands;
@@ -84,15 +87,13 @@ returns-then-not-next_turn-clause-reply g c =
           (first_kept worth turns all joint behind upper r c.loop-upper.out.items answers (rw same at (lt_z_false _ upper w.if-worth-upper.false))
           c.loop-upper.invariant.is_first)
     ] in
-    first_end worth turns all joint behind (to_z w16 c.if-worth-upper.upper-bits) c.if-worth-upper.out.items c.if-not-next_turn.ensures.none at
-
-pub returns-then-not-next_turn-clause-levels : goal.returns-then-not-next_turn-clause-levels
-returns-then-not-next_turn-clause-levels g c =
-    let P = λ (level : Level g.row.G-Pos.Denot g.row.G-Many.Denot). IsLevelOf (g.G.Game.fits c.args.game.now) (g.G.Game.fits_many c.args.game.now)
-    (g.G.Game.rules c.args.game.now).roles level in
-    let kept = c.loop-upper.invariant.level in
-    All-first_and_rest P c.split_at_mut-first.result.0.now c.value_at-worth.new.levels _ c.split_at_mut-first.ensures.front_len
-    (record { position = c.step.ensures.fits; cursor = c.next_turn.ensures.cursor; run = kept.run; many = kept.many }) c.value_at-worth.ensures.levels
+    record {
+      turn = first_end worth turns all joint behind (to_z w16 c.if-worth-upper.upper-bits) c.if-worth-upper.out.items c.if-not-next_turn.ensures.none at;
+      capacity = elim c.if-worth-upper.branch [
+        | then-worth-upper w ↦ rw w.out-is (w.write_joint.ensures.capacity ∙ c.loop-upper.invariant.capacity)
+        | else-worth-upper w ↦ rw w.out-is c.loop-upper.invariant.capacity
+      ];
+    }
 
 pub loop-upper-preserved : goal.loop-upper-preserved
 loop-upper-preserved g c =
@@ -130,15 +131,12 @@ loop-upper-preserved g c =
         run = c.loop-upper.invariant.level.run;
         many = c.loop-upper.invariant.level.many;
       };
-      rest = c.value_at-worth.ensures.levels;
-      wide = c.value_at-worth.ensures.wide;
       capacities =
           four_joined (cursor_capacities c.next_turn.new.cursor) (run_capacities now.run) (of_position c.step.new.q) (of_many now.many)
           (cursor_capacities now.cursor) (run_capacities now.run) (of_position now.position) (of_many now.many)
           c.next_turn.ensures.capacities refl c.step.ensures.capacities refl
           ∙ c.loop-upper.invariant.capacities;
-      rest_capacities = c.value_at-worth.ensures.capacities ∙ c.loop-upper.invariant.rest_capacities;
-      tools_capacities = c.value_at-worth.ensures.tools_capacities ∙ c.loop-upper.invariant.tools_capacities;
+      kept = kept_then c.loop-upper.invariant.kept c.value_at-worth.ensures.kept;
       deep = omega arith;
       capacity = elim c.if-worth-upper.branch [
         | then-worth-upper w ↦ rw w.out-is (w.write_joint.ensures.capacity ∙ c.loop-upper.invariant.capacity)
@@ -149,14 +147,14 @@ loop-upper-preserved g c =
           c.next_turn.new.cursor.joint.items (later lists c.next_turn.new.cursor.places.items) c.if-not-next_turn.ensures.next at;
     }
 
-pub returns-then-not-next_turn-clause-capacities : goal.returns-then-not-next_turn-clause-capacities
-returns-then-not-next_turn-clause-capacities g c =
+pub returns-then-not-next_turn-clause-kept : goal.returns-then-not-next_turn-clause-kept
+returns-then-not-next_turn-clause-kept g c =
     let of_position = g.G.Game.capacities c.args.game.now in
     let of_many = g.G.Game.many_capacities c.args.game.now in
     let split = c.split_at_mut-first.ensures in
     let old = get_or c.split_at_mut-first.result.0.now 0 c.index-first-0.result in
     let now = c.loop-upper.level in
-    let begun : level_capacities of_position of_many now ≡ level_capacities of_position of_many old =
+    let begun : level_capacities g.G.Game c.args.game.now now ≡ level_capacities g.G.Game c.args.game.now old =
     c.loop-upper.invariant.capacities
     ∙ four_joined (cursor_capacities c.start_turns.new.cursor) (run_capacities old.run) (of_position old.position) (of_many old.many)
     (cursor_capacities old.cursor) (run_capacities old.run) (of_position old.position) (of_many old.many) c.start_turns.ensures.capacities refl refl
@@ -167,11 +165,11 @@ returns-then-not-next_turn-clause-capacities g c =
       run = now.run;
       many = now.many;
     } in
-    let turned : level_capacities of_position of_many level ≡ level_capacities of_position of_many now =
+    let turned : level_capacities g.G.Game c.args.game.now level ≡ level_capacities g.G.Game c.args.game.now now =
     four_joined (cursor_capacities c.next_turn.new.cursor) (run_capacities now.run) (of_position c.step.new.q) (of_many now.many)
     (cursor_capacities now.cursor) (run_capacities now.run) (of_position now.position) (of_many now.many)
     c.next_turn.ensures.capacities refl c.step.ensures.capacities refl in
-    all_kept (level_capacities of_position of_many) c.args.levels.now c.split_at_mut-first.result.0.now c.split_at_mut-first.result.1.now
-    c.value_at-worth.new.levels
-    level c.index-first-0.result split.value split.front_len (turned ∙ begun)
-    (c.value_at-worth.ensures.capacities ∙ c.loop-upper.invariant.rest_capacities)
+    let is = c.loop-upper.invariant.level in
+    all_levels_kept c.args.levels.now c.split_at_mut-first.result.0.now c.split_at_mut-first.result.1.now
+    c.value_at-worth.new.levels level c.index-first-0.result split.value split.front_len (record { position = c.step.ensures.fits; cursor = c.next_turn.ensures.cursor; run = is.run; many = is.many })
+    (turned ∙ begun) (kept_then c.loop-upper.invariant.kept c.value_at-worth.ensures.kept)

@@ -5,8 +5,8 @@ use Rattle.std.specs.Prelude.{pos}
 use Rattle.std.specs.Int.{int_min, int_max}
 use Rattle.statement.specs.Value.{value}
 use Rattle.maximin.proofs.Bounds.{value_at_most}
-use Rattle.maximin.proofs.Windows.{le_z_true}
-use Rattle.maximin.proofs.Beside.{within_goals, outside_goals}
+use Rattle.maximin.proofs.Windows.{le_z_true, le_z_false}
+use Rattle.maximin.proofs.Beside.{within_goals, outside_goals, goals_window}
 use Rattle.maximin.proofs.search.value_within.Goals as goal
 
 pub returns-then-low-high-clause-answers : goal.returns-then-low-high-clause-answers
@@ -44,3 +44,14 @@ returns-clause-answers g c =
     to_z-of_z w16 c.min-high.result fits_high ∙ c.min-high.ensures.value ∙ ap (λ z. int_min z (pos 100)) (to_z-of_z w16 c.args.b c.ranges.b) in
     rw (to_z-of_z w16 c.value_at.result fits_r)
     (within_goals worth c.args.a c.args.b low high c.value_at.result few low_is high_is c.value_at.ensures.answers)
+
+pub value_at-requires-clause-window : goal.value_at-requires-clause-window
+value_at-requires-clause-window g c κs within =
+    let fits_low : SFits w16 c.max-low.result = search facts in
+    let fits_high : SFits w16 c.min-high.result = search facts in
+    let same_low = to_z-of_z w16 c.max-low.result fits_low in
+    let same_high = to_z-of_z w16 c.min-high.result fits_high in
+    goals_window c.args.a c.args.b _ _
+    (same_low ∙ c.max-low.ensures.value ∙ ap (λ z. int_max z (pos 0)) (to_z-of_z w16 c.args.a c.ranges.a))
+    (same_high ∙ c.min-high.ensures.value ∙ ap (λ z. int_min z (pos 100)) (to_z-of_z w16 c.args.b c.ranges.b))
+    (le_z_false _ _ c.if-low-high.false)

@@ -14,7 +14,7 @@ invariant-loop-chosen g l =
     let state = g.G.Game.state l.g in
     let game = named rules (g.G.Game.role_name l.g) (g.G.Game.move_name l.g) in
     record {
-      play : IsPlayOf (g.G.Game.fits l.g) (g.G.Game.fits_wide l.g) (g.G.Game.fits_many l.g) rules.roles l.play;
+      play : IsPlayOf g.G.Game l.g l.play;
       deep : l.left ≤ room_depth l.play.room;
       within : l.left ≤ l.depth;
       worth : l.worth ≡ pos (value rules l.role l.left l.at (state l.play.here));

@@ -7,8 +7,7 @@ use Rattle.maximin.proofs.room.Room.new.Goals as goal
 
 pub loop-preserved : goal.loop-preserved
 loop-preserved g c =
-    let P = λ (level : Level g.row.G-Pos.Denot g.row.G-Many.Denot). IsLevelOf (g.G.Game.fits c.args.g.now) (g.G.Game.fits_many c.args.g.now)
-    (g.G.Game.rules c.args.g.now).roles level in
+    let P = λ (level : Level g.row.G-Pos.Denot g.row.G-Many.Denot). IsLevelOf g.G.Game c.args.g.now level in
     let level = c.in_ok-new_level.field-0 in
     record {
       count = grind (arith, common_steps);

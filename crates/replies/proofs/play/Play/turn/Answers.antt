@@ -27,7 +27,7 @@ step-requires-clause-joint g c =
     let law = g.met.G.Game g.world.𝓛 g.world.𝓜 g.world.𝓡 ((λ _ x. x), (λ x. x), (λ x. x), λ x. x) in
     let own = rw c.requires.own at (choice_within game (λ s r below. law.legal_within c.args.g.now s r below) c.args.role c.args.depth c.args.at state
     c.requires.role) in
-    rw c.reply_by_value.ensures.reply at (reply_within game (λ s r below. law.legal_within c.args.g.now s r below) c.args.role (c.args.depth - 1)
+    rw c.reply_by_value.ensures.reply.turn at (reply_within game (λ s r below. law.legal_within c.args.g.now s r below) c.args.role (c.args.depth - 1)
     c.args.at state c.args.own own)
 
 pub returns-clause-turn : goal.returns-clause-turn
@@ -37,7 +37,7 @@ returns-clause-turn g c =
     let law = g.met.G.Game g.world.𝓛 g.world.𝓜 g.world.𝓡 ((λ _ x. x), (λ x. x), (λ x. x), λ x. x) in
     let own = rw c.requires.own at (choice_within game (λ s r below. law.legal_within c.args.g.now s r below) c.args.role c.args.depth c.args.at state
     c.requires.role) in
-    rw c.reply_by_value.ensures.reply at (reply_within game (λ s r below. law.legal_within c.args.g.now s r below) c.args.role (c.args.depth - 1)
+    rw c.reply_by_value.ensures.reply.turn at (reply_within game (λ s r below. law.legal_within c.args.g.now s r below) c.args.role (c.args.depth - 1)
     c.args.at state c.args.own own)
 
 pub returns-clause-worth : goal.returns-clause-worth
@@ -49,7 +49,7 @@ returns-clause-worth g c =
     choice_stays game c.args.role c.args.depth c.args.at state c.args.own c.requires.own in
     let replied : value game c.args.role (c.args.depth - 1) c.args.at (game.after state joint)
     ≡ worst game c.args.role (c.args.depth - 1) c.args.at state c.args.own =
-    reply_stays game c.args.role (c.args.depth - 1) c.args.at state c.args.own joint c.reply_by_value.ensures.reply in
+    reply_stays game c.args.role (c.args.depth - 1) c.args.at state c.args.own joint c.reply_by_value.ensures.reply.turn in
     let after : g.G.Game.state c.args.g.now c.swap.new.x ≡ game.after state joint =
     ap (g.G.Game.state c.args.g.now) c.swap.ensures.x_after ∙ c.step.ensures.after in
     rw after (c.requires.worth ∙ ap pos (sym (replied ∙ chosen)))

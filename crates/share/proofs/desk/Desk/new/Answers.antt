@@ -6,13 +6,11 @@ use Rattle.share.proofs.desk.Desk.new.Goals as goal
 
 pub loop-preserved : goal.loop-preserved
 loop-preserved g c =
-    let fits = g.G.Game.fits c.args.game.now in
-    let roles = (g.G.Game.rules c.args.game.now).roles in
     let step = c.in_ok-step.step in
     let items : c.push_reserved.new.self.items ≡ c.loop.steps.items ++ step ∷ [] = c.push_reserved.ensures.items in
     record {
-      steps = subst (All (IsStepOf fits roles)) (sym items)
-          (All-push (IsStepOf fits roles) c.loop.steps.items step c.loop.invariant.steps c.in_ok-step.ensures);
+      steps = subst (All (IsStepOf g.G.Game c.args.game.now)) (sym items)
+          (All-push (IsStepOf g.G.Game c.args.game.now) c.loop.steps.items step c.loop.invariant.steps c.in_ok-step.ensures);
       count = omega (arith, ap length items, length-append c.loop.steps.items (step ∷ []), c.loop.invariant.count);
       place = omega (arith, c.push_reserved.ensures.capacity, c.loop.invariant.place);
     }

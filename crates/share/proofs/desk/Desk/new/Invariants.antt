@@ -5,7 +5,7 @@ use Rattle.share.proofs.desk.Desk.new.Given as goal
 
 abbrev pub invariant-loop : goal.invariant-loop
 invariant-loop g l = record {
-  steps : All (IsStepOf (g.G.Game.fits l.game) (g.G.Game.rules l.game).roles) l.steps.items;
+  steps : All (IsStepOf g.G.Game l.game) l.steps.items;
   count : length l.steps.items ≡ l.counter;
   place : 3 ≤ vec_capacity l.steps;
 }
