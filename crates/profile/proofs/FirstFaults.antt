@@ -14,7 +14,7 @@ use Rattle.statement.specs.Profile.{role_in, roles_from, first_failing, first_to
 use Rattle.statement.specs.Profile.{bad_dependence, no_role, misuses_word, is_unsafe, is_recursive, depends_badly, rests_on_move, some_body}
 use Rattle.statement.specs.Profile.{does_relation, none_of, roles, item_fault_in}
 use Rattle.profile.specs.Lawful.{UsesWordsWell}
-use Rattle.profile.specs.Faults.{PassesWith, limit_place, ItemStandsAt, IsFirst, RestsOn, HasForm, IsSafeItem, RestsOn, RestsOnItself, IsOfTurn}
+use Rattle.profile.specs.Faults.{PassesWith, limit_place, ItemStandsAt, IsFirst, RestsOn, HasForm, IsSafeItem, LeadsTo, RestsOnItself, IsOfTurn}
 use Rattle.profile.specs.Faults.{IsOfAllTime, RestsBadly, Each, AllKeepLimits, IsFirstOver, HasFault}
 use Rattle.statement.specs.RuleLimits.{most_items, most_variables, most_alternatives, most_roles}
 use Rattle.profile.proofs.Equality.{relation_eq_yes, relation_eq_self}
@@ -139,14 +139,14 @@ rests_found' t test q r h =
     body_found test (item_alternatives t) r.rule r.literal r.is_rule r.in_body
     (subst (λ (x : Relation). is_distinct x ≡ false) (sym r.names) r.not_distinct) (subst (λ (x : Relation). test x ≡ true) (sym r.names) h)
 
-leads_said : (rules : List Alternative) (q p : Relation) → (relation_eq q p || has_edge (dependences rules) q p) ≡ true → RestsOn rules q p
+leads_said : (rules : List Alternative) (q p : Relation) → (relation_eq q p || has_edge (dependences rules) q p) ≡ true → LeadsTo rules q p
 leads_said rules q p h = elim (or_cases (relation_eq q p) (has_edge (dependences rules) q p) h) [
   | inl e ↦ inl (relation_eq_yes q p e)
   | inr k ↦
       inr (table_sound rules q p k)
 ]
 
-leads_found : (rules : List Alternative) (q p : Relation) → RestsOn rules q p → (relation_eq q p || has_edge (dependences rules) q p) ≡ true
+leads_found : (rules : List Alternative) (q p : Relation) → LeadsTo rules q p → (relation_eq q p || has_edge (dependences rules) q p) ≡ true
 leads_found rules q p (inl e) = or_left (relation_eq q p) (has_edge (dependences rules) q p)
     (subst (λ (x : Relation). relation_eq q x ≡ true) e (relation_eq_self q))
 leads_found rules q p (inr d) = or_right (relation_eq q p) (has_edge (dependences rules) q p) (table_complete rules q p d)
@@ -211,7 +211,7 @@ badly_yes rules acyclic t h =
     turn : ((is_word w_legal 2 (relation_of (item_head t))
         || (is_word w_goal 2 (relation_of (item_head t)) || is_word w_terminal 0 (relation_of (item_head t))))
         && some_body (rests_on_move (dependences rules)) (item_alternatives t)) ≡ true
-        → IsOfTurn (relation_of (item_head t)) × ((q : Relation) × RestsOn t q × RestsOn rules q does_relation)
+        → IsOfTurn (relation_of (item_head t)) × ((q : Relation) × RestsOn t q × LeadsTo rules q does_relation)
     turn k =
         let b = both (is_word w_legal 2 (relation_of (item_head t))
         || (is_word w_goal 2 (relation_of (item_head t)) || is_word w_terminal 0 (relation_of (item_head t))))

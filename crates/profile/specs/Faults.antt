@@ -43,12 +43,12 @@ abbrev pub IsSafeItem : Tree → Type 0
 IsSafeItem t = (rule : Alternative) → IsAmong rule (item_alternatives t) → IsSafe rule
 
 -- q is p, or rests on it
-abbrev pub RestsOn : List Alternative → Relation → Relation → Type 0
-RestsOn rules q p = (q ≡ p) ⊎ Depends rules q p
+abbrev pub LeadsTo : List Alternative → Relation → Relation → Type 0
+LeadsTo rules q p = (q ≡ p) ⊎ Depends rules q p
 
 -- the item's head rests on itself
 abbrev pub RestsOnItself : List Alternative → Tree → Type 0
-RestsOnItself rules t = (q : Relation) × RestsOn t q × RestsOn rules q (relation_of (item_head t))
+RestsOnItself rules t = (q : Relation) × RestsOn t q × LeadsTo rules q (relation_of (item_head t))
 
 -- `legal`, `goal` and `terminal` are about the turn, before its moves
 abbrev pub IsOfTurn : Relation → Type 0
@@ -61,7 +61,7 @@ IsOfAllTime p = (p ≡ relation w_base 1) ⊎ ((p ≡ relation w_input 2) ⊎ (p
 -- the head is of the turn and rests on moves, or is of all time and rests on what is not fixed
 abbrev pub RestsBadly : List Alternative → Tree → Type 0
 RestsBadly rules t =
-    (IsOfTurn (relation_of (item_head t)) × ((q : Relation) × RestsOn t q × RestsOn rules q does_relation))
+    (IsOfTurn (relation_of (item_head t)) × ((q : Relation) × RestsOn t q × LeadsTo rules q does_relation))
     ⊎ (IsOfAllTime (relation_of (item_head t)) × ((q : Relation) × RestsOn t q × (IsFixed rules q → ⊥)))
 
 abbrev pub Each : (Tree → Type 0) → List Tree → Type 0

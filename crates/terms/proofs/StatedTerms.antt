@@ -34,7 +34,7 @@ use Rattle.keys.specs.KeyLists.{key_at}
 use Rattle.terms.specs.Atoms.{AreAtoms}
 use Rattle.statement.specs.Listing.{one_term, terms_of, terms_with}
 use Rattle.statement.specs.Listing as listing
-use Rattle.terms.specs.Stated.{one_of, second_part, one_part, second_part, only_parts, second_parts}
+use Rattle.terms.specs.Stated.{one_of, second_of, one_part, second_part, only_parts, second_parts}
 use Rattle.terms.proofs.AtomLemmas.{first_atom, same_test, nat_eq_self}
 use Rattle.terms.proofs.KeyTrees.{Same, parts_of_tree, tree_of_number, different, length_trees}
 
@@ -118,7 +118,7 @@ module _ (words : List (List ℕ)) (differ : NamesDiffer words) where
       module _ (r : ℕ) (r_in : r < length (trees words keys)) where
         second_by_key : (key : List ℕ) (n : ℕ) → n ≤ length (trees words keys) → IsKey (length words) n key → (word : List ℕ) (ts : Trees)
             → Same (word_at words (word_of key)) word (trees_of (map (term_at (trees words keys)) (parts_of key))) ts
-            → map (term_at (trees words keys)) (second_part w r key)
+            → map (term_at (trees words keys)) (second_of w r key)
             ≡ cond (is_word (word_at words w) 2 (record { word = word; arity = count_trees ts }))
             (listing.second_of (term_at (trees words keys) r) ts) []
         second_by_key [] n m h word ts s = absurd h

@@ -11,18 +11,18 @@ one_of w (v ∷ (t ∷ [])) = cond (v == w) (t ∷ []) []
 one_of w (v ∷ (t ∷ (u ∷ us))) = []
 
 -- the second term of a key with the word and two parts, the first of which is r
-abbrev pub second_part : ℕ → ℕ → List ℕ → List ℕ
-second_part w r [] = []
-second_part w r (v ∷ []) = []
-second_part w r (v ∷ (t ∷ [])) = []
-second_part w r (v ∷ (t ∷ (u ∷ []))) = cond (v == w) (cond (t == r) (u ∷ []) []) []
-second_part w r (v ∷ (t ∷ (u ∷ (x ∷ xs)))) = []
+abbrev pub second_of : ℕ → ℕ → List ℕ → List ℕ
+second_of w r [] = []
+second_of w r (v ∷ []) = []
+second_of w r (v ∷ (t ∷ [])) = []
+second_of w r (v ∷ (t ∷ (u ∷ []))) = cond (v == w) (cond (t == r) (u ∷ []) []) []
+second_of w r (v ∷ (t ∷ (u ∷ (x ∷ xs)))) = []
 
 abbrev pub one_part : List (List ℕ) → ℕ → ℕ → List ℕ
 one_part keys w atom = one_of w (key_at keys atom)
 
 abbrev pub second_part : List (List ℕ) → ℕ → ℕ → ℕ → List ℕ
-second_part keys w r atom = second_part w r (key_at keys atom)
+second_part keys w r atom = second_of w r (key_at keys atom)
 
 abbrev pub only_parts : List (List ℕ) → ℕ → List ℕ → List ℕ
 only_parts keys w [] = []
