@@ -41,7 +41,7 @@ use Rattle.propnet.specs.declared.net.Net.{Net}
 use Rattle.statement.specs.declared.node_name.Name.{Name}
 use Rattle.statement.specs.declared.node_name.Name.TheVariants.{Base, Input, Not, And, View, Transition}
 use Rattle.propnet.specs.Values as net
-use Rattle.propnet.specs.Network.{Gate, value_by, signal_value as value_at, base_needed, given, value as node_value}
+use Rattle.propnet.specs.Network.{Gate, value_by, gate_value as value_at, base_needed, given, value as node_value}
 use Rattle.propnet.specs.Nets.{gates_of}
 use Rattle.propnet.specs.NetView.{gate_with}
 use Rattle.tape.proofs.Marks.{same_gate}
