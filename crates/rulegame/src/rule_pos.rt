@@ -178,4 +178,3 @@ pub(crate) fn start_state(game: &RuleGame) -> Result<RulePos, AllocError>
     read_state(game, &mut p);
     Ok(p)
 }
-
