@@ -31,23 +31,23 @@ pub struct NetGame {
 
 impl NetGame {
     /// The game of an instantiation and of the network that was compiled from it.
-    pub fn new(alloc: Global, g: Ground, n: Net) -> Result<NetGame, AllocError>
-        requires { IsNetOf (flat_of g) n }
-        ensures { IfOk result (λ game. game.played ≡ flat_of g) }
+    pub fn new(alloc: Global, ground: Ground, net: Net) -> Result<NetGame, AllocError>
+        requires { IsNetOf (flat_of ground) net }
+        ensures { IfOk result (λ game. game.played ≡ flat_of ground) }
     {
-        NetGame::of_flat(alloc, g.into_flat(), n)
+        NetGame::of_flat(alloc, ground.into_flat(), net)
     }
 
     /// The same of an instantiation in flat lists.
-    pub fn of_flat(alloc: Global, g: FlatGround, n: Net) -> Result<NetGame, AllocError>
-        requires { IsNetOf g n }
-        ensures { IfOk result (λ game. game.played ≡ g) }
+    pub fn of_flat(alloc: Global, ground: FlatGround, net: Net) -> Result<NetGame, AllocError>
+        requires { IsNetOf ground net }
+        ensures { IfOk result (λ game. game.played ≡ ground) }
     {
-        let lane_plan = make_lane_plan(alloc, &g, &n)?;
+        let lane_plan = make_lane_plan(alloc, &ground, &net)?;
         Ok(NetGame {
             alloc,
-            played: g,
-            net: n,
+            played: ground,
+            net,
             lane_plan,
         })
     }
