@@ -40,10 +40,10 @@ pub struct Group {
 /// at the place of its hash or behind it.
 #[derive(Drop)]
 pub struct Builder {
-    pub first: u32,
-    pub groups: Vec<Group>,
-    pub gates: Vec<Gate>,
-    pub table: Vec<u32>,
+    pub(crate) first: u32,
+    pub(crate) groups: Vec<Group>,
+    pub(crate) gates: Vec<Gate>,
+    pub(crate) table: Vec<u32>,
 }
 
 /// The negation of a literal.
@@ -103,6 +103,14 @@ impl Builder {
             gates: Vec::new(alloc),
             table,
         })
+    }
+
+    /// How many literals stand in front of the gates, and these, in order.
+    pub fn into_parts(self) -> (u32, Vec<Gate>)
+        ensures first { result.0 ≡ self.first }
+        ensures gates { result.1 ≡ self.gates }
+    {
+        (self.first, self.gates)
     }
 
     /// How many literals there are.

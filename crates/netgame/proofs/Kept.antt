@@ -9,7 +9,7 @@ use Rattle.propnet.specs.declared.net.Net.{Net}
 use Rattle.propnet.specs.Builders.{IsNetOf}
 use Rattle.propnet.specs.Nets.{gates_of}
 use Rattle.rulebook.specs.RulePlay.{kind_at}
-use Rattle.netgame.specs.declared.lane_plan.Asking.{Asking}
+use Rattle.netgame.specs.declared.lane_plan.Scope.{Scope}
 use Rattle.netgame.specs.NetState.{is_asked, view_of}
 use Rattle.netgame.specs.LanePlans.{shown_below, asked_nodes, next_below}
 use Rattle.netgame.proofs.NetFacts.{transition_below, views_below}
@@ -25,11 +25,11 @@ module _ (g : FlatGround) (net : Net) (made : ∥ IsNetOf g net ∥₁) where
       subst (λ (v : ℕ). v < length (gates_of net)) (sym (get_or-map-range_with_len (λ p. get_or net.transitions.items p 0) 0 n k k d lk z))
       (transition_below g net made k lk)
 
-  pub asked_within : (asking : Asking) → All (λ (n : ℕ). n < length (gates_of net)) (asked_nodes asking net.views.items (kinds_of g))
-  asked_within asking =
+  pub asked_within : (scope : Scope) → All (λ (n : ℕ). n < length (gates_of net)) (asked_nodes scope net.views.items (kinds_of g))
+  asked_within scope =
       let kinds = kinds_of g in
       let views = net.views.items in
       let all : length (gates_of net) ≤ length (gates_of net) = omega arith in
-      All-map (λ (n : ℕ). n < length (gates_of net)) (view_of views) (shown_below asking kinds (length kinds))
-      (filter_all (λ a. is_asked asking (kind_at kinds a)) (λ a. view_of views a < length (gates_of net)) 0 (length kinds)
-      (λ a low high e. views_below g net made asking (length (gates_of net)) all a (omega arith) e))
+      All-map (λ (n : ℕ). n < length (gates_of net)) (view_of views) (shown_below scope kinds (length kinds))
+      (filter_all (λ a. is_asked scope (kind_at kinds a)) (λ a. view_of views a < length (gates_of net)) 0 (length kinds)
+      (λ a low high e. views_below g net made scope (length (gates_of net)) all a (omega arith) e))

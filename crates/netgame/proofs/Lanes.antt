@@ -22,6 +22,7 @@ use Rattle.std.proofs.Common.{
   refl,
   sym,
   ap,
+  subst,
   ◌∙◌,
   arith,
   Option,
@@ -57,13 +58,13 @@ use Rattle.game.proofs.Facts.{turns_after_each}
 use Rattle.game.specs.Joints.{moves_of, joint_at}
 use Rattle.statement.specs.Rules.{State, IsTurn}
 use Rattle.rulebook.specs.declared.naming.Naming.TheVariants.{ByNext}
-use Rattle.netgame.specs.declared.lane_plan.Asking.{Asking}
+use Rattle.netgame.specs.declared.lane_plan.Scope.{Scope}
 use Rattle.netgame.specs.declared.lane_plan.LanePlan.{LanePlan}
-use Rattle.netgame.specs.declared.lane_plan.Telling.{Telling}
+use Rattle.netgame.specs.declared.lane_plan.Probe.{Probe}
 use Rattle.rulebook.specs.RulePlay.{no_turn, kind_at, holds, is_named}
 use Rattle.rulebook.specs.RuleState.{rules_of}
 use Rattle.netgame.specs.NetState.{is_asked, is_lane_on, told_state, lane_state, view_of, AreSpread}
-use Rattle.netgame.specs.LanePlans.{shown_below, asked_at, asked_nodes, next_below, IsTellingOf, IsLanePlanOf}
+use Rattle.netgame.specs.LanePlans.{shown_below, asked_at, asked_nodes, next_below, IsProbeOf, IsLanePlanOf}
 use Rattle.netgame.specs.NetLanes.{holds_lane, Tells, AreAfter}
 use Rattle.netgame.specs.NetSources.{AreFrom}
 use Rattle.rulebook.proofs.Facts.{filters_agree}
@@ -93,37 +94,37 @@ lane_alone net states l size = record {
 }
 
 -- an atom at a place among those that are asked is asked
-asked_shown : (asking : Asking) (kinds : List Kind) (p : ℕ) → p < length (shown_below asking kinds (length kinds))
-    → (asked_at asking kinds p < length kinds) × (is_asked asking (kind_at kinds (asked_at asking kinds p)) ≡ true)
-asked_shown asking kinds p lt =
-    filter_all (λ a. is_asked asking (kind_at kinds a)) (λ a. (a < length kinds) × (is_asked asking (kind_at kinds a) ≡ true)) 0 (length kinds)
+asked_shown : (scope : Scope) (kinds : List Kind) (p : ℕ) → p < length (shown_below scope kinds (length kinds))
+    → (asked_at scope kinds p < length kinds) × (is_asked scope (kind_at kinds (asked_at scope kinds p)) ≡ true)
+asked_shown scope kinds p lt =
+    filter_all (λ a. is_asked scope (kind_at kinds a)) (λ a. (a < length kinds) × (is_asked scope (kind_at kinds a) ≡ true)) 0 (length kinds)
     (λ k from to e. (omega arith, e)) p 0 lt
 
 -- the tape of what is asked keeps a node for each atom that is asked
-pub kept_count : (g : FlatGround) (net : Net) (t : Telling) → IsTellingOf g net t
-    → kept_in t.tape ≡ length (shown_below t.asking (kinds_of g) (length (kinds_of g)))
-kept_count g net t told = ∥∥₁_elim told.tape (Prim.hlevel props) (λ of. of.size ∙ asked_count t.asking net.views.items (kinds_of g))
+pub kept_count : (g : FlatGround) (net : Net) (t : Probe) → IsProbeOf g net t
+    → kept_in t.tape ≡ length (shown_below t.scope (kinds_of g) (length (kinds_of g)))
+kept_count g net t told = ∥∥₁_elim told.tape (Prim.hlevel props) (λ of. of.size ∙ asked_count t.scope net.views.items (kinds_of g))
 
 -- what a pass over the tape of what is asked tells
-pub tells_asked : (g : FlatGround) (net : Net) → ∥ IsNetOf g net ∥₁ → (t : Telling) → IsTellingOf g net t → (states room : List ℕ) (k : ℕ)
+pub tells_asked : (g : FlatGround) (net : Net) → ∥ IsNetOf g net ∥₁ → (t : Probe) → IsProbeOf g net t → (states room : List ℕ) (k : ℕ)
     → length states ≡ length g.starts.items
-    → HasRun t.tape states room → k < 64 → Tells t.tape room k (λ p. holds_lane g states k (asked_at t.asking (kinds_of g) p))
+    → HasRun t.tape states room → k < 64 → Tells t.tape room k (λ p. holds_lane g states k (asked_at t.scope (kinds_of g) p))
 tells_asked g net made t told states room k size ran lk p w below h =
     ∥∥₁_elim told.tape (Prim.hlevel props) (λ of.
-    let asking = t.asking in
+    let scope = t.scope in
     let kinds = kinds_of g in
     let views = net.views.items in
     let many = of.size in
-    let count = asked_count asking views kinds in
-    let here : p < length (shown_below asking kinds (length kinds)) = omega arith in
+    let count = asked_count scope views kinds in
+    let here : p < length (shown_below scope kinds (length kinds)) = omega arith in
     let base = base_count g net made in
     let whole : length states ≡ net.base = omega arith in
-    let node = asked_node asking views kinds p here in
-    let shown = asked_shown asking kinds p here in
-    let bit : bit_at w k ≡ value (gates_of net) (lane states k) no_turn (view_of views (asked_at asking kinds p)) =
-    h net (asked_nodes asking views kinds) states of ran k (lane states k) no_turn lk (lane_alone net states k whole)
+    let node = asked_node scope views kinds p here in
+    let shown = asked_shown scope kinds p here in
+    let bit : bit_at w k ≡ value (gates_of net) (lane states k) no_turn (view_of views (asked_at scope kinds p)) =
+    h net (asked_nodes scope views kinds) states of ran k (lane states k) no_turn lk (lane_alone net states k whole)
     ∙ ap (value (gates_of net) (lane states k) no_turn) node in
-    ap (λ (v : ℕ). v == 1) bit ∙ (view_told g net made (lane states k) (λ n. bit_at-lt _ _) asking (asked_at asking kinds p) shown.0 shown.1).told)
+    ap (λ (v : ℕ). v == 1) bit ∙ (view_told g net made (lane states k) (λ n. bit_at-lt _ _) scope (asked_at scope kinds p) shown.0 shown.1).told)
 
 -- states whose bits agree
 pub same_state : (f g : ℕ → ℕ) (n : ℕ) → ((p : ℕ) → p < n → f p ≡ g p) → told_state f n ≡ told_state g n
@@ -138,6 +139,12 @@ spread_words words n v size h p k lt = go (cases_lt p n)
     go (inr l) =
         let none : get_or words p 0 ≡ 0 = get_or_past words p 0 (omega arith) in
         ap (λ (w : ℕ). bit_at w k) none ∙ bit_at-zero k ∙ sym (ap (λ (w : ℕ). bit_at w 0) none ∙ bit_at-zero 0)
+
+-- the state that was taken out of a lane of words, by the words that were lent
+pub taken_there : (lanes lent states : List ℕ) (n k : ℕ) → length lent ≡ n → lent ≡ states
+    → lane_state lanes (length lent) 0 ≡ lane_state lent (length lent) k → lane_state lanes n 0 ≡ lane_state states n k
+taken_there lanes lent states n k whole same told =
+    subst (λ (l : ℕ). lane_state lanes l 0 ≡ lane_state lent l k) whole told ∙ ap (λ (ws : List ℕ). lane_state ws n k) same
 
 -- a list by the numbers of its places
 pub range_map : {A B : Type 0} (f : ℕ → B) (h : A → B) (xs : List A) (a n : ℕ) → n ≡ length xs

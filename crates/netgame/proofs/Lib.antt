@@ -6,5 +6,5 @@ mod Kept
 mod Places
 mod Lanes
 mod LaneLemmas
-mod TellingLemmas
+mod ReaderLemmas
 mod SourceLemmas

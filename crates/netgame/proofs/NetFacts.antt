@@ -10,7 +10,7 @@ use Rattle.propnet.specs.Builders.{IsNetOf, input_counts}
 use Rattle.propnet.specs.Nets.{gates_of}
 use Rattle.propnet.specs.Values.{bit}
 use Rattle.propnet.proofs.Facts.{stands_below}
-use Rattle.netgame.specs.declared.lane_plan.Asking.{Asking}
+use Rattle.netgame.specs.declared.lane_plan.Scope.{Scope}
 use Rattle.netgame.specs.NetState.{AreViewsBelow}
 use Rattle.rulebook.specs.GroundFacts.{fits}
 use Rattle.netgame.proofs.NetReads.{view_told}
@@ -26,5 +26,5 @@ module _ (g : FlatGround) (net : Net) (made : ∥ IsNetOf g net ∥₁) where
   transition_below p lt = ∥∥₁_elim made (Prim.hlevel props) (λ of. let same = (fits g).starts_fit in
       stands_below (gates_of net) _ _ (of.transitions.each p (omega arith)))
 
-  pub views_below : (asking : Asking) (n : ℕ) → length (gates_of net) ≤ n → AreViewsBelow asking (kinds_of g) net.views.items n
-  views_below asking n few a lt shown = let below = (view_told g net made (bit []) (λ n. bit_at-lt _ _) asking a lt shown).below in omega arith
+  pub views_below : (scope : Scope) (n : ℕ) → length (gates_of net) ≤ n → AreViewsBelow scope (kinds_of g) net.views.items n
+  views_below scope n few a lt shown = let below = (view_told g net made (bit []) (λ n. bit_at-lt _ _) scope a lt shown).below in omega arith

@@ -45,7 +45,7 @@ use Rattle.statement.specs.Kinds.{kind_of, place_in}
 use Rattle.statement.specs.Listing.{listing, role_list, base_list, input_list}
 use Rattle.meaning.specs.Listed.{IsWellFormed}
 use Rattle.statement.specs.Meaning as meaning
-use Rattle.statement.specs.Meaning.{ordinary, source_of, Holds, nobody, IsRole, RightAs, atom1, atom2}
+use Rattle.statement.specs.Meaning.{ordinary, source_of, Holds, nobody, IsRole, atom2}
 use Rattle.statement.specs.GoalsAndMoves as play
 use Rattle.meaning.proofs.Facts.{kind_sound, bases_in_order, inputs_in_order, roles_exact, bases_exact, one_number}
 use Rattle.propnet.specs.declared.net.Net.{Net}
@@ -61,7 +61,7 @@ use Rattle.statement.specs.Played.{nth_tree}
 use Rattle.statement.specs.GameNumbers.{stands_at, state_of, chosen_at, joint_of}
 use Rattle.rulebook.specs.RulePlay.{no_turn, kind_at, holds, is_named}
 use Rattle.rulebook.specs.RuleState.{rules_of, holds_in}
-use Rattle.netgame.specs.declared.lane_plan.Asking.{Asking}
+use Rattle.netgame.specs.declared.lane_plan.Scope.{Scope}
 use Rattle.netgame.specs.NetState.{is_asked, told_state, view_of}
 use Rattle.rulebook.proofs.Facts.{place_within, within_input, next_holds, numbers_exact, right_there, among_atom, number_at, kind_at_number, moving_kind, place_among, within_base, no_move, agree_now, game_of_ground, same_answer, in_order_once, inside, placed, place_at, among_tree}
 
@@ -77,30 +77,30 @@ if_one : (b : Bool) → b ≡ true → ◌≡◌ {A = ℕ} (cond b 1 0) 1
 if_one true e = refl
 if_one false e = absurd cc
 
-shown_view : (asking : Asking) (k : Kind) → is_asked asking k ≡ true → needs_view k ≡ true
-shown_view asking Fixed e = refl
-shown_view asking (Now p) e = absurd cc
-shown_view asking (Does r m) e = absurd cc
-shown_view asking (Next p) e = refl
-shown_view asking (Legal r m) e = refl
-shown_view asking (Goal r v) e = refl
-shown_view asking Terminal e = refl
-shown_view asking Other e = refl
+shown_view : (scope : Scope) (k : Kind) → is_asked scope k ≡ true → needs_view k ≡ true
+shown_view scope Fixed e = refl
+shown_view scope (Now p) e = absurd cc
+shown_view scope (Does r m) e = absurd cc
+shown_view scope (Next p) e = refl
+shown_view scope (Legal r m) e = refl
+shown_view scope (Goal r v) e = refl
+shown_view scope Terminal e = refl
+shown_view scope Other e = refl
 
 module _ (rules : List Alternative) (w : IsWellFormed rules) where
   -- an atom that is asked is open, and rules tell of it
-  shown_moving : (asking : Asking) (x : Atom) (k : Kind) → kind_of rules x ≡ k → is_asked asking k ≡ true → is_fixed rules (relation_of x) ≡ false
-  shown_moving asking x k h e = moving_kind rules w x k h (λ f. let z : is_asked asking Fixed ≡ true = ap (is_asked asking) (sym f) ∙ e in absurd cc)
+  shown_moving : (scope : Scope) (x : Atom) (k : Kind) → kind_of rules x ≡ k → is_asked scope k ≡ true → is_fixed rules (relation_of x) ≡ false
+  shown_moving scope x k h e = moving_kind rules w x k h (λ f. let z : is_asked scope Fixed ≡ true = ap (is_asked scope) (sym f) ∙ e in absurd cc)
 
-  shown_plain : (asking : Asking) (x : Atom) (k : Kind) → kind_of rules x ≡ k → is_asked asking k ≡ true → source_of x ≡ ordinary
-  shown_plain asking x Fixed h e = absurd cc
-  shown_plain asking x (Now p) h e = absurd cc
-  shown_plain asking x (Does r m) h e = absurd cc
-  shown_plain asking x (Next p) h e = absurd cc
-  shown_plain asking x (Legal r m) h e = let k = kind_sound rules w.acyclic x (Legal r m) h (λ f. absurd cc) in ap source_of k.2
-  shown_plain asking x (Goal r v) h e = let k = kind_sound rules w.acyclic x (Goal r v) h (λ f. absurd cc) in ap source_of k.1
-  shown_plain asking x Terminal h e = let k = kind_sound rules w.acyclic x Terminal h (λ f. absurd cc) in ap source_of k
-  shown_plain asking x Other h e = absurd cc
+  shown_plain : (scope : Scope) (x : Atom) (k : Kind) → kind_of rules x ≡ k → is_asked scope k ≡ true → source_of x ≡ ordinary
+  shown_plain scope x Fixed h e = absurd cc
+  shown_plain scope x (Now p) h e = absurd cc
+  shown_plain scope x (Does r m) h e = absurd cc
+  shown_plain scope x (Next p) h e = absurd cc
+  shown_plain scope x (Legal r m) h e = let k = kind_sound rules w.acyclic x (Legal r m) h (λ f. absurd cc) in ap source_of k.2
+  shown_plain scope x (Goal r v) h e = let k = kind_sound rules w.acyclic x (Goal r v) h (λ f. absurd cc) in ap source_of k.1
+  shown_plain scope x Terminal h e = let k = kind_sound rules w.acyclic x Terminal h (λ f. absurd cc) in ap source_of k
+  shown_plain scope x Other h e = absurd cc
 
   -- Bits and numbers that tell the same as terms.
 
@@ -200,7 +200,7 @@ module _ (rules : List Alternative) (g : FlatGround) (is : IsGround rules g) (ne
       ∙ ap (λ (ks : List Kind). holds ks (instances_of g) kept_words j) is.kinds_are
       ∙ ap (λ (ks : List Kept). holds kinds ks kept_words j) is.kept_are
 
-  module _ (asking : Asking) (a : ℕ) (lt : a < length (kinds_of g)) (shown : is_asked asking (kind_at (kinds_of g) a) ≡ true) where
+  module _ (scope : Scope) (a : ℕ) (lt : a < length (kinds_of g)) (shown : is_asked scope (kind_at (kinds_of g) a) ≡ true) where
     abbrev x : Atom
     x = atom_at (listing rules).atoms a
 
@@ -216,17 +216,17 @@ module _ (rules : List Alternative) (g : FlatGround) (is : IsGround rules g) (ne
     number : number_of x (listing rules).atoms ≡ a
     number = number_at (listing rules).atoms (one_number rules) a within
 
-    kind_shown : is_asked asking (kind_of rules x) ≡ true
-    kind_shown = ap (is_asked asking) (sym (ap (λ (ks : List Kind). kind_at ks a) is.kinds_are
+    kind_shown : is_asked scope (kind_of rules x) ≡ true
+    kind_shown = ap (is_asked scope) (sym (ap (λ (ks : List Kind). kind_at ks a) is.kinds_are
         ∙ kind_at_number (kind_of rules) (listing rules).atoms a within)) ∙ shown
 
     moving : is_fixed rules (relation_of x) ≡ false
-    moving = shown_moving rules is.well_formed asking x (kind_of rules x) refl kind_shown
+    moving = shown_moving rules is.well_formed scope x (kind_of rules x) refl kind_shown
 
     view_told_by : IsViewTold g net state a
     view_told_by =
         let w = is.well_formed in
-        let r = told_law rules g is net of x listed moving (shown_view asking (kind_of rules x) kind_shown) in
+        let r = told_law rules g is net of x listed moving (shown_view scope (kind_of rules x) kind_shown) in
         let S = state_of rules kept_words in
         let node : view_of net.views.items a ≡ r.0 = ap (λ (o : Option ℕ). unwrap_or o 0) (ap (λ (i : ℕ). get_or net.views.items i None) (sym number)
         ∙ r.1) in
@@ -234,7 +234,7 @@ module _ (rules : List Alternative) (g : FlatGround) (is : IsGround rules g) (ne
         (agree_bits_now rules w state is_bit) x listed moving r.0 r.2 in
         let found = numbers_exact rules w S nobody (within_base rules w kept_words) (no_move rules w kept_words) kept_words no_turn
         (agree_now rules w kept_words) x listed moving in
-        let plain = right_there S nobody (Holds rules S nobody x) (source_of x) (shown_plain rules w asking x (kind_of rules x) refl kind_shown) in
+        let plain = right_there S nobody (Holds rules S nobody x) (source_of x) (shown_plain rules w scope x (kind_of rules x) refl kind_shown) in
         let held : (holds kinds kept kept_words no_turn (number_of x (listing rules).atoms) ≡ true) ↔ Holds rules S nobody
         x = ((λ e. plain.1 (found.0 e)), (λ h. found.1 (plain.0 h))) in
         let same : (value (gates_of net) state no_turn r.0 == 1) ≡ holds kinds kept kept_words no_turn (number_of x (listing rules).atoms) =
@@ -282,14 +282,14 @@ module _ (rules : List Alternative) (g : FlatGround) (is : IsGround rules g) (ne
         }
 
 -- the same of each ground with a network of it
-pub view_told : (g : FlatGround) (net : Net) → ∥ IsNetOf g net ∥₁ → (state : ℕ → ℕ) → ((n : ℕ) → state n < 2) → (asking : Asking) (a : ℕ)
+pub view_told : (g : FlatGround) (net : Net) → ∥ IsNetOf g net ∥₁ → (state : ℕ → ℕ) → ((n : ℕ) → state n < 2) → (scope : Scope) (a : ℕ)
     → a < length (kinds_of g)
-    → is_asked asking (kind_at (kinds_of g) a) ≡ true → IsViewTold g net state a
-view_told g net made state is_bit asking a lt shown = record {
+    → is_asked scope (kind_at (kinds_of g) a) ≡ true → IsViewTold g net state a
+view_told g net made state is_bit scope a lt shown = record {
   below = ∥∥₁_elim made (Prim.hlevel props)
-      (λ of. ∥∥₁_elim g.sound (Prim.hlevel props) (λ s. (view_told_by s.0 g s.1 net of state is_bit asking a lt shown).below));
+      (λ of. ∥∥₁_elim g.sound (Prim.hlevel props) (λ s. (view_told_by s.0 g s.1 net of state is_bit scope a lt shown).below));
   told = ∥∥₁_elim made (Prim.hlevel props)
-      (λ of. ∥∥₁_elim g.sound (Prim.hlevel props) (λ s. (view_told_by s.0 g s.1 net of state is_bit asking a lt shown).told));
+      (λ of. ∥∥₁_elim g.sound (Prim.hlevel props) (λ s. (view_told_by s.0 g s.1 net of state is_bit scope a lt shown).told));
 }
 
 pub transition_told : (g : FlatGround) (net : Net) → ∥ IsNetOf g net ∥₁ → (state : ℕ → ℕ) → ((n : ℕ) → state n < 2) → (j : Turn) → IsTurn (rules_of g) j

@@ -37,7 +37,7 @@ use Rattle.std.proofs.lemmas.List.{length-map, get_or-map, map-append}
 use Rattle.std.proofs.lemmas.List.FromFn.{get_or-map-range_with_len}
 use Rattle.statement.specs.declared.kind.Kind.{Kind}
 use Rattle.rulebook.specs.RulePlay.{kind_at}
-use Rattle.netgame.specs.declared.lane_plan.Asking.{Asking}
+use Rattle.netgame.specs.declared.lane_plan.Scope.{Scope}
 use Rattle.netgame.specs.NetState.{is_asked, view_of}
 use Rattle.netgame.specs.LanePlans.{shown_below, asked_at, asked_below, asked_nodes, places_of}
 use Rattle.rulebook.proofs.Facts.{filter_range_more}
@@ -59,62 +59,62 @@ put_last xs n true e = record {
 }
 put_last xs n false e = absurd cc
 
-pub shown_at : (asking : Asking) (kinds : List Kind) (n a : ℕ) → a < n → is_asked asking (kind_at kinds a) ≡ true
-    → StandsAt (shown_below asking kinds n) (length (shown_below asking kinds a)) a
-shown_at asking kinds zero a lt e = absurd (omega arith)
-shown_at asking kinds (suc n) a lt e = subst (λ (m : ℕ). StandsAt (shown_below asking kinds m) (length (shown_below asking kinds a)) a) more
-    (subst (λ (xs : List ℕ). StandsAt xs (length (shown_below asking kinds a)) a) (sym (filter_range_more f n))
-    (there (λ h. shown_at asking kinds n a h e)))
+pub shown_at : (scope : Scope) (kinds : List Kind) (n a : ℕ) → a < n → is_asked scope (kind_at kinds a) ≡ true
+    → StandsAt (shown_below scope kinds n) (length (shown_below scope kinds a)) a
+shown_at scope kinds zero a lt e = absurd (omega arith)
+shown_at scope kinds (suc n) a lt e = subst (λ (m : ℕ). StandsAt (shown_below scope kinds m) (length (shown_below scope kinds a)) a) more
+    (subst (λ (xs : List ℕ). StandsAt xs (length (shown_below scope kinds a)) a) (sym (filter_range_more f n))
+    (there (λ h. shown_at scope kinds n a h e)))
   where
     f : ℕ → Bool
-    f i = is_asked asking (kind_at kinds i)
+    f i = is_asked scope (kind_at kinds i)
 
     more : n + 1 ≡ suc n
     more = omega arith
 
-    there : (a < n → StandsAt (shown_below asking kinds n) (length (shown_below asking kinds a)) a)
-        → StandsAt (shown_below asking kinds n ++ cond (f n) (n ∷ []) []) (length (shown_below asking kinds a)) a
+    there : (a < n → StandsAt (shown_below scope kinds n) (length (shown_below scope kinds a)) a)
+        → StandsAt (shown_below scope kinds n ++ cond (f n) (n ∷ []) []) (length (shown_below scope kinds a)) a
     there before = elim (cases_eq a n) [
       | inl same ↦
-          subst (λ (i : ℕ). StandsAt (shown_below asking kinds n ++ cond (f n) (n ∷ []) []) (length (shown_below asking kinds i)) i) (sym same)
-          (put_last (shown_below asking kinds n) n (f n) (ap f (sym same) ∙ e))
-      | inr other ↦ appended (shown_below asking kinds n) (cond (f n) (n ∷ []) []) (length (shown_below asking kinds a)) a (before (omega arith))
+          subst (λ (i : ℕ). StandsAt (shown_below scope kinds n ++ cond (f n) (n ∷ []) []) (length (shown_below scope kinds i)) i) (sym same)
+          (put_last (shown_below scope kinds n) n (f n) (ap f (sym same) ∙ e))
+      | inr other ↦ appended (shown_below scope kinds n) (cond (f n) (n ∷ []) []) (length (shown_below scope kinds a)) a (before (omega arith))
     ]
 
-pub place_at : (asking : Asking) (kinds : List Kind) (a : ℕ) → a < length kinds
-    → slice_index (places_of asking kinds) a ≡ length (shown_below asking kinds a)
-place_at asking kinds a lt =
+pub place_at : (scope : Scope) (kinds : List Kind) (a : ℕ) → a < length kinds
+    → slice_index (places_of scope kinds) a ≡ length (shown_below scope kinds a)
+place_at scope kinds a lt =
     let z : 0 + a ≡ a = omega arith in
-    get_or-map-range_with_len (λ i. length (shown_below asking kinds i)) 0 (length kinds) a a 0 lt z
+    get_or-map-range_with_len (λ i. length (shown_below scope kinds i)) 0 (length kinds) a a 0 lt z
 
 -- an atom that is asked stands at its place
-pub placed_at : (asking : Asking) (kinds : List Kind) (a : ℕ) → a < length kinds → is_asked asking (kind_at kinds a) ≡ true
-    → StandsAt (shown_below asking kinds (length kinds)) (slice_index (places_of asking kinds) a) a
-placed_at asking kinds a lt shown =
-    subst (λ (i : ℕ). StandsAt (shown_below asking kinds (length kinds)) i a) (sym (place_at asking kinds a lt))
-    (shown_at asking kinds (length kinds) a lt shown)
+pub placed_at : (scope : Scope) (kinds : List Kind) (a : ℕ) → a < length kinds → is_asked scope (kind_at kinds a) ≡ true
+    → StandsAt (shown_below scope kinds (length kinds)) (slice_index (places_of scope kinds) a) a
+placed_at scope kinds a lt shown =
+    subst (λ (i : ℕ). StandsAt (shown_below scope kinds (length kinds)) i a) (sym (place_at scope kinds a lt))
+    (shown_at scope kinds (length kinds) a lt shown)
 
 -- as many nodes are kept as atoms are asked
-pub asked_count : (asking : Asking) (views : List (Option ℕ)) (kinds : List Kind)
-    → length (asked_nodes asking views kinds) ≡ length (shown_below asking kinds (length kinds))
-asked_count asking views kinds = length-map (shown_below asking kinds (length kinds)) (view_of views)
+pub asked_count : (scope : Scope) (views : List (Option ℕ)) (kinds : List Kind)
+    → length (asked_nodes scope views kinds) ≡ length (shown_below scope kinds (length kinds))
+asked_count scope views kinds = length-map (shown_below scope kinds (length kinds)) (view_of views)
 
 -- the node that is kept at a place is the one that tells of the atom there
-pub asked_node : (asking : Asking) (views : List (Option ℕ)) (kinds : List Kind) (p : ℕ) → p < length (shown_below asking kinds (length kinds))
-    → get_or (asked_nodes asking views kinds) p 0 ≡ view_of views (asked_at asking kinds p)
-asked_node asking views kinds p lt = get_or-map (view_of views) (shown_below asking kinds (length kinds)) p 0 0 lt
+pub asked_node : (scope : Scope) (views : List (Option ℕ)) (kinds : List Kind) (p : ℕ) → p < length (shown_below scope kinds (length kinds))
+    → get_or (asked_nodes scope views kinds) p 0 ≡ view_of views (asked_at scope kinds p)
+asked_node scope views kinds p lt = get_or-map (view_of views) (shown_below scope kinds (length kinds)) p 0 0 lt
 
 -- no more atoms are asked than there are
-pub few_shown : (asking : Asking) (kinds : List Kind) (n : ℕ) → length (shown_below asking kinds n) ≤ n
-few_shown asking kinds zero = omega arith
-few_shown asking kinds (suc n) =
-    let f = λ (a : ℕ). is_asked asking (kind_at kinds a) in
+pub few_shown : (scope : Scope) (kinds : List Kind) (n : ℕ) → length (shown_below scope kinds n) ≤ n
+few_shown scope kinds zero = omega arith
+few_shown scope kinds (suc n) =
+    let f = λ (a : ℕ). is_asked scope (kind_at kinds a) in
     let more : n + 1 ≡ suc n = omega arith in
     let one = one_at_most (f n) in
-    let rest = few_shown asking kinds n in
-    let size = ap (λ (m : ℕ). length (shown_below asking kinds m)) more in
+    let rest = few_shown scope kinds n in
+    let size = ap (λ (m : ℕ). length (shown_below scope kinds m)) more in
     let split = ap (λ (xs : List ℕ). length xs) (filter_range_more f n) in
-    let both = length-append (shown_below asking kinds n) (cond (f n) (n ∷ []) []) in
+    let both = length-append (shown_below scope kinds n) (cond (f n) (n ∷ []) []) in
     omega arith
   where
     one_at_most : (b : Bool) → length (cond b (n ∷ []) []) ≤ 1
@@ -122,13 +122,13 @@ few_shown asking kinds (suc n) =
     one_at_most false = omega arith
 
 -- one atom more
-pub asked_more : (asking : Asking) (views : List (Option ℕ)) (kinds : List Kind) (n : ℕ)
-    → asked_below asking views kinds (n + 1) ≡ asked_below asking views kinds n ++ cond (is_asked asking (kind_at kinds n)) (view_of views n ∷ []) []
-asked_more asking views kinds n =
-    let f = λ (a : ℕ). is_asked asking (kind_at kinds a) in
+pub asked_more : (scope : Scope) (views : List (Option ℕ)) (kinds : List Kind) (n : ℕ)
+    → asked_below scope views kinds (n + 1) ≡ asked_below scope views kinds n ++ cond (is_asked scope (kind_at kinds n)) (view_of views n ∷ []) []
+asked_more scope views kinds n =
+    let f = λ (a : ℕ). is_asked scope (kind_at kinds a) in
     ap (map (view_of views)) (filter_range_more f n)
-    ∙ map-append (view_of views) (shown_below asking kinds n) (cond (f n) (n ∷ []) [])
-    ∙ ap (λ (xs : List ℕ). asked_below asking views kinds n ++ xs) (map_if (f n))
+    ∙ map-append (view_of views) (shown_below scope kinds n) (cond (f n) (n ∷ []) [])
+    ∙ ap (λ (xs : List ℕ). asked_below scope views kinds n ++ xs) (map_if (f n))
   where
     map_if : (b : Bool) → map (view_of views) (cond b (n ∷ []) []) ≡ cond b (view_of views n ∷ []) []
     map_if true = refl

@@ -35,42 +35,42 @@ use Rattle.rulebook.specs.declared.standing.Sought.TheVariants.{Goals}
 use Rattle.rulebook.specs.declared.standing.Standing.{Standing}
 use Rattle.rulebook.specs.RulePlay.{named_below, kind_at, names, is_named, is_terminal, ends, goal_value, best_goal}
 use Rattle.rulebook.specs.Standings.{seeks, standing_at, all_standing}
-use Rattle.netgame.specs.declared.lane_plan.Asking.{Asking}
+use Rattle.netgame.specs.declared.lane_plan.Scope.{Scope}
 use Rattle.netgame.specs.NetState.{asks_moves, is_asked, Alike}
 use Rattle.rulebook.proofs.Facts.{below_agree, greatest_agree, filters_agree}
 
 -- Marks that agree where it is asked.
 
-pub legal_shown : (asking : Asking) → asks_moves asking ≡ true → (r n : ℕ) (k : Kind) → names (ByLegal r) k n ≡ true
-    → is_asked asking k ≡ true
-legal_shown asking moves r n Fixed e = absurd cc
-legal_shown asking moves r n (Now p) e = absurd cc
-legal_shown asking moves r n (Does q m) e = absurd cc
-legal_shown asking moves r n (Next p) e = absurd cc
-legal_shown asking moves r n (Legal q m) e = moves
-legal_shown asking moves r n (Goal q v) e = absurd cc
-legal_shown asking moves r n Terminal e = absurd cc
-legal_shown asking moves r n Other e = absurd cc
+pub legal_shown : (scope : Scope) → asks_moves scope ≡ true → (r n : ℕ) (k : Kind) → names (ByLegal r) k n ≡ true
+    → is_asked scope k ≡ true
+legal_shown scope moves r n Fixed e = absurd cc
+legal_shown scope moves r n (Now p) e = absurd cc
+legal_shown scope moves r n (Does q m) e = absurd cc
+legal_shown scope moves r n (Next p) e = absurd cc
+legal_shown scope moves r n (Legal q m) e = moves
+legal_shown scope moves r n (Goal q v) e = absurd cc
+legal_shown scope moves r n Terminal e = absurd cc
+legal_shown scope moves r n Other e = absurd cc
 
-pub end_shown : (asking : Asking) (k : Kind) → is_terminal k ≡ true → is_asked asking k ≡ true
-end_shown asking Fixed e = absurd cc
-end_shown asking (Now p) e = absurd cc
-end_shown asking (Does q m) e = absurd cc
-end_shown asking (Next p) e = absurd cc
-end_shown asking (Legal q m) e = absurd cc
-end_shown asking (Goal q v) e = absurd cc
-end_shown asking Terminal e = refl
-end_shown asking Other e = absurd cc
+pub end_shown : (scope : Scope) (k : Kind) → is_terminal k ≡ true → is_asked scope k ≡ true
+end_shown scope Fixed e = absurd cc
+end_shown scope (Now p) e = absurd cc
+end_shown scope (Does q m) e = absurd cc
+end_shown scope (Next p) e = absurd cc
+end_shown scope (Legal q m) e = absurd cc
+end_shown scope (Goal q v) e = absurd cc
+end_shown scope Terminal e = refl
+end_shown scope Other e = absurd cc
 
-goal_unshown : (asking : Asking) (r : ℕ) (k : Kind) → is_asked asking k ≡ false → goal_value r k ≡ 0
-goal_unshown asking r Fixed e = refl
-goal_unshown asking r (Now p) e = refl
-goal_unshown asking r (Does q m) e = refl
-goal_unshown asking r (Next p) e = refl
-goal_unshown asking r (Legal q m) e = refl
-goal_unshown asking r (Goal q v) e = absurd cc
-goal_unshown asking r Terminal e = absurd cc
-goal_unshown asking r Other e = refl
+goal_unshown : (scope : Scope) (r : ℕ) (k : Kind) → is_asked scope k ≡ false → goal_value r k ≡ 0
+goal_unshown scope r Fixed e = refl
+goal_unshown scope r (Now p) e = refl
+goal_unshown scope r (Does q m) e = refl
+goal_unshown scope r (Next p) e = refl
+goal_unshown scope r (Legal q m) e = refl
+goal_unshown scope r (Goal q v) e = absurd cc
+goal_unshown scope r Terminal e = absurd cc
+goal_unshown scope r Other e = refl
 
 pub none_and : (a : Bool) → (a && false) ≡ false
 none_and true = refl
@@ -88,28 +88,28 @@ same_if : (a b s : Bool) (v : ℕ) → (s ≡ true → a ≡ b) → (s ≡ false
 same_if a b true v h z = ap (λ (x : Bool). cond x v 0) (h refl)
 same_if a b false v h z = none_if a v (z refl) ∙ sym (none_if b v (z refl))
 
-pub ends_alike : (asking : Asking) (kinds : List Kind) (f g : ℕ → Bool) → Alike asking kinds f g → ends kinds f ≡ ends kinds g
-ends_alike asking kinds f g h =
+pub ends_alike : (scope : Scope) (kinds : List Kind) (f g : ℕ → Bool) → Alike scope kinds f g → ends kinds f ≡ ends kinds g
+ends_alike scope kinds f g h =
     below_agree (λ a. f a && is_terminal (kind_at kinds a)) (λ a. g a && is_terminal (kind_at kinds a)) (length kinds)
-    (λ k lt. same_and (f k) (g k) (is_terminal (kind_at kinds k)) (λ e. h k lt (end_shown asking (kind_at kinds k) e)))
+    (λ k lt. same_and (f k) (g k) (is_terminal (kind_at kinds k)) (λ e. h k lt (end_shown scope (kind_at kinds k) e)))
 
-pub goals_alike : (asking : Asking) (kinds : List Kind) (f g : ℕ → Bool) (r : ℕ) → Alike asking kinds f g → best_goal kinds f r ≡ best_goal kinds g r
-goals_alike asking kinds f g r h =
+pub goals_alike : (scope : Scope) (kinds : List Kind) (f g : ℕ → Bool) (r : ℕ) → Alike scope kinds f g → best_goal kinds f r ≡ best_goal kinds g r
+goals_alike scope kinds f g r h =
     greatest_agree (λ a. cond (f a) (goal_value r (kind_at kinds a)) 0) (λ a. cond (g a) (goal_value r (kind_at kinds a)) 0) (length kinds)
-    (λ k lt. same_if (f k) (g k) (is_asked asking (kind_at kinds k)) (goal_value r (kind_at kinds k)) (h k lt)
-    (goal_unshown asking r (kind_at kinds k)))
+    (λ k lt. same_if (f k) (g k) (is_asked scope (kind_at kinds k)) (goal_value r (kind_at kinds k)) (h k lt)
+    (goal_unshown scope r (kind_at kinds k)))
 
-pub named_alike : (asking : Asking) → asks_moves asking ≡ true → (kinds : List Kind) (f g : ℕ → Bool) (r m : ℕ) → Alike asking kinds f g
+pub named_alike : (scope : Scope) → asks_moves scope ≡ true → (kinds : List Kind) (f g : ℕ → Bool) (r m : ℕ) → Alike scope kinds f g
     → is_named kinds f (ByLegal r) m ≡ is_named kinds g (ByLegal r) m
-named_alike asking moves kinds f g r m h =
+named_alike scope moves kinds f g r m h =
     below_agree (λ a. f a && names (ByLegal r) (kind_at kinds a) m) (λ a. g a && names (ByLegal r) (kind_at kinds a) m) (length kinds)
-    (λ k lt. same_and (f k) (g k) (names (ByLegal r) (kind_at kinds k) m) (λ e. h k lt (legal_shown asking moves r m (kind_at kinds k) e)))
+    (λ k lt. same_and (f k) (g k) (names (ByLegal r) (kind_at kinds k) m) (λ e. h k lt (legal_shown scope moves r m (kind_at kinds k) e)))
 
-pub legals_alike : (asking : Asking) → asks_moves asking ≡ true → (kinds : List Kind) (f g : ℕ → Bool) (r n : ℕ) → Alike asking kinds f g
+pub legals_alike : (scope : Scope) → asks_moves scope ≡ true → (kinds : List Kind) (f g : ℕ → Bool) (r n : ℕ) → Alike scope kinds f g
     → named_below kinds f (ByLegal r) n ≡ named_below kinds g (ByLegal r) n
-legals_alike asking moves kinds f g r n h =
+legals_alike scope moves kinds f g r n h =
     filters_agree (is_named kinds f (ByLegal r)) (is_named kinds g (ByLegal r)) 0 n
-    (λ m from to. named_alike asking moves kinds f g r m h)
+    (λ m from to. named_alike scope moves kinds f g r m h)
 
 -- Lists and their images.
 
@@ -148,20 +148,20 @@ filter_all t P a (suc n) h = go (t a) refl (filter_all t P (a + 1) n (λ k from 
         more (suc k) d lt = rest k d (omega arith)
     go false e rest = rest
 
-pub goal_sought : (asking : Asking) (r : ℕ) (k : Kind) → seeks (Goals r) k ≡ true → is_asked asking k ≡ true
-goal_sought asking r Fixed e = absurd cc
-goal_sought asking r (Now p) e = absurd cc
-goal_sought asking r (Does q m) e = absurd cc
-goal_sought asking r (Next p) e = absurd cc
-goal_sought asking r (Legal q m) e = absurd cc
-goal_sought asking r (Goal q v) e = refl
-goal_sought asking r Terminal e = absurd cc
-goal_sought asking r Other e = absurd cc
+pub goal_sought : (scope : Scope) (r : ℕ) (k : Kind) → seeks (Goals r) k ≡ true → is_asked scope k ≡ true
+goal_sought scope r Fixed e = absurd cc
+goal_sought scope r (Now p) e = absurd cc
+goal_sought scope r (Does q m) e = absurd cc
+goal_sought scope r (Next p) e = absurd cc
+goal_sought scope r (Legal q m) e = absurd cc
+goal_sought scope r (Goal q v) e = refl
+goal_sought scope r Terminal e = absurd cc
+goal_sought scope r Other e = absurd cc
 
 -- the listed atoms are asked
-pub standing_shown : (asking : Asking) (sought : Sought) (kinds : List Kind) (P : ℕ → Type 0)
-    → ((k : Kind) → seeks sought k ≡ true → is_asked asking k ≡ true)
-    → ((a : ℕ) → a < length kinds → is_asked asking (kind_at kinds a) ≡ true → P a) → All (λ (p : Standing). P p.atom) (all_standing sought kinds)
-standing_shown asking sought kinds P shown h =
+pub standing_shown : (scope : Scope) (sought : Sought) (kinds : List Kind) (P : ℕ → Type 0)
+    → ((k : Kind) → seeks sought k ≡ true → is_asked scope k ≡ true)
+    → ((a : ℕ) → a < length kinds → is_asked scope (kind_at kinds a) ≡ true → P a) → All (λ (p : Standing). P p.atom) (all_standing sought kinds)
+standing_shown scope sought kinds P shown h =
     All-map (λ (p : Standing). P p.atom) (standing_at kinds) _
     (filter_all (λ a. seeks sought (kind_at kinds a)) P 0 (length kinds) (λ k from to e. h k (omega arith) (shown (kind_at kinds k) e)))

@@ -1,14 +1,13 @@
 -- Words of lanes, each of which is given one of many states.
-use Rattle.std.proofs.Common.{◌≡◌, ◌≢◌, ℕ, zero, suc, ◌+◌, ◌*◌, ◌^◌, ◌%◌, ◌<◌, ◌≤◌, List, length, max, min, get_or, get_or-set_same, get_or-set_other, refl, sym, subst, ap, ◌∙◌, arith, inl, inr, w64}
+use Rattle.std.proofs.Common.{◌≡◌, ◌≢◌, ℕ, zero, suc, ◌+◌, ◌*◌, ◌^◌, ◌%◌, ◌<◌, ◌≤◌, List, length, get_or, get_or-set_same, get_or-set_other, refl, sym, subst, ap, ◌∙◌, arith, inl, inr, w64}
 use Rattle.std.proofs.Math.ListN.{set}
 use Rattle.std.specs.Prelude.{replicate}
 use Rattle.std.specs.Int.{bit_at}
 use Rattle.std.specs.Int.Bits.{bit_or}
 use Rattle.std.proofs.lemmas.Bool.{cases_eq}
-use Rattle.std.proofs.lemmas.Nat.Bits.{bit_at-lt, bit_at-zero, bit_at_set_same, bit_at_set_other}
+use Rattle.std.proofs.lemmas.Nat.Bits.{bit_at-zero, bit_at_set_same, bit_at_set_other}
 use Rattle.propnet.specs.Values.{lane}
-use Rattle.netgame.specs.declared.net_sources.Sources.{Sources}
-use Rattle.netgame.specs.NetSources.{AreMarked, AreSources}
+use Rattle.netgame.specs.NetSources.{AreMarked}
 
 -- a bit is set in one word
 

@@ -34,33 +34,33 @@ use Rattle.rulebook.specs.declared.standing.Standing.{Standing}
 use Rattle.rulebook.specs.RulePlay.{kind_at, names, goal_value}
 use Rattle.rulebook.specs.Standings.{all_standing}
 use Rattle.netgame.specs.declared.lane_plan.LanePlan.{LanePlan}
-use Rattle.netgame.specs.declared.lane_plan.Asking.{Asking}
+use Rattle.netgame.specs.declared.lane_plan.Scope.{Scope}
 use Rattle.netgame.specs.declared.lane_plan.RoleGoals.{RoleGoals}
 use Rattle.netgame.specs.declared.lane_plan.RoleLegals.{RoleLegals}
-use Rattle.netgame.specs.declared.lane_plan.Telling.{Telling}
+use Rattle.netgame.specs.declared.lane_plan.Probe.{Probe}
 use Rattle.netgame.specs.NetState.{asks_moves, is_asked, view_of}
 
 -- the atoms below n that are asked, in order
-abbrev pub shown_below : Asking → List Kind → ℕ → List ℕ
-shown_below asking kinds n = filter (λ a. is_asked asking (kind_at kinds a)) (range_with_len 0 n)
+abbrev pub shown_below : Scope → List Kind → ℕ → List ℕ
+shown_below scope kinds n = filter (λ a. is_asked scope (kind_at kinds a)) (range_with_len 0 n)
 
 -- the atom at a place among those that are asked
-abbrev pub asked_at : Asking → List Kind → ℕ → ℕ
-asked_at asking kinds p = slice_index (shown_below asking kinds (length kinds)) p
+abbrev pub asked_at : Scope → List Kind → ℕ → ℕ
+asked_at scope kinds p = slice_index (shown_below scope kinds (length kinds)) p
 
 -- the nodes that tell of the atoms below n that are asked, in order
-abbrev pub asked_below : Asking → List (Option ℕ) → List Kind → ℕ → List ℕ
-asked_below asking views kinds n = map (view_of views) (shown_below asking kinds n)
+abbrev pub asked_below : Scope → List (Option ℕ) → List Kind → ℕ → List ℕ
+asked_below scope views kinds n = map (view_of views) (shown_below scope kinds n)
 
-abbrev pub asked_nodes : Asking → List (Option ℕ) → List Kind → List ℕ
-asked_nodes asking views kinds = asked_below asking views kinds (length kinds)
+abbrev pub asked_nodes : Scope → List (Option ℕ) → List Kind → List ℕ
+asked_nodes scope views kinds = asked_below scope views kinds (length kinds)
 
 -- where the atoms below n stand among those that are asked
-abbrev pub places_below : Asking → List Kind → ℕ → List ℕ
-places_below asking kinds n = map (λ a. length (shown_below asking kinds a)) (range_with_len 0 n)
+abbrev pub places_below : Scope → List Kind → ℕ → List ℕ
+places_below scope kinds n = map (λ a. length (shown_below scope kinds a)) (range_with_len 0 n)
 
-abbrev pub places_of : Asking → List Kind → List ℕ
-places_of asking kinds = places_below asking kinds (length kinds)
+abbrev pub places_of : Scope → List Kind → List ℕ
+places_of scope kinds = places_below scope kinds (length kinds)
 
 -- the atom below n that makes a move of a role legal
 abbrev pub legal_named : List Kind → ℕ → ℕ → ℕ → Option ℕ
@@ -93,21 +93,21 @@ abbrev pub next_below : Net → ℕ → List ℕ
 next_below net n = map (λ p. get_or net.transitions.items p 0) (range_with_len 0 n)
 
 -- a tape for what is asked of a state, with the places of what ends the game and of the goals
-pub record IsTellingOf (g : FlatGround) (net : Net) (t : Telling) : Type 0 where
-  pub tape : ∥ IsTapeOf net (asked_nodes t.asking net.views.items (kinds_of g)) t.tape ∥₁
-  pub ends : t.ends.items ≡ ends_of (places_of t.asking (kinds_of g)) (kinds_of g)
+pub record IsProbeOf (g : FlatGround) (net : Net) (t : Probe) : Type 0 where
+  pub tape : ∥ IsTapeOf net (asked_nodes t.scope net.views.items (kinds_of g)) t.tape ∥₁
+  pub ends : t.ends.items ≡ ends_of (places_of t.scope (kinds_of g)) (kinds_of g)
   pub size : length t.goals.items ≡ length (inputs_of g)
   pub goals : (r : ℕ) (d : RoleGoals) → r < length (inputs_of g)
-      → (get_or t.goals.items r d).goals.items ≡ goals_of (places_of t.asking (kinds_of g)) (kinds_of g) r
+      → (get_or t.goals.items r d).goals.items ≡ goals_of (places_of t.scope (kinds_of g)) (kinds_of g) r
 
--- One tape for the state after a turn, and one for what is asked of a state, with the places of the legal moves. One that only tells of
--- the end may be there too.
+-- One tape for the state after a turn, and a probe of a state, with the places of the legal moves. A probe of the end alone may be there
+-- too.
 pub record IsLanePlanOf (g : FlatGround) (net : Net) (plan : LanePlan) : Type 0 where
   pub next : ∥ IsTurnTapeOf net (next_below net (length g.starts.items)) plan.next ∥₁
-  pub asked : IsTellingOf g net plan.asked
-  pub moves : asks_moves plan.asked.asking ≡ true
+  pub probe : IsProbeOf g net plan.probe
+  pub moves : asks_moves plan.probe.scope ≡ true
   pub size : length plan.legals.items ≡ length (inputs_of g)
   pub legals : (r : ℕ) (d : RoleLegals) → r < length (inputs_of g)
-      → (get_or plan.legals.items r d).legals.items ≡ legals_below (places_of plan.asked.asking (kinds_of g)) (kinds_of g) r
+      → (get_or plan.legals.items r d).legals.items ≡ legals_below (places_of plan.probe.scope (kinds_of g)) (kinds_of g) r
       (length (texts_at (inputs_of g) r))
-  pub last : (t : Telling) → plan.last ≡ Some t → IsTellingOf g net t
+  pub end_probe : (t : Probe) → plan.end_probe ≡ Some t → IsProbeOf g net t

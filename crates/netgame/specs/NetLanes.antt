@@ -9,6 +9,7 @@ use Rattle.std.specs.Prelude.{
   ◌++◌,
   ◌==◌,
   Bool,
+  All,
   List,
   [],
   ◌∷◌,
@@ -32,16 +33,17 @@ use Rattle.propnet.specs.declared.net.Net.{Net}
 use Rattle.tape.specs.declared.tape.Tape.{Tape}
 use Rattle.tape.specs.Tapes.{slots_in, kept_in, IsTapeOf, HasRun, IsWordOf}
 use Rattle.netgame.specs.declared.lane_plan.LanePlan.{LanePlan}
-use Rattle.netgame.specs.declared.lane_plan.Telling.{Telling}
+use Rattle.netgame.specs.declared.lane_plan.Probe.{Probe}
 use Rattle.netgame.specs.declared.net_many.NetMany.{NetMany}
 use Rattle.netgame.specs.declared.net_many.NetTurn.{NetTurn}
 use Rattle.netgame.specs.declared.net_many.NetWide.{NetWide}
+use Rattle.netgame.specs.declared.net_pos.LaneState.{LaneState}
 use Rattle.netgame.specs.declared.net_pos.NetPos.{NetPos}
-use Rattle.statement.specs.Rules.{State}
+use Rattle.statement.specs.Rules.{State, IsTurn}
 use Rattle.statement.specs.Value.{greatest}
 use Rattle.rulebook.specs.RulePlay.{ends}
 use Rattle.rulebook.specs.RuleState.{holds_in, rules_of, HaveRoom, AreRead, all_capacities}
-use Rattle.netgame.specs.NetState.{lane_state, kept_state, AreSpread}
+use Rattle.netgame.specs.NetState.{lane_state, state_in, AreSpread}
 
 -- the states that the words keep
 abbrev pub lane_states : FlatGround → NetMany → List State
@@ -50,6 +52,11 @@ lane_states g m = map (lane_state m.states.items (length g.starts.items)) (range
 -- what holds in the state that the words keep in lane k
 abbrev pub holds_lane : FlatGround → List ℕ → ℕ → ℕ → Bool
 holds_lane g states k = holds_in g (lane_state states (length g.starts.items) k)
+
+-- up to 64 joint moves of the game
+pub record AreTurns (g : FlatGround) (joints : List (SmallVec ℕ)) : Type 0 where
+  pub few : length joints ≤ 64
+  pub each : All (λ (j : SmallVec ℕ). IsTurn (rules_of g) j.items) joints
 
 -- the words keep the states after the one of the first lane and each joint move
 abbrev pub AreAfter : FlatGround → List ℕ → List (SmallVec ℕ) → List ℕ → Type 0
@@ -65,25 +72,25 @@ Tells tape room k on =
     → (bit_at w k == 1) ≡ on p
 
 -- the moves whose places hold
-abbrev pub told_moves : (ℕ → Bool) → List (ℕ × ℕ) → List ℕ
-told_moves on ls = map (λ (l : ℕ × ℕ). l.1) (filter (λ (l : ℕ × ℕ). on l.0) ls)
+abbrev pub moves_on : (ℕ → Bool) → List (ℕ × ℕ) → List ℕ
+moves_on on ls = map (λ (l : ℕ × ℕ). l.1) (filter (λ (l : ℕ × ℕ). on l.0) ls)
 
 -- the greatest value whose place holds, or 0
-abbrev pub told_goal : (ℕ → Bool) → List (ℕ × ℕ) → ℕ
-told_goal on ls = greatest (map (λ (l : ℕ × ℕ). if on l.0 then l.1 else 0) ls)
+abbrev pub goal_on : (ℕ → Bool) → List (ℕ × ℕ) → ℕ
+goal_on on ls = greatest (map (λ (l : ℕ × ℕ). if on l.0 then l.1 else 0) ls)
 
 -- there is room for 64 states and for what a tape tells of them, and both are of each of the states that there are
-pub record IsNetMany (g : FlatGround) (t : Telling) (m : NetMany) : Type 0 where
+pub record IsNetMany (g : FlatGround) (t : Probe) (m : NetMany) : Type 0 where
   pub states : length m.states.items ≡ length g.starts.items
   pub room : slots_in t.tape ≤ vec_capacity m.room
   pub few : m.count ≤ 64
   pub ran : 0 < m.count → HasRun t.tape m.states.items m.room.items
   pub ended : (k : ℕ) → k < m.count → (bit_at m.ended k == 1) ≡ ends (kinds_of g) (holds_lane g m.states.items k)
 
--- the same of a tape that may be there; where it is not, there are no states
-abbrev pub IsLast : FlatGround → Option Telling → NetMany → Type 0
-IsLast g (Some t) m = IsNetMany g t m
-IsLast g None m = m.count ≡ 0
+-- the same of a probe that may be there; where it is not, there are no states
+abbrev pub IsJudged : FlatGround → Option Probe → NetMany → Type 0
+IsJudged g (Some t) m = IsNetMany g t m
+IsJudged g None m = m.count ≡ 0
 
 -- there is room for the words that passes over the tape of the next state are given and write
 pub record HasTurnRoom (net : Net) (plan : LanePlan) (w : NetTurn) : Type 0 where
@@ -93,7 +100,7 @@ pub record HasTurnRoom (net : Net) (plan : LanePlan) (w : NetTurn) : Type 0 wher
 -- there is also room for the states that are judged
 pub record HasWideRoom (g : FlatGround) (net : Net) (plan : LanePlan) (w : NetWide) : Type 0 where
   pub turn : HasTurnRoom net plan w.turn
-  pub last : IsLast g plan.last w.last
+  pub judged : IsJudged g plan.end_probe w.judged
 
 abbrev pub turn_capacities : NetTurn → List ℕ
 turn_capacities w = vec_capacity w.words ∷ vec_capacity w.next ∷ []
@@ -102,23 +109,46 @@ abbrev pub many_capacities : NetMany → List ℕ
 many_capacities m = vec_capacity m.states ∷ vec_capacity m.room ∷ []
 
 abbrev pub wide_capacities : NetWide → List ℕ
-wide_capacities w = turn_capacities w.turn ++ many_capacities w.last
+wide_capacities w = turn_capacities w.turn ++ many_capacities w.judged
+
+-- the room for a turn is such a room as before, in the same memory
+pub record IsTurnRewritten (net : Net) (plan : LanePlan) (old new : NetTurn) : Type 0 where
+  pub room : HasTurnRoom net plan new
+  pub capacities : turn_capacities new ≡ turn_capacities old
+
+-- the same of the room for states
+pub record IsManyRewritten (g : FlatGround) (t : Probe) (old new : NetMany) : Type 0 where
+  pub room : IsNetMany g t new
+  pub capacities : many_capacities new ≡ many_capacities old
+
+-- there is room for a state and for what is told of it
+pub record HasStateRoom (g : FlatGround) (s : LaneState) : Type 0 where
+  pub lanes : length s.lanes.items ≡ length g.starts.items
+  pub roles : HaveRoom (inputs_of g) s.roles.items
+
+-- what is told of the state is so
+pub record IsLaneState (g : FlatGround) (s : LaneState) : Type 0 where
+  pub room : HasStateRoom g s
+  pub spread : AreSpread s.lanes.items
+  pub ended : s.ended ≡ ends (kinds_of g) (holds_in g (state_in g s))
+  pub roles : AreRead (kinds_of g) (holds_in g (state_in g s)) (inputs_of g) s.roles.items
+
+-- the capacities of what the state keeps
+abbrev pub state_capacities : LaneState → List ℕ
+state_capacities s = vec_capacity s.lanes ∷ vec_capacity s.roles ∷ all_capacities s.roles.items
 
 -- there is room for a state of the game, and for the passes that lead to it
 pub record HasNetRoom (g : FlatGround) (net : Net) (plan : LanePlan) (p : NetPos) : Type 0 where
-  pub lanes : length p.lanes.items ≡ length g.starts.items
-  pub roles : HaveRoom (inputs_of g) p.roles.items
+  pub state : HasStateRoom g p.state
   pub turn : HasTurnRoom net plan p.turn
-  pub many : IsNetMany g plan.asked p.many
+  pub many : IsNetMany g plan.probe p.many
 
 -- what is told of the state is so
 pub record IsNetState (g : FlatGround) (net : Net) (plan : LanePlan) (p : NetPos) : Type 0 where
-  pub room : HasNetRoom g net plan p
-  pub spread : AreSpread p.lanes.items
-  pub ended : p.ended ≡ ends (kinds_of g) (holds_in g (kept_state g p))
-  pub roles : AreRead (kinds_of g) (holds_in g (kept_state g p)) (inputs_of g) p.roles.items
+  pub state : IsLaneState g p.state
+  pub turn : HasTurnRoom net plan p.turn
+  pub many : IsNetMany g plan.probe p.many
 
--- the capacities of what the state keeps
+-- the capacities of what is kept with the state
 abbrev pub net_capacities : NetPos → List ℕ
-net_capacities p =
-    vec_capacity p.lanes ∷ vec_capacity p.roles ∷ all_capacities p.roles.items ++ (turn_capacities p.turn ++ many_capacities p.many)
+net_capacities p = state_capacities p.state ++ (turn_capacities p.turn ++ many_capacities p.many)

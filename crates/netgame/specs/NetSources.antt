@@ -1,6 +1,6 @@
 -- This crate's own: what `run` promises does not rest on it.
 -- The states at which the joint moves of the lanes begin.
-use Rattle.std.specs.Prelude.{◌≡◌, ◌≢◌, ℕ, ◌<◌, ◌≤◌, List, length, map, slice_index}
+use Rattle.std.specs.Prelude.{◌≡◌, ◌≢◌, ℕ, ◌<◌, ◌≤◌, All, List, length, map, slice_index}
 use Rattle.std.specs.List.{range_with_len}
 use Rattle.smallvec.specs.SmallVec.{SmallVec}
 use Rattle.ground.specs.declared.flat_ground.FlatGround.{FlatGround}
@@ -10,6 +10,7 @@ use Rattle.game.specs.TurnsAfter.{turns_after}
 use Rattle.rulebook.specs.RuleState.{rules_of}
 use Rattle.netgame.specs.declared.net_sources.Sources.{Sources}
 use Rattle.netgame.specs.NetState.{lane_state}
+use Rattle.netgame.specs.NetLanes.{AreTurns}
 
 -- word k marks the lanes below n whose place is k
 pub record AreMarked (places words : List ℕ) (n : ℕ) : Type 0 where
@@ -29,3 +30,9 @@ abbrev pub AreFrom : FlatGround → List State → List ℕ → List (SmallVec �
 AreFrom g from places joints states =
     map (lane_state states (length g.starts.items)) (range_with_len 0 (length joints))
     ≡ turns_after (rules_of g) from places (map (λ (j : SmallVec ℕ). j.items) joints)
+
+-- up to 64 joint moves of the game, each of which begins at the state at its place
+pub record ArePlaced (g : FlatGround) (from : List State) (places : List ℕ) (joints : List (SmallVec ℕ)) : Type 0 where
+  pub turns : AreTurns g joints
+  pub count : length places ≡ length joints
+  pub within : All (λ (k : ℕ). k < length from) places

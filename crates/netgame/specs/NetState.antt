@@ -6,8 +6,9 @@ use Rattle.statement.specs.declared.kind.Kind.{Kind}
 use Rattle.statement.specs.declared.kind.Kind.TheVariants.{Fixed, Now, Does, Next, Legal, Goal, Terminal, Other}
 use Rattle.ground.specs.declared.flat_ground.FlatGround.{FlatGround}
 use Rattle.propnet.specs.Values.{lane}
-use Rattle.netgame.specs.declared.lane_plan.Asking.{Asking}
-use Rattle.netgame.specs.declared.lane_plan.Asking.TheVariants.{EndAlone, WithMoves}
+use Rattle.netgame.specs.declared.lane_plan.Scope.{Scope}
+use Rattle.netgame.specs.declared.lane_plan.Scope.TheVariants.{EndAlone, WithMoves}
+use Rattle.netgame.specs.declared.net_pos.LaneState.{LaneState}
 use Rattle.netgame.specs.declared.net_pos.NetPos.{NetPos}
 use Rattle.statement.specs.Rules.{State}
 use Rattle.rulebook.specs.RulePlay.{kind_at}
@@ -33,29 +34,32 @@ abbrev pub view_of : List (Option ℕ) → ℕ → ℕ
 view_of views a = unwrap_or (get_or views a None) 0
 
 -- whether the legal moves are asked too
-abbrev pub asks_moves : Asking → Bool
+abbrev pub asks_moves : Scope → Bool
 asks_moves EndAlone = false
 asks_moves WithMoves = true
 
 -- what is asked of each state: its end and goals, and its legal moves
-abbrev pub is_asked : Asking → Kind → Bool
-is_asked asking Fixed = false
-is_asked asking (Now p) = false
-is_asked asking (Does r m) = false
-is_asked asking (Next p) = false
-is_asked asking (Legal r m) = asks_moves asking
-is_asked asking (Goal r v) = true
-is_asked asking Terminal = true
-is_asked asking Other = false
+abbrev pub is_asked : Scope → Kind → Bool
+is_asked scope Fixed = false
+is_asked scope (Now p) = false
+is_asked scope (Does r m) = false
+is_asked scope (Next p) = false
+is_asked scope (Legal r m) = asks_moves scope
+is_asked scope (Goal r v) = true
+is_asked scope Terminal = true
+is_asked scope Other = false
 
 -- two tests agree on the atoms that are asked
-abbrev pub Alike : Asking → List Kind → (ℕ → Bool) → (ℕ → Bool) → Type 0
-Alike asking kinds f g = (a : ℕ) → a < length kinds → is_asked asking (kind_at kinds a) ≡ true → f a ≡ g a
+abbrev pub Alike : Scope → List Kind → (ℕ → Bool) → (ℕ → Bool) → Type 0
+Alike scope kinds f g = (a : ℕ) → a < length kinds → is_asked scope (kind_at kinds a) ≡ true → f a ≡ g a
 
 -- the views of the atoms that are asked are below n
-abbrev pub AreViewsBelow : Asking → List Kind → List (Option ℕ) → ℕ → Type 0
-AreViewsBelow asking kinds views n = (a : ℕ) → a < length kinds → is_asked asking (kind_at kinds a) ≡ true → view_of views a < n
+abbrev pub AreViewsBelow : Scope → List Kind → List (Option ℕ) → ℕ → Type 0
+AreViewsBelow scope kinds views n = (a : ℕ) → a < length kinds → is_asked scope (kind_at kinds a) ≡ true → view_of views a < n
 
 -- the state that is kept
+abbrev pub state_in : FlatGround → LaneState → State
+state_in g s = lane_state s.lanes.items (length g.starts.items) 0
+
 abbrev pub kept_state : FlatGround → NetPos → State
-kept_state g p = lane_state p.lanes.items (length g.starts.items) 0
+kept_state g p = state_in g p.state

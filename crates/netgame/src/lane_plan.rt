@@ -4,7 +4,7 @@ use tape::Tape;
 
 /// Which atoms are asked of a state.
 #[derive(Clone, Copy)]
-pub enum Asking {
+pub enum Scope {
     /// Those that tell whether the game has ended, and the goals.
     EndAlone,
     /// The legal moves too.
@@ -25,10 +25,10 @@ pub struct RoleLegals {
     pub(crate) legals: Vec<(u32, u32)>,
 }
 
-/// A tape that tells what is asked of a state.
+/// What is asked of a state, and where its words lie behind a pass.
 #[derive(Drop)]
-pub struct Telling {
-    pub(crate) asking: Asking,
+pub struct Probe {
+    pub(crate) scope: Scope,
     /// It keeps the nodes that tell of the atoms that are asked, in order.
     pub(crate) tape: Tape,
     /// The places of those that end the game.
@@ -42,8 +42,8 @@ pub struct LanePlan {
     /// It keeps the transition of each base proposition, in order.
     pub(crate) next: Tape,
     /// What play asks of a state that it goes on from.
-    pub(crate) asked: Telling,
+    pub(crate) probe: Probe,
     pub(crate) legals: Vec<RoleLegals>,
     /// What is asked of a state that play does not go on from, where a tape of its own pays for that.
-    pub(crate) last: Option<Telling>,
+    pub(crate) end_probe: Option<Probe>,
 }

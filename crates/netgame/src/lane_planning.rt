@@ -1,16 +1,16 @@
 //! Makes the tapes of play.
 //!
-//! The place of an atom in a tape of what is asked is how many atoms below it are asked. One structure serves what play goes on
-//! from and what it does not: they differ in which atoms are asked.
-ghost use Rattle.std.specs.Prelude.{◌≡◌, ◌<◌, ◌++◌, ℕ, [], ◌∷◌, length, map, OnOk, IfOk, Some, if◌then◌else◌};
+//! The place of an atom behind a pass is how many atoms below it are asked. One structure serves what play goes on from and what
+//! it does not: they differ in which atoms are asked.
+ghost use Rattle.std.specs.Prelude.{◌≡◌, ◌<◌, ◌++◌, [], ◌∷◌, length, OnOk, IfOk, Some, if◌then◌else◌};
 ghost use Rattle.ground.specs.GroundView.{kinds_of};
 ghost use Rattle.propnet.specs.Builders.{IsNetOf};
 ghost use Rattle.tape.specs.Tapes.{IsTurnTapeOf};
-ghost use Rattle.netgame.specs.declared.lane_plan.Telling.{Telling};
+ghost use Rattle.netgame.specs.declared.lane_plan.Probe.{Probe};
 ghost use Rattle.netgame.specs.NetState.{is_asked as asked, view_of};
-ghost use Rattle.netgame.specs.LanePlans.{places_of, asked_nodes, next_below, IsTellingOf, IsLanePlanOf};
+ghost use Rattle.netgame.specs.LanePlans.{places_of, asked_nodes, next_below, IsProbeOf, IsLanePlanOf};
 
-use crate::lane_plan::{Asking, LanePlan, Telling};
+use crate::lane_plan::{LanePlan, Probe, Scope};
 use crate::net_planning::{list_ends, plan_goals, plan_legals};
 use ground::{FlatGround, Kind};
 use propnet::Net;
@@ -19,11 +19,11 @@ use std::alloc::{AllocError, Global};
 use tape::Tape;
 
 /// Where what play asks of a state takes more words than these, a tape of the end alone is hardly shorter, and takes long to make.
-const LONGEST_ASKED: usize = 1 << 14;
+const LONGEST_PROBE: usize = 1 << 14;
 
-/// Which atoms are asked of a state.
+/// How the atoms that are asked of a state lie behind a pass.
 #[derive(Drop)]
-struct Asked {
+struct Layout {
     /// By atom how many atoms below it are asked: its place among them, if it is one.
     places: Vec<u32>,
     /// The nodes that tell of them, in order.
@@ -31,11 +31,11 @@ struct Asked {
 }
 
 /// Whether atoms of this kind are asked of a state.
-fn is_asked(asking: Asking, kind: Kind) -> bool
-    ensures { result ≡ asked asking kind }
+fn is_asked(scope: Scope, kind: Kind) -> bool
+    ensures { result ≡ asked scope kind }
 {
     match kind {
-        Kind::Legal(..) => matches!(asking, Asking::WithMoves),
+        Kind::Legal(..) => matches!(scope, Scope::WithMoves),
         Kind::Goal(..) | Kind::Terminal => true,
         _ => false,
     }
@@ -58,24 +58,24 @@ fn add_asked(net: &Net, asks: bool, atom: u32, nodes: &mut Vec<u32>) -> Result<(
     Ok(())
 }
 
-/// The atoms that are asked of a state.
-fn list_asked(
+/// Lays out the atoms that are asked of a state.
+fn lay_out(
     alloc: Global,
     ground: &FlatGround,
     net: &Net,
-    asking: Asking,
-) -> Result<Asked, AllocError>
-    ensures places { IfOk result (λ all. all.places.items ≡ places_of asking (kinds_of ground.now)) }
-    ensures nodes { IfOk result (λ all. all.nodes.items ≡ asked_nodes asking net.now.views.items (kinds_of ground.now)) }
+    scope: Scope,
+) -> Result<Layout, AllocError>
+    ensures places { IfOk result (λ layout. layout.places.items ≡ places_of scope (kinds_of ground.now)) }
+    ensures nodes { IfOk result (λ layout. layout.nodes.items ≡ asked_nodes scope net.now.views.items (kinds_of ground.now)) }
 {
     let mut places = Vec::new(alloc);
     let mut nodes = Vec::new(alloc);
     for atom in 0..ground.atoms() {
         places.push(nodes.len() as u32)?;
-        let asks = is_asked(asking, kind_of(ground, atom));
+        let asks = is_asked(scope, kind_of(ground, atom));
         add_asked(net, asks, atom as u32, &mut nodes)?;
     }
-    Ok(Asked { places, nodes })
+    Ok(Layout { places, nodes })
 }
 
 /// The transitions of the base propositions.
@@ -99,44 +99,44 @@ fn make_next(alloc: Global, ground: &FlatGround, net: &Net) -> Result<Tape, Allo
     Tape::of_turns(alloc, net, &next)
 }
 
-/// The tape that tells what is asked of a state.
-fn make_telling(
+/// The probe of a state.
+fn make_probe(
     alloc: Global,
     ground: &FlatGround,
     net: &Net,
-    asking: Asking,
-    asked: &Asked,
-) -> Result<Telling, AllocError>
+    scope: Scope,
+    layout: &Layout,
+) -> Result<Probe, AllocError>
     requires made { ∥ IsNetOf ground.now net.now ∥₁ }
-    requires places { asked.now.places.items ≡ places_of asking (kinds_of ground.now) }
-    requires nodes { asked.now.nodes.items ≡ asked_nodes asking net.now.views.items (kinds_of ground.now) }
-    ensures told { IfOk result (IsTellingOf ground.now net.now) }
-    ensures asking { IfOk result (λ telling. telling.asking ≡ asking) }
+    requires places { layout.now.places.items ≡ places_of scope (kinds_of ground.now) }
+    requires nodes { layout.now.nodes.items ≡ asked_nodes scope net.now.views.items (kinds_of ground.now) }
+    ensures told { IfOk result (IsProbeOf ground.now net.now) }
+    ensures scope { IfOk result (λ probe. probe.scope ≡ scope) }
 {
-    Ok(Telling {
-        asking,
-        tape: Tape::new(alloc, net, &asked.nodes)?,
-        ends: list_ends(alloc, ground, &asked.places)?,
-        goals: plan_goals(alloc, ground, &asked.places)?,
+    Ok(Probe {
+        scope,
+        tape: Tape::new(alloc, net, &layout.nodes)?,
+        ends: list_ends(alloc, ground, &layout.places)?,
+        goals: plan_goals(alloc, ground, &layout.places)?,
     })
 }
 
-/// The tape of the end alone, where it pays beside one that takes so many words.
-fn make_last(
+/// The probe of the end alone, where it pays beside one that takes so many words.
+fn make_end_probe(
     alloc: Global,
     ground: &FlatGround,
     net: &Net,
     words: usize,
-) -> Result<Option<Telling>, AllocError>
+) -> Result<Option<Probe>, AllocError>
     requires { ∥ IsNetOf ground.now net.now ∥₁ }
-    ensures { IfOk result (λ last. (t : Telling) → last ≡ Some t → IsTellingOf ground.now net.now t) }
+    ensures { IfOk result (λ made. (t : Probe) → made ≡ Some t → IsProbeOf ground.now net.now t) }
 {
-    if words > LONGEST_ASKED {
+    if words > LONGEST_PROBE {
         return Ok(None);
     }
-    let asked = list_asked(alloc, ground, net, Asking::EndAlone)?;
-    let last = make_telling(alloc, ground, net, Asking::EndAlone, &asked)?;
-    Ok(Some(last))
+    let layout = lay_out(alloc, ground, net, Scope::EndAlone)?;
+    let probe = make_probe(alloc, ground, net, Scope::EndAlone, &layout)?;
+    Ok(Some(probe))
 }
 
 /// The tapes of a network.
@@ -148,13 +148,13 @@ pub(crate) fn make_lane_plan(
     requires { ∥ IsNetOf ground.now net.now ∥₁ }
     ensures { IfOk result (IsLanePlanOf ground.now net.now) }
 {
-    let all = list_asked(alloc, ground, net, Asking::WithMoves)?;
-    let asked = make_telling(alloc, ground, net, Asking::WithMoves, &all)?;
-    let last = make_last(alloc, ground, net, asked.tape.words())?;
+    let layout = lay_out(alloc, ground, net, Scope::WithMoves)?;
+    let probe = make_probe(alloc, ground, net, Scope::WithMoves, &layout)?;
+    let end_probe = make_end_probe(alloc, ground, net, probe.tape.words())?;
     Ok(LanePlan {
         next: make_next(alloc, ground, net)?,
-        asked,
-        legals: plan_legals(alloc, ground, &all.places)?,
-        last,
+        probe,
+        legals: plan_legals(alloc, ground, &layout.places)?,
+        end_probe,
     })
 }

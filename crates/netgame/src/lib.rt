@@ -13,8 +13,8 @@ mod net_playing;
 mod net_pos;
 mod net_sources;
 mod net_taking;
-mod net_telling;
 mod net_words;
+mod readers;
 
 pub use net_game::NetGame;
 pub use net_pos::NetPos;

@@ -31,23 +31,23 @@ pub struct NetGame {
 
 impl NetGame {
     /// The game of an instantiation and of the network that was compiled from it.
-    pub fn new(alloc: Global, g: Ground, n: Net) -> Result<NetGame, AllocError>
-        requires { IsNetOf (flat_of g) n }
-        ensures { IfOk result (λ game. game.played ≡ flat_of g) }
+    pub fn new(alloc: Global, ground: Ground, net: Net) -> Result<NetGame, AllocError>
+        requires { IsNetOf (flat_of ground) net }
+        ensures { IfOk result (λ game. game.played ≡ flat_of ground) }
     {
-        NetGame::of_flat(alloc, g.into_flat(), n)
+        NetGame::of_flat(alloc, ground.into_flat(), net)
     }
 
     /// The same of an instantiation in flat lists.
-    pub fn of_flat(alloc: Global, g: FlatGround, n: Net) -> Result<NetGame, AllocError>
-        requires { IsNetOf g n }
-        ensures { IfOk result (λ game. game.played ≡ g) }
+    pub fn of_flat(alloc: Global, ground: FlatGround, net: Net) -> Result<NetGame, AllocError>
+        requires { IsNetOf ground net }
+        ensures { IfOk result (λ game. game.played ≡ ground) }
     {
-        let lane_plan = make_lane_plan(alloc, &g, &n)?;
+        let lane_plan = make_lane_plan(alloc, &ground, &net)?;
         Ok(NetGame {
             alloc,
-            played: g,
-            net: n,
+            played: ground,
+            net,
             lane_plan,
         })
     }
@@ -89,9 +89,9 @@ impl Game for NetGame {
 
     ghost fits_wide = { λ g w. HasWideRoom g.played g.net g.lane_plan w };
 
-    ghost judged = { λ g w. lane_states g.played w.last };
+    ghost judged = { λ g w. lane_states g.played w.judged };
 
-    ghost fits_many = { λ g m. IsNetMany g.played g.lane_plan.asked m };
+    ghost fits_many = { λ g m. IsNetMany g.played g.lane_plan.probe m };
 
     ghost states = { λ g m. lane_states g.played m };
 
@@ -120,15 +120,15 @@ impl Game for NetGame {
     }
 
     fn ended(&self, p: &NetPos) -> bool {
-        p.ended
+        p.state.ended
     }
 
     fn goal(&self, p: &NetPos, role: usize) -> u8 {
-        p.roles[role].goal
+        p.state.roles[role].goal
     }
 
     fn legal(&self, p: &NetPos, role: usize, place: usize) -> Option<u32> {
-        legal_at(&p.roles[role], place)
+        legal_at(&p.state.roles[role], place)
     }
 
     fn step(&self, p: &NetPos, joint: &Joint, q: &mut NetPos) {
@@ -136,9 +136,9 @@ impl Game for NetGame {
     }
 
     fn copy(&self, p: &NetPos, q: &mut NetPos) {
-        q.lanes.copy_from_slice(&p.lanes);
-        q.ended = p.ended;
-        copy_roles(&p.roles, &mut q.roles);
+        q.state.lanes.copy_from_slice(&p.state.lanes);
+        q.state.ended = p.state.ended;
+        copy_roles(&p.state.roles, &mut q.state.roles);
     }
 
     fn new_wide(&self) -> Result<NetWide, AllocError> {
@@ -146,11 +146,11 @@ impl Game for NetGame {
     }
 
     fn new_many(&self) -> Result<NetMany, AllocError> {
-        new_net_many(self, &self.lane_plan.asked)
+        new_net_many(self, &self.lane_plan.probe)
     }
 
     fn steps(&self, p: &NetPos, joints: &[Joint], w: &mut NetWide, out: &mut NetMany) {
-        net_steps(self, &self.lane_plan.asked, p, joints, &mut w.turn, out);
+        net_steps(self, &self.lane_plan.probe, p, joints, &mut w.turn, out);
     }
 
     /// As many as there may be: a pass over a tape costs the same for one as for all.

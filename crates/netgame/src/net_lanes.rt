@@ -4,26 +4,15 @@ ghost use Rattle.statement.specs.Rules.{IsTurn};
 ghost use Rattle.tape.specs.Tapes.{slots_in};
 ghost use Rattle.rulebook.specs.RuleState.{rules_of};
 ghost use Rattle.netgame.specs.NetState.{kept_state, AreSpread};
-ghost use Rattle.netgame.specs.LanePlans.{IsTellingOf};
-ghost use Rattle.netgame.specs.NetLanes.{
-  lane_states,
-  AreAfter,
-  IsNetMany,
-  IsNetState,
-  IsLast,
-  HasTurnRoom,
-  HasWideRoom,
-  turn_capacities,
-  many_capacities,
-  wide_capacities,
-};
+ghost use Rattle.netgame.specs.LanePlans.{IsProbeOf};
+ghost use Rattle.netgame.specs.NetLanes.{lane_states, AreTurns, AreAfter, IsNetMany, IsNetState, IsJudged, HasTurnRoom, HasWideRoom, IsTurnRewritten, IsManyRewritten, many_capacities, wide_capacities};
 
-use crate::lane_plan::Telling;
+use crate::lane_plan::Probe;
 use crate::net_game::NetGame;
 use crate::net_many::{NetMany, NetTurn, NetWide};
 use crate::net_passes::{run, run_kept, write_sources};
 use crate::net_pos::NetPos;
-use crate::net_telling::any_told;
+use crate::readers::holding_at;
 use game::Joint;
 use std::alloc::AllocError;
 
@@ -33,37 +22,33 @@ fn step_lanes(
     from: &[u64],
     joints: &[Joint],
     turn: &mut NetTurn,
-    states: &mut Vec<u64>,
+    states: &mut [u64],
 )
     requires from { length from.now ≡ length game.now.played.starts.items }
     requires spread { AreSpread from.now }
-    requires few { length joints.now ≤ 64 }
-    requires joints { All (λ j. IsTurn (rules_of game.now.played) j.items) joints.now }
+    requires turns { AreTurns game.now.played joints.now }
     requires turn { HasTurnRoom game.now.net game.now.lane_plan turn.old }
-    requires to { length states.old.items ≡ length game.now.played.starts.items }
-    ensures turn { HasTurnRoom game.now.net game.now.lane_plan turn.new }
-    ensures after { AreAfter game.now.played from.now joints.now states.new.items }
-    ensures size { length states.new.items ≡ length states.old.items }
-    ensures turn_capacities { turn_capacities turn.new ≡ turn_capacities turn.old }
-    ensures capacity { vec_capacity states.new ≡ vec_capacity states.old }
+    requires to { length states.old ≡ length game.now.played.starts.items }
+    ensures turn { IsTurnRewritten game.now.net game.now.lane_plan turn.old turn.new }
+    ensures after { AreAfter game.now.played from.now joints.now states.new }
 {
     write_sources(&game.net, from, joints, &mut turn.words);
     run_kept(&game.lane_plan.next, &turn.words, &mut turn.next, states);
 }
 
-/// Passes over what is asked of so many states that the words keep.
-pub(crate) fn tell_lanes(game: &NetGame, telling: &Telling, count: usize, out: &mut NetMany)
-    requires telling { IsTellingOf game.now.played game.now.net telling.now }
+/// Probes so many states that the words keep.
+pub(crate) fn probe_lanes(game: &NetGame, probe: &Probe, count: usize, out: &mut NetMany)
+    requires probe { IsProbeOf game.now.played game.now.net probe.now }
     requires few { count ≤ 64 }
     requires states { length out.old.states.items ≡ length game.now.played.starts.items }
-    requires room { slots_in telling.now.tape ≤ vec_capacity out.old.room }
-    ensures many { IsNetMany game.now.played telling.now out.new }
+    requires room { slots_in probe.now.tape ≤ vec_capacity out.old.room }
+    ensures many { IsNetMany game.now.played probe.now out.new }
     ensures count { out.new.count ≡ count }
     ensures states { out.new.states.items ≡ out.old.states.items }
     ensures many_capacities { many_capacities out.new ≡ many_capacities out.old }
 {
-    run(&telling.tape, &out.states, &mut out.room);
-    out.ended = any_told(&telling.tape, &out.room, &telling.ends);
+    run(&probe.tape, &out.states, &mut out.room);
+    out.ended = holding_at(&probe.tape, &out.room, &probe.ends);
     out.count = count;
 }
 
@@ -90,9 +75,9 @@ pub(crate) fn unwritten_turn(game: &NetGame) -> Result<NetTurn, AllocError>
 }
 
 /// Room for states, with none in it, over room for what a tape writes for them.
-fn many_over(game: &NetGame, telling: &Telling, room: Vec<u64>) -> Result<NetMany, AllocError>
-    requires { slots_in telling.now.tape ≤ vec_capacity room }
-    ensures { IfOk result (IsNetMany game.now.played telling.now) }
+fn many_over(game: &NetGame, probe: &Probe, room: Vec<u64>) -> Result<NetMany, AllocError>
+    requires { slots_in probe.now.tape ≤ vec_capacity room }
+    ensures { IfOk result (IsNetMany game.now.played probe.now) }
 {
     let alloc = game.alloc;
     Ok(NetMany {
@@ -104,27 +89,27 @@ fn many_over(game: &NetGame, telling: &Telling, room: Vec<u64>) -> Result<NetMan
 }
 
 /// Room for states, with none in it.
-pub(crate) fn new_net_many(game: &NetGame, telling: &Telling) -> Result<NetMany, AllocError>
-    ensures { IfOk result (IsNetMany game.now.played telling.now) }
+pub(crate) fn new_net_many(game: &NetGame, probe: &Probe) -> Result<NetMany, AllocError>
+    ensures { IfOk result (IsNetMany game.now.played probe.now) }
 {
-    let room = vec![in game.alloc; 0u64; telling.tape.words()]?;
-    many_over(game, telling, room)
+    let room = vec![in game.alloc; 0u64; probe.tape.words()]?;
+    many_over(game, probe, room)
 }
 
 /// The same, which is not written before it is used.
-pub(crate) fn unwritten_many(game: &NetGame, telling: &Telling) -> Result<NetMany, AllocError>
-    ensures { IfOk result (IsNetMany game.now.played telling.now) }
+pub(crate) fn unwritten_many(game: &NetGame, probe: &Probe) -> Result<NetMany, AllocError>
+    ensures { IfOk result (IsNetMany game.now.played probe.now) }
 {
-    let room = Vec::with_capacity(game.alloc, telling.tape.words())?;
-    many_over(game, telling, room)
+    let room = Vec::with_capacity(game.alloc, probe.tape.words())?;
+    many_over(game, probe, room)
 }
 
 /// Room for the states that are judged, where some are.
-fn new_last(game: &NetGame) -> Result<NetMany, AllocError>
-    ensures { IfOk result (IsLast game.now.played game.now.lane_plan.last) }
+fn new_judged(game: &NetGame) -> Result<NetMany, AllocError>
+    ensures { IfOk result (IsJudged game.now.played game.now.lane_plan.end_probe) }
 {
-    match &game.lane_plan.last {
-        Some(last) => new_net_many(game, last),
+    match &game.lane_plan.end_probe {
+        Some(end_probe) => new_net_many(game, end_probe),
         None => Ok(NetMany {
             states: Vec::new(game.alloc),
             room: Vec::new(game.alloc),
@@ -139,34 +124,31 @@ pub(crate) fn new_net_wide(game: &NetGame) -> Result<NetWide, AllocError>
     ensures { IfOk result (HasWideRoom game.now.played game.now.net game.now.lane_plan) }
 {
     let turn = new_net_turn(game)?;
-    let last = new_last(game)?;
-    Ok(NetWide { turn, last })
+    let judged = new_judged(game)?;
+    Ok(NetWide { turn, judged })
 }
 
-/// Writes the states after another and each of up to 64 joint moves, and what is asked of them.
+/// Writes the states after another and each of up to 64 joint moves, and probes them.
 pub(crate) fn net_steps(
     game: &NetGame,
-    telling: &Telling,
+    probe: &Probe,
     p: &NetPos,
     joints: &[Joint],
     turn: &mut NetTurn,
     out: &mut NetMany,
 )
-    requires telling { IsTellingOf game.now.played game.now.net telling.now }
+    requires probe { IsProbeOf game.now.played game.now.net probe.now }
     requires from { IsNetState game.now.played game.now.net game.now.lane_plan p.now }
-    requires few { length joints.now ≤ 64 }
-    requires joints { All (λ j. IsTurn (rules_of game.now.played) j.items) joints.now }
+    requires turns { AreTurns game.now.played joints.now }
     requires turn { HasTurnRoom game.now.net game.now.lane_plan turn.old }
-    requires to { IsNetMany game.now.played telling.now out.old }
-    ensures turn { HasTurnRoom game.now.net game.now.lane_plan turn.new }
-    ensures many { IsNetMany game.now.played telling.now out.new }
+    requires to { IsNetMany game.now.played probe.now out.old }
+    ensures turn { IsTurnRewritten game.now.net game.now.lane_plan turn.old turn.new }
+    ensures many { IsManyRewritten game.now.played probe.now out.old out.new }
     ensures after { lane_states game.now.played out.new ≡ map (λ j. (rules_of game.now.played).after (kept_state game.now.played p.now) j.items)
         joints.now }
-    ensures turn_capacities { turn_capacities turn.new ≡ turn_capacities turn.old }
-    ensures many_capacities { many_capacities out.new ≡ many_capacities out.old }
 {
-    step_lanes(game, &p.lanes, joints, turn, &mut out.states);
-    tell_lanes(game, telling, joints.len(), out);
+    step_lanes(game, &p.state.lanes, joints, turn, &mut out.states);
+    probe_lanes(game, probe, joints.len(), out);
 }
 
 /// Plays each of up to 64 joint moves for the end of the game alone, where there is a tape for it.
@@ -176,13 +158,13 @@ pub(crate) fn net_judge(game: &NetGame, p: &NetPos, joints: &[Joint], w: &mut Ne
     requires joints { All (λ j. IsTurn (rules_of game.now.played) j.items) joints.now }
     requires wide { HasWideRoom game.now.played game.now.net game.now.lane_plan w.old }
     ensures wide { HasWideRoom game.now.played game.now.net game.now.lane_plan w.new }
-    ensures after { result ≡ true → lane_states game.now.played w.new.last
+    ensures after { result ≡ true → lane_states game.now.played w.new.judged
         ≡ map (λ j. (rules_of game.now.played).after (kept_state game.now.played p.now) j.items) joints.now }
     ensures capacities { wide_capacities w.new ≡ wide_capacities w.old }
 {
-    match &game.lane_plan.last {
-        Some(last) => {
-            net_steps(game, last, p, joints, &mut w.turn, &mut w.last);
+    match &game.lane_plan.end_probe {
+        Some(end_probe) => {
+            net_steps(game, end_probe, p, joints, &mut w.turn, &mut w.judged);
             true
         }
         None => false,

@@ -17,7 +17,7 @@ pub struct NetTurn {
 pub struct NetMany {
     /// Bit k of word p: whether base proposition p is in state k.
     pub(crate) states: Vec<u64>,
-    /// What a tape of what is asked wrote for these states.
+    /// What a probe wrote for these states.
     pub(crate) room: Vec<u64>,
     /// Bit k: whether the game has ended in state k.
     pub(crate) ended: u64,
@@ -29,5 +29,5 @@ pub struct NetMany {
 #[derive(Drop)]
 pub struct NetWide {
     pub(crate) turn: NetTurn,
-    pub(crate) last: NetMany,
+    pub(crate) judged: NetMany,
 }

@@ -1,5 +1,5 @@
 //! Passes over tapes.
-ghost use Rattle.std.specs.Prelude.{◌≡◌, ◌<◌, ◌≤◌, ◌+◌, ℕ, List, length, sum, get_or, slice_index, vec_capacity};
+ghost use Rattle.std.specs.Prelude.{◌≡◌, ◌<◌, ◌≤◌, ◌+◌, ℕ, List, length, sum, slice_index, vec_capacity};
 ghost use Rattle.propnet.specs.declared.net.Net.{Net};
 ghost use Rattle.propnet.specs.Given.{AreGiven};
 ghost use Rattle.tape.specs.Tapes.{slots_in, kept_in, IsTurnTapeOf, HasRun, IsTurnWordOf};
@@ -9,7 +9,7 @@ use propnet::Net;
 use tape::Tape;
 
 /// Writes words in front of those of the inputs, and these.
-fn put_sources(net: &Net, from: &[u64], joints: &[Joint], words: &mut [u64])
+pub(crate) fn write_sources(net: &Net, from: &[u64], joints: &[Joint], words: &mut [u64])
     requires from { length from.now ≡ net.now.base }
     requires few { length joints.now ≤ 64 }
     requires room { length words.old ≡ net.now.base + sum net.now.inputs.items }
@@ -20,19 +20,6 @@ fn put_sources(net: &Net, from: &[u64], joints: &[Joint], words: &mut [u64])
         words[p] = from[p];
     }
     net.write_joints(joints, words);
-}
-
-/// Writes words in front of those of the inputs, and these.
-pub(crate) fn write_sources(net: &Net, from: &[u64], joints: &[Joint], words: &mut Vec<u64>)
-    requires from { length from.now ≡ net.now.base }
-    requires few { length joints.now ≤ 64 }
-    requires room { length words.old.items ≡ net.now.base + sum net.now.inputs.items }
-    ensures base { (p : ℕ) → p < net.now.base → slice_index words.new.items p ≡ slice_index from.now p }
-    ensures given { AreGiven net.now.base net.now.inputs.items joints.now words.new.items }
-    ensures size { length words.new.items ≡ length words.old.items }
-    ensures capacity { vec_capacity words.new ≡ vec_capacity words.old }
-{
-    put_sources(net, from, joints, words);
 }
 
 /// Makes so many words of a room that has place for them. A room that has not been used takes no pages of memory.
@@ -47,15 +34,6 @@ fn fill(room: &mut Vec<u64>, words: usize)
     }
 }
 
-/// Makes a pass over words that are there.
-fn pass(tape: &Tape, words: &[u64], room: &mut Vec<u64>)
-    requires { length room.old.items ≡ slots_in tape.now }
-    ensures run { HasRun tape.now words.now room.new.items }
-    ensures capacity { vec_capacity room.new ≡ vec_capacity room.old }
-{
-    tape.run(words, room);
-}
-
 /// Makes a pass.
 pub(crate) fn run(tape: &Tape, words: &[u64], room: &mut Vec<u64>)
     requires { slots_in tape.now ≤ vec_capacity room.old }
@@ -63,7 +41,7 @@ pub(crate) fn run(tape: &Tape, words: &[u64], room: &mut Vec<u64>)
     ensures capacity { vec_capacity room.new ≡ vec_capacity room.old }
 {
     fill(room, tape.words());
-    pass(tape, words, room);
+    tape.run(words, room);
 }
 
 /// Writes the words of the kept nodes, behind a pass.
@@ -79,14 +57,12 @@ fn gather(tape: &Tape, room: &[u64], out: &mut [u64])
 }
 
 /// Makes a pass, and writes the words of the kept nodes.
-pub(crate) fn run_kept(tape: &Tape, words: &[u64], room: &mut Vec<u64>, out: &mut Vec<u64>)
+pub(crate) fn run_kept(tape: &Tape, words: &[u64], room: &mut Vec<u64>, out: &mut [u64])
     requires room { slots_in tape.now ≤ vec_capacity room.old }
-    requires kept { length out.old.items ≡ kept_in tape.now }
-    ensures told { (net : Net) (kept : List ℕ) (k : ℕ) → IsTurnTapeOf net kept tape.now → k < length out.old.items
-        → IsTurnWordOf net words.now (slice_index kept k) (slice_index out.new.items k) }
-    ensures room_capacity { vec_capacity room.new ≡ vec_capacity room.old }
-    ensures size { length out.new.items ≡ length out.old.items }
-    ensures capacity { vec_capacity out.new ≡ vec_capacity out.old }
+    requires kept { length out.old ≡ kept_in tape.now }
+    ensures told { (net : Net) (kept : List ℕ) (k : ℕ) → IsTurnTapeOf net kept tape.now → k < length out.old
+        → IsTurnWordOf net words.now (slice_index kept k) (slice_index out.new k) }
+    ensures capacity { vec_capacity room.new ≡ vec_capacity room.old }
 {
     run(tape, words, room);
     gather(tape, room, out);

@@ -2,7 +2,7 @@
 //!
 //! These lists are made once, so play looks at no atom's kind. A ground has at most one atom that makes a move legal, so no two
 //! words are joined.
-ghost use Rattle.std.specs.Prelude.{◌≡◌, ◌<◌, ◌++◌, ℕ, None, Some, length, map, get_or, slice_index, OnOk, IfOk, if◌then◌else◌};
+ghost use Rattle.std.specs.Prelude.{◌≡◌, ◌<◌, ◌++◌, ℕ, None, Some, length, get_or, slice_index, OnOk, IfOk, if◌then◌else◌};
 ghost use Rattle.ground.specs.Grounds.{texts_at};
 ghost use Rattle.ground.specs.GroundView.{kinds_of, inputs_of};
 ghost use Rattle.rulebook.specs.declared.naming.Naming.TheVariants.{ByLegal};

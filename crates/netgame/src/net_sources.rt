@@ -2,7 +2,7 @@
 //!
 //! A word for each state marks the lanes that begin at it, and each word of a pass is gathered from the states between the
 //! first and the last that are named: a step for each state, and not for each lane.
-ghost use Rattle.std.specs.Prelude.{◌≡◌, ◌≢◌, ◌<◌, ◌≤◌, ◌+◌, ℕ, All, length, max, min, sum, slice_index, vec_capacity};
+ghost use Rattle.std.specs.Prelude.{◌≡◌, ◌≢◌, ◌<◌, ◌≤◌, ◌+◌, ℕ, All, length, max, min, sum, slice_index};
 ghost use Rattle.std.specs.Int.{bit_at};
 ghost use Rattle.propnet.specs.Given.{AreGiven};
 ghost use Rattle.propnet.specs.Values.{lane};
@@ -109,7 +109,13 @@ fn word_from(word: u64, places: &[usize], sources: &Sources) -> u64
 }
 
 /// Writes words in which each lane is given the state at its place, in front of those of the inputs, and these.
-fn put_from(net: &Net, states: &[u64], places: &[usize], joints: &[Joint], words: &mut [u64])
+pub(crate) fn write_from(
+    net: &Net,
+    states: &[u64],
+    places: &[usize],
+    joints: &[Joint],
+    words: &mut [u64],
+)
     requires from { length states.now ≡ net.now.base }
     requires few { length places.now ≤ 64 }
     requires places { All (λ k. k < 64) places.now }
@@ -123,26 +129,4 @@ fn put_from(net: &Net, states: &[u64], places: &[usize], joints: &[Joint], words
         words[p] = word_from(states[p], places, &sources);
     }
     net.write_joints(joints, words);
-}
-
-/// Writes words in which each lane is given the state at its place, in front of those of the inputs, and these.
-pub(crate) fn write_from(
-    net: &Net,
-    states: &[u64],
-    places: &[usize],
-    joints: &[Joint],
-    words: &mut Vec<u64>,
-)
-    requires from { length states.now ≡ net.now.base }
-    requires few { length places.now ≤ 64 }
-    requires places { All (λ k. k < 64) places.now }
-    requires joints { length joints.now ≤ 64 }
-    requires room { length words.old.items ≡ net.now.base + sum net.now.inputs.items }
-    ensures base { (l p : ℕ) → l < length places.now → p < net.now.base
-        → lane words.new.items l p ≡ lane states.now (slice_index places.now l) p }
-    ensures given { AreGiven net.now.base net.now.inputs.items joints.now words.new.items }
-    ensures size { length words.new.items ≡ length words.old.items }
-    ensures capacity { vec_capacity words.new ≡ vec_capacity words.old }
-{
-    put_from(net, states, places, joints, words);
 }

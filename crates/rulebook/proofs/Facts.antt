@@ -1,7 +1,7 @@
 -- The facts of this crate that proofs of the crates above may rest on. All other modules of proofs are its own.
 
 -- Ranges, filters and folds of numbers that agree.
-pub use Rattle.rulebook.proofs.Ranges.{in_marked, below_agree, greatest_agree, filters_agree, filter_range_more, flat_map-set}
+pub use Rattle.rulebook.proofs.Ranges.{inside, in_marked, below_agree, greatest_agree, filters_agree, filter_range_more, flat_map-set}
 -- What lists of atoms by kind tell.
 pub use Rattle.rulebook.proofs.StandingLemmas.{any_standing, names_all, ends_all, goals_all, greatest_snoc}
 -- What is told of roles, copied and written role by role.

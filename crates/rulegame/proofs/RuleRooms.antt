@@ -1,5 +1,5 @@
 -- The room of a state of rules.
-use Rattle.std.proofs.Common.{◌≡◌, ℕ, ◌<◌, List, length, get_or, get_or-set_same, get_or-set_other, sym, ap, ◌∙◌, arith, inl, inr}
+use Rattle.std.proofs.Common.{◌≡◌, ℕ, ◌<◌, List, length, get_or, get_or-set_same, get_or-set_other, sym, ap, ◌∙◌, inl, inr}
 use Rattle.std.proofs.Math.ListN.{set, length-set}
 use Rattle.std.proofs.lemmas.Bool.{cases_eq}
 use Rattle.ground.specs.Grounds.{texts_at}

@@ -1,6 +1,6 @@
 -- This crate's own: what `run` promises does not rest on it.
 -- Up to 64 states of a game of rules.
-use Rattle.std.specs.Prelude.{ℕ, ◌≡◌, ◌<◌, ◌≤◌, List, [], ◌∷◌, length, map, take, get_or, flat_map, vec_capacity}
+use Rattle.std.specs.Prelude.{ℕ, ◌≡◌, ◌<◌, ◌≤◌, List, [], ◌∷◌, length, map, take, get_or, flat_map, Vec, vec_capacity}
 use Rattle.ground.specs.declared.flat_ground.FlatGround.{FlatGround}
 use Rattle.ground.specs.GroundView.{kinds_of}
 use Rattle.rulegame.specs.declared.rule_many.RuleBase.{RuleBase}
@@ -16,8 +16,8 @@ pub record HaveBaseRoom (g : FlatGround) (states : List RuleBase) : Type 0 where
 abbrev pub base_capacities : RuleBase → List ℕ
 base_capacities p = vec_capacity p.marks ∷ []
 
-abbrev pub all_base_capacities : List RuleBase → List ℕ
-all_base_capacities ps = flat_map base_capacities ps
+abbrev pub all_base_capacities : {G : Type 0} → Vec RuleBase G → List ℕ
+all_base_capacities ps = vec_capacity ps ∷ flat_map base_capacities ps.items
 
 pub record IsManyOf (g : FlatGround) (m : RuleMany) : Type 0 where
   pub room : HaveBaseRoom g m.states.items
@@ -35,4 +35,4 @@ abbrev pub capacities_wide : RuleWide → List ℕ
 capacities_wide w = vec_capacity w.right ∷ []
 
 abbrev pub capacities_many : RuleMany → List ℕ
-capacities_many m = vec_capacity m.states ∷ all_base_capacities m.states.items
+capacities_many m = all_base_capacities m.states

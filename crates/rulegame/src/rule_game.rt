@@ -23,20 +23,20 @@ pub struct RuleGame {
 
 impl RuleGame {
     /// The game of the instantiation.
-    pub fn new(alloc: Global, g: Ground) -> Result<RuleGame, AllocError>
-        ensures { IfOk result (λ game. game.played ≡ flat_of g) }
+    pub fn new(alloc: Global, ground: Ground) -> Result<RuleGame, AllocError>
+        ensures { IfOk result (λ game. game.played ≡ flat_of ground) }
     {
-        RuleGame::of_flat(alloc, g.into_flat())
+        RuleGame::of_flat(alloc, ground.into_flat())
     }
 
     /// The same of an instantiation in flat lists.
-    pub fn of_flat(alloc: Global, g: FlatGround) -> Result<RuleGame, AllocError>
-        ensures { IfOk result (λ game. game.played ≡ g) }
+    pub fn of_flat(alloc: Global, ground: FlatGround) -> Result<RuleGame, AllocError>
+        ensures { IfOk result (λ game. game.played ≡ ground) }
     {
-        let plan = make_plan(alloc, &g)?;
+        let plan = make_plan(alloc, &ground)?;
         Ok(RuleGame {
             alloc,
-            played: g,
+            played: ground,
             plan,
         })
     }

@@ -83,8 +83,7 @@ pub(crate) fn step_each(
     ensures after { (k : ℕ) (d : RuleBase) → k < length joints.now
         → marked (get_or states.new.items k d).marks.items ≡ (rules_of game.now.played).after (marked p.now.base.items) (joint_at joints.now k) }
     ensures right_capacity { vec_capacity right.new ≡ vec_capacity right.old }
-    ensures capacities { all_base_capacities states.new.items ≡ all_base_capacities states.old.items }
-    ensures capacity { vec_capacity states.new ≡ vec_capacity states.old }
+    ensures capacities { all_base_capacities states.new ≡ all_base_capacities states.old }
 {
     for k in 0..joints.len() {
         step_base(game, p, &joints[k], right, &mut states[k]);

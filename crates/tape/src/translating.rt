@@ -116,11 +116,12 @@ fn made(
     let mut slots = Vec::with_capacity(alloc, kept.len())?;
     gather(&mut slots, kept, &literals)?;
     let most = above(&sources.words);
+    let (first, gates) = builder.into_parts();
     Ok(Tape {
-        first: builder.first,
+        first,
         sources: sources.words,
         most,
-        gates: builder.gates,
+        gates,
         kept: slots,
     })
 }

@@ -1,5 +1,5 @@
 use Rattle.std.proofs.Common.{ℕ, List, [], ◌∷◌, length, length-append, get_or, ap, ◌∙◌, arith, Option, None}
-use Rattle.netgame.proofs.TellingLemmas.{none_pushed}
+use Rattle.netgame.proofs.ReaderLemmas.{none_pushed}
 use Rattle.netgame.proofs.net_planning.new_found.Goals as goal
 
 pub loop-i-preserved : goal.loop-i-preserved

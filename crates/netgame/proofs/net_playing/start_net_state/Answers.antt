@@ -1,24 +1,21 @@
-use Rattle.std.proofs.Common.{sym, ◌∙◌}
-use Rattle.rulebook.specs.GroundFacts.{fits}
+use Rattle.std.proofs.Common.{ℕ, List, length, ap, ◌∙◌, arith}
+use Rattle.netgame.specs.NetState.{lane_state}
+use Rattle.netgame.proofs.Lanes.{state_at}
+use Rattle.netgame.proofs.Words.{written_over}
 use Rattle.netgame.proofs.net_playing.start_net_state.Goals as goal
 
-pub take_told-ended-requires-clause-lanes : goal.take_told-ended-requires-clause-lanes
-take_told-ended-requires-clause-lanes c =
-    let lanes = c.in_ok-lanes.lanes in
-    sym lanes.ok.0 ∙ c.in_ok-lanes.ensures.len ∙ c.base.ensures ∙ sym (fits c.args.game.now.played).starts_fit
+pub probe_lanes-requires-clause-states : goal.probe_lanes-requires-clause-states
+probe_lanes-requires-clause-states c =
+    let old = c.in_ok-first.first.states in
+    let size = c.write_start.auto.states ∙ ap length c.deref_mut.ensures.value in
+    ap length (written_over c.write_start.new.states old.items old.len old.ok.0 size) ∙ size ∙ c.in_ok-first.ensures.states
 
-pub returns-clause-state : goal.returns-clause-state
-returns-clause-state c =
-    let lanes = c.in_ok-lanes.lanes in
-    record {
-      room = record {
-        lanes = c.take_told-ended.ensures.size ∙ sym lanes.ok.0 ∙ c.in_ok-lanes.ensures.len ∙ c.base.ensures
-            ∙ sym (fits c.args.game.now.played).starts_fit;
-        roles = c.take_told-ended.ensures.room;
-        turn = c.in_ok-unwritten_turn.ensures;
-        many = c.in_ok-unwritten_many.ensures;
-      };
-      spread = c.take_told-ended.ensures.spread;
-      ended = c.take_told-ended.ensures.ended;
-      roles = c.take_told-ended.ensures.read;
-    }
+pub returns-clause-start : goal.returns-clause-start
+returns-clause-start c =
+    let n = length c.args.game.now.played.starts.items in
+    let first = c.probe_lanes.new.out in
+    let old = c.in_ok-first.first.states in
+    let same = written_over c.write_start.new.states old.items old.len old.ok.0 (c.write_start.auto.states ∙ ap length c.deref_mut.ensures.value) in
+    let one = c.probe_lanes.ensures.count in
+    c.take_state.ensures.taken ∙ state_at (lane_state first.states.items n) first.count 0 (omega arith)
+    ∙ ap (λ (ws : List ℕ). lane_state ws n 0) (c.probe_lanes.ensures.states ∙ same) ∙ c.write_start.ensures

@@ -7,4 +7,4 @@ pub returns-clause-taken : goal.returns-clause-taken
 returns-clause-taken c =
     let n = length c.args.game.now.played.starts.items in
     let many = c.args.q.now.many in
-    c.take_told-q.ensures.taken ∙ state_at (lane_state many.states.items n) many.count 0 c.requires.some
+    c.take_state.ensures.taken ∙ state_at (lane_state many.states.items n) many.count 0 c.requires.some

@@ -1,4 +1,4 @@
-use Rattle.std.proofs.Common.{◌≡◌, ◌<◌, ℕ, List, [], ◌∷◌, length, ap, ◌∙◌, arith}
+use Rattle.std.proofs.Common.{◌≡◌, ◌<◌, ℕ, List, [], ◌∷◌, length, vec_capacity, ap, ◌∙◌, arith}
 use Rattle.std.proofs.Math.ListN.{length-set}
 use Rattle.game.specs.Joints.{joint_at}
 use Rattle.rulegame.specs.declared.rule_many.RuleBase.{RuleBase}
@@ -42,7 +42,6 @@ loop-k-preserved c =
           (c.deref.ensures ∙ joint_read c.args.joints.now k c.index-joints-k.result (omega arith) c.index-joints-k.is))
           c.loop-k.invariant.after;
       right_capacity = c.step_base.ensures.right_capacity ∙ c.loop-k.invariant.right_capacity;
-      capacities = flat_map-set base_capacities ps k new _ (ap (λ (n : ℕ). n ∷ []) c.step_base.ensures.capacity
-          ∙ ap base_capacities c.index_mut.ensures.value) ∙ c.loop-k.invariant.capacities;
-      capacity = c.loop-k.invariant.capacity;
+      capacities = ap (λ (ns : List ℕ). vec_capacity c.loop-k.states ∷ ns) (flat_map-set base_capacities ps k new _
+          (ap (λ (n : ℕ). n ∷ []) c.step_base.ensures.capacity ∙ ap base_capacities c.index_mut.ensures.value)) ∙ c.loop-k.invariant.capacities;
     }

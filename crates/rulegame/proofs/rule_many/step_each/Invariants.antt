@@ -14,6 +14,5 @@ invariant-loop-k l = record {
   after : (i : ℕ) (d : RuleBase) → i < l.k → marked (get_or l.states.items i d).marks.items ≡ (rules_of l.game.played).after (marked l.p.base.items)
       (joint_at l.joints i);
   right_capacity : vec_capacity l.right ≡ vec_capacity l.initial.right;
-  capacities : all_base_capacities l.states.items ≡ all_base_capacities l.initial.states.items;
-  capacity : vec_capacity l.states ≡ vec_capacity l.initial.states;
+  capacities : all_base_capacities l.states ≡ all_base_capacities l.initial.states;
 }

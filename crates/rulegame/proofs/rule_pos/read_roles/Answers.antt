@@ -1,11 +1,11 @@
-use Rattle.std.proofs.Common.{◌≡◌, ◌∷◌, ◌++◌, ℕ, List, length, false, get_or, vec_capacity, sym, ap, ◌∙◌, arith}
+use Rattle.std.proofs.Common.{◌≡◌, ◌∷◌, ◌++◌, ℕ, List, length, false, get_or, vec_capacity, ap, ◌∙◌, arith}
 use Rattle.std.specs.Prelude.{flat_map}
 use Rattle.std.proofs.Math.ListN.{set}
 use Rattle.ground.specs.Grounds.{texts_at}
 use Rattle.ground.specs.GroundView.{inputs_of, kinds_of}
 use Rattle.rulebook.specs.declared.role_state.RoleState.{RoleState}
 use Rattle.rulebook.specs.RuleState.{IsRoleRead, role_capacities, all_capacities}
-use Rattle.rulebook.proofs.Facts.{flat_map-set, room_set, read_more}
+use Rattle.rulebook.proofs.Facts.{flat_map-set, read_more}
 use Rattle.rulegame.specs.RuleRoom.{mark_capacities}
 use Rattle.rulegame.proofs.RuleRooms.{marks_set, marks_room}
 use Rattle.rulegame.proofs.rule_pos.read_roles.Goals as goal

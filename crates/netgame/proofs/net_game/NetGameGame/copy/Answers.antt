@@ -11,20 +11,23 @@ pub returns-clause-fits : goal.returns-clause-fits
 returns-clause-fits c =
     let g = c.args.self.now.played in
     let n = length g.starts.items in
-    let from = c.args.p.now.roles.items in
+    let from = c.args.p.now.state.roles.items in
     let new = c.copy_roles.new.to.items in
     let same = c.copy_from_slice.ensures.items ∙ c.deref.ensures.value in
     let copied : AreCopied from new = subst (λ (fs : List RoleState). AreCopied fs new) c.deref-2.ensures.value c.copy_roles.ensures.copied in
     record {
-      room = record {
-        lanes = ap length same ∙ c.requires.from.room.lanes;
-        turn = c.requires.to.room.turn;
-        many = c.requires.to.room.many;
-        roles = copied_room (inputs_of g) from new c.requires.from.room.roles (c.copy_roles.ensures.size ∙ c.requires.to.room.roles.size) copied;
+      state = record {
+        room = record {
+          lanes = ap length same ∙ c.requires.from.state.room.lanes;
+          roles = copied_room (inputs_of g) from new c.requires.from.state.room.roles
+              (c.copy_roles.ensures.size ∙ c.requires.to.state.room.roles.size) copied;
+        };
+        spread = subst AreSpread (sym same) c.requires.from.state.spread;
+        ended = c.requires.from.state.ended ∙ ap (λ (ws : List ℕ). ends (kinds_of g) (holds_in g (lane_state ws n 0))) (sym same);
+        roles = subst (λ (ws : List ℕ). AreRead (kinds_of g) (holds_in g (lane_state ws n 0)) (inputs_of g) new) (sym same)
+            (copied_read (kinds_of g) (holds_in g (lane_state c.args.p.now.state.lanes.items n 0)) (inputs_of g) from new
+            c.requires.from.state.room.roles copied c.requires.from.state.roles);
       };
-      spread = subst AreSpread (sym same) c.requires.from.spread;
-      ended = c.requires.from.ended ∙ ap (λ (ws : List ℕ). ends (kinds_of g) (holds_in g (lane_state ws n 0))) (sym same);
-      roles = subst (λ (ws : List ℕ). AreRead (kinds_of g) (holds_in g (lane_state ws n 0)) (inputs_of g) new) (sym same)
-          (copied_read (kinds_of g) (holds_in g (lane_state c.args.p.now.lanes.items n 0)) (inputs_of g) from new c.requires.from.room.roles
-          copied c.requires.from.roles);
+      turn = c.requires.to.turn;
+      many = c.requires.to.many;
     }
