@@ -54,6 +54,13 @@ fn each_role_has_its_value_and_choice(rt: HostRuntime) -> Result<(), AllocError>
         10
     );
     assert_eq!(rt; choice(&LEVEL, &start, ask(2, 1, Zero), &mut room), Some(0));
+    Ok(())
+}
+
+#[test]
+fn state_without_a_turn_is_worth_nothing(rt: HostRuntime) -> Result<(), AllocError> {
+    let mut room = Room::new(rt.alloc(), &LEVEL, 1)?;
+    let start = LEVEL.fresh()?;
     assert_eq!(rt;
         value_in(&LEVEL, &start, ask(0, 0, Zero), -1, 101, &mut room),
         0
