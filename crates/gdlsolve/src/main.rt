@@ -11,7 +11,7 @@ mod working;
 
 pub use commands::main_with;
 pub use fault::RunFault;
-pub use replies::{Command, Status};
+pub use replies::{Command, Inquiry, Sought, Status};
 pub use running::{run, run_rules};
 use std::io::{ErrorKind, Read, Write};
 use std::process::ExitCode;

@@ -1,20 +1,15 @@
 //! The reply to a command, with its search shared by workers.
-ghost use Rattle.std.specs.Prelude.{◌≡◌, ◌<◌, IfOk, IfErr};
-ghost use Rattle.ground.specs.GroundView.{IsGround};
-ghost use Rattle.listing.specs.Progress.{IsFaultOf};
-ghost use Rattle.statement.specs.Limits.{excess_in};
-ghost use Rattle.rules.specs.RuleSetView.{rules_in};
+ghost use Rattle.std.specs.Prelude.{◌≡◌, ◌<◌, IfOk};
 ghost use Rattle.statement.specs.Answers.{answer};
 ghost use Rattle.replies.specs.Histories.{named};
-ghost use Rattle.replies.specs.Questions.{reply_of};
+ghost use Rattle.replies.specs.Replies.{reply_of};
 ghost use Rattle.statement.specs.Replies.{IsReply};
-ghost use Rattle.words.specs.Asked.{query_of};
+ghost use Rattle.words.specs.Asked.{query_about, query_of};
 ghost use Rattle.statement.specs.Solving.{solve_lines};
 
 use game::Game;
-use ground::{FlatGround, GroundFault, instantiate_flat};
-use replies::{Command, Means, Player, Question, Reply, Search, ask};
-use rules::RuleSet;
+use ground::instantiate_flat;
+use replies::{Asked, Command, Inquiry, Player, Reading, Reply, Search, ask, check, read, show};
 use share::{Gate, solve};
 use std::alloc::AllocError;
 use std::thread::Threads;
@@ -47,6 +42,29 @@ pub(crate) fn told_by_workers<T: Threads + Sync + AllocGlobal, G: Game + Drop>(
     search.told(rt.alloc(), found)
 }
 
+/// The reply to an inquiry over the bytes of the input.
+fn inquired_by_workers<T: Threads + Sync + AllocGlobal>(
+    rt: &T,
+    player: Player,
+    inquiry: &Inquiry,
+    bytes: &[u8],
+) -> Result<Reply, AllocError>
+    ensures { IfOk result (λ reply. IsReply (query_about inquiry.now) bytes.now (reply_of reply)) }
+{
+    let alloc = rt.alloc();
+    let rules = match read(alloc, bytes)? {
+        Reading::Rules(rules) => rules,
+        Reading::Refused(reply) => return Ok(reply),
+    };
+    let instantiated = instantiate_flat(rt, &rules);
+    drop(rules);
+    match ask(alloc, player, inquiry, instantiated)? {
+        Asked::Told(reply) => Ok(reply),
+        Asked::Network(search) => told_by_workers(rt, search),
+        Asked::Rules(search) => told_by_workers(rt, search),
+    }
+}
+
 /// The reply to a command over the bytes of the input. It fails only for want of memory.
 pub(crate) fn reply_by_workers<T: Threads + Sync + AllocGlobal>(
     rt: &T,
@@ -56,17 +74,9 @@ pub(crate) fn reply_by_workers<T: Threads + Sync + AllocGlobal>(
 ) -> Result<Reply, AllocError>
     ensures { IfOk result (λ reply. IsReply (query_of command.now) bytes.now (reply_of reply)) }
 {
-    let instantiate_here = |rules: &RuleSet| -> Result<FlatGround, GroundFault>
-        ensures ground { IfOk result (λ g. IsGround (rules_in rules.now) g) }
-        ensures fault { IfErr result (IsFaultOf (excess_in (rules_in rules.now))) }
-    { instantiate_flat(rt, rules) };
-    let means = Means {
-        alloc: rt.alloc(),
-        instantiate: &instantiate_here,
-    };
-    match ask(&means, player, command, bytes)? {
-        Question::Told(reply) => Ok(reply),
-        Question::Network(search) => told_by_workers(rt, search),
-        Question::Rules(search) => told_by_workers(rt, search),
+    match command {
+        Command::Show => show(rt.alloc(), bytes),
+        Command::Check => check(rt.alloc(), bytes),
+        Command::Ask(inquiry) => inquired_by_workers(rt, player, inquiry, bytes),
     }
 }

@@ -7,7 +7,7 @@ use Rattle.statement.specs.declared.status.Status.TheVariants.{Answer, Refused}
 use Rattle.words.specs.declared.grammar.Request.{Request}
 use Rattle.words.specs.declared.grammar.Request.TheVariants.{Run, Help, Misuse}
 use Rattle.words.specs.Asked.{query_of}
-use Rattle.replies.specs.Questions.{reply_of}
+use Rattle.replies.specs.Replies.{reply_of}
 use Rattle.statement.specs.Replies.{IsReply}
 use Rattle.gdlsolve_c.specs.declared.told.Told.{Told}
 use Rattle.gdlsolve_c.specs.declared.told.Told.TheVariants.{Reply, Words}

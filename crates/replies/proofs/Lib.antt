@@ -17,6 +17,7 @@ mod OneSolve
 mod NoRole
 mod OneNet
 mod Measuring
-mod Questions
+mod Searches
+mod ReadAndAsked
 mod Exact
 pub mod Facts

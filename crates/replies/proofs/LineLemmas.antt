@@ -1,14 +1,10 @@
 -- The line of play, one turn at a time.
-use Rattle.std.proofs.Common.{◌≡◌, ℕ, zero, suc, ◌+◌, ◌-◌, ◌<◌, ◌≤◌, Bool, true, false, cond, List, [], ◌∷◌}
-use Rattle.std.proofs.Common.{◌++◌, refl, sym, ap, ◌∙◌, arith, append_assoc, Option, Some, None}
+use Rattle.std.proofs.Common.{◌≡◌, ℕ, zero, suc, Bool, true, false, cond, List, [], ◌∷◌}
+use Rattle.std.proofs.Common.{arith, Some, None}
 use Rattle.std.specs.Prelude.{find, Contains, ◌==◌, ◌||◌}
-use Rattle.std.specs.Option.{option_map_or}
-use Rattle.std.proofs.lemmas.List.{append-nil}
 use Rattle.statement.specs.declared.at_bound.AtBound.{AtBound}
-use Rattle.statement.specs.NamedRules.{NamedRules}
-use Rattle.statement.specs.Rules.{Rules, State, Turn, is_stuck}
-use Rattle.statement.specs.Value.{value, worst, choice_of, reply_of, line_of}
-use Rattle.statement.specs.Solving.{turn_line, turn_lines}
+use Rattle.statement.specs.Rules.{Rules, State, is_stuck}
+use Rattle.statement.specs.Value.{value, worst, choice_of}
 
 found_among : (p : ℕ → Bool) (xs : List ℕ) (x : ℕ) → find p xs ≡ Some x → Contains xs x
 found_among p [] x h = absurd cc

@@ -9,6 +9,7 @@ use Rattle.statement.specs.Rules.{State}
 use Rattle.statement.specs.declared.status.Status.TheVariants.{Refused}
 use Rattle.replies.specs.declared.reply.Reply as shown
 use Rattle.statement.specs.Answers.{Reply, refusal}
+use Rattle.replies.specs.Replies.{reply_of}
 use Rattle.statement.specs.Histories.{IsHistoryOf}
 use Rattle.statement.specs.Moving.{history_reply}
 use Rattle.statement.specs.Solving.{IsRoleNamed, IsSolveReply, solve_lines}
@@ -16,9 +17,9 @@ use Rattle.statement.specs.Solving.{IsRoleNamed, IsSolveReply, solve_lines}
 pub no_role : {E : Type 0} (g : NamedRules) (role : List ℕ) (depth : ℕ) (at : AtBound) (after : List ℕ) (r : Result shown.Reply E)
     → IsRoleNamed g role None
     → IfOk r (λ reply. reply.output.items ≡ refusal_line (codes "S1 NoSuchRole")) → IfOk r (λ reply. reply.status ≡ Refused)
-    → IfOk r (λ reply. IsSolveReply g role depth at after (record { output = reply.output.items; status = reply.status }))
+    → IfOk r (λ reply. IsSolveReply g role depth at after (reply_of reply))
 no_role g role depth at after (Ok reply) none line status =
-    let same : record { output = reply.output.items; status = reply.status } ≡ refusal (codes "S1 NoSuchRole") = cc (line, status) in
+    let same : reply_of reply ≡ refusal (codes "S1 NoSuchRole") = cc (line, status) in
     inl (none, same)
 no_role g role depth at after (Err e) none line status = tt
 

@@ -1,5 +1,6 @@
 pub mod Histories
 pub mod Play
 pub mod Games
-pub mod Questions
-pub mod Instantiators
+pub mod Replies
+pub mod Asking
+pub mod Readings

@@ -1,30 +1,24 @@
-//! The reply to a command, with its search done by the calling thread.
-ghost use Rattle.std.specs.Prelude.{◌≡◌, ◌<◌, pos, IfOk, IfErr};
-ghost use Rattle.ground.specs.GroundView.{IsGround};
-ghost use Rattle.listing.specs.Progress.{IsFaultOf};
-ghost use Rattle.statement.specs.Limits.{excess_in};
-ghost use Rattle.rules.specs.RuleSetView.{rules_in};
+//! The reply to a command, with all the work done by the calling thread.
+ghost use Rattle.std.specs.Prelude.{◌≡◌, ◌<◌, pos, IfOk};
 ghost use Rattle.statement.specs.Value.{value, choice_of};
 ghost use Rattle.statement.specs.Answers.{answer};
 ghost use Rattle.replies.specs.Histories.{named};
-ghost use Rattle.replies.specs.Questions.{reply_of};
+ghost use Rattle.replies.specs.Replies.{reply_of};
 ghost use Rattle.statement.specs.Replies.{IsReply};
-ghost use Rattle.words.specs.Asked.{query_of};
+ghost use Rattle.words.specs.Asked.{query_about, query_of};
 ghost use Rattle.statement.specs.Solving.{solve_lines};
 
-use crate::answering::ask;
+use crate::asking::{Asked, ask};
 use crate::games::Player;
-use crate::means::Means;
-use crate::question::Question;
+use crate::reading::{Reading, check, read, show};
 use crate::reply::Reply;
 use crate::search::Search;
 use game::{Game, is_stuck};
-use ground::{FlatGround, GroundFault, instantiate_flat_alone};
+use ground::instantiate_flat_alone;
 use maximin::{Room, value_and_choice, value_in};
-use rules::RuleSet;
 use share::Answer;
-use std::alloc::{AllocError, Global};
-use words::Command;
+use std::alloc::{AllocError, AllocGlobal, Global};
+use words::{Command, Inquiry};
 
 /// The value and the first best move of a search, which one search of the state tells.
 fn found_alone<G: Game + Drop>(alloc: Global, search: &Search<G>) -> Result<Answer, AllocError>
@@ -58,10 +52,7 @@ fn found_alone<G: Game + Drop>(alloc: Global, search: &Search<G>) -> Result<Answ
 }
 
 /// The reply after a search, which the calling thread does.
-pub(crate) fn told_alone<G: Game + Drop>(
-    alloc: Global,
-    search: Search<G>,
-) -> Result<Reply, AllocError>
+fn told_alone<G: Game + Drop>(alloc: Global, search: Search<G>) -> Result<Reply, AllocError>
     requires fits { G.fits search.game search.here }
     requires role { search.role < (G.rules search.game).roles }
     ensures { IfOk result (λ reply. reply_of reply ≡ answer (solve_lines
@@ -70,6 +61,29 @@ pub(crate) fn told_alone<G: Game + Drop>(
 {
     let found = found_alone(alloc, &search)?;
     search.told(alloc, found)
+}
+
+/// The reply to an inquiry over the bytes of the input.
+fn inquired_alone<T: AllocGlobal>(
+    rt: &T,
+    player: Player,
+    inquiry: &Inquiry,
+    bytes: &[u8],
+) -> Result<Reply, AllocError>
+    ensures { IfOk result (λ reply. IsReply (query_about inquiry.now) bytes.now (reply_of reply)) }
+{
+    let alloc = rt.alloc();
+    let rules = match read(alloc, bytes)? {
+        Reading::Rules(rules) => rules,
+        Reading::Refused(reply) => return Ok(reply),
+    };
+    let instantiated = instantiate_flat_alone(rt, &rules);
+    drop(rules);
+    match ask(alloc, player, inquiry, instantiated)? {
+        Asked::Told(reply) => Ok(reply),
+        Asked::Network(search) => told_alone(alloc, search),
+        Asked::Rules(search) => told_alone(alloc, search),
+    }
 }
 
 /// The reply to a command over the bytes of the input, by the calling thread alone. It fails only for want of memory.
@@ -81,17 +95,9 @@ pub fn reply_alone<T: AllocGlobal>(
 ) -> Result<Reply, AllocError>
     ensures { IfOk result (λ reply. IsReply (query_of command.now) bytes.now (reply_of reply)) }
 {
-    let instantiate = |rules: &RuleSet| -> Result<FlatGround, GroundFault>
-        ensures ground { IfOk result (λ g. IsGround (rules_in rules.now) g) }
-        ensures fault { IfErr result (IsFaultOf (excess_in (rules_in rules.now))) }
-    { instantiate_flat_alone(rt, rules) };
-    let means = Means {
-        alloc: rt.alloc(),
-        instantiate: &instantiate,
-    };
-    match ask(&means, player, command, bytes)? {
-        Question::Told(reply) => Ok(reply),
-        Question::Network(search) => told_alone(rt.alloc(), search),
-        Question::Rules(search) => told_alone(rt.alloc(), search),
+    match command {
+        Command::Show => show(rt.alloc(), bytes),
+        Command::Check => check(rt.alloc(), bytes),
+        Command::Ask(inquiry) => inquired_alone(rt, player, inquiry, bytes),
     }
 }

@@ -1,76 +1,61 @@
-//! From a game, a role and a history to the search that is asked for.
-ghost use Rattle.std.specs.Prelude.{◌≡◌, ◌<◌, IfOk, Result};
-ghost use Rattle.statement.specs.Rules.{State};
-ghost use Rattle.statement.specs.declared.history_fault.HistoryFault.{HistoryFault};
-ghost use Rattle.replies.specs.Histories.{named};
-ghost use Rattle.statement.specs.Histories.{IsHistoryOf};
-ghost use Rattle.statement.specs.Moving.{history_reply};
-ghost use Rattle.replies.specs.Questions.{IsAskedOf};
-ghost use Rattle.statement.specs.Solving.{solve_lines, IsSolveReply};
+//! From an instantiation to the reply, or to the search after which there is one.
+ghost use Rattle.std.specs.Prelude.{IfOk, Ok};
+ghost use Rattle.replies.specs.Asking.{IsAsked};
+ghost use Rattle.replies.specs.Readings.{IsReplyOver};
+ghost use Rattle.words.specs.Asked.{query_about};
 
-use crate::history::{position_after, refused_history};
+use crate::games::{Player, ask_solve, reply_to_moves};
 use crate::reply::{Reply, refused};
-use crate::roles::role_named;
 use crate::search::Search;
-use cut::Cut;
-use game::{AtBound, Game, HistoryFault};
+use crate::sizes::reply_to_net;
+use ground::{FlatGround, GroundFault};
+use position::{NetGame, RuleGame};
 use std::alloc::{AllocError, Global};
+use words::Inquiry;
 
-/// What a question about best play comes to.
+/// What asking comes to: the reply, or the search after which there is one.
 #[derive(Drop)]
-pub(crate) enum Asked<G: Game + Drop> {
-    /// The reply, which names a fault.
+pub enum Asked {
+    /// The reply.
     Told(Reply),
-    /// The search that is left to do.
-    Open(Search<G>),
+    /// A search of the game over the network of the rules.
+    Network(Search<NetGame>),
+    /// A search of the game over the kept instances of the rules.
+    Rules(Search<RuleGame>),
 }
 
-/// The search for a role after a history, or the line that names the fault of the history.
-fn ask_for<G: Game + Drop>(
+/// What is asked of the ground of rules comes to this.
+fn ask_ground(
     alloc: Global,
-    game: G,
-    role: usize,
-    depth: u32,
-    at: AtBound,
-    cut: Cut,
-    after: &str,
-) -> Result<Asked<G>, AllocError>
-    requires { role < (G.rules game).roles }
-    ensures { IfOk result (IsAskedOf G.fits (λ g. named (G.rules g) (G.role_name g) (G.move_name g)) G.state
-        (λ reply. (ended : Result State HistoryFault) × IsHistoryOf (named (G.rules game) (G.role_name game) (G.move_name game)) after.now ended
-        × (reply ≡ history_reply (named (G.rules game) (G.role_name game) (G.move_name game))
-        (solve_lines (named (G.rules game) (G.role_name game) (G.move_name game)) role depth at) ended))) }
+    player: Player,
+    inquiry: &Inquiry,
+    ground: FlatGround,
+) -> Result<Asked, AllocError>
+    ensures { IfOk result (IsAsked (IsReplyOver (query_about inquiry.now) (Ok ground))) }
 {
-    match position_after(alloc, &game, after) {
-        Ok(here) => Ok(Asked::Open(Search {
-            game,
-            here,
-            role,
-            depth,
-            at,
-            cut,
-        })),
-        Err(HistoryFault::NoMemory) => Err(AllocError),
-        Err(fault) => Ok(Asked::Told(refused_history(alloc, &game, fault)?)),
+    match inquiry {
+        Inquiry::Net => Ok(Asked::Told(reply_to_net(alloc, &ground)?)),
+        Inquiry::Moves { after } => {
+            Ok(Asked::Told(reply_to_moves(alloc, player, ground, after)?))
+        }
+        Inquiry::Solve(sought) => ask_solve(alloc, player, ground, sought),
     }
 }
 
-/// The search for the role of a text, within so many turns, after the history of a text, or a line that names the fault of the role or
-/// else of the history.
-pub(crate) fn ask_best<G: Game + Drop>(
+/// What is asked of the instantiation of rules comes to this: the line that names the limit that they pass, or what is told of their
+/// ground, or for `solve`, over a role and a history without a fault, the search after which that is told. The player plays the game.
+/// It fails only for want of memory.
+pub fn ask(
     alloc: Global,
-    game: G,
-    role: &str,
-    depth: u32,
-    at: AtBound,
-    cut: Cut,
-    after: &str,
-) -> Result<Asked<G>, AllocError>
-    ensures { IfOk result (IsAskedOf G.fits (λ g. named (G.rules g) (G.role_name g) (G.move_name g)) G.state
-        (IsSolveReply (named (G.rules game) (G.role_name game) (G.move_name game)) role.now depth at after.now)) }
+    player: Player,
+    inquiry: &Inquiry,
+    instantiated: Result<FlatGround, GroundFault>,
+) -> Result<Asked, AllocError>
+    ensures { IfOk result (IsAsked (IsReplyOver (query_about inquiry.now) instantiated)) }
 {
-    match role_named(alloc, &game, role)? {
-        Some(number) => ask_for(alloc, game, number, depth, at, cut, after),
-        None => Ok(Asked::Told(refused(alloc, &"S1 NoSuchRole")?)),
+    match instantiated {
+        Ok(ground) => ask_ground(alloc, player, inquiry, ground),
+        Err(GroundFault::NoMemory) => Err(AllocError),
+        Err(fault) => Ok(Asked::Told(refused(alloc, &fault)?)),
     }
 }

@@ -1,31 +1,31 @@
-//! The reply to each command over rules as bytes, up to the search that it may ask for, and that search by the calling thread.
+//! The reply to each command over rules as bytes. `show` and `check` are each a call. What is asked of an instantiation is three: `read` takes
+//! the bytes to their rules, the caller instantiates these, and `ask` takes the instantiation to the reply, or to a search that the caller
+//! does. `reply_alone` does all that by the calling thread.
 #![tactic(auto)]
 
 mod alone;
-mod answering;
 mod asking;
+mod best_play;
 mod games;
-mod grounding;
 mod history;
 mod laws;
-mod means;
 mod moving;
 mod play;
-mod question;
+mod reading;
 mod reply;
 mod roles;
 mod search;
+mod sizes;
 mod solving;
 #[cfg(test)]
 mod tests;
 
 pub use alone::reply_alone;
-pub use answering::ask;
+pub use asking::{Asked, ask};
 pub use games::Player;
 pub use laws::each_input_has_one_reply;
-pub use means::Means;
-pub use question::Question;
+pub use reading::{Reading, check, read, show};
 pub use reply::Reply;
 pub use search::Search;
 pub use statement::Status;
-pub use words::{Command, Request, request_of};
+pub use words::{Command, Inquiry, Request, Sought, request_of};

@@ -1,10 +1,8 @@
 //! The memory of a search, and of the line of play that it finds.
 ghost use Rattle.std.specs.Prelude.{◌≡◌, ◌<◌, ◌≤◌, ◌-◌, pos, IfOk, Some};
-ghost use Rattle.smallvec.specs.SmallVec.{small_vec_len};
-ghost use Rattle.statement.specs.Rules.{IsTurn};
-ghost use Rattle.statement.specs.Value.{value, choice_of, reply_of};
+ghost use Rattle.statement.specs.Value.{value, choice_of};
 ghost use Rattle.maximin.specs.Room.{room_depth};
-ghost use Rattle.replies.specs.Play.{IsPlayOf};
+ghost use Rattle.replies.specs.Play.{IsPlayOf, IsTurnOf};
 
 use game::{AtBound, Game, Joint, Question, new_joint};
 use maximin::{Room, reply_by_value};
@@ -47,10 +45,8 @@ impl<G: Game> Play<G> {
         requires deep { depth ≤ room_depth self.old.room }
         requires own { choice_of (G.rules g.now) role depth at (G.state g.now self.old.here) ≡ Some own }
         requires worth { worth ≡ pos (value (G.rules g.now) role depth at (G.state g.now self.old.here)) }
-        ensures reply { reply_of (G.rules g.now) role (depth - 1) at (G.state g.now self.old.here) own ≡ Some self.new.joint.items }
-        ensures turn { IsTurn (G.rules g.now) self.new.joint.items }
-        ensures after { G.state g.now self.new.here ≡ (G.rules g.now).after (G.state g.now self.old.here) self.new.joint.items }
-        ensures worth { worth ≡ pos (value (G.rules g.now) role (depth - 1) at (G.state g.now self.new.here)) }
+        ensures turn { IsTurnOf (G.rules g.now) role (depth - 1) at (G.state g.now self.old.here) own worth self.new.joint.items
+            (G.state g.now self.new.here) }
         ensures play { IsPlayOf G.Game g.now self.new }
         ensures deep { room_depth self.new.room ≡ room_depth self.old.room }
     {

@@ -3,7 +3,7 @@ ghost use Rattle.std.specs.Prelude.{◌≡◌, ◌<◌, pos, IfOk};
 ghost use Rattle.statement.specs.Value.{value, choice_of};
 ghost use Rattle.statement.specs.Answers.{answer};
 ghost use Rattle.replies.specs.Histories.{named};
-ghost use Rattle.replies.specs.Questions.{reply_of};
+ghost use Rattle.replies.specs.Replies.{reply_of};
 ghost use Rattle.statement.specs.Solving.{solve_lines};
 
 use crate::reply::{Reply, answered};

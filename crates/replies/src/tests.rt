@@ -5,7 +5,7 @@ use cut::Cut;
 use game::AtBound;
 use statement::Status;
 use std::alloc::{AllocError, AllocGlobal};
-use words::Command;
+use words::{Command, Inquiry, Sought};
 
 /// A role, a depth, a history, what is written, and whether it is an answer.
 type Row<'a> = (&'a str, u32, &'a str, &'a [u8], bool);
@@ -47,13 +47,13 @@ fn solves_by<T: AllocGlobal>(
     };
     let mut rules = Vec::from_slice(rt.alloc(), CUBE)?;
     rules.extend_from_slice(cells)?;
-    let command = Command::Solve {
+    let command = Command::Ask(Inquiry::Solve(Sought {
         role,
         depth,
         at_bound: AtBound::Zero,
         cut,
         after,
-    };
+    }));
     let reply = reply_alone(rt, player, &command, &rules)?;
     let wanted = if answers {
         Status::Answer

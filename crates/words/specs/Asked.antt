@@ -1,12 +1,17 @@
 -- What a command asks of the rules.
 use Rattle.words.specs.declared.command.Command.{Command}
-use Rattle.words.specs.declared.command.Command.TheVariants.{Show, Check, Net, Moves, Solve}
+use Rattle.words.specs.declared.command.Command.TheVariants.{Show, Check, Ask}
+use Rattle.words.specs.declared.command.Inquiry.{Inquiry}
+use Rattle.words.specs.declared.command.Inquiry.TheVariants.{Net, Moves, Solve}
 use Rattle.statement.specs.Queries.{Query, show, check, net, moves, solve}
 
 -- the cut is no part of it
+abbrev pub query_about : Inquiry → Query
+query_about Net = net
+query_about (Moves after) = moves after.now
+query_about (Solve sought) = solve sought.role.now sought.depth sought.at_bound sought.after.now
+
 abbrev pub query_of : Command → Query
 query_of Show = show
 query_of Check = check
-query_of Net = net
-query_of (Moves after) = moves after.now
-query_of (Solve role depth at cut after) = solve role.now depth at after.now
+query_of (Ask inquiry) = query_about inquiry

@@ -9,6 +9,13 @@ pub enum Command<'a> {
     Show,
     /// Names the first fault of the description, or counts what it has.
     Check,
+    /// Asks the instantiation of the rules, and names a fault of theirs or a limit that they pass first.
+    Ask(Inquiry<'a>),
+}
+
+/// What is asked of the instantiation of rules.
+#[derive(Clone, Copy, Debug, PartialEq, Eq)]
+pub enum Inquiry<'a> {
     /// Counts the base propositions, the inputs, the kept instances, the heads without effect on play, and the nodes of the network.
     Net,
     /// Tells how play stands after a history: the goal of each role where the game has ended, else the
@@ -18,16 +25,20 @@ pub enum Command<'a> {
         after: &'a str,
     },
     /// Tells what a role can be sure of after a history, the move that makes sure of it, and the line of play.
-    Solve {
-        /// The text of the role.
-        role: &'a str,
-        /// How many turns are looked ahead.
-        depth: u32,
-        /// What a state in which play goes on is worth where these turns are over.
-        at_bound: AtBound,
-        /// How many threads search, and the parts of what.
-        cut: Cut,
-        /// The text of the history, as of `Moves`.
-        after: &'a str,
-    },
+    Solve(Sought<'a>),
+}
+
+/// The best play that is sought.
+#[derive(Clone, Copy, Debug, PartialEq, Eq)]
+pub struct Sought<'a> {
+    /// The text of the role.
+    pub role: &'a str,
+    /// How many turns are looked ahead.
+    pub depth: u32,
+    /// What a state in which play goes on is worth where these turns are over.
+    pub at_bound: AtBound,
+    /// How many threads search, and the parts of what. The reply does not depend on it.
+    pub cut: Cut,
+    /// The text of the history, as of `Moves`.
+    pub after: &'a str,
 }

@@ -1,5 +1,5 @@
 //! The words of the command line: the commands and their options, and the texts of their help.
-use crate::command::Command;
+use crate::command::{Command, Inquiry, Sought};
 use clap::error::ErrorKind;
 use cut::Cut;
 use statement::AtBound;
@@ -161,13 +161,13 @@ fn solve_command<'a>(options: &clap::ArgMatches<'a>) -> Option<Result<Command<'a
     let Some(at_bound) = AtBound::parse(options.get_str("at-bound")?.as_bytes()) else {
         return Some(Err("bad bound"));
     };
-    Some(Ok(Command::Solve {
+    Some(Ok(Command::Ask(Inquiry::Solve(Sought {
         role: options.get_str("role")?,
         depth: options.get_one("depth")?,
         at_bound,
         cut,
         after: options.get_str("after").unwrap_or(""),
-    }))
+    }))))
 }
 
 /// The command that was matched, or why there is none.
@@ -175,10 +175,10 @@ fn matched<'a>(matches: &clap::ArgMatches<'a>) -> Option<Result<Command<'a>, &'s
     match matches.subcommand()? {
         ("show", _) => Some(Ok(Command::Show)),
         ("check", _) => Some(Ok(Command::Check)),
-        ("net", _) => Some(Ok(Command::Net)),
-        ("moves", options) => Some(Ok(Command::Moves {
+        ("net", _) => Some(Ok(Command::Ask(Inquiry::Net))),
+        ("moves", options) => Some(Ok(Command::Ask(Inquiry::Moves {
             after: options.get_str("after").unwrap_or(""),
-        })),
+        }))),
         ("solve", options) => solve_command(options),
         _ => None,
     }

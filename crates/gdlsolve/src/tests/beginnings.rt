@@ -1,7 +1,7 @@
 //! Games cut after each byte. Each beginning is answered, through a run and through the command line.
 use super::games::{FOUR, MARKS, MATCH};
 use super::told;
-use crate::{Command, Status, run};
+use crate::{Command, Inquiry, Sought, Status, run};
 use cut::Cut;
 use game::AtBound;
 use std::alloc::{AllocError, Global};
@@ -116,7 +116,7 @@ fn each_beginning_is_checked(rt: HostRuntime) -> Result<(), AllocError> {
 #[test]
 fn each_beginning_is_counted(rt: HostRuntime) -> Result<(), AllocError> {
     for (game, _) in GAMES {
-        let first = first_unanswered(&rt, &Command::Net, &["net"], game, "base ")?;
+        let first = first_unanswered(&rt, &Command::Ask(Inquiry::Net), &["net"], game, "base ")?;
         assert!(rt; first.is_none(), "at {first:?} of {game:?}");
     }
     Ok(())
@@ -125,7 +125,7 @@ fn each_beginning_is_counted(rt: HostRuntime) -> Result<(), AllocError> {
 #[test]
 fn each_beginning_is_played(rt: HostRuntime) -> Result<(), AllocError> {
     for (game, _) in GAMES {
-        let command = Command::Moves { after: "" };
+        let command = Command::Ask(Inquiry::Moves { after: "" });
         let first = first_unanswered(&rt, &command, &["moves"], game, "state ")?;
         assert!(rt; first.is_none(), "at {first:?} of {game:?}");
     }
@@ -141,13 +141,13 @@ fn first_unsolved<T: Threads + Sync + AllocGlobal>(
     let Some(cut) = Cut::parse(b"1") else {
         return Ok(Some(0));
     };
-    let command = Command::Solve {
+    let command = Command::Ask(Inquiry::Solve(Sought {
         role,
         depth: 1,
         at_bound: AtBound::Zero,
         cut,
         after: "",
-    };
+    }));
     let words = ["solve", "--role", role, "--depth", "1"];
     first_unanswered(rt, &command, &words, game, "value ")
 }

@@ -2,7 +2,7 @@
 use super::games::MATCH;
 use super::lines::OPEN;
 use super::{replies, told};
-use crate::Command;
+use crate::{Command, Inquiry, Sought};
 use cut::Cut;
 use game::AtBound;
 use std::alloc::AllocError;
@@ -23,13 +23,13 @@ fn solves<T: Threads + Sync + AllocGlobal>(rt: &T, row: Row) -> Result<bool, All
     let Some(cut) = Cut::parse(b"1") else {
         return Ok(false);
     };
-    let command = Command::Solve {
+    let command = Command::Ask(Inquiry::Solve(Sought {
         role,
         depth,
         at_bound,
         cut,
         after: "",
-    };
+    }));
     let words = [
         "solve",
         "--role",

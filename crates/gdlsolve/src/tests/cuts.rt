@@ -2,7 +2,7 @@
 use super::games::{FOUR, LIVE, MARKS, SIXTEEN};
 use super::lines::{MARKED, OPEN};
 use super::{replies, told};
-use crate::Command;
+use crate::{Command, Inquiry, Sought};
 use cut::Cut;
 use game::AtBound;
 use std::alloc::{AllocError, Global};
@@ -27,13 +27,13 @@ fn solves<T: Threads + Sync + AllocGlobal>(
     ) else {
         return Ok(false);
     };
-    let command = Command::Solve {
+    let command = Command::Ask(Inquiry::Solve(Sought {
         role,
         depth,
         at_bound,
         cut,
         after: "",
-    };
+    }));
     let words = [
         "solve",
         "--role",

@@ -1,7 +1,7 @@
 //! Games and what `solve` answers, through a run and through the command line.
 use super::games::{FOUR, LIVE, MARKS, MATCH, SIXTEEN};
 use super::{replies, told};
-use crate::Command;
+use crate::{Command, Inquiry, Sought};
 use cut::Cut;
 use game::AtBound;
 use std::alloc::AllocError;
@@ -17,13 +17,13 @@ fn solves<T: Threads + Sync + AllocGlobal>(rt: &T, row: Row) -> Result<bool, All
     let Some(cut) = Cut::parse(b"1") else {
         return Ok(false);
     };
-    let command = Command::Solve {
+    let command = Command::Ask(Inquiry::Solve(Sought {
         role,
         depth,
         at_bound: AtBound::Zero,
         cut,
         after,
-    };
+    }));
     let words = [
         "solve",
         "--role",

@@ -1,7 +1,7 @@
 //! Histories and what `moves` answers, through a run and through the command line.
 use super::games::{MARKS, MATCH, SIXTEEN};
 use super::{replies, told};
-use crate::Command;
+use crate::{Command, Inquiry};
 use std::alloc::{AllocError, Global};
 use std::test::Fail;
 use std::thread::Threads;
@@ -178,7 +178,7 @@ fn moves<T: Threads + Sync + AllocGlobal>(
     want: &[u8],
     exit: u8,
 ) -> bool {
-    let command = Command::Moves { after };
+    let command = Command::Ask(Inquiry::Moves { after });
     replies(rt, &command, &["moves", "--after", after], text, want, exit)
 }
 

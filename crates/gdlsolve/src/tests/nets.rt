@@ -2,7 +2,7 @@
 use super::games::{MARKS, MATCH, SIXTEEN};
 use super::moves::UNBASED;
 use super::replies;
-use crate::Command;
+use crate::{Command, Inquiry};
 use std::alloc::{AllocError, Global};
 use std::io::Write;
 use std::test::Fail;
@@ -10,7 +10,7 @@ use std::thread::Threads;
 
 /// Whether `net` answers a description with these bytes and this exit status.
 fn counts<T: Threads + Sync + AllocGlobal>(rt: &T, text: &[u8], want: &[u8], exit: u8) -> bool {
-    replies(rt, &Command::Net, &["net"], text, want, exit)
+    replies(rt, &Command::Ask(Inquiry::Net), &["net"], text, want, exit)
 }
 
 /// A description, what `net` writes for it, and the exit status.

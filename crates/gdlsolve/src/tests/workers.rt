@@ -1,18 +1,11 @@
 //! The cut that words name, on its way to the workers of a search.
-ghost use Rattle.std.specs.Prelude.{IfOk, IfErr};
-ghost use Rattle.ground.specs.GroundView.{IsGround};
-ghost use Rattle.listing.specs.Progress.{IsFaultOf};
-ghost use Rattle.statement.specs.Limits.{excess_in};
-ghost use Rattle.rules.specs.RuleSetView.{rules_in};
-
 use super::games::FOUR;
 use crate::working::told_by_workers;
 use game::{Game, Joint};
-use ground::{FlatGround, GroundFault, instantiate_flat_alone};
+use ground::instantiate_flat_alone;
 use position::RuleGame;
-use replies::{Means, Player, Question, Request, Search, ask, request_of};
-use rules::RuleSet;
-use std::alloc::{AllocError, Global};
+use replies::{Asked, Command, Player, Reading, Request, Search, ask, read, request_of};
+use std::alloc::AllocError;
 use std::hint::spin_loop;
 use std::sync::atomic::{AtomicBool, AtomicUsize, Ordering};
 use std::thread::Threads;
@@ -56,19 +49,15 @@ fn search_of<T: AllocGlobal>(
     words: &[&str],
     text: &[u8],
 ) -> Result<Search<RuleGame>, AllocError> {
-    let instantiate = |rules: &RuleSet| -> Result<FlatGround, GroundFault>
-        ensures ground { IfOk result (λ g. IsGround (rules_in rules.now) g) }
-        ensures fault { IfErr result (IsFaultOf (excess_in (rules_in rules.now))) }
-    { instantiate_flat_alone(rt, rules) };
-    let means = Means {
-        alloc: rt.alloc(),
-        instantiate: &instantiate,
-    };
     let request = request_of(rt.alloc(), &*words)?;
-    let Request::Run(command) = &request else {
+    let Request::Run(Command::Ask(inquiry)) = &request else {
         return Err(AllocError);
     };
-    let Question::Rules(search) = ask(&means, Player::Rules, command, text)? else {
+    let Reading::Rules(rules) = read(rt.alloc(), text)? else {
+        return Err(AllocError);
+    };
+    let instantiated = instantiate_flat_alone(rt, &rules);
+    let Asked::Rules(search) = ask(rt.alloc(), Player::Rules, inquiry, instantiated)? else {
         return Err(AllocError);
     };
     Ok(search)

@@ -34,17 +34,12 @@ pub returns-clause-turn : goal.returns-clause-turn
 returns-clause-turn g c =
     let game = g.G.Game.rules c.args.g.now in
     let state = g.G.Game.state c.args.g.now c.args.self.now.here in
+    let joint = c.reply_by_value.new.out.items in
     let law = g.met.G.Game g.world.𝓛 g.world.𝓜 g.world.𝓡 ((λ _ x. x), (λ x. x), (λ x. x), λ x. x) in
     let own = rw c.requires.own at (choice_within game (λ s r below. law.legal_within c.args.g.now s r below) c.args.role c.args.depth c.args.at state
     c.requires.role) in
-    rw c.reply_by_value.ensures.reply.turn at (reply_within game (λ s r below. law.legal_within c.args.g.now s r below) c.args.role (c.args.depth - 1)
-    c.args.at state c.args.own own)
-
-pub returns-clause-worth : goal.returns-clause-worth
-returns-clause-worth g c =
-    let game = g.G.Game.rules c.args.g.now in
-    let state = g.G.Game.state c.args.g.now c.args.self.now.here in
-    let joint = c.reply_by_value.new.out.items in
+    let turn = rw c.reply_by_value.ensures.reply.turn at (reply_within game (λ s r below. law.legal_within c.args.g.now s r below) c.args.role (c.args.depth - 1)
+    c.args.at state c.args.own own) in
     let chosen : worst game c.args.role (c.args.depth - 1) c.args.at state c.args.own ≡ value game c.args.role c.args.depth c.args.at state =
     choice_stays game c.args.role c.args.depth c.args.at state c.args.own c.requires.own in
     let replied : value game c.args.role (c.args.depth - 1) c.args.at (game.after state joint)
@@ -52,4 +47,9 @@ returns-clause-worth g c =
     reply_stays game c.args.role (c.args.depth - 1) c.args.at state c.args.own joint c.reply_by_value.ensures.reply.turn in
     let after : g.G.Game.state c.args.g.now c.swap.new.x ≡ game.after state joint =
     ap (g.G.Game.state c.args.g.now) c.swap.ensures.x_after ∙ c.step.ensures.after in
-    rw after (c.requires.worth ∙ ap pos (sym (replied ∙ chosen)))
+    record {
+      reply = c.reply_by_value.ensures.reply.turn;
+      turn = turn;
+      after = after;
+      stays = rw after (c.requires.worth ∙ ap pos (sym (replied ∙ chosen)));
+    }

@@ -1,0 +1,62 @@
+-- What is read and then asked is the reply.
+use Rattle.std.proofs.Common.{ℕ, ◌≡◌, List, inr, sym, subst}
+use Rattle.std.specs.Prelude.{Result, Ok, Err, IfOk, IfErr}
+use Rattle.statement.specs.Tree.{Tree, list_of, trees_of}
+use Rattle.kif.proofs.Facts.{list_of-trees_of}
+use Rattle.statement.specs.Reading.{Reads}
+use Rattle.statement.specs.Items.{alternatives}
+use Rattle.statement.specs.Checking.{RefusesItems, IsCheckReply}
+use Rattle.statement.specs.Clause.{Alternative}
+use Rattle.statement.specs.Limits.{excess_in}
+use Rattle.statement.specs.Queries.{check}
+use Rattle.statement.specs.Answers.{Reply}
+use Rattle.statement.specs.Replies.{IsReply}
+use Rattle.statement.specs.declared.ground_fault.GroundFault.{GroundFault}
+use Rattle.listing.specs.Progress.{IsFaultOf}
+use Rattle.rules.specs.declared.rule_set.RuleSet.{RuleSet}
+use Rattle.rules.specs.RuleSetView.{rules_in}
+use Rattle.ground.specs.declared.flat_ground.FlatGround.{FlatGround}
+use Rattle.ground.specs.GroundView.{IsGround}
+use Rattle.words.specs.declared.command.Inquiry.{Inquiry}
+use Rattle.words.specs.Asked.{query_about}
+use Rattle.replies.specs.declared.reading.Reading.{Reading}
+use Rattle.replies.specs.declared.reading.Reading.TheVariants.{Rules, Refused}
+use Rattle.replies.specs.declared.asking.Asked.{Asked}
+use Rattle.replies.specs.declared.reply.Reply as made
+use Rattle.replies.specs.Readings.{AreRulesOf, IsReadingOf, IsReadingOfItems, IsInstantiationOf, IsReplyOver}
+use Rattle.replies.specs.Replies.{reply_of}
+use Rattle.replies.specs.Asking.{IsAsked}
+use Rattle.replies.proofs.Searches.{lift_asked}
+
+-- the rules of items that were read are those of the bytes, and so is their fault
+pub bytes_read : {E : Type 0} (bytes : List ℕ) (items : List Tree) (r : Result Reading E) → Reads bytes (trees_of items)
+    → IfOk r (IsReadingOfItems items) → IfOk r (IsReadingOf bytes)
+bytes_read bytes items (Ok (Rules rules)) read h =
+    (trees_of items, read, subst (λ (xs : List Tree). AreRulesOf xs (rules_in rules)) (sym (list_of-trees_of items)) h)
+bytes_read bytes items (Ok (Refused reply)) read h =
+    inr (trees_of items, read, subst (λ (xs : List Tree). RefusesItems xs (reply_of reply)) (sym (list_of-trees_of items)) h)
+bytes_read bytes items (Err e) read h = tt
+
+-- what is checked of items that were read is the reply to the bytes
+pub bytes_checked : {E : Type 0} (bytes : List ℕ) (items : List Tree) (r : Result made.Reply E) → Reads bytes (trees_of items)
+    → IfOk r (λ reply. IsCheckReply items (reply_of reply)) → IfOk r (λ reply. IsReply check bytes (reply_of reply))
+bytes_checked bytes items (Ok reply) read h =
+    inr (trees_of items, read, subst (λ (xs : List Tree). IsCheckReply xs (reply_of reply)) (sym (list_of-trees_of items)) h)
+bytes_checked bytes items (Err e) read h = tt
+
+-- the reply over the instantiation of the rules that were read is the reply to the bytes
+reply_to : (inquiry : Inquiry) (bytes : List ℕ) (rules : RuleSet) (came : Result FlatGround GroundFault) → IsReadingOf bytes (Rules rules)
+    → IsInstantiationOf (rules_in rules) came → (reply : Reply) → IsReplyOver (query_about inquiry) came reply
+    → IsReply (query_about inquiry) bytes reply
+reply_to inquiry bytes rules came read comes reply h =
+    let all : IsInstantiationOf (alternatives (list_of read.0)) came =
+    subst (λ (rs : List Alternative). IsInstantiationOf rs came) read.2.same comes in
+    inr (read.0, read.1, h read.0 read.2.lawful all)
+
+-- so what is read and then asked comes to the reply
+pub read_and_asked : (inquiry : Inquiry) (bytes : List ℕ) (reading : Reading) (rules : RuleSet) (came : Result FlatGround GroundFault) (a : Asked)
+    → IsReadingOf bytes reading → reading ≡ Rules rules → IfOk came (IsGround (rules_in rules)) → IfErr came (IsFaultOf (excess_in (rules_in rules)))
+    → IsAsked (IsReplyOver (query_about inquiry) came) a → IsAsked (IsReply (query_about inquiry) bytes) a
+read_and_asked inquiry bytes reading rules came a was is ground fault h =
+    lift_asked (IsReplyOver (query_about inquiry) came) (IsReply (query_about inquiry) bytes)
+    (reply_to inquiry bytes rules came (subst (IsReadingOf bytes) is was) (ground, fault)) a h

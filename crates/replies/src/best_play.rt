@@ -1,0 +1,61 @@
+//! From a game to the search for best play that is asked for.
+ghost use Rattle.std.specs.Prelude.{◌≡◌, ◌<◌, IfOk, Result};
+ghost use Rattle.statement.specs.Rules.{State};
+ghost use Rattle.statement.specs.declared.history_fault.HistoryFault.{HistoryFault};
+ghost use Rattle.replies.specs.Histories.{named};
+ghost use Rattle.statement.specs.Histories.{IsHistoryOf};
+ghost use Rattle.statement.specs.Moving.{history_reply};
+ghost use Rattle.replies.specs.Asking.{IsSearchOrReply};
+ghost use Rattle.statement.specs.Solving.{solve_lines, IsSolveReply};
+
+use crate::history::{position_after, refused_history};
+use crate::reply::{Reply, refused};
+use crate::roles::role_named;
+use crate::search::Search;
+use game::{Game, HistoryFault};
+use std::alloc::{AllocError, Global};
+use words::Sought;
+
+/// The search for a role after a history, or the reply that names the fault of the history.
+fn search_after<G: Game + Drop>(
+    alloc: Global,
+    game: G,
+    role: usize,
+    sought: &Sought,
+) -> Result<Result<Search<G>, Reply>, AllocError>
+    requires { role < (G.rules game).roles }
+    ensures { IfOk result (IsSearchOrReply G.fits (λ g. named (G.rules g) (G.role_name g) (G.move_name g)) G.state
+        (λ reply. (ended : Result State HistoryFault)
+        × IsHistoryOf (named (G.rules game) (G.role_name game) (G.move_name game)) sought.now.after.now ended
+        × (reply ≡ history_reply (named (G.rules game) (G.role_name game) (G.move_name game))
+        (solve_lines (named (G.rules game) (G.role_name game) (G.move_name game)) role sought.now.depth sought.now.at_bound) ended))) }
+{
+    match position_after(alloc, &game, sought.after) {
+        Ok(here) => Ok(Ok(Search {
+            game,
+            here,
+            role,
+            depth: sought.depth,
+            at: sought.at_bound,
+            cut: sought.cut,
+        })),
+        Err(HistoryFault::NoMemory) => Err(AllocError),
+        Err(fault) => Ok(Err(refused_history(alloc, &game, fault)?)),
+    }
+}
+
+/// The search for the best play that is sought, or the reply that names the fault of the role or else of the history.
+pub(crate) fn search_for<G: Game + Drop>(
+    alloc: Global,
+    game: G,
+    sought: &Sought,
+) -> Result<Result<Search<G>, Reply>, AllocError>
+    ensures { IfOk result (IsSearchOrReply G.fits (λ g. named (G.rules g) (G.role_name g) (G.move_name g)) G.state
+        (IsSolveReply (named (G.rules game) (G.role_name game) (G.move_name game))
+        sought.now.role.now sought.now.depth sought.now.at_bound sought.now.after.now)) }
+{
+    match role_named(alloc, &game, sought.role)? {
+        Some(role) => search_after(alloc, game, role, sought),
+        None => Ok(Err(refused(alloc, &"S1 NoSuchRole")?)),
+    }
+}

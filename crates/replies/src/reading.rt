@@ -1,0 +1,127 @@
+//! From bytes to their rules, or to a reply that needs no more than reading.
+ghost use Rattle.std.specs.Prelude.{◌≡◌, ◌++◌, IfOk, OnOk, length};
+ghost use Rattle.statement.specs.Tree.{trees_of};
+ghost use Rattle.kif.specs.View.{trees_in};
+ghost use Rattle.statement.specs.Order.{relations_in_order};
+ghost use Rattle.rules.specs.RuleSetView.{rules_in, roles_in};
+ghost use Rattle.statement.specs.Checking.{spaced, check_lines, IsCheckReply};
+ghost use Rattle.replies.specs.Readings.{IsReadingOf, IsReadingOfItems};
+ghost use Rattle.replies.specs.Replies.{reply_of};
+ghost use Rattle.statement.specs.Replies.{IsReply, lines_of};
+ghost use Rattle.statement.specs.Queries as query;
+
+use crate::reply::{Reply, add_count, answered, refused};
+use bumpalo::Bump;
+use kif::{Expr, KifFault, write};
+use rules::{RuleFault, RuleSet};
+use std::alloc::{AllocError, Allocator, Global};
+
+/// What bytes are as a description.
+#[derive(Drop)]
+pub enum Reading {
+    /// Their rules, which have no fault.
+    Rules(RuleSet),
+    /// The text, or the items that it reads as, have a fault, and the reply names it.
+    Refused(Reply),
+}
+
+/// The canonical text of each tree, one a line.
+fn shown<A: Allocator>(alloc: Global, trees: &[Expr<A>]) -> Result<Vec<u8>, AllocError>
+    ensures { IfOk result (λ output. output.items ≡ lines_of (trees_of (trees_in trees.now))) }
+{
+    let mut output = Vec::new(alloc);
+    for tree in trees {
+        let Ok(()) = write(tree, &mut output) else {
+            return Err(AllocError);
+        };
+        output.push(b'\n')?;
+    }
+    Ok(output)
+}
+
+/// Adds each role with a space before it. After an error the output may have a beginning of them.
+fn add_roles(rules: &RuleSet, output: &mut Vec<u8>) -> Result<(), AllocError>
+    ensures { OnOk result (output.new.items ≡ output.old.items ++ spaced (roles_in rules.now)) }
+{
+    for role in 0..rules.roles() {
+        output.push(b' ')?;
+        output.extend_from_slice(rules.role_text(role))?;
+    }
+    Ok(())
+}
+
+/// How many items, alternatives and relations there are, each on a line, and a line of the roles.
+fn counted(alloc: Global, items: usize, rules: &RuleSet) -> Result<Vec<u8>, AllocError>
+    ensures { IfOk result (λ output. output.items
+        ≡ check_lines items (length (rules_in rules.now)) (length (relations_in_order (rules_in rules.now))) (roles_in rules.now)) }
+{
+    let mut output = Vec::new(alloc);
+    add_count("items", items, &mut output)?;
+    add_count("alternatives", rules.alternatives().len(), &mut output)?;
+    add_count("relations", rules.relations_in_order().len(), &mut output)?;
+    output.extend_from_slice(b"roles")?;
+    add_roles(rules, &mut output)?;
+    output.push(b'\n')?;
+    Ok(output)
+}
+
+/// The reply to items as a description: the line that names their fault, or what they have.
+fn checked<A: Allocator>(alloc: Global, items: &[Expr<A>]) -> Result<Reply, AllocError>
+    ensures { IfOk result (λ reply. IsCheckReply (trees_in items.now) (reply_of reply)) }
+{
+    match RuleSet::check(alloc, items) {
+        Ok(rules) => Ok(answered(counted(alloc, items.len(), &rules)?)),
+        Err(RuleFault::NoMemory) => Err(AllocError),
+        Err(fault) => refused(alloc, &fault),
+    }
+}
+
+/// The reply to `show` over the bytes of the input: the canonical text of each tree, one a line, or the line that names the fault of the
+/// text. It fails only for want of memory.
+pub fn show(alloc: Global, bytes: &[u8]) -> Result<Reply, AllocError>
+    ensures { IfOk result (λ reply. IsReply query.show bytes.now (reply_of reply)) }
+{
+    let arena = Bump::new(alloc);
+    match kif::read(&arena, bytes) {
+        Ok(trees) => Ok(answered(shown(alloc, &trees)?)),
+        Err(KifFault::NoMemory) => Err(AllocError),
+        Err(fault) => refused(alloc, &fault),
+    }
+}
+
+/// The reply to `check` over the bytes of the input: what they have as a description, or the line that names the fault of the text or of
+/// its items. It fails only for want of memory.
+pub fn check(alloc: Global, bytes: &[u8]) -> Result<Reply, AllocError>
+    ensures { IfOk result (λ reply. IsReply query.check bytes.now (reply_of reply)) }
+{
+    let arena = Bump::new(alloc);
+    match kif::read(&arena, bytes) {
+        Ok(trees) => checked(alloc, &trees),
+        Err(KifFault::NoMemory) => Err(AllocError),
+        Err(fault) => refused(alloc, &fault),
+    }
+}
+
+/// The rules of items, or the line that names the fault of the items.
+fn rules_of<A: Allocator>(alloc: Global, items: &[Expr<A>]) -> Result<Reading, AllocError>
+    ensures { IfOk result (IsReadingOfItems (trees_in items.now)) }
+{
+    match RuleSet::check(alloc, items) {
+        Ok(rules) => Ok(Reading::Rules(rules)),
+        Err(RuleFault::NoMemory) => Err(AllocError),
+        Err(fault) => Ok(Reading::Refused(refused(alloc, &fault)?)),
+    }
+}
+
+/// The rules of the bytes of the input, or the line that names the fault of the text or of its items. The trees of the bytes stand in an
+/// arena that is dropped with this call. It fails only for want of memory.
+pub fn read(alloc: Global, bytes: &[u8]) -> Result<Reading, AllocError>
+    ensures { IfOk result (IsReadingOf bytes.now) }
+{
+    let arena = Bump::new(alloc);
+    match kif::read(&arena, bytes) {
+        Ok(trees) => rules_of(alloc, &trees),
+        Err(KifFault::NoMemory) => Err(AllocError),
+        Err(fault) => Ok(Reading::Refused(refused(alloc, &fault)?)),
+    }
+}
