@@ -7,7 +7,7 @@ ghost use Rattle.statement.specs.Replies.{IsReply};
 ghost use Rattle.words.specs.Asked.{query_about, query_of};
 ghost use Rattle.statement.specs.Solving.{solve_lines};
 
-use game::Game;
+use game::{Game, Question};
 use ground::instantiate_flat;
 use replies::{Asked, Command, Inquiry, Player, Reading, Reply, Search, ask, check, read, show};
 use share::{Gate, solve};
@@ -33,7 +33,7 @@ pub(crate) fn told_by_workers<T: Threads + Sync + AllocGlobal, G: Game + Drop>(
         (named (G.rules search.game) (G.role_name search.game) (G.move_name search.game))
         search.role search.depth search.at (G.state search.game search.here))) }
 {
-    let asked = game::Question {
+    let asked = Question {
         role: search.role,
         depth: search.depth,
         at: search.at,

@@ -13,7 +13,7 @@ use crate::games::Player;
 use crate::reading::{Reading, check, read, show};
 use crate::reply::Reply;
 use crate::search::Search;
-use game::{Game, is_stuck};
+use game::{Game, Question, is_stuck};
 use ground::instantiate_flat_alone;
 use maximin::{Room, value_and_choice, value_in};
 use share::Answer;
@@ -32,7 +32,7 @@ fn found_alone<G: Game + Drop>(alloc: Global, search: &Search<G>) -> Result<Answ
     let game = &search.game;
     let here = &search.here;
     let mut room = Room::new(alloc, game, search.depth)?;
-    let asked = game::Question {
+    let asked = Question {
         role: search.role,
         depth: search.depth,
         at: search.at,

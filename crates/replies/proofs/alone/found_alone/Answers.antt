@@ -6,8 +6,8 @@ use Rattle.maximin.proofs.Facts.{value_at_most}
 use Rattle.replies.proofs.Exact.{exact_answer}
 use Rattle.replies.proofs.alone.found_alone.Goals as goal
 
-pub returns-then-depth-eq0-clause-value : goal.returns-then-depth-eq0-clause-value
-returns-then-depth-eq0-clause-value g c =
+pub returns-then-search-eq0-clause-value : goal.returns-then-search-eq0-clause-value
+returns-then-search-eq0-clause-value g c =
     let s = c.args.search.now in
     let rules = g.G.Game.rules s.game in
     let state = g.G.Game.state s.game s.here in
