@@ -16,6 +16,7 @@ mod workers;
 use crate::{Command, RunFault, Status, main_with, run, run_rules};
 use devices::{Full, Silent, Slow, Torn};
 use std::alloc::{AllocError, Global};
+use std::io::{Read, Write};
 use std::test::Fail;
 use std::thread::Threads;
 
@@ -61,6 +62,20 @@ fn replies<T: Threads + Sync + AllocGlobal>(
 /// Whether `show` answers a text with these bytes and this exit status.
 fn shows<T: Threads + Sync + AllocGlobal>(rt: &T, text: &[u8], want: &[u8], exit: u8) -> bool {
     replies(rt, &Command::Show, &["show"], text, want, exit)
+}
+
+/// Whether `check` answers a text with these bytes and this exit status.
+fn is_checked<T: Threads + Sync + AllocGlobal>(rt: &T, text: &[u8], want: &[u8], exit: u8) -> bool {
+    replies(rt, &Command::Check, &["check"], text, want, exit)
+}
+
+/// Runs `show`.
+fn show<T: Threads + Sync + AllocGlobal, R: Read, W: Write>(
+    rt: &T,
+    input: &mut R,
+    output: &mut W,
+) -> Result<Status, RunFault> {
+    run(rt, &Command::Show, input, output)
 }
 
 /// So many times a byte, and then as often another.
@@ -139,7 +154,7 @@ fn a_text_has_at_most_1048576_bytes(rt: HostRuntime) -> Result<(), Fail> {
     spaces.push(b'(')?;
     let mut input = spaces.as_slice();
     let mut output = Vec::new(rt.alloc());
-    assert!(rt; run(&rt, &Command::Show, &mut input, &mut output) == Ok(Status::Refused));
+    assert!(rt; show(&rt, &mut input, &mut output) == Ok(Status::Refused));
     assert!(rt; output.as_slice() == b"refused K1 TooLong\n".as_slice());
     assert!(rt;
         input == b"(".as_slice(),
@@ -172,7 +187,7 @@ fn a_reader_that_fails_is_told(rt: HostRuntime) {
     for reads in 0..3 {
         let mut input = Torn::new(b"(a) (b)", reads);
         let mut output = Vec::new(rt.alloc());
-        let ended = run(&rt, &Command::Show, &mut input, &mut output);
+        let ended = show(&rt, &mut input, &mut output);
         assert!(rt;
             ended == Err(RunFault::Read) && output.is_empty(),
             "after {reads}"
@@ -215,14 +230,14 @@ fn a_writer_that_fails_is_told(rt: HostRuntime) {
     }
     let mut output = Full::new(rt.alloc(), 10, false);
     let mut input = b"(a) (b c)".as_slice();
-    assert!(rt; run(&rt, &Command::Show, &mut input, &mut output) == Ok(Status::Answer));
+    assert!(rt; show(&rt, &mut input, &mut output) == Ok(Status::Answer));
     assert!(rt; output.taken() == line.as_slice());
 }
 
 #[test]
 fn a_flush_that_fails_is_told(rt: HostRuntime) {
     let mut input = b"(a)".as_slice();
-    let ended = run(&rt, &Command::Show, &mut input, &mut Silent);
+    let ended = show(&rt, &mut input, &mut Silent);
     assert!(rt; ended == Err(RunFault::Write));
     let mut input = b"(a)".as_slice();
     let mut errors = Vec::new(rt.alloc());

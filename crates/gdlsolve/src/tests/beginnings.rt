@@ -104,10 +104,18 @@ fn first_unanswered<T: Threads + Sync + AllocGlobal>(
 /// The games, and a role of each.
 const GAMES: [(&[u8], &str); 3] = [(MATCH, "a"), (FOUR, "a"), (MARKS, "xplayer")];
 
+/// The same by `check`.
+fn first_unchecked<T: Threads + Sync + AllocGlobal>(
+    rt: &T,
+    game: &[u8],
+) -> Result<Option<usize>, AllocError> {
+    first_unanswered(rt, &Command::Check, &["check"], game, "items")
+}
+
 #[test]
 fn each_beginning_is_checked(rt: HostRuntime) -> Result<(), AllocError> {
     for (game, _) in GAMES {
-        let first = first_unanswered(&rt, &Command::Check, &["check"], game, "items")?;
+        let first = first_unchecked(&rt, game)?;
         assert!(rt; first.is_none(), "at {first:?} of {game:?}");
     }
     Ok(())

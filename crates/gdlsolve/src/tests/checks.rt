@@ -1,7 +1,6 @@
 //! Descriptions and what `check` answers, through a run and through the command line.
 use super::games::{MARKS, MATCH};
-use super::{nested, replies};
-use crate::Command;
+use super::{is_checked, nested};
 use std::alloc::{AllocError, Global};
 use std::io::Write;
 use std::test::Fail;
@@ -151,10 +150,7 @@ const CHECKED: [(&[u8], &[u8], u8); 34] = [
 #[test]
 fn worked_descriptions_are_checked(rt: HostRuntime) {
     for (text, want, exit) in CHECKED {
-        assert!(rt;
-            replies(&rt, &Command::Check, &["check"], text, want, exit),
-            "at {text:?}"
-        );
+        assert!(rt; is_checked(&rt, text, want, exit), "at {text:?}");
     }
 }
 
@@ -189,10 +185,7 @@ fn words_of_the_language_stand_where_they_may(rt: HostRuntime) -> Result<(), Fai
     let counts = b"items 2\nalternatives 2\nrelations 2\nroles a\n";
     for item in WELL_USED {
         let text = behind_a_role(rt.alloc(), item)?;
-        assert!(rt;
-            replies(&rt, &Command::Check, &["check"], &text, counts, 0),
-            "at {item:?}"
-        );
+        assert!(rt; is_checked(&rt, &text, counts, 0), "at {item:?}");
     }
     Ok(())
 }
@@ -253,10 +246,7 @@ fn words_of_the_language_elsewhere_are_refused(rt: HostRuntime) -> Result<(), Fa
     for item in BADLY_USED {
         let text = behind_a_role(rt.alloc(), item)?;
         let want = b"refused G2 BadKeyword 2\n";
-        assert!(rt;
-            replies(&rt, &Command::Check, &["check"], &text, want, 2),
-            "at {item:?}"
-        );
+        assert!(rt; is_checked(&rt, &text, want, 2), "at {item:?}");
     }
     Ok(())
 }
@@ -287,10 +277,10 @@ fn repeated_between(
 fn a_description_has_at_most_4096_items(rt: HostRuntime) -> Result<(), Fail> {
     let most = repeated_between(rt.alloc(), b"", b"(role a)", 4096, b"")?;
     let counts = b"items 4096\nalternatives 4096\nrelations 1\nroles a\n";
-    assert!(rt; replies(&rt, &Command::Check, &["check"], &most, counts, 0));
+    assert!(rt; is_checked(&rt, &most, counts, 0));
     let more = repeated_between(rt.alloc(), b"", b"(role a)", 4097, b"")?;
     let refusal = b"refused G7 TooMany 4097 rules\n";
-    assert!(rt; replies(&rt, &Command::Check, &["check"], &more, refusal, 2));
+    assert!(rt; is_checked(&rt, &more, refusal, 2));
     Ok(())
 }
 
@@ -299,14 +289,11 @@ fn an_item_has_at_most_64_alternatives(rt: HostRuntime) -> Result<(), Fail> {
     let front = b"(role a)(<= p";
     let counts = b"items 2\nalternatives 65\nrelations 2\nroles a\n";
     let most = repeated_between(rt.alloc(), front, b"(or q r)", 6, b")")?;
-    assert!(rt; replies(&rt, &Command::Check, &["check"], &most, counts, 0));
+    assert!(rt; is_checked(&rt, &most, counts, 0));
     let refusal = b"refused G7 TooMany 2 alternatives\n";
     for times in [7, 64, 4000] {
         let more = repeated_between(rt.alloc(), front, b"(or q r)", times, b")")?;
-        assert!(rt;
-            replies(&rt, &Command::Check, &["check"], &more, refusal, 2),
-            "at {times}"
-        );
+        assert!(rt; is_checked(&rt, &more, refusal, 2), "at {times}");
     }
     Ok(())
 }
@@ -317,17 +304,11 @@ fn an_item_has_at_most_32_variables(rt: HostRuntime) -> Result<(), Fail> {
     let refusal = b"refused G7 TooMany 2 variables\n";
     for in_head in [16, 32] {
         let most = with_variables(rt.alloc(), in_head, 32)?;
-        assert!(rt;
-            replies(&rt, &Command::Check, &["check"], &most, counts, 0),
-            "at {in_head}"
-        );
+        assert!(rt; is_checked(&rt, &most, counts, 0), "at {in_head}");
     }
     for in_head in [16, 33] {
         let more = with_variables(rt.alloc(), in_head, 33)?;
-        assert!(rt;
-            replies(&rt, &Command::Check, &["check"], &more, refusal, 2),
-            "at {in_head}"
-        );
+        assert!(rt; is_checked(&rt, &more, refusal, 2), "at {in_head}");
     }
     Ok(())
 }
@@ -354,15 +335,6 @@ fn add_variables(count: usize, text: &mut Vec<u8>) -> Result<(), AllocError> {
 #[test]
 fn a_text_that_cannot_be_read_is_no_description(rt: HostRuntime) -> Result<(), Fail> {
     let deep = nested(rt.alloc(), 101)?;
-    assert!(rt;
-        replies(
-            &rt,
-            &Command::Check,
-            &["check"],
-            &deep,
-            b"refused K3 TooDeep 100\n",
-            2
-        )
-    );
+    assert!(rt; is_checked(&rt, &deep, b"refused K3 TooDeep 100\n", 2));
     Ok(())
 }
