@@ -34,8 +34,11 @@ def moves(rules: bytes | str, after: History = "") -> Position:
     return Position.of(answer(["moves", "--after", _text(after)], rules))
 
 
-def solve(rules: bytes | str, role: str, depth: int, *, at_bound: Bound = "zero", after: History = "") -> Solution:
+def solve(
+    rules: bytes | str, role: str, depth: int, *, at_bound: Bound = "zero", unfinished: int | None = None, after: History = ""
+) -> Solution:
     """What a role can be sure of within so many turns behind a history, from 0 to 64. A state in which play goes on there is worth 0,
-    or with `at_bound="goal"` its goal value."""
-    words = ["solve", "--role", role, "--depth", str(depth), "--at-bound", at_bound, "--after", _text(after)]
+    or with `at_bound="goal"` its goal value, or with `unfinished` that number, from 0 to 100, whatever `at_bound` says."""
+    worth = ["--at-bound", at_bound] if unfinished is None else ["--unfinished", str(unfinished)]
+    words = ["solve", "--role", role, "--depth", str(depth), *worth, "--after", _text(after)]
     return Solution.of(answer(words, rules))

@@ -36,6 +36,8 @@ MISUSED = [
     ["solve", "--role", "a", "--depth", "65"],
     ["solve", "--role", "a", "--depth", "1", "--cut", "17"],
     ["solve", "--role", "a", "--depth", "1", "--at-bound", "one"],
+    ["solve", "--role", "a", "--depth", "1", "--unfinished", "101"],
+    ["solve", "--role", "a", "--depth", "1", "--unfinished", "0", "--at-bound", "zero"],
 ]
 
 
@@ -59,6 +61,7 @@ class Values(unittest.TestCase):
     def test_solve(self):
         self.assertEqual(gdlsolve.solve(PENNIES, "a", 1), gdlsolve.Solution(0, "h", (("h", "t"),)))
         self.assertEqual(gdlsolve.solve(PENNIES, "b", 0, at_bound="goal"), gdlsolve.Solution(100, None, ()))
+        self.assertEqual(gdlsolve.solve(PENNIES, "b", 0, unfinished=37), gdlsolve.Solution(37, None, ()))
 
     def test_a_move_may_be_named_none(self):
         rules = "(role a)(base on)(input a none)(legal a none)(<= (next on) (does a none))(<= terminal (true on))(<= (goal a 70) (true on))"

@@ -6,6 +6,7 @@ mod Alike
 mod PlayRange
 mod SamePlays
 mod PlainValues
+mod Settled
 mod ManyStates
 mod TurnsTogether
 pub mod Facts

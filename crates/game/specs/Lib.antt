@@ -4,3 +4,4 @@ pub mod Joints
 pub mod Told
 pub mod TurnsAfter
 pub mod SamePlay
+pub mod Settled

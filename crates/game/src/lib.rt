@@ -15,11 +15,11 @@ pub use game::Game;
 pub use joint::{Joint, new_joint, put_move};
 pub use play_laws::{
     nothing_at_the_bound_is_the_plain_value, play_stays_within_the_game,
-    same_play_is_played_the_same,
+    same_play_is_played_the_same, settled_value_stays, worth_at_the_bound_bounds_the_value,
 };
 pub use question::Question;
 pub use refusal::add_history_refusal;
 pub use replaying::replay;
-pub use statement::{AtBound, HistoryFault};
+pub use statement::{AtBound, HistoryFault, Worth};
 pub use stuck::is_stuck;
 pub use told::Told;

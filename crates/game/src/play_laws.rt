@@ -1,14 +1,16 @@
 //! What holds of play in every game, and what games that tell the same have in common.
-ghost use Rattle.std.specs.Prelude.{ℕ, ◌≡◌, ◌<◌, List, All, IfSome, IfErr};
+ghost use Rattle.std.specs.Prelude.{ℕ, ◌≡◌, ◌+◌, ◌<◌, ◌≤◌, List, All, IfSome, IfErr};
 ghost use Rattle.statement.specs.Tree.{Tree};
 ghost use Rattle.statement.specs.declared.at_bound.AtBound.{AtBound};
-ghost use Rattle.statement.specs.declared.at_bound.AtBound.TheVariants.{Zero};
+ghost use Rattle.statement.specs.declared.at_bound.AtBound.TheVariants.{Zero, Unfinished};
+ghost use Rattle.statement.specs.declared.at_bound.Worth.{Worth};
 ghost use Rattle.statement.specs.NamedRules.{NamedRules};
 ghost use Rattle.game.specs.PlainValue.{plain_value, plain_worst, plain_choice, plain_reply, plain_line};
 ghost use Rattle.statement.specs.Played.{MoveNames, played};
 ghost use Rattle.statement.specs.HistoryTexts.{IsRoleOf};
 ghost use Rattle.statement.specs.Rules.{Rules, State, IsTurn, is_stuck, turns_with};
 ghost use Rattle.game.specs.SamePlay.{SamePlay, AreLegalMoves};
+ghost use Rattle.game.specs.Settled.{AreGoals, IsSettled};
 ghost use Rattle.statement.specs.Value.{value, worst, choice_of, reply_of, line_of};
 
 /// A refusal names a role of the game, if it names one. Where each legal move of a role is a move of the role, what a role
@@ -51,4 +53,24 @@ pub fn nothing_at_the_bound_is_the_plain_value()
     ensures choice { (g : Rules) (role depth : ℕ) (s : State) → choice_of g role depth Zero s ≡ plain_choice g role depth s }
     ensures reply { (g : Rules) (role depth : ℕ) (s : State) (own : ℕ) → reply_of g role depth Zero s own ≡ plain_reply g role depth s own }
     ensures line { (g : Rules) (role depth : ℕ) (s : State) → line_of g role depth Zero s ≡ plain_line g role depth s }
+{}
+
+/// No state is worth less to a role where unfinished play is worth more. Where unfinished play is worth nothing, more turns make no
+/// state worth less, and where it is worth 100, none worth more, whatever it is worth behind these turns. Nothing is the worth 0.
+pub fn worth_at_the_bound_bounds_the_value()
+    ensures nothing { (g : Rules) (role depth : ℕ) (none : Worth) (s : State) → none.value ≡ 0
+        → value g role depth Zero s ≡ value g role depth (Unfinished none) s }
+    ensures rises { (g : Rules) (role depth : ℕ) (less more : Worth) (s : State) → less.value ≤ more.value
+        → value g role depth (Unfinished less) s ≤ value g role depth (Unfinished more) s }
+    ensures lower { (g : Rules) → AreGoals g → (role depth more : ℕ) (none : Worth) (at : AtBound) (s : State) → none.value ≡ 0
+        → value g role depth (Unfinished none) s ≤ value g role (depth + more) at s }
+    ensures upper { (g : Rules) → AreGoals g → (role depth more : ℕ) (all : Worth) (at : AtBound) (s : State) → all.value ≡ 100
+        → value g role (depth + more) at s ≤ value g role depth (Unfinished all) s }
+{}
+
+/// A settled value stays: where a state has the same value with the worth 0 for unfinished play and with 100, it has that value
+/// within any greater number of turns, and within this one, whatever unfinished play is worth.
+pub fn settled_value_stays()
+    ensures { (g : Rules) → AreGoals g → (role depth n : ℕ) (s : State) → IsSettled g role depth s n
+        → (more : ℕ) (at : AtBound) → value g role (depth + more) at s ≡ n }
 {}

@@ -2,7 +2,7 @@ use Rattle.std.proofs.Common.{true, false, ℕ, ◌≤◌, Bool, List, [], ◌�
 use Rattle.std.specs.Prelude.{map, if◌then◌else◌}
 use Rattle.statement.specs.Rules.{Rules, State, Turn, is_stuck, turns_with}
 use Rattle.statement.specs.declared.at_bound.AtBound.{AtBound}
-use Rattle.statement.specs.declared.at_bound.AtBound.TheVariants.{Zero, Goal}
+use Rattle.statement.specs.declared.at_bound.AtBound.TheVariants.{Zero, Goal, Unfinished}
 use Rattle.statement.specs.AtBound.{bound_worth}
 use Rattle.statement.specs.Value.{value, worst, least, greatest}
 use Rattle.maximin.proofs.Windows.{least_head}
@@ -11,9 +11,10 @@ if_at_most : (b : Bool) (x y n : ℕ) → x ≤ n → y ≤ n → (if b then x e
 if_at_most true x y n h k = h
 if_at_most false x y n h k = k
 
-bound_at_most : (at : AtBound) (goal n : ℕ) → goal ≤ n → bound_worth at goal ≤ n
-bound_at_most Zero goal n h = omega arith
-bound_at_most Goal goal n h = h
+bound_at_most : (at : AtBound) (goal : ℕ) → goal ≤ 100 → bound_worth at goal ≤ 100
+bound_at_most Zero goal h = omega arith
+bound_at_most Goal goal h = h
+bound_at_most (Unfinished worth) goal h = worth.in_range
 
 least_at_most : (f : Turn → ℕ) (n : ℕ) (turns : List Turn) → ((t : Turn) → f t ≤ n) → least (map f turns) ≤ n
 least_at_most f n [] h = omega arith
@@ -28,7 +29,7 @@ pub value_at_most : (g : Rules) (role : ℕ) → ((s : State) (r : ℕ) → g.go
     → value g role depth at s ≤ 100
 value_at_most g role goals zero at s =
     if_at_most (g.ended s) (g.goal s role) _ 100 (goals s role)
-    (if_at_most (is_stuck g s) 0 _ 100 (omega arith) (bound_at_most at (g.goal s role) 100 (goals s role)))
+    (if_at_most (is_stuck g s) 0 _ 100 (omega arith) (bound_at_most at (g.goal s role) (goals s role)))
 value_at_most g role goals (suc depth) at s =
     if_at_most (g.ended s) (g.goal s role) _ 100 (goals s role)
     (if_at_most (is_stuck g s) 0 _ 100 (omega arith)

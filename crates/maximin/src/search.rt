@@ -32,6 +32,7 @@ fn bound_at<G: Game>(game: &G, from: &G::Pos, role: usize, at: AtBound) -> i16
 {
     match at {
         AtBound::Goal if !is_stuck(game, from) => i16::from(game.goal(from, role)),
+        AtBound::Unfinished(worth) if !is_stuck(game, from) => i16::from(worth.value),
         _ => 0,
     }
 }

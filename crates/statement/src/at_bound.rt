@@ -1,5 +1,30 @@
 //! What a state is worth where the turns to look ahead are over.
-ghost use Rattle.std.specs.Prelude.{◌≡◌, ◌↔◌, Some};
+ghost use Rattle.std.specs.Prelude.{◌≡◌, ◌≤◌, ◌↔◌, Some};
+
+/// A number from 0 to 100, as goal values are.
+#[derive(Clone, Copy, Debug, PartialEq, Eq)]
+pub struct Worth {
+    /// The number.
+    pub value: u8,
+    ghost in_range: { value ≤ 100 },
+}
+
+impl Worth {
+    ghost use Rattle.std.specs.Prelude.{IfSome, IfNone, ◌<◌};
+    ghost use Rattle.statement.specs.declared.at_bound.Worth.{Worth};
+
+    /// The worth of a number. There is none above 100.
+    pub fn of(value: u8) -> Option<Worth>
+        ensures some { IfSome result (λ worth. worth.value ≡ value) }
+        ensures none { IfNone result (100 < value) }
+    {
+        if value <= 100 {
+            Some(Worth { value })
+        } else {
+            None
+        }
+    }
+}
 
 /// What a state in which play goes on is worth to a role, where no turn is left to look ahead.
 #[derive(Clone, Copy, Debug, PartialEq, Eq)]
@@ -8,6 +33,8 @@ pub enum AtBound {
     Zero,
     /// Its goal value.
     Goal,
+    /// The same in every such state.
+    Unfinished(Worth),
 }
 
 impl AtBound {
@@ -16,7 +43,7 @@ impl AtBound {
 
     /// Reads `zero` or `goal`. There is none for any other text, also where it differs in case alone.
     pub fn parse(text: &[u8]) -> Option<AtBound>
-        ensures { (at : AtBound) → (result ≡ Some at) ↔ (text.now ≡ bound_word at) }
+        ensures { (at : AtBound) → (result ≡ Some at) ↔ (bound_word at ≡ Some text.now) }
     {
         match text {
             b"zero" => Some(AtBound::Zero),

@@ -13,7 +13,7 @@ mod rule_fault;
 mod status;
 mod text_fault;
 
-pub use at_bound::AtBound;
+pub use at_bound::{AtBound, Worth};
 pub use excess::Excess;
 pub use ground_fault::GroundFault;
 pub use history_fault::HistoryFault;

@@ -2,7 +2,7 @@
 use crate::command::{Command, Inquiry, Sought};
 use clap::error::ErrorKind;
 use cut::Cut;
-use statement::AtBound;
+use statement::{AtBound, Worth};
 use std::alloc::{AllocError, Global};
 
 /// The version that `--version` tells.
@@ -84,6 +84,16 @@ fn at_bound<'a>(alloc: Global) -> clap::Arg<'a> {
         )
 }
 
+/// The option for one worth of all states where no turn is left to look ahead and play goes on.
+fn unfinished<'a>(alloc: Global) -> Result<clap::Arg<'a>, AllocError> {
+    clap::Arg::new(alloc, "unfinished")
+        .long("unfinished")
+        .value_name("NUMBER")
+        .value_parser(clap::value_parser!(u8).range(0..=100))
+        .help("A worth for all these states, from 0 to 100, in place of --at-bound")
+        .conflicts_with("at-bound")
+}
+
 /// The option for how many threads search.
 fn cut<'a>(alloc: Global) -> clap::Arg<'a> {
     clap::Arg::new(alloc, "cut")
@@ -133,6 +143,7 @@ fn solve<'a>(alloc: Global) -> Result<clap::Command<'a>, AllocError> {
         .arg(role(alloc))?
         .arg(depth(alloc))?
         .arg(at_bound(alloc))?
+        .arg(unfinished(alloc)?)?
         .arg(cut(alloc))?
         .arg(history(alloc))
 }
@@ -153,12 +164,20 @@ fn grammar<'a>(alloc: Global) -> Result<clap::Command<'a>, AllocError> {
         .subcommand(solve(alloc)?)
 }
 
+/// What the options say that a state is worth where no turn is left and play goes on, or none where that is no text for it.
+fn worth_at_bound(options: &clap::ArgMatches) -> Option<AtBound> {
+    match options.get_one("unfinished") {
+        Some(number) => Some(AtBound::Unfinished(Worth::of(number)?)),
+        None => AtBound::parse(options.get_str("at-bound")?.as_bytes()),
+    }
+}
+
 /// The command that the options of `solve` make, or which of them has a text that it does not take.
 fn solve_command<'a>(options: &clap::ArgMatches<'a>) -> Option<Result<Command<'a>, &'static str>> {
     let Some(cut) = Cut::parse(options.get_str("cut")?.as_bytes()) else {
         return Some(Err("bad cut"));
     };
-    let Some(at_bound) = AtBound::parse(options.get_str("at-bound")?.as_bytes()) else {
+    let Some(at_bound) = worth_at_bound(options) else {
         return Some(Err("bad bound"));
     };
     Some(Ok(Command::Ask(Inquiry::Solve(Sought {

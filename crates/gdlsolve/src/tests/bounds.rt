@@ -4,22 +4,22 @@ use super::lines::OPEN;
 use super::{replies, told};
 use crate::{Command, Inquiry, Sought};
 use cut::Cut;
-use game::AtBound;
+use game::{AtBound, Worth};
 use std::alloc::AllocError;
 use std::thread::Threads;
 
 /// A description, a role, a depth, the word for what is at the bound, and what is written.
 type Row<'a> = (&'a [u8], &'a str, u32, &'a str, &'a [u8]);
 
-/// Whether `solve` answers what the row says.
-fn solves<T: Threads + Sync + AllocGlobal>(rt: &T, row: Row) -> Result<bool, AllocError> {
+/// Whether `solve` answers what the row says, with its word behind this option.
+fn solves_at<T: Threads + Sync + AllocGlobal>(
+    rt: &T,
+    row: Row,
+    option: &str,
+    at_bound: AtBound,
+) -> Result<bool, AllocError> {
     let (rules, role, depth, word, want) = row;
     let turns = format!(in rt.alloc(); "{depth}")?;
-    let at_bound = if word == "goal" {
-        AtBound::Goal
-    } else {
-        AtBound::Zero
-    };
     let Some(cut) = Cut::parse(b"1") else {
         return Ok(false);
     };
@@ -36,10 +36,20 @@ fn solves<T: Threads + Sync + AllocGlobal>(rt: &T, row: Row) -> Result<bool, All
         role,
         "--depth",
         turns.as_str(),
-        "--at-bound",
+        option,
         word,
     ];
     Ok(replies(rt, &command, &words, rules, want, 0))
+}
+
+/// Whether `solve` answers what the row says of the word for what is at the bound.
+fn solves<T: Threads + Sync + AllocGlobal>(rt: &T, row: Row) -> Result<bool, AllocError> {
+    let at_bound = if row.3 == "goal" {
+        AtBound::Goal
+    } else {
+        AtBound::Zero
+    };
+    solves_at(rt, row, "--at-bound", at_bound)
 }
 
 /// The second role never has a move, and the first has a goal value.
@@ -71,6 +81,42 @@ const BOUNDED: [Row; 12] = [
     (STUCK, "a", 3, "goal", b"value 0\nmove none\n"),
     (STUCK, "a", 0, "zero", b"value 0\nmove none\n"),
 ];
+
+/// The same with a worth for unfinished play, which the word says in digits.
+const UNFINISHED: [(Row, u8); 8] = [
+    ((OPEN, "a", 0, "37", b"value 37\nmove none\n"), 37),
+    ((OPEN, "a", 1, "37", b"value 37\nmove stay\nline 1 stay\n"), 37),
+    ((OPEN, "a", 1, "0", b"value 0\nmove stay\nline 1 stay\n"), 0),
+    ((OPEN, "a", 1, "100", b"value 100\nmove stay\nline 1 stay\n"), 100),
+    ((MATCH, "b", 0, "100", b"value 100\nmove none\n"), 100),
+    ((MATCH, "b", 1, "100", b"value 0\nmove h\nline 1 h h\n"), 100),
+    ((STUCK, "a", 0, "100", b"value 0\nmove none\n"), 100),
+    ((STUCK, "a", 3, "9", b"value 0\nmove none\n"), 9),
+];
+
+#[test]
+fn worth_of_unfinished_play_is_told(rt: HostRuntime) -> Result<(), AllocError> {
+    for (row, number) in UNFINISHED {
+        let worth = Worth::of(number);
+        assert!(rt; worth.is_some());
+        if let Some(worth) = worth {
+            assert!(rt; solves_at(&rt, row, "--unfinished", AtBound::Unfinished(worth))?, "at {row:?}");
+        }
+    }
+    Ok(())
+}
+
+#[test]
+fn other_worths_of_unfinished_play_are_misuse(rt: HostRuntime) {
+    for word in ["101", "-1", "", "zero", "5.0", "256"] {
+        let words = ["solve", "--role", "a", "--depth", "1", "--unfinished", word];
+        let (status, output, errors) = told(&rt, &words, MATCH);
+        assert!(rt; status == 1 && output.is_empty() && !errors.is_empty(), "at {word:?}");
+    }
+    let words = ["solve", "--role", "a", "--depth", "1", "--unfinished", "0", "--at-bound", "zero"];
+    let (status, output, errors) = told(&rt, &words, MATCH);
+    assert!(rt; status == 1 && output.is_empty() && !errors.is_empty());
+}
 
 #[test]
 fn worth_at_the_bound_is_told(rt: HostRuntime) -> Result<(), AllocError> {

@@ -77,12 +77,13 @@ const SOLVE: &str =
 Usage: gdlsolve solve [OPTIONS] --role <ROLE> --depth <TURNS>
 
 Options:
-      --role <ROLE>       The role to find a move for
-      --depth <TURNS>     How many turns to look ahead, from 0 to 64
-      --at-bound <WORTH>  What a state is worth where these turns are over and play goes on: zero, or its goal [default: zero]
-      --cut <LEVELS>      How many threads search, and those behind each of their moves, as 4 or 4x2 [default: 1]
-      --after <TEXT>      The turns that were played, each a list of a move for each role
-  -h, --help              Print help
+      --role <ROLE>          The role to find a move for
+      --depth <TURNS>        How many turns to look ahead, from 0 to 64
+      --at-bound <WORTH>     What a state is worth where these turns are over and play goes on: zero, or its goal [default: zero]
+      --unfinished <NUMBER>  A worth for all these states, from 0 to 100, in place of --at-bound
+      --cut <LEVELS>         How many threads search, and those behind each of their moves, as 4 or 4x2 [default: 1]
+      --after <TEXT>         The turns that were played, each a list of a move for each role
+  -h, --help                 Print help
 
 Example:
   gdlsolve solve --role oplayer --depth 8 --after \"((mark 1 1) noop)\" < game.kif
