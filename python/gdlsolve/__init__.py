@@ -14,6 +14,8 @@ from gdlsolve.calls import Misuse, Refusal, Reply, Status, reply
 from gdlsolve.commands import Bound, History, check, moves, net, show, solve
 from gdlsolve.replies import Description, Network, Position, Solution, State
 
+__version__ = "0.1.0"
+
 __all__ = [
     "Bound",
     "Description",

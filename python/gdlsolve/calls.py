@@ -1,11 +1,12 @@
 """The call of the library: words and rules in, status and bytes out."""
 import ctypes
 import os
-from collections.abc import Sequence
+from collections.abc import Callable, Sequence
 from dataclasses import dataclass
 from enum import IntEnum
 from functools import cache
 from pathlib import Path
+from typing import cast
 
 from gdlsolve.terms import terms
 
@@ -59,13 +60,13 @@ def _library_file() -> Path:
 
 
 @cache
-def _call():
+def _call() -> Callable[..., int]:
     """The function of the library."""
     call = ctypes.CDLL(str(_library_file())).gdlsolve_reply
     call.restype = ctypes.c_uint32
     text = [ctypes.c_char_p, ctypes.c_size_t]
-    call.argtypes = text * 3 + [ctypes.POINTER(ctypes.c_size_t)]
-    return call
+    call.argtypes = [*text, *text, *text, ctypes.POINTER(ctypes.c_size_t)]
+    return cast(Callable[..., int], call)
 
 
 def _packed(words: Sequence[str]) -> bytes:
@@ -91,12 +92,17 @@ def reply(words: Sequence[str], rules: bytes | str) -> Reply:
             return Reply(status, room.raw[: size.value])
 
 
+def lines_of(output: bytes) -> list[str]:
+    """The lines of an answer or a refusal."""
+    return output.decode().splitlines()
+
+
 def answer(words: Sequence[str], rules: bytes | str) -> list[str]:
     """The lines of the answer to a command, where it is one."""
     told = reply(words, rules)
     if told.status == Status.MISUSE:
         raise Misuse(told.output.decode().rstrip("\n"))
-    lines = told.output.decode().splitlines()
+    lines = lines_of(told.output)
     if told.status == Status.REFUSED:
         raise Refusal(lines[0])
     return lines

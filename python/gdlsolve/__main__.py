@@ -1,0 +1,166 @@
+"""The command line of the package: the words of the program, a file of rules among them, and two options more.
+
+    gdlsolve COMMAND [OPTIONS] [GAME.kif] [--json]
+    gdlsolve solve --role ROLE --time SECONDS [OPTIONS] [GAME.kif] [--json]
+
+Where no file is named the rules come on standard input. The exit statuses are those of the program.
+"""
+
+from __future__ import annotations
+
+import json
+import sys
+from collections.abc import Callable, Sequence
+from dataclasses import asdict, dataclass
+from enum import Enum
+from pathlib import Path
+from typing import Any
+
+from gdlsolve.calls import Misuse, Refusal, Reply, Status, lines_of, reply
+from gdlsolve.deepening import Deepest, deepen
+from gdlsolve.replies import Description, Network, Position, Solution
+
+USAGE = """
+With this package a file of rules may stand among the words, else they are read on standard input. Further options:
+      --json            Tell the answer, or the refusal, as JSON
+      --time <SECONDS>  With solve: deeper and deeper for so long, in place of --depth
+"""
+# Words that ask for a text, to which no rules are read.
+ASKS_FOR_HELP = {"--help", "-h", "help", "--version", "-V"}
+INPUT_FAILED = 4
+
+
+@dataclass(frozen=True)
+class Line:
+    """What the words of a command line ask for."""
+
+    words: list[str]
+    game: Path | None
+    as_json: bool
+    seconds: float | None
+
+
+def _seconds(text: str) -> float:
+    """A number of seconds above 0."""
+    try:
+        found = float(text)
+    except ValueError:
+        found = 0.0
+    if not 0 < found < float("inf"):
+        raise Misuse(f"--time takes a number of seconds above 0, and not {text!r}")
+    return found
+
+
+def parse(words: Sequence[str]) -> Line:
+    """Takes the package's own options and the file of rules out of the words."""
+    left: list[str] = []
+    game: Path | None = None
+    as_json = False
+    seconds: float | None = None
+    rest = iter(words)
+    for word in rest:
+        name, has_value, value = word.partition("=")
+        if word == "--json":
+            as_json = True
+        elif name == "--time":
+            seconds = _seconds(value if has_value else next(rest, ""))
+        elif word.startswith("-"):
+            left.append(word)
+            if word.startswith("--") and not has_value and word not in ASKS_FOR_HELP:
+                left.extend([further for further in [next(rest, None)] if further is not None])
+        elif left and left[0] != "help" and game is None:
+            game = Path(word)
+        else:
+            left.append(word)
+    return Line(left, game, as_json, seconds)
+
+
+def told(command: str, output: bytes) -> Any:
+    """An answer as what JSON can tell."""
+    lines = lines_of(output)
+    readers: dict[str, Callable[[list[str]], Any]] = {
+        "check": Description.of,
+        "net": Network.of,
+        "moves": Position.of,
+        "solve": Solution.of,
+    }
+    return asdict(readers[command](lines)) if command in readers else {"trees": lines}
+
+
+def plain(value: object) -> object:
+    """What JSON does not know by itself."""
+    if isinstance(value, Enum):
+        return value.value
+    raise TypeError(f"{value!r} is no part of an answer")
+
+
+def write_json(value: Any) -> None:
+    print(json.dumps(value, default=plain))
+
+
+def write(line: Line, found: Reply) -> int:
+    """Writes a reply as the words ask for, and gives the exit status."""
+    if found.status == Status.MISUSE:
+        asked = bool(ASKS_FOR_HELP & set(line.words)) and b"error:" not in found.output
+        stream = sys.stdout if asked else sys.stderr
+        stream.write(found.output.decode())
+        if asked and "-V" not in line.words and "--version" not in line.words:
+            stream.write(USAGE)
+        return 0 if asked else int(Status.MISUSE)
+    if not line.as_json:
+        sys.stdout.buffer.write(found.output)
+        sys.stdout.buffer.flush()
+    elif found.status == Status.REFUSED:
+        refusal = Refusal(lines_of(found.output)[0])
+        write_json({"refused": refusal.code, "name": refusal.name, "values": refusal.values})
+    else:
+        write_json(told(line.words[0], found.output))
+    return int(found.status)
+
+
+def write_deepest(line: Line, found: Deepest) -> int:
+    """Writes the deepest answer that was found in time, and gives the exit status."""
+    if found.reply.status != Status.ANSWER:
+        return write(line, found.reply)
+    if line.as_json:
+        write_json({"depth": found.depth, "settled": found.settled, **told("solve", found.reply.output)})
+    else:
+        sys.stdout.write(f"depth {found.depth}\n{found.reply.output.decode()}" + ("settled\n" if found.settled else ""))
+    return int(Status.ANSWER)
+
+
+def rules_of(line: Line) -> bytes:
+    """The bytes of the rules."""
+    if ASKS_FOR_HELP & set(line.words) or not line.words:
+        return b""
+    return sys.stdin.buffer.read() if line.game is None else line.game.read_bytes()
+
+
+def run(words: Sequence[str]) -> int:
+    """Does what the words ask for, and gives the exit status."""
+    line = parse(words)
+    rules = rules_of(line)
+    if line.seconds is None:
+        return write(line, reply(line.words, rules))
+    if line.words[:1] != ["solve"]:
+        raise Misuse("--time goes with solve")
+    return write_deepest(line, deepen(line.words, rules, line.seconds))
+
+
+def main() -> int:
+    """The command `gdlsolve` of the package."""
+    try:
+        return run(sys.argv[1:])
+    except Misuse as misuse:
+        print(misuse, file=sys.stderr)
+        return int(Status.MISUSE)
+    except MemoryError:
+        print("no memory", file=sys.stderr)
+        return int(Status.NO_MEMORY)
+    except OSError as fault:
+        print(f"{fault.filename}: {fault.strerror}" if fault.filename else "read fault", file=sys.stderr)
+        return INPUT_FAILED
+
+
+if __name__ == "__main__":
+    sys.exit(main())

@@ -1,0 +1,92 @@
+"""The command line of the package: files among the words, JSON, search by time, statuses."""
+import json
+import os
+import subprocess
+import sys
+import tomllib
+import unittest
+from collections.abc import Sequence
+
+import gdlsolve
+from tests import TOP
+
+PENNIES = TOP / "games/matching_pennies.kif"
+MARKS = TOP / "games/tic_tac_toe.kif"
+
+
+def command(words: Sequence[object], rules: bytes = b"") -> tuple[int, str, str]:
+    """What the command does: its exit status, its output, and what it says to people."""
+    known = {**os.environ, "PYTHONPATH": str(TOP / "python")}
+    done = subprocess.run([sys.executable, "-B", "-m", "gdlsolve", *map(str, words)], input=rules, capture_output=True, env=known, check=False)
+    return done.returncode, done.stdout.decode(), done.stderr.decode()
+
+
+class Words(unittest.TestCase):
+    def test_a_file_may_stand_at_any_place(self) -> None:
+        want = (0, "state ended\ngoal a 0\ngoal b 100\n", "")
+        self.assertEqual(command(["moves", PENNIES, "--after", "(h t)"]), want)
+        self.assertEqual(command(["moves", "--after", "(h t)", PENNIES]), want)
+        self.assertEqual(command(["moves", "--after=(h t)", PENNIES]), want)
+        self.assertEqual(command(["moves", "--after", "(h t)"], PENNIES.read_bytes()), want)
+
+    def test_statuses_are_those_of_the_program(self) -> None:
+        self.assertEqual(command(["check"], b"(role a"), (2, "refused K4 Unclosed 0\n", ""))
+        self.assertEqual(command(["check", "no such file"])[0], 4)
+        for words in ([], ["list"], ["solve", PENNIES], ["solve", "--role", "a", "--depth", "65", PENNIES]):
+            status, output, errors = command(words)
+            self.assertEqual((status, output), (1, ""))
+            self.assertTrue(errors)
+
+    def test_help_is_an_answer(self) -> None:
+        status, output, errors = command(["--help"])
+        self.assertEqual((status, errors), (0, ""))
+        self.assertIn("--json", output)
+        self.assertEqual(command(["--version"]), (0, "gdlsolve 0.1.0\n", ""))
+
+    def test_the_version_is_told_once(self) -> None:
+        project = tomllib.loads((TOP / "python/pyproject.toml").read_text())["project"]
+        self.assertEqual(project["version"], gdlsolve.__version__)
+
+
+class Json(unittest.TestCase):
+    def told(self, words: Sequence[object], status: int = 0) -> object:
+        found, output, _ = command([*words, "--json"])
+        self.assertEqual(found, status)
+        return json.loads(output)
+
+    def test_answers(self) -> None:
+        self.assertEqual(self.told(["check", PENNIES]), {"items": 16, "alternatives": 16, "relations": 7, "roles": ["a", "b"]})
+        self.assertEqual(self.told(["moves", PENNIES]), {"state": "open", "goals": {}, "legal": {"a": ["h", "t"], "b": ["h", "t"]}})
+        self.assertEqual(self.told(["solve", "--role", "a", "--depth", "1", PENNIES]), {"value": 0, "move": "h", "line": [["h", "t"]]})
+
+    def test_refusals(self) -> None:
+        words = ["moves", "--after", "(h x)", PENNIES]
+        self.assertEqual(self.told(words, 2), {"refused": "H2", "name": "NotLegal", "values": [1, "b"]})
+
+
+class Time(unittest.TestCase):
+    def test_a_settled_value_ends_the_search(self) -> None:
+        status, output, _ = command(["solve", "--role", "a", "--time", "60", PENNIES])
+        self.assertEqual((status, output), (0, "depth 1\nvalue 0\nmove h\nline 1 h t\nsettled\n"))
+
+    def test_the_whole_of_a_game_is_settled(self) -> None:
+        status, output, _ = command(["solve", "--role", "xplayer", "--time", "60", "--json", MARKS])
+        told = json.loads(output)
+        self.assertEqual((status, told["settled"], told["value"]), (0, True, 50))
+
+    def test_one_turn_is_waited_for(self) -> None:
+        status, output, _ = command(["solve", "--role", "xplayer", "--time", "0.001", MARKS])
+        self.assertEqual(status, 0)
+        self.assertTrue(output.startswith("depth 1\n"))
+
+    def test_other_words_for_the_time_are_misuse(self) -> None:
+        for words in (["--time", "0"], ["--time", "soon"], ["--time"], ["--time", "1", "--depth", "3"], ["--time=-1"]):
+            self.assertEqual(command(["solve", "--role", "a", *words, PENNIES])[0], 1)
+        self.assertEqual(command(["moves", "--time", "1", PENNIES])[0], 1)
+
+    def test_refusals_are_told(self) -> None:
+        self.assertEqual(command(["solve", "--role", "c", "--time", "1", PENNIES]), (2, "refused S1 NoSuchRole\n", ""))
+
+
+if __name__ == "__main__":
+    unittest.main()
