@@ -8,4 +8,6 @@ mod SamePlays
 mod PlainValues
 mod ManyStates
 mod TurnsTogether
+mod KeyLemmas
+mod Rising
 pub mod Facts

@@ -3,4 +3,5 @@ pub mod PlainValue
 pub mod Joints
 pub mod Told
 pub mod TurnsAfter
+pub mod Keys
 pub mod SamePlay
