@@ -16,3 +16,7 @@ pub use Rattle.game.proofs.Roles.{list_any_range, list_any_range_none}
 pub use Rattle.game.proofs.SamePlays.{played_alike, value_alike, choice_alike, line_alike}
 -- Turns that each begin at one of many states.
 pub use Rattle.game.proofs.TurnsTogether.{turns_after_count, turns_after_each, turns_after_more}
+-- Keys in rows, and bits of keys.
+pub use Rattle.game.proofs.KeyLemmas.{row_within, row_fits, key_written, key_kept, keys_more}
+-- Where a state at the bound is worth nothing, more turns are worth no less; and no value is above all goals.
+pub use Rattle.game.proofs.Settled.{value_rising, value_within}

@@ -9,4 +9,5 @@ mod PlainValues
 mod Settled
 mod ManyStates
 mod TurnsTogether
+mod KeyLemmas
 pub mod Facts

@@ -1,6 +1,6 @@
 -- What a role can be sure of lies between what it is sure of within fewer turns where a state at the bound is worth nothing, and where
 -- it is worth all.
-use Rattle.std.proofs.Common.{ℕ, zero, suc, ◌+◌, ◌≤◌, ◌≡◌, Bool, true, false, cond, List, [], ◌∷◌, subst, sym, ◌∙◌, arith}
+use Rattle.std.proofs.Common.{ℕ, zero, suc, ◌+◌, ◌≤◌, ◌≡◌, Bool, true, false, cond, List, [], ◌∷◌, refl, subst, sym, arith}
 use Rattle.std.specs.Prelude.{map, max, min}
 use Rattle.statement.specs.declared.at_bound.AtBound.{AtBound}
 use Rattle.statement.specs.declared.at_bound.AtBound.TheVariants.{Zero, Goal, Unfinished}
@@ -59,41 +59,46 @@ module _ (g : Rules) (role : ℕ) where
       chosen_rises (g.ended s) (is_stuck g s) (g.goal s role) _ _
       (after_rises (value g role depth lower) (value g role depth upper) (value_rises lower upper more depth) s)
 
-  module _ (goals : (s : State) (r : ℕ) → g.goal s r ≤ 100) where
-    pub value_low : (depth : ℕ) (at : AtBound) (s : State) → value g role depth at s ≤ 100
-    value_low zero at s = chosen_low (g.ended s) (is_stuck g s) (g.goal s role) _ (goals s role) (bound_low at (g.goal s role) (goals s role))
-    value_low (suc depth) at s =
-        chosen_low (g.ended s) (is_stuck g s) (g.goal s role) _ (goals s role)
-        (greatest_low (λ m. least_after g (value g role depth at) s role m) 100
-        (λ m. least_low (λ j. value g role depth at (g.after s j)) 100 (λ j. value_low depth at (g.after s j)) (turns_with g s role m))
-        (g.legal s role))
+  -- where nothing is sure at the bound, more turns make no state worth less
+  pub more_turns_rise : (lower : AtBound) → ((goal : ℕ) → bound_worth lower goal ≡ 0) → (depth later : ℕ) → depth ≤ later → (at : AtBound) (s : State)
+      → value g role depth lower s ≤ value g role later at s
+  more_turns_rise lower nothing zero zero le at s =
+      chosen_rises (g.ended s) (is_stuck g s) (g.goal s role) _ _
+      (subst (λ (n : ℕ). n ≤ bound_worth at (g.goal s role)) (sym (nothing (g.goal s role))) (omega arith))
+  more_turns_rise lower nothing zero (suc later) le at s =
+      chosen_rises (g.ended s) (is_stuck g s) (g.goal s role) _ _
+      (subst (λ (n : ℕ). n ≤ greatest (map (λ m. least_after g (value g role later at) s role m) (g.legal s role))) (sym (nothing (g.goal s role)))
+      (omega arith))
+  more_turns_rise lower nothing (suc depth) zero le at s = absurd (omega (arith, le))
+  more_turns_rise lower nothing (suc depth) (suc later) le at s =
+      chosen_rises (g.ended s) (is_stuck g s) (g.goal s role) _ _
+      (after_rises (value g role depth lower) (value g role later at) (more_turns_rise lower nothing depth later (omega (arith, le)) at) s)
 
-    -- where nothing is sure at the bound, more turns make no state worth less
-    pub more_turns_rise : (lower : AtBound) → ((goal : ℕ) → bound_worth lower goal ≡ 0) → (depth later : ℕ) → depth ≤ later → (at : AtBound) (s : State)
-        → value g role depth lower s ≤ value g role later at s
-    more_turns_rise lower nothing zero zero le at s =
-        chosen_rises (g.ended s) (is_stuck g s) (g.goal s role) _ _
-        (subst (λ (n : ℕ). n ≤ bound_worth at (g.goal s role)) (sym (nothing (g.goal s role))) (omega arith))
-    more_turns_rise lower nothing zero (suc later) le at s =
-        chosen_rises (g.ended s) (is_stuck g s) (g.goal s role) _ _
-        (subst (λ (n : ℕ). n ≤ greatest (map (λ m. least_after g (value g role later at) s role m) (g.legal s role))) (sym (nothing (g.goal s role)))
-        (omega arith))
-    more_turns_rise lower nothing (suc depth) zero le at s = absurd (omega (arith, le))
-    more_turns_rise lower nothing (suc depth) (suc later) le at s =
-        chosen_rises (g.ended s) (is_stuck g s) (g.goal s role) _ _
-        (after_rises (value g role depth lower) (value g role later at) (more_turns_rise lower nothing depth later (omega (arith, le)) at) s)
+  -- with nothing at the bound, some turns more
+  pub value_rising : (s : State) (d e : ℕ) → d ≤ e → value g role d Zero s ≤ value g role e Zero s
+  value_rising s d e le = more_turns_rise Zero (λ goal. refl) d e le Zero s
+
+  module _ (goals : (s : State) → g.goal s role ≤ 100) where
+    -- where no goal is above 100, no value is
+    pub value_within : (depth : ℕ) (at : AtBound) (s : State) → value g role depth at s ≤ 100
+    value_within zero at s = chosen_low (g.ended s) (is_stuck g s) (g.goal s role) _ (goals s) (bound_low at (g.goal s role) (goals s))
+    value_within (suc depth) at s =
+        chosen_low (g.ended s) (is_stuck g s) (g.goal s role) _ (goals s)
+        (greatest_low (λ m. least_after g (value g role depth at) s role m) 100
+        (λ m. least_low (λ j. value g role depth at (g.after s j)) 100 (λ j. value_within depth at (g.after s j)) (turns_with g s role m))
+        (g.legal s role))
 
     -- where all is sure at the bound, more turns make no state worth more
     pub more_turns_fall : (upper : AtBound) → ((goal : ℕ) → bound_worth upper goal ≡ 100) → (depth later : ℕ) → depth ≤ later → (at : AtBound) (s : State)
         → value g role later at s ≤ value g role depth upper s
     more_turns_fall upper all zero zero le at s =
         chosen_rises (g.ended s) (is_stuck g s) (g.goal s role) _ _
-        (subst (λ (n : ℕ). bound_worth at (g.goal s role) ≤ n) (sym (all (g.goal s role))) (bound_low at (g.goal s role) (goals s role)))
+        (subst (λ (n : ℕ). bound_worth at (g.goal s role) ≤ n) (sym (all (g.goal s role))) (bound_low at (g.goal s role) (goals s)))
     more_turns_fall upper all zero (suc later) le at s =
         chosen_rises (g.ended s) (is_stuck g s) (g.goal s role) _ _
         (subst (λ (n : ℕ). greatest (map (λ m. least_after g (value g role later at) s role m) (g.legal s role)) ≤ n) (sym (all (g.goal s role)))
         (greatest_low (λ m. least_after g (value g role later at) s role m) 100
-        (λ m. least_low (λ j. value g role later at (g.after s j)) 100 (λ j. value_low later at (g.after s j)) (turns_with g s role m))
+        (λ m. least_low (λ j. value g role later at (g.after s j)) 100 (λ j. value_within later at (g.after s j)) (turns_with g s role m))
         (g.legal s role)))
     more_turns_fall upper all (suc depth) zero le at s = absurd (omega (arith, le))
     more_turns_fall upper all (suc depth) (suc later) le at s =
@@ -115,11 +120,11 @@ nothing_is_zero g role depth none s h =
 
 pub lower_stays : (g : Rules) → AreGoals g → (role depth more : ℕ) (none : Worth) (at : AtBound) (s : State) → none.value ≡ 0
     → value g role depth (Unfinished none) s ≤ value g role (depth + more) at s
-lower_stays g goals role depth more none at s h = more_turns_rise g role goals (Unfinished none) (λ goal. h) depth (depth + more) (omega arith) at s
+lower_stays g goals role depth more none at s h = more_turns_rise g role (Unfinished none) (λ goal. h) depth (depth + more) (omega arith) at s
 
 pub upper_stays : (g : Rules) → AreGoals g → (role depth more : ℕ) (all : Worth) (at : AtBound) (s : State) → all.value ≡ 100
     → value g role (depth + more) at s ≤ value g role depth (Unfinished all) s
-upper_stays g goals role depth more all at s h = more_turns_fall g role goals (Unfinished all) (λ goal. h) depth (depth + more) (omega arith) at s
+upper_stays g goals role depth more all at s h = more_turns_fall g role (λ t. goals t role) (Unfinished all) (λ goal. h) depth (depth + more) (omega arith) at s
 
 pub settled_stays : (g : Rules) → AreGoals g → (role depth n : ℕ) (s : State) → IsSettled g role depth s n
     → (more : ℕ) (at : AtBound) → value g role (depth + more) at s ≡ n
@@ -129,3 +134,6 @@ settled_stays g goals role depth n s settled more at =
     let below = settled.with_none in
     let above = settled.with_all in
     omega (arith, low, high, below, above)
+
+pub one_turn_rises : (g : Rules) (role depth : ℕ) (s : State) → value g role depth Zero s ≤ value g role (suc depth) Zero s
+one_turn_rises g role depth s = value_rising g role s depth (suc depth) (omega arith)

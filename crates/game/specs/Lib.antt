@@ -3,5 +3,6 @@ pub mod PlainValue
 pub mod Joints
 pub mod Told
 pub mod TurnsAfter
+pub mod Keys
 pub mod SamePlay
 pub mod Settled

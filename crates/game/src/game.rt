@@ -1,5 +1,5 @@
 //! What every game has.
-ghost use Rattle.std.specs.Prelude.{true, ◌≡◌, ◌≢◌, ℕ, ◌<◌, ◌≤◌, ◌^◌, List, [], None, length, map, get_or, All, IfOk, slice_get};
+ghost use Rattle.std.specs.Prelude.{true, ◌≡◌, ◌≢◌, ℕ, ◌<◌, ◌≤◌, ◌^◌, ◌*◌, List, [], None, length, map, get_or, All, IfOk, slice_get};
 ghost use Rattle.std.specs.Ordering.{nat_cmp};
 ghost use Rattle.std.specs.Cmp.Lexicographic.{slice_cmp};
 ghost use Rattle.std.specs.List.Sorted.{IsStrictlyIncreasing};
@@ -7,6 +7,7 @@ ghost use Rattle.std.specs.declared.cmp.Ordering.TheVariants.{Less};
 ghost use Rattle.statement.specs.Rules.{Rules, IsTurn};
 ghost use Rattle.game.specs.Told.{IsTold, end_worth};
 ghost use Rattle.game.specs.TurnsAfter.{turns_after};
+ghost use Rattle.game.specs.Keys.{key_at};
 
 use crate::joint::Joint;
 use crate::told::Told;
@@ -58,6 +59,12 @@ pub trait Game: Sync {
     ghost wide_capacities: { Self → Self.Wide → List ℕ };
 
     ghost many_capacities: { Self → Self.Many → List ℕ };
+
+    /// How many words a key of a state has.
+    ghost key_length: { Self → ℕ };
+
+    /// The state that the words of a key stand for. So states with the same key are the same.
+    ghost keyed: { Self → List ℕ → List ℕ };
 
     /// How many roles there are.
     fn roles(&self) -> usize
@@ -205,6 +212,40 @@ pub trait Game: Sync {
         ensures told { place < length (judged self.now w.now)
             → result ≡ end_worth (rules self.now) (get_or (judged self.now w.now) place []) role }
         ensures beyond { length (judged self.now w.now) ≤ place → result ≡ None };
+
+    /// How many words a key of a state has.
+    fn key_words(&self) -> usize
+        ensures length { result ≡ key_length self.now }
+        ensures few { result ≤ 2 ^ 16 };
+
+    /// Writes the key of a state.
+    fn write_key(&self, p: &Self::Pos, key: &mut [u64])
+        requires from { fits self.now p.now }
+        requires room { length key.old ≡ key_length self.now }
+        ensures keyed { keyed self.now key.new ≡ state self.now p.now };
+
+    /// Writes the key of the state at a place of many.
+    fn write_key_of(&self, many: &Self::Many, place: usize, key: &mut [u64])
+        requires many { fits_many self.now many.now }
+        requires place { place < length (states self.now many.now) }
+        requires room { length key.old ≡ key_length self.now }
+        ensures keyed { keyed self.now key.new ≡ get_or (states self.now many.now) place [] };
+
+    /// Writes the keys of the first `count` of many states, one behind the other, each with its `key_words`. What is behind them
+    /// may be written over.
+    fn write_keys(&self, many: &Self::Many, count: usize, keys: &mut [u64])
+        requires many { fits_many self.now many.now }
+        requires count { count ≤ length (states self.now many.now) }
+        requires room { count * key_length self.now ≤ length keys.old }
+        ensures keyed { (place : ℕ) → place < count
+            → keyed self.now (key_at keys.new (key_length self.now) place) ≡ get_or (states self.now many.now) place [] }
+    {
+        let words = self.key_words();
+        for place in 0..count {
+            let from = place * words;
+            self.write_key_of(many, place, &mut keys[from..from + words]);
+        }
+    }
 
     ghost goal_within: { (g : Self) (s : List ℕ) (r : ℕ) → (rules g).goal s r ≤ 100 };
 

@@ -4,6 +4,7 @@
 
 mod game;
 mod joint;
+mod keys;
 mod play_laws;
 mod question;
 mod refusal;
@@ -13,9 +14,11 @@ mod told;
 
 pub use game::Game;
 pub use joint::{Joint, new_joint, put_move};
+pub use keys::{put_bit, words_for};
 pub use play_laws::{
-    nothing_at_the_bound_is_the_plain_value, play_stays_within_the_game,
-    same_play_is_played_the_same, settled_value_stays, worth_at_the_bound_bounds_the_value,
+    more_turns_are_worth_no_less, nothing_at_the_bound_is_the_plain_value,
+    play_stays_within_the_game, same_play_is_played_the_same, settled_value_stays,
+    worth_at_the_bound_bounds_the_value,
 };
 pub use question::Question;
 pub use refusal::add_history_refusal;

@@ -1,5 +1,5 @@
 //! What holds of play in every game, and what games that tell the same have in common.
-ghost use Rattle.std.specs.Prelude.{ℕ, ◌≡◌, ◌+◌, ◌<◌, ◌≤◌, List, All, IfSome, IfErr};
+ghost use Rattle.std.specs.Prelude.{ℕ, suc, ◌≡◌, ◌+◌, ◌<◌, ◌≤◌, List, All, IfSome, IfErr};
 ghost use Rattle.statement.specs.Tree.{Tree};
 ghost use Rattle.statement.specs.declared.at_bound.AtBound.{AtBound};
 ghost use Rattle.statement.specs.declared.at_bound.AtBound.TheVariants.{Zero, Unfinished};
@@ -53,6 +53,15 @@ pub fn nothing_at_the_bound_is_the_plain_value()
     ensures choice { (g : Rules) (role depth : ℕ) (s : State) → choice_of g role depth Zero s ≡ plain_choice g role depth s }
     ensures reply { (g : Rules) (role depth : ℕ) (s : State) (own : ℕ) → reply_of g role depth Zero s own ≡ plain_reply g role depth s own }
     ensures line { (g : Rules) (role depth : ℕ) (s : State) → line_of g role depth Zero s ≡ plain_line g role depth s }
+{}
+
+/// Where a state at the bound is worth nothing, a role can be sure of no less with more turns. Where no goal is above 100, no value
+/// is.
+pub fn more_turns_are_worth_no_less()
+    ensures one { (g : Rules) (role depth : ℕ) (s : State) → value g role depth Zero s ≤ value g role (suc depth) Zero s }
+    ensures more { (g : Rules) (role : ℕ) (s : State) (d e : ℕ) → d ≤ e → value g role d Zero s ≤ value g role e Zero s }
+    ensures within { (g : Rules) (role : ℕ) → ((s : State) → g.goal s role ≤ 100) → (depth : ℕ) (at : AtBound) (s : State)
+        → value g role depth at s ≤ 100 }
 {}
 
 /// No state is worth less to a role where unfinished play is worth more. Where unfinished play is worth nothing, more turns make no

@@ -87,6 +87,10 @@ impl Game for Table {
 
     ghost many_capacities = { λ _ _. [] };
 
+    ghost key_length = { λ _. 1 };
+
+    ghost keyed = { λ _ key. slice_index key 0 ∷ [] };
+
     fn roles(&self) -> usize {
         3
     }
@@ -202,6 +206,18 @@ impl Game for Table {
             return Some(self.goal(&p, role));
         }
         None
+    }
+
+    fn key_words(&self) -> usize {
+        1
+    }
+
+    fn write_key(&self, p: &Chosen, key: &mut [u64]) {
+        key[0] = u64::from(p.cell);
+    }
+
+    fn write_key_of(&self, many: &Cells, place: usize, key: &mut [u64]) {
+        key[0] = u64::from(many.cells[place]);
     }
 
     ghost goal_within = { λ g s r. goal_at_most g.worth g.ends s r g.at_most_100 };

@@ -59,6 +59,10 @@ impl<G: Game, W: Watch> Game for Watched<G, W> {
 
     ghost many_capacities = { λ g. G.many_capacities g.inner };
 
+    ghost key_length = { λ g. G.key_length g.inner };
+
+    ghost keyed = { λ g. G.keyed g.inner };
+
     fn roles(&self) -> usize {
         self.inner.roles()
     }
@@ -145,6 +149,22 @@ impl<G: Game, W: Watch> Game for Watched<G, W> {
 
     fn verdict(&self, w: &G::Wide, place: usize, role: usize) -> Option<u8> {
         self.inner.verdict(w, place, role)
+    }
+
+    fn key_words(&self) -> usize {
+        self.inner.key_words()
+    }
+
+    fn write_key(&self, p: &G::Pos, key: &mut [u64]) {
+        self.inner.write_key(p, key);
+    }
+
+    fn write_key_of(&self, many: &G::Many, place: usize, key: &mut [u64]) {
+        self.inner.write_key_of(many, place, key);
+    }
+
+    fn write_keys(&self, many: &G::Many, count: usize, keys: &mut [u64]) {
+        self.inner.write_keys(many, count, keys);
     }
 
     ghost goal_within = { λ g. G.goal_within g.inner };
