@@ -1,8 +1,7 @@
 -- Rows of words that keep entries.
-use Rattle.std.proofs.Common.{◌≡◌, ◌≢◌, ℕ, zero, suc, ◌+◌, ◌-◌, ◌*◌, ◌<◌, ◌≤◌, Bool, true, false, List, [], ◌∷◌, ◌++◌, length, take, drop, get_or, refl, sym, subst, ap, ◌∙◌, arith, inl, inr}
+use Rattle.std.proofs.Common.{◌≡◌, ◌≢◌, ℕ, zero, suc, ◌+◌, ◌-◌, ◌*◌, ◌<◌, ◌≤◌, false, List, [], ◌∷◌, ◌++◌, length, take, drop, get_or, refl, sym, subst, ap, ◌∙◌, arith, inl, inr}
 use Rattle.std.specs.Prelude.{replicate, ◌==◌}
-use Rattle.std.specs.List.{between, copy_within}
-use Rattle.std.specs.Cmp.Lexicographic.{pointwise, same_text}
+use Rattle.std.specs.List.{copy_within}
 use Rattle.std.proofs.Math.ListN.{set}
 use Rattle.std.proofs.Math.Nat.{mul-le-mul_right}
 use Rattle.std.proofs.lemmas.Bool.{cases_eq, cases_lt}
@@ -10,7 +9,7 @@ use Rattle.std.proofs.lemmas.List.{take_all, take-append-le, get_or-append_right
 use Rattle.std.proofs.lemmas.List.Edits.{length-between, get_or-between}
 use Rattle.std.proofs.lemmas.Slice.{between_is, put_mid-paste}
 use Rattle.game.specs.Keys.{key_at}
-use Rattle.game.proofs.Facts.{row_within, row_fits}
+use Rattle.game.proofs.Facts.{row_within}
 use Rattle.table.specs.declared.entry.Entry.{Entry}
 use Rattle.table.specs.Says.{Says, entry_in}
 use Rattle.table.specs.Rows.{RowHolds, RowsHold}

@@ -1,5 +1,5 @@
 -- The values of a game are worths.
-use Rattle.std.proofs.Common.{◌≡◌, ℕ, ◌≤◌, Bool, true, List}
+use Rattle.std.proofs.Common.{◌≡◌, ℕ, ◌≤◌, Bool, List}
 use Rattle.statement.specs.declared.at_bound.AtBound.{AtBound}
 use Rattle.statement.specs.declared.at_bound.AtBound.TheVariants.{Zero, Goal}
 use Rattle.statement.specs.Rules.{Rules, State}

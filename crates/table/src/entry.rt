@@ -152,7 +152,11 @@ fn depth_of_upper(hi: u8, found: Found) -> u8
     ensures lasts { result ≡ 127 → (100 ≤ hi) ⊎ (found.lasts ≡ true) }
     ensures small { result < 128 }
 {
-    if hi >= 100 || found.lasts { EVERY_DEPTH } else { found.depth }
+    if hi >= 100 || found.lasts {
+        EVERY_DEPTH
+    } else {
+        found.depth
+    }
 }
 
 /// An entry with an upper bound that was found, if that is smaller or of greater depth.
@@ -164,7 +168,9 @@ fn with_upper(entry: Entry, found: Found) -> Entry
 {
     let hi = found.bounds.hi.min(100);
     let hi_depth = depth_of_upper(hi, found);
-    if hi < entry.hi || entry.hi_depth < found.depth || (hi == entry.hi && entry.hi_depth < hi_depth)
+    if hi < entry.hi
+        || entry.hi_depth < found.depth
+        || (hi == entry.hi && entry.hi_depth < hi_depth)
     {
         return Entry {
             lo: entry.lo,
@@ -184,7 +190,11 @@ pub(crate) fn merged(entry: Entry, rising: bool, found: Found) -> Entry
     ensures says { (worth : ℕ → ℕ) → ((d : ℕ) → worth d ≤ 100) → IsFound found worth → Says entry worth → Says result worth }
     ensures small { IsSmall result }
 {
-    let kept = if rising || entry.depth == found.depth { entry } else { nothing_known() };
+    let kept = if rising || entry.depth == found.depth {
+        entry
+    } else {
+        nothing_known()
+    };
     let known = with_upper(with_lower(kept, found), found);
     Entry {
         lo: known.lo,

@@ -6,7 +6,10 @@ ghost use Rattle.table.specs.Worths.{is_rising as is_rising_at};
 
 use crate::bounds::Bounds;
 use crate::entry::{Found, bounds_at, entry_word, merged};
-use crate::rows::{add_zeros, bucket_of, double_rows, is_empty_row, known_in, known_of, place_for, row_at, write_row};
+use crate::rows::{
+    add_zeros, bucket_of, double_rows, is_empty_row, known_in, known_of, place_for, row_at,
+    write_row,
+};
 use game::AtBound;
 use std::alloc::{AllocError, Global};
 

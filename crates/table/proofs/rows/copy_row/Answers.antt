@@ -1,4 +1,4 @@
-use Rattle.std.proofs.Common.{◌≡◌, ℕ, List, ap, refl, ◌∙◌, ◌*◌, ◌+◌, ◌≤◌, length, arith}
+use Rattle.std.proofs.Common.{ℕ, List, ap, refl, ◌∙◌, ◌*◌, ◌+◌, ◌≤◌, length, arith}
 use Rattle.game.specs.Keys.{key_at}
 use Rattle.game.proofs.Facts.{key_written, key_kept}
 use Rattle.table.proofs.RowLemmas.{copied_row, length-key_at}

@@ -1,4 +1,4 @@
-use Rattle.std.proofs.Common.{◌≡◌, ℕ, ◌+◌, ◌*◌, ◌++◌, List, length, replicate, take, drop, sym, subst, ap, ◌∙◌, arith, length-append}
+use Rattle.std.proofs.Common.{◌≡◌, ℕ, ◌+◌, ◌*◌, ◌++◌, List, length, replicate, take, drop, sym, subst, ap, ◌∙◌, length-append}
 use Rattle.std.proofs.lemmas.List.{length-replicate}
 use Rattle.table.specs.Rows.{RowsHold}
 use Rattle.table.proofs.RowLemmas.{rows_added, written_over, twice_rows}

@@ -1,4 +1,4 @@
-use Rattle.std.proofs.Common.{◌≡◌, ℕ, ◌+◌, ◌*◌, ◌≤◌, List, length, get_or, ap, ◌∙◌, arith}
+use Rattle.std.proofs.Common.{ℕ, ◌+◌, ◌*◌, ◌≤◌, List, length, get_or, ap, ◌∙◌, arith}
 use Rattle.game.proofs.Facts.{key_written, key_kept}
 use Rattle.table.proofs.rows.empty_row.Goals as goal
 

@@ -1,4 +1,4 @@
-use Rattle.std.proofs.Common.{◌≡◌, ◌+◌, ◌*◌, ◌<◌, ◌≤◌, List, ℕ, length, get_or, sym, subst, arith}
+use Rattle.std.proofs.Common.{◌+◌, List, ℕ, get_or, sym, subst, arith}
 use Rattle.game.proofs.Facts.{row_fits}
 use Rattle.table.specs.declared.entry.Entry.{Entry}
 use Rattle.table.specs.Says.{Says}

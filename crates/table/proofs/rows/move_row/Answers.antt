@@ -1,4 +1,4 @@
-use Rattle.std.proofs.Common.{◌≡◌, ◌+◌, ◌*◌, ◌<◌, ◌≤◌, length, subst, arith}
+use Rattle.std.proofs.Common.{◌+◌, ◌*◌, length, arith}
 use Rattle.game.proofs.Facts.{row_fits}
 use Rattle.table.proofs.RowLemmas.{rows_moved, few_rows}
 use Rattle.table.proofs.rows.move_row.Goals as goal

@@ -1,4 +1,4 @@
-use Rattle.std.proofs.Common.{◌≡◌, ◌+◌, ◌*◌, ◌<◌, ◌≤◌, length, arith}
+use Rattle.std.proofs.Common.{◌+◌, arith}
 use Rattle.game.proofs.Facts.{row_fits}
 use Rattle.table.proofs.RowLemmas.{few_rows}
 use Rattle.table.proofs.rows.place_for.Goals as goal

@@ -1,6 +1,5 @@
-use Rattle.std.proofs.Common.{◌≡◌, ℕ, ◌+◌, ◌*◌, ◌≤◌, List, length, sym, subst, ap, ◌∙◌, arith}
-use Rattle.statement.specs.declared.at_bound.AtBound.{AtBound}
-use Rattle.table.specs.Worths.{AreWorths, is_rising}
+use Rattle.std.proofs.Common.{ℕ, ◌+◌, ◌≤◌, List, length, sym, subst, ap, ◌∙◌, arith}
+use Rattle.table.specs.Worths.{is_rising}
 use Rattle.table.specs.Rows.{RowsHold}
 use Rattle.table.specs.Tables.{worth_of}
 use Rattle.table.proofs.RowLemmas.{bucket_fits}

@@ -1,4 +1,4 @@
-use Rattle.std.proofs.Common.{◌≡◌, ℕ, ◌+◌, ◌*◌, ◌≤◌, ◌<◌, ◌^◌, List, length, vec_capacity, sym, ap, subst, arith}
+use Rattle.std.proofs.Common.{◌≡◌, ℕ, ◌+◌, ◌*◌, ◌≤◌, length, subst, arith}
 use Rattle.table.specs.Rows.{RowsHold}
 use Rattle.table.specs.Tables.{worth_of}
 use Rattle.table.proofs.RowLemmas.{few_rows}

@@ -1,6 +1,5 @@
-use Rattle.std.proofs.Common.{◌≡◌, ℕ, ◌+◌, ◌*◌, ◌<◌, ◌≤◌, ◌++◌, List, length, take, drop, sym, subst, ap, ◌∙◌, arith}
+use Rattle.std.proofs.Common.{◌≡◌, ℕ, ◌++◌, List, length, take, drop, sym, subst, ap, ◌∙◌, arith}
 use Rattle.game.specs.Keys.{key_at}
-use Rattle.game.proofs.Facts.{row_fits}
 use Rattle.table.specs.Worths.{is_rising}
 use Rattle.table.specs.Rows.{RowHolds, RowsHold}
 use Rattle.table.specs.Tables.{worth_of}
