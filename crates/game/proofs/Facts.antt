@@ -19,4 +19,4 @@ pub use Rattle.game.proofs.TurnsTogether.{turns_after_count, turns_after_each, t
 -- Keys in rows, and bits of keys.
 pub use Rattle.game.proofs.KeyLemmas.{row_within, row_fits, key_written, key_kept, keys_more}
 -- Where a state at the bound is worth nothing, more turns are worth no less; and no value is above all goals.
-pub use Rattle.game.proofs.Settled.{value_rising, value_within}
+pub use Rattle.game.proofs.Settled.{more_turns_rise, value_rising, value_within}

@@ -7,6 +7,7 @@ mod plan;
 mod planning;
 mod reading;
 mod rule_game;
+mod rule_keys;
 mod rule_many;
 mod rule_pos;
 

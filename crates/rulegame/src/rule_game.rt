@@ -1,13 +1,14 @@
 //! The game of an instantiation.
-ghost use Rattle.std.specs.Prelude.{◌≡◌, IfOk, []};
+ghost use Rattle.std.specs.Prelude.{◌≡◌, IfOk, [], length};
 ghost use Rattle.ground.specs.GroundView.{flat_of};
 ghost use Rattle.rulegame.specs.Plans.{IsPlanOf};
 
 use crate::plan::Plan;
 use crate::planning::make_plan;
+use crate::rule_keys::write_marks_key;
 use crate::rule_many::{RuleMany, RuleWide, new_bases, step_each};
 use crate::rule_pos::{RulePos, read_state, start_state, step_state};
-use game::{Game, Joint, Told};
+use game::{Game, Joint, Told, words_for};
 use ground::{FlatGround, Ground};
 use rulebook::{copy_roles, legal_at};
 use std::alloc::{AllocError, Global};
@@ -49,6 +50,7 @@ impl Game for RuleGame {
     ghost use Rattle.rulegame.specs.RuleRoom.{IsStateOf, capacities};
     ghost use Rattle.rulebook.specs.RuleState.{rules_of};
     ghost use Rattle.rulegame.specs.RuleMany.{IsManyOf, IsWideOf, kept_states, capacities_wide, capacities_many};
+    ghost use Rattle.game.specs.Keys.{words_for as words_for_bits, state_of_bits};
     ghost use Rattle.rulebook.specs.RuleLaws.{goal_at_most, few_moves_of, legal_below, legal_in_order, moves_in_order, roles_once};
 
     type Pos = RulePos;
@@ -80,6 +82,10 @@ impl Game for RuleGame {
     ghost wide_capacities = { λ _ w. capacities_wide w };
 
     ghost many_capacities = { λ _ m. capacities_many m };
+
+    ghost key_length = { λ g. words_for_bits (length g.played.starts.items) };
+
+    ghost keyed = { λ g key. state_of_bits (length g.played.starts.items) key };
 
     fn roles(&self) -> usize {
         self.played.roles()
@@ -173,6 +179,18 @@ impl Game for RuleGame {
 
     fn verdict(&self, _w: &RuleWide, _place: usize, _role: usize) -> Option<u8> {
         None
+    }
+
+    fn key_words(&self) -> usize {
+        words_for(self.played.base())
+    }
+
+    fn write_key(&self, p: &RulePos, key: &mut [u64]) {
+        write_marks_key(&p.base, key);
+    }
+
+    fn write_key_of(&self, many: &RuleMany, place: usize, key: &mut [u64]) {
+        write_marks_key(&many.states[place].marks, key);
     }
 
     ghost goal_within = { λ g s r. goal_at_most g.played s r };

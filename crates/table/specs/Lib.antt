@@ -1,0 +1,4 @@
+pub mod Worths
+pub mod Says
+pub mod Rows
+pub mod Tables
