@@ -1,3 +1,3 @@
 mod ListLemmas
-mod ChainLemmas
+mod TableLemmas
 pub mod Facts

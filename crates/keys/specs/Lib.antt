@@ -1,3 +1,3 @@
 pub mod KeyLists
 pub mod Hashes
-pub mod Chains
+pub mod KeyTables
