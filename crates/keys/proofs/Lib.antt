@@ -1,3 +1,4 @@
 mod ListLemmas
 mod TableLemmas
+mod WalkLengths
 pub mod Facts
