@@ -18,36 +18,6 @@ not_here : (b : Bool) (i : ℕ) (o : Option ℕ) → cond b (Some i) o ≡ None 
 not_here true i o e = absurd cc
 not_here false i o e = (refl, e)
 
-never : (test : List ℕ → Bool) (i : ℕ) (ws : List (List ℕ)) → position_from test i ws ≡ None → (k : ℕ) → k < length ws → test (word_at ws k) ≡ false
-never test i [] e k h = absurd (let bad : ⊥ = omega (arith, h) in bad)
-never test i (w ∷ ws) e zero h = (not_here (test w) i (position_from test (i + 1) ws) e).0
-never test i (w ∷ ws) e (suc k) h = never test (i + 1) ws (not_here (test w) i (position_from test (i + 1) ws) e).1 k (omega (arith, h))
-
-from-map : {K : Type 0} (items : K → List ℕ) (test : List ℕ → Bool) (i : ℕ) (ks : List K)
-    → position_from (λ k. test (items k)) i ks ≡ position_from test i (map items ks)
-from-map items test i [] = refl
-from-map items test i (k ∷ ks) = ap (λ (o : Option ℕ). cond (test (items k)) (Some i) o) (from-map items test (i + 1) ks)
-
-position-map : {K : Type 0} (items : K → List ℕ) (test : List ℕ → Bool) (ks : List K)
-    → position (λ k. test (items k)) ks ≡ position test (map items ks)
-position-map items test ks = position_from-zero (λ k. test (items k)) ks ∙ from-map items test 0 ks ∙ sym (position_from-zero test (map items ks))
-
-seen_word : (ws : List (List ℕ)) (w : List ℕ) (r : Option ℕ) → r ≡ position (λ x. pointwise nat_eq w x) ws
-    → MatchOption r ((k : ℕ) → k < length ws → word_at ws k ≢ w) (λ k. (k < length ws) × (word_at ws k ≡ w))
-seen_word ws w None e =
-    λ k h same. other_text w (word_at ws k) (sym (never (λ x. pointwise nat_eq w x) 0 ws (sym (position_from-zero (λ x. pointwise nat_eq w x) ws)
-    ∙ sym e) k h)) (sym same)
-seen_word ws w (Some k) e =
-    let f = position-Some (λ x. pointwise nat_eq w x) ws k [] (sym e) in
-    (f.0, sym (same_text w (word_at ws k) (sym f.1)))
-
--- what a search for a name has told
-pub seen : {K : Type 0} (items : K → List ℕ) (ks : List K) (ws : List (List ℕ)) (w : List ℕ) (r : Option ℕ) → map items ks ≡ ws
-    → r ≡ position (λ k. pointwise nat_eq w (items k)) ks
-    → MatchOption r ((k : ℕ) → k < length ws → word_at ws k ≢ w) (λ k. (k < length ws) × (word_at ws k ≡ w))
-seen items ks ws w r v e = seen_word ws w r (e ∙ position-map items (λ x. pointwise nat_eq w x) ks
-    ∙ ap (λ (xs : List (List ℕ)). position (λ x. pointwise nat_eq w x) xs) v)
-
 pub is_in : (ws : List (List ℕ)) (w : List ℕ) (k : ℕ) → k < length ws → word_at ws k ≡ w → is_name_in w ws ≡ true
 is_in [] w k h e = absurd (let bad : ⊥ = omega (arith, h) in bad)
 is_in (x ∷ ws) w zero h e = or_left (name_eq w x) (is_name_in w ws) (subst (λ (y : List ℕ). name_eq w y ≡ true) (sym e) (name_eq_self w))
@@ -72,29 +42,8 @@ not_in (x ∷ ws) w none =
 pub with_known : (ws : List (List ℕ)) (w : List ℕ) (k : ℕ) → k < length ws → word_at ws k ≡ w → ws ≡ with_word ws w
 with_known ws w k h e = ap (λ (b : Bool). cond b ws (ws ++ w ∷ [])) (sym (is_in ws w k h e))
 
-pointwise-name_eq : (x y : List ℕ) → pointwise nat_eq x y ≡ name_eq x y
-pointwise-name_eq [] [] = refl
-pointwise-name_eq [] (c ∷ cs) = refl
-pointwise-name_eq (b ∷ bs) [] = refl
-pointwise-name_eq (b ∷ bs) (c ∷ cs) = ap (λ (r : Bool). nat_eq b c && r) (pointwise-name_eq bs cs)
-
-any-is_name_in : {K : Type 0} (items : K → List ℕ) (w : List ℕ) (ks : List K)
-    → list_any (λ y. pointwise nat_eq w (items y)) ks ≡ is_name_in w (map items ks)
-any-is_name_in items w [] = refl
-any-is_name_in items w (k ∷ ks) = cc (pointwise-name_eq w (items k), any-is_name_in items w ks)
-
-map-cond : {K : Type 0} (items : K → List ℕ) (b : Bool) (ks : List K) (v : K)
-    → map items (cond b ks (ks ++ v ∷ [])) ≡ cond b (map items ks) (map items ks ++ items v ∷ [])
-map-cond items true ks v = refl
-map-cond items false ks v = map-append items ks (v ∷ [])
-
--- the names once a key was inserted
-pub inserted : {K : Type 0} (items : K → List ℕ) (ks more : List K) (v : K) (ws : List (List ℕ)) (w : List ℕ) → map items ks ≡ ws → items v ≡ w
-    → more ≡ cond (list_any (λ y. pointwise nat_eq (items v) (items y)) ks) ks (ks ++ v ∷ []) → map items more ≡ with_word ws w
-inserted {K} items ks more v ws w e f g =
-    ap (λ (xs : List K). map items xs) g ∙ map-cond items _ ks v
-    ∙ ap (λ (b : Bool). cond b (map items ks) (map items ks ++ items v ∷ [])) (any-is_name_in items (items v) ks)
-    ∙ ap (λ (x : List ℕ). with_word (map items ks) x) f ∙ ap (λ (xs : List (List ℕ)). with_word xs w) e
+pub with_next : (ws new : List (List ℕ)) (w : List ℕ) → ((k : ℕ) → k < length ws → word_at ws k ≡ w → ⊥) → new ≡ ws ++ w ∷ [] → new ≡ with_word ws w
+with_next ws new w none e = e ∙ ap (λ (b : Bool). cond b ws (ws ++ w ∷ [])) (sym (not_in ws w none))
 
 last_word : (ws : List (List ℕ)) (w : List ℕ) → (length ws < length (ws ++ w ∷ [])) × (word_at (ws ++ w ∷ []) (length ws) ≡ w)
 last_word [] w = (omega arith, refl)
@@ -154,9 +103,6 @@ with_word-AreDifferent ws w old = go (is_name_in w ws) refl
     go : (b : Bool) → is_name_in w ws ≡ b → NamesDiffer (cond b ws (ws ++ w ∷ []))
     go true e = old
     go false e = more_different ws w [] (λ k h same. true_or_false (is_name_in w ws) (is_in ws w k h same) e) old
-
-pub counted : {K : Type 0} (items : K → List ℕ) (ks : List K) (ws : List (List ℕ)) → map items ks ≡ ws → length ks ≡ length ws
-counted items ks ws e = sym (length-map ks items) ∙ ap length e
 
 -- The same of numbers.
 

@@ -1,8 +1,9 @@
 //! Names by number: each different name has one.
-ghost use Rattle.std.specs.Prelude.{ℕ, ◌≡◌, ◌<◌, ◌≢◌, List, length, map, IfOk, OnOk, OnErr, MatchOption};
+ghost use Rattle.std.specs.Prelude.{ℕ, ◌≡◌, ◌<◌, ◌≢◌, List, length, IfOk, OnOk, OnErr, MatchOption};
 ghost use Rattle.clauses.specs.Numbers.{word_at, with_word};
+ghost use Rattle.keys.specs.KeyTables.{key_hash};
 
-use indexmap::IndexSet;
+use keys::{KeyTable, NameList, add_name, find_name, hash_of_name, make_name_buckets};
 use std::alloc::{AllocError, Global};
 use std::marker::Model;
 
@@ -10,13 +11,19 @@ use std::marker::Model;
 #[derive(Drop)]
 pub struct Symbols {
     alloc: Global,
-    names: IndexSet<Vec<u8>>,
+    names: NameList,
+    table: KeyTable,
 }
 
 impl Model for Symbols {
+    ghost use Rattle.std.specs.Prelude.{ℕ, List};
+    ghost use Rattle.keys.specs.KeyTables.{NamesKept};
+
     ghost Value = { List (List ℕ) };
 
-    ghost view = { λ s. map (λ v. v.items) s.names.keys };
+    ghost view = { λ s. s.names };
+
+    ghost invariant = { λ s. NamesKept s.names s.table };
 }
 
 impl Symbols {
@@ -26,7 +33,8 @@ impl Symbols {
     {
         Symbols {
             alloc,
-            names: IndexSet::new(alloc),
+            names: NameList::new(alloc),
+            table: KeyTable::new(alloc),
         }
     }
 
@@ -42,10 +50,7 @@ impl Symbols {
         requires { number < length self.now }
         ensures { result.now ≡ word_at self.now number }
     {
-        match self.names.get_index(number) {
-            Some(name) => name,
-            None => &[],
-        }
+        self.names.get(number)
     }
 
     /// The number of a name, if it has one.
@@ -54,7 +59,17 @@ impl Symbols {
             ((k : ℕ) → k < length self.now → word_at self.now k ≢ name.now)
             (λ k. (k < length self.now) × (word_at self.now k ≡ name.now)) }
     {
-        self.names.get_index_of(name)
+        self.number_by(name, hash_of_name(name))
+    }
+
+    /// The number of a name with this hash, if it has one.
+    fn number_by(&self, name: &[u8], hash: usize) -> Option<usize>
+        requires { hash ≡ key_hash 0 name.now }
+        ensures { MatchOption result
+            ((k : ℕ) → k < length self.now → word_at self.now k ≢ name.now)
+            (λ k. (k < length self.now) × (word_at self.now k ≡ name.now)) }
+    {
+        find_name(&self.names, &self.table, name, hash)
     }
 
     /// The number of a name, which is the next one if it has none yet. After an error the names are
@@ -64,12 +79,25 @@ impl Symbols {
         ensures kept { OnOk result (self.new ≡ with_word self.old name.now) }
         ensures failed { OnErr result (self.new ≡ self.old) }
     {
-        if let Some(number) = self.number(name) {
+        let hash = hash_of_name(name);
+        if let Some(number) = self.number_by(name, hash) {
             return Ok(number);
         }
+        self.add_by(name, hash)
+    }
+
+    /// The number of a name with this hash that has none yet, which is the next one. After an error the
+    /// names are those before.
+    fn add_by(&mut self, name: &[u8], hash: usize) -> Result<usize, AllocError>
+        requires next { (k : ℕ) → k < length self.old → word_at self.old k ≢ name.now }
+        requires hash { hash ≡ key_hash 0 name.now }
+        ensures found { IfOk result (λ k. (k < length self.new) × (word_at self.new k ≡ name.now)) }
+        ensures kept { OnOk result (self.new ≡ with_word self.old name.now) }
+        ensures failed { OnErr result (self.new ≡ self.old) }
+    {
         let number = self.names.len();
-        let owned = Vec::from_slice(self.alloc, name)?;
-        self.names.insert(owned)?;
+        make_name_buckets(self.alloc, &self.names, &mut self.table)?;
+        add_name(&mut self.names, &mut self.table, name, hash)?;
         Ok(number)
     }
 }

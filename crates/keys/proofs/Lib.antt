@@ -1,3 +1,4 @@
 mod ListLemmas
-mod ChainLemmas
+mod TableLemmas
+mod WalkLengths
 pub mod Facts

@@ -1,3 +1,4 @@
 pub mod KeyLists
 pub mod Hashes
-pub mod Chains
+pub mod KeyTables
+pub mod ShortWalks

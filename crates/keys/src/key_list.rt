@@ -26,7 +26,7 @@ impl Model for KeyList {
 }
 
 /// Where a list begins: at the end of the one before it.
-fn start_of(ends: &[u32], number: usize) -> usize
+pub(crate) fn start_of(ends: &[u32], number: usize) -> usize
     requires { number ≤ length ends.now }
     ensures { result ≡ slice_index (0 ∷ ends.now) number }
 {
@@ -37,7 +37,7 @@ fn start_of(ends: &[u32], number: usize) -> usize
 }
 
 /// Where a list ends.
-fn end_of(ends: &[u32], number: usize) -> usize
+pub(crate) fn end_of(ends: &[u32], number: usize) -> usize
     requires { number < length ends.now }
     ensures { result ≡ slice_index ends.now number }
 {

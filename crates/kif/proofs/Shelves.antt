@@ -82,7 +82,7 @@ pub record IsClosed (os : List Open) (o : Open) (ts : List Tree) (fs : List Shel
   pub shelved : IsShelved os (take o.before ts) around inner.before
   pub within : drop o.before ts ≡ us
 
-last_of : (fs : List Shelf) → (fs ≡ []) ⊎ ((gs : List Shelf) × (f : Shelf) × (fs ≡ gs ++ f ∷ []))
+pub last_of : (fs : List Shelf) → (fs ≡ []) ⊎ ((gs : List Shelf) × (f : Shelf) × (fs ≡ gs ++ f ∷ []))
 last_of [] = inl refl
 last_of (g ∷ fs) = go (last_of fs)
   where

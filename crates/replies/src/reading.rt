@@ -1,18 +1,17 @@
 //! From bytes to their rules, or to a reply that needs no more than reading.
 ghost use Rattle.std.specs.Prelude.{◌≡◌, ◌++◌, IfOk, OnOk, length};
-ghost use Rattle.statement.specs.Tree.{trees_of};
 ghost use Rattle.kif.specs.View.{trees_in};
 ghost use Rattle.statement.specs.Order.{relations_in_order};
 ghost use Rattle.rules.specs.RuleSetView.{rules_in, roles_in};
 ghost use Rattle.statement.specs.Checking.{spaced, check_lines, IsCheckReply};
 ghost use Rattle.replies.specs.Readings.{IsReadingOf, IsReadingOfItems};
 ghost use Rattle.replies.specs.Replies.{reply_of};
-ghost use Rattle.statement.specs.Replies.{IsReply, lines_of};
+ghost use Rattle.statement.specs.Replies.{IsReply};
 ghost use Rattle.statement.specs.Queries as query;
 
 use crate::reply::{Reply, add_count, answered, refused};
 use bumpalo::Bump;
-use kif::{Expr, KifFault, write};
+use kif::{Expr, KifFault, canonical_lines};
 use rules::{RuleFault, RuleSet};
 use std::alloc::{AllocError, Allocator, Global};
 
@@ -23,20 +22,6 @@ pub enum Reading {
     Rules(RuleSet),
     /// The text, or the items that it reads as, have a fault, and the reply names it.
     Refused(Reply),
-}
-
-/// The canonical text of each tree, one a line.
-fn shown<A: Allocator>(alloc: Global, trees: &[Expr<A>]) -> Result<Vec<u8>, AllocError>
-    ensures { IfOk result (λ output. output.items ≡ lines_of (trees_of (trees_in trees.now))) }
-{
-    let mut output = Vec::new(alloc);
-    for tree in trees {
-        let Ok(()) = write(tree, &mut output) else {
-            return Err(AllocError);
-        };
-        output.push(b'\n')?;
-    }
-    Ok(output)
 }
 
 /// Adds each role with a space before it. After an error the output may have a beginning of them.
@@ -81,9 +66,8 @@ fn checked<A: Allocator>(alloc: Global, items: &[Expr<A>]) -> Result<Reply, Allo
 pub fn show(alloc: Global, bytes: &[u8]) -> Result<Reply, AllocError>
     ensures { IfOk result (λ reply. IsReply query.show bytes.now (reply_of reply)) }
 {
-    let arena = Bump::new(alloc);
-    match kif::read(&arena, bytes) {
-        Ok(trees) => Ok(answered(shown(alloc, &trees)?)),
+    match canonical_lines(alloc, bytes) {
+        Ok(lines) => Ok(answered(lines)),
         Err(KifFault::NoMemory) => Err(AllocError),
         Err(fault) => refused(alloc, &fault),
     }

@@ -1,11 +1,11 @@
 //! Ground terms by number: each different one has one.
 ghost use Rattle.std.specs.Prelude.{ℕ, ◌≡◌, ◌<◌, ◌≢◌, List, length, take, IfOk, OnOk, OnErr, MatchOption};
-ghost use Rattle.keys.specs.Chains.{key_hash};
+ghost use Rattle.keys.specs.KeyTables.{key_hash};
 ghost use Rattle.clauses.specs.Numbers.{NamesDiffer};
 ghost use Rattle.terms.specs.Keys.{with_key, IsKey, AreKeys, AreDifferentTerms, trees};
 ghost use Rattle.keys.specs.KeyLists.{key_at};
 
-use keys::{Chains, KeyList, add, drop_behind, find, hash_of, make_buckets};
+use keys::{KeyList, KeyTable, add, drop_behind, find, hash_of, make_buckets};
 use std::alloc::{AllocError, Global};
 use std::marker::Model;
 
@@ -15,18 +15,18 @@ use std::marker::Model;
 pub struct Terms {
     alloc: Global,
     keys: KeyList,
-    chains: Chains,
+    table: KeyTable,
 }
 
 impl Model for Terms {
     ghost use Rattle.std.specs.Prelude.{ℕ, List};
-    ghost use Rattle.keys.specs.Chains.{KeysKept};
+    ghost use Rattle.keys.specs.KeyTables.{KeysKept};
 
     ghost Value = { List (List ℕ) };
 
     ghost view = { λ s. s.keys };
 
-    ghost invariant = { λ s. KeysKept s.keys s.chains };
+    ghost invariant = { λ s. KeysKept s.keys s.table };
 }
 
 impl Terms {
@@ -37,10 +37,7 @@ impl Terms {
         Terms {
             alloc,
             keys: KeyList::with_room(alloc, terms, numbers),
-            chains: Chains {
-                last: Vec::new(alloc),
-                before: Vec::new(alloc),
-            },
+            table: KeyTable::new(alloc),
         }
     }
 
@@ -75,7 +72,7 @@ impl Terms {
             ((k : ℕ) → k < length self.now → key_at self.now k ≢ key.now)
             (λ k. (k < length self.now) × (key_at self.now k ≡ key.now)) }
     {
-        find(&self.keys, &self.chains, key, hash)
+        find(&self.keys, &self.table, key, hash)
     }
 
     /// The number of a key, which is the next one if it has none yet. After an error the terms are those
@@ -102,8 +99,8 @@ impl Terms {
         ensures failed { OnErr result (self.new ≡ self.old) }
     {
         let number = self.keys.len();
-        make_buckets(self.alloc, &self.keys, &mut self.chains)?;
-        add(&mut self.keys, &mut self.chains, key, hash)?;
+        make_buckets(self.alloc, &self.keys, &mut self.table)?;
+        add(&mut self.keys, &mut self.table, key, hash)?;
         Ok(number)
     }
 
@@ -111,7 +108,7 @@ impl Terms {
     pub fn truncate(&mut self, many: usize)
         ensures { self.new ≡ take many self.old }
     {
-        drop_behind(&mut self.keys, &mut self.chains, many);
+        drop_behind(&mut self.keys, &mut self.table, many);
     }
 }
 
