@@ -1,0 +1,5 @@
+mod Walks
+mod Steps
+mod Passing
+mod ItemStarts
+mod Words

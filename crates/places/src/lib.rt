@@ -1,0 +1,14 @@
+//! Where things stand in a text: its lines and columns, its tokens, and the trees and words that are read from it.
+#![tactic(auto)]
+
+mod line;
+mod place;
+#[cfg(test)]
+mod tests;
+mod tokens;
+mod trees;
+
+pub use line::{Line, line_around};
+pub use place::{Place, place_of};
+pub use tokens::{Token, TokenKind, Tokens};
+pub use trees::{item_start, skip_tree, word_start};

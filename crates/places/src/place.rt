@@ -1,0 +1,61 @@
+//! Lines and columns.
+ghost use Rattle.std.specs.Prelude.{◌≡◌, ◌≤◌, length, min};
+ghost use Rattle.std.specs.List.{count_by};
+ghost use Rattle.places.specs.Lines.{is_line_feed, begins_character};
+ghost use Rattle.places.specs.Places.{IsPlace};
+
+use crate::line::line_start;
+
+/// A line and a column of a text, each counted from 1. A column counts characters, as an editor does, and not bytes: a byte from 128 to
+/// 191 goes on with the character before it. A tab is one character.
+#[derive(Clone, Copy, Debug, PartialEq, Eq)]
+pub struct Place {
+    pub line: usize,
+    pub column: usize,
+}
+
+/// How many lines end in the bytes.
+fn count_line_feeds(bytes: &[u8]) -> usize
+    ensures count { result ≡ count_by is_line_feed bytes.now }
+    ensures few { result ≤ length bytes.now }
+{
+    let mut count = 0;
+    for byte in bytes {
+        if *byte == b'\n' {
+            count += 1;
+        }
+    }
+    count
+}
+
+/// Whether a byte begins a character, as UTF-8 has it.
+pub(crate) fn is_first_byte(byte: u8) -> bool
+    ensures { result ≡ begins_character byte }
+{
+    !(128..=191).contains(&byte)
+}
+
+/// How many characters begin in the bytes.
+fn count_characters(bytes: &[u8]) -> usize
+    ensures count { result ≡ count_by begins_character bytes.now }
+    ensures few { result ≤ length bytes.now }
+{
+    let mut count = 0;
+    for byte in bytes {
+        if is_first_byte(*byte) {
+            count += 1;
+        }
+    }
+    count
+}
+
+/// The place of an offset. An offset behind the end of the text counts as the end.
+pub fn place_of(text: &[u8], offset: usize) -> Place
+    ensures { IsPlace text.now (min offset (length text.now)) result }
+{
+    let at = offset.min(text.len());
+    let start = line_start(text, at);
+    let line = count_line_feeds(&text[..at]) + 1;
+    let column = count_characters(&text[start..at]) + 1;
+    Place { line, column }
+}
