@@ -5,8 +5,6 @@ mod items;
 mod literals;
 mod probe;
 mod relation;
-#[cfg(test)]
-mod tests;
 
 pub use items::{asks, binds, heads, is_asked, is_stated, leads_to};
 pub use literals::asked_by;
