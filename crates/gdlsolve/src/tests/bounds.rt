@@ -85,11 +85,20 @@ const BOUNDED: [Row; 12] = [
 /// The same with a worth for unfinished play, which the word says in digits.
 const UNFINISHED: [(Row, u8); 8] = [
     ((OPEN, "a", 0, "37", b"value 37\nmove none\n"), 37),
-    ((OPEN, "a", 1, "37", b"value 37\nmove stay\nline 1 stay\n"), 37),
+    (
+        (OPEN, "a", 1, "37", b"value 37\nmove stay\nline 1 stay\n"),
+        37,
+    ),
     ((OPEN, "a", 1, "0", b"value 0\nmove stay\nline 1 stay\n"), 0),
-    ((OPEN, "a", 1, "100", b"value 100\nmove stay\nline 1 stay\n"), 100),
+    (
+        (OPEN, "a", 1, "100", b"value 100\nmove stay\nline 1 stay\n"),
+        100,
+    ),
     ((MATCH, "b", 0, "100", b"value 100\nmove none\n"), 100),
-    ((MATCH, "b", 1, "100", b"value 0\nmove h\nline 1 h h\n"), 100),
+    (
+        (MATCH, "b", 1, "100", b"value 0\nmove h\nline 1 h h\n"),
+        100,
+    ),
     ((STUCK, "a", 0, "100", b"value 0\nmove none\n"), 100),
     ((STUCK, "a", 3, "9", b"value 0\nmove none\n"), 9),
 ];
@@ -100,7 +109,10 @@ fn worth_of_unfinished_play_is_told(rt: HostRuntime) -> Result<(), AllocError> {
         let worth = Worth::of(number);
         assert!(rt; worth.is_some());
         if let Some(worth) = worth {
-            assert!(rt; solves_at(&rt, row, "--unfinished", AtBound::Unfinished(worth))?, "at {row:?}");
+            assert!(rt;
+                solves_at(&rt, row, "--unfinished", AtBound::Unfinished(worth))?,
+                "at {row:?}"
+            );
         }
     }
     Ok(())
@@ -111,9 +123,22 @@ fn other_worths_of_unfinished_play_are_misuse(rt: HostRuntime) {
     for word in ["101", "-1", "", "zero", "5.0", "256"] {
         let words = ["solve", "--role", "a", "--depth", "1", "--unfinished", word];
         let (status, output, errors) = told(&rt, &words, MATCH);
-        assert!(rt; status == 1 && output.is_empty() && !errors.is_empty(), "at {word:?}");
+        assert!(rt;
+            status == 1 && output.is_empty() && !errors.is_empty(),
+            "at {word:?}"
+        );
     }
-    let words = ["solve", "--role", "a", "--depth", "1", "--unfinished", "0", "--at-bound", "zero"];
+    let words = [
+        "solve",
+        "--role",
+        "a",
+        "--depth",
+        "1",
+        "--unfinished",
+        "0",
+        "--at-bound",
+        "zero",
+    ];
     let (status, output, errors) = told(&rt, &words, MATCH);
     assert!(rt; status == 1 && output.is_empty() && !errors.is_empty());
 }
