@@ -1,0 +1,3 @@
+mod Strata
+mod Heights
+mod Acyclic

@@ -1,0 +1,3 @@
+pub mod Derivable
+pub mod Literals
+pub mod Possible

@@ -1,0 +1,36 @@
+//! The laws of the meaning of the whole language.
+ghost use Rattle.std.specs.Prelude.{◌≡◌, ◌↔◌, Bool, IsTrue, List};
+ghost use Rattle.statement.specs.Clause.{Atom, Alternative};
+ghost use Rattle.statement.specs.Dependence.{IsAcyclic};
+ghost use Rattle.statement.specs.Meaning.{StateOfTerms, Joint, Holds, IsDerived, IsRight};
+ghost use Rattle.whole.specs.Derivable.{HoldsWhole, IsStratified, IsStable};
+
+use meaning::holds_by_a_rule;
+use profile::acyclic_sets_are_ranked;
+
+/// Where the rules are stratified, an atom holds exactly where some rule, and some map from its variables to ground terms,
+/// make its head the atom and every literal right.
+pub fn what_holds_has_a_rule()
+    ensures { (rules : List Alternative) → IsStratified rules → (S : StateOfTerms) (J : Joint) (x : Atom)
+        → HoldsWhole rules S J x ↔ IsDerived rules (IsRight S J (HoldsWhole rules S J)) x }
+{}
+
+/// Where the rules are stratified, the atoms that hold are those that are derivable where they themselves hold behind a
+/// `not`, and no other set of atoms is such.
+pub fn what_holds_is_stable()
+    ensures stable { (rules : List Alternative) → IsStratified rules → (S : StateOfTerms) (J : Joint)
+        → IsStable rules S J (HoldsWhole rules S J) }
+    ensures only { (rules : List Alternative) → IsStratified rules → (S : StateOfTerms) (J : Joint) (test : Atom → Bool)
+        → IsStable rules S J (λ x. IsTrue (test x)) → (x : Atom) → IsTrue (test x) ↔ HoldsWhole rules S J x }
+{}
+
+/// Where no relation depends on itself, the rules are stratified, and an atom holds in the whole language exactly where it
+/// holds in the profile without recursion.
+pub fn the_whole_meaning_extends_todays()
+    ensures stratified { (rules : List Alternative) → IsAcyclic rules → IsStratified rules }
+    ensures same { (rules : List Alternative) → IsAcyclic rules → (S : StateOfTerms) (J : Joint) (x : Atom)
+        → Holds rules S J x ↔ HoldsWhole rules S J x }
+{
+    holds_by_a_rule();
+    acyclic_sets_are_ranked();
+}
