@@ -8,3 +8,4 @@ mod Lanes
 mod LaneLemmas
 mod ReaderLemmas
 mod SourceLemmas
+mod KeyLemmas

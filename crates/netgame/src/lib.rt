@@ -5,6 +5,7 @@ mod lane_plan;
 mod lane_planning;
 mod net_from_many;
 mod net_game;
+mod net_keys;
 mod net_lanes;
 mod net_many;
 mod net_passes;

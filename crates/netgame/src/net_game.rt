@@ -1,5 +1,5 @@
 //! The game of a network.
-ghost use Rattle.std.specs.Prelude.{◌≡◌, IfOk};
+ghost use Rattle.std.specs.Prelude.{◌≡◌, IfOk, length};
 ghost use Rattle.ground.specs.GroundView.{flat_of};
 ghost use Rattle.propnet.specs.Builders.{IsNetOf};
 ghost use Rattle.netgame.specs.LanePlans.{IsLanePlanOf};
@@ -7,12 +7,13 @@ ghost use Rattle.netgame.specs.LanePlans.{IsLanePlanOf};
 use crate::lane_plan::LanePlan;
 use crate::lane_planning::make_lane_plan;
 use crate::net_from_many::net_judge_from;
+use crate::net_keys::write_lane_key;
 use crate::net_lanes::{net_judge, net_steps, new_net_many, new_net_wide};
 use crate::net_many::{NetMany, NetWide};
 use crate::net_playing::{start_net_state, step_net_state};
 use crate::net_pos::NetPos;
 use crate::net_taking::{net_take, net_told, net_verdict};
-use game::{Game, Joint, Told};
+use game::{Game, Joint, Told, words_for};
 use ground::{FlatGround, Ground};
 use propnet::Net;
 use rulebook::{copy_roles, legal_at};
@@ -67,6 +68,7 @@ impl Game for NetGame {
       wide_capacities as capacities_wide,
       many_capacities as capacities_many,
     };
+    ghost use Rattle.game.specs.Keys.{words_for as words_for_bits, state_of_bits};
     ghost use Rattle.rulebook.specs.RuleLaws.{goal_at_most, few_moves_of, legal_below, legal_in_order, moves_in_order, roles_once};
 
     type Pos = NetPos;
@@ -98,6 +100,10 @@ impl Game for NetGame {
     ghost wide_capacities = { λ _ w. capacities_wide w };
 
     ghost many_capacities = { λ _ m. capacities_many m };
+
+    ghost key_length = { λ g. words_for_bits (length g.played.starts.items) };
+
+    ghost keyed = { λ g key. state_of_bits (length g.played.starts.items) key };
 
     fn roles(&self) -> usize {
         self.played.roles()
@@ -182,6 +188,18 @@ impl Game for NetGame {
 
     fn verdict(&self, w: &NetWide, place: usize, role: usize) -> Option<u8> {
         net_verdict(self, w, place, role)
+    }
+
+    fn key_words(&self) -> usize {
+        words_for(self.played.base())
+    }
+
+    fn write_key(&self, p: &NetPos, key: &mut [u64]) {
+        write_lane_key(&p.state.lanes, 0, key);
+    }
+
+    fn write_key_of(&self, many: &NetMany, place: usize, key: &mut [u64]) {
+        write_lane_key(&many.states, place, key);
     }
 
     ghost goal_within = { λ g s r. goal_at_most g.played s r };
