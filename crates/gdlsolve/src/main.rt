@@ -1,18 +1,7 @@
 //! The program `gdlsolve`: the rules of a game on standard input, answers on standard output.
 #![tactic(auto)]
 
-mod commands;
-mod fault;
-mod input;
-mod running;
-#[cfg(test)]
-mod tests;
-mod working;
-
-pub use commands::main_with;
-pub use fault::RunFault;
-pub use replies::{Command, Inquiry, Sought, Status};
-pub use running::{run, run_rules};
+use running::main_with;
 use std::io::{ErrorKind, Read, Write};
 use std::process::ExitCode;
 use std::thread::Threads;

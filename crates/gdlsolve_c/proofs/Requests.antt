@@ -4,11 +4,11 @@ use Rattle.std.specs.Prelude.{Result, Ok, Err, IfOk}
 use Rattle.words.specs.Asked.{query_of}
 use Rattle.words.specs.declared.grammar.Request.{Request}
 use Rattle.words.specs.declared.grammar.Request.TheVariants.{Run, Help, Misuse}
-use Rattle.gdlsolve_c.specs.declared.told.Told.{Told}
-use Rattle.gdlsolve_c.specs.declared.told.Told.TheVariants.{Reply, Words}
-use Rattle.gdlsolve_c.specs.Telling.{IsTold, IsToldOf}
+use Rattle.gdlsolve_c.specs.declared.told.Outcome.{Outcome}
+use Rattle.gdlsolve_c.specs.declared.told.Outcome.TheVariants.{Reply, Words}
+use Rattle.gdlsolve_c.specs.Telling.{IsOutcome, IsOutcomeOf}
 
-pub is_told : {E : Type 0} (request : Request) (rules : List ℕ) (r : Result Told E) → IfOk r (IsToldOf request rules) → IfOk r (IsTold rules)
+pub is_told : {E : Type 0} (request : Request) (rules : List ℕ) (r : Result Outcome E) → IfOk r (IsOutcomeOf request rules) → IfOk r (IsOutcome rules)
 is_told request rules (Err e) h = tt
 is_told (Run command) rules (Ok (Reply reply)) h = (query_of command, h)
 is_told (Run command) rules (Ok (Words text)) h = tt

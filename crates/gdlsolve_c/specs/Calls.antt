@@ -14,6 +14,6 @@ abbrev pub Fills : List ℕ → List ℕ → ℕ → List ℕ → Type 0
 Fills old new size bytes = (new ≡ filled old bytes) × (size ≡ length bytes)
 
 -- some query has the reply of this status over the rules, and the room is filled with it
-abbrev pub Replied : Status → List ℕ → List ℕ → List ℕ → ℕ → Type 0
-Replied status rules old new size =
+abbrev pub RoomReplied : Status → List ℕ → List ℕ → List ℕ → ℕ → Type 0
+RoomReplied status rules old new size =
     (query : Query) × (bytes : List ℕ) × IsReply query rules (record { output = bytes; status = status }) × Fills old new size bytes

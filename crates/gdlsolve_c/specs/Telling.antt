@@ -9,13 +9,13 @@ use Rattle.words.specs.declared.grammar.Request.TheVariants.{Run, Help, Misuse}
 use Rattle.words.specs.Asked.{query_of}
 use Rattle.replies.specs.Replies.{reply_of}
 use Rattle.statement.specs.Replies.{IsReply}
-use Rattle.gdlsolve_c.specs.declared.told.Told.{Told}
-use Rattle.gdlsolve_c.specs.declared.told.Told.TheVariants.{Reply, Words}
+use Rattle.gdlsolve_c.specs.declared.told.Outcome.{Outcome}
+use Rattle.gdlsolve_c.specs.declared.told.Outcome.TheVariants.{Reply, Words}
 
 -- the bytes that are told
-abbrev pub bytes_of : Told → List ℕ
-bytes_of (Reply reply) = reply.output.items
-bytes_of (Words text) = text.items
+abbrev pub told_bytes : Outcome → List ℕ
+told_bytes (Reply reply) = reply.output.items
+told_bytes (Words text) = text.items
 
 -- 0 for an answer, 2 for a refusal
 abbrev pub reply_status : Status → ℕ
@@ -23,20 +23,20 @@ reply_status Answer = 0
 reply_status Refused = 2
 
 -- the status of a reply, and 1 where there is none
-abbrev pub status_of : Told → ℕ
+abbrev pub status_of : Outcome → ℕ
 status_of (Reply reply) = reply_status reply.status
 status_of (Words text) = 1
 
 -- a reply is that to some command over the rules
-abbrev pub IsTold : List ℕ → Told → Type 0
-IsTold rules (Reply reply) = (query : Query) × IsReply query rules (reply_of reply)
-IsTold rules (Words text) = Unit
+abbrev pub IsOutcome : List ℕ → Outcome → Type 0
+IsOutcome rules (Reply reply) = (query : Query) × IsReply query rules (reply_of reply)
+IsOutcome rules (Words text) = Unit
 
 -- of a command its reply is told, and of any other request a text
-abbrev pub IsToldOf : Request → List ℕ → Told → Type 0
-IsToldOf (Run command) rules (Reply reply) = IsReply (query_of command) rules (reply_of reply)
-IsToldOf (Run command) rules (Words text) = ⊥
-IsToldOf (Help help) rules (Reply reply) = ⊥
-IsToldOf (Help help) rules (Words text) = Unit
-IsToldOf (Misuse fault) rules (Reply reply) = ⊥
-IsToldOf (Misuse fault) rules (Words text) = Unit
+abbrev pub IsOutcomeOf : Request → List ℕ → Outcome → Type 0
+IsOutcomeOf (Run command) rules (Reply reply) = IsReply (query_of command) rules (reply_of reply)
+IsOutcomeOf (Run command) rules (Words text) = ⊥
+IsOutcomeOf (Help help) rules (Reply reply) = ⊥
+IsOutcomeOf (Help help) rules (Words text) = Unit
+IsOutcomeOf (Misuse fault) rules (Reply reply) = ⊥
+IsOutcomeOf (Misuse fault) rules (Words text) = Unit

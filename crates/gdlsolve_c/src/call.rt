@@ -1,7 +1,7 @@
 //! The call.
 ghost use Rattle.std.specs.Prelude.{◌≡◌, ◌≤◌, ℕ, List, []};
 ghost use Rattle.statement.specs.declared.status.Status.TheVariants.{Answer, Refused};
-ghost use Rattle.gdlsolve_c.specs.Calls.{filled, Fills, Replied};
+ghost use Rattle.gdlsolve_c.specs.Calls.{filled, Fills, RoomReplied};
 
 use crate::told::tell;
 use std::alloc::Global;
@@ -37,8 +37,8 @@ pub extern "C" fn gdlsolve_reply(
 ) -> u32
     ensures statuses { result ≤ 3 }
     ensures told { (bytes : List ℕ) × Fills room.old room.new size.new bytes }
-    ensures answered { result ≡ 0 → Replied Answer rules.now room.old room.new size.new }
-    ensures refused { result ≡ 2 → Replied Refused rules.now room.old room.new size.new }
+    ensures answered { result ≡ 0 → RoomReplied Answer rules.now room.old room.new size.new }
+    ensures refused { result ≡ 2 → RoomReplied Refused rules.now room.old room.new size.new }
     ensures starved { result ≡ 3 → Fills room.old room.new size.new [] }
 {
     let Ok(told) = tell(alloc, words, rules) else {

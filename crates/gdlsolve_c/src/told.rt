@@ -1,9 +1,12 @@
 //! What a caller is told: the reply to a command, or what is said of words that make none.
 ghost use Rattle.std.specs.Prelude.{◌≡◌, IfOk};
-ghost use Rattle.gdlsolve_c.specs.Telling.{IsToldOf, IsTold, bytes_of, status_of};
+ghost use Rattle.gdlsolve_c.specs.Telling.{IsOutcomeOf, IsOutcome, told_bytes, status_of};
 
-use replies::{Player, Reply, Request, Status, reply_alone, request_of};
+use netgame::NetGame;
+use replies::{Reply, reply_alone};
+use statement::Status;
 use std::alloc::{AllocError, Global};
+use words::{Request, request_of};
 
 /// The status of a reply that answers a command.
 const ANSWERED: u32 = 0;
@@ -16,21 +19,21 @@ const REFUSED: u32 = 2;
 
 /// What a caller is told.
 #[derive(Drop)]
-pub(crate) enum Told {
+pub(crate) enum Outcome {
     /// The reply to a command.
     Reply(Reply),
     /// A text for people, since the words make no command: what is wrong with them, or the help or the version that they ask for.
     Words(Vec<u8>),
 }
 
-impl Told {
+impl Outcome {
     /// All the bytes that are told.
     pub(crate) fn bytes(&self) -> &[u8]
-        ensures { result.now ≡ bytes_of self.now }
+        ensures { result.now ≡ told_bytes self.now }
     {
         match self {
-            Told::Reply(reply) => &reply.output,
-            Told::Words(text) => text,
+            Outcome::Reply(reply) => &reply.output,
+            Outcome::Words(text) => text,
         }
     }
 
@@ -39,27 +42,27 @@ impl Told {
         ensures { result ≡ status_of self.now }
     {
         match self {
-            Told::Reply(reply) => match reply.status {
+            Outcome::Reply(reply) => match reply.status {
                 Status::Answer => ANSWERED,
                 Status::Refused => REFUSED,
             },
-            Told::Words(_) => MISUSED,
+            Outcome::Words(_) => MISUSED,
         }
     }
 }
 
 /// What is told where a request stands for the words: of a command its reply over the rules.
-fn tell_of(alloc: Global, request: &Request, rules: &[u8]) -> Result<Told, AllocError>
-    ensures { IfOk result (IsToldOf request.now rules.now) }
+fn tell_of(alloc: Global, request: &Request, rules: &[u8]) -> Result<Outcome, AllocError>
+    ensures { IfOk result (IsOutcomeOf request.now rules.now) }
 {
     match request {
         Request::Run(command) => {
-            let reply = reply_alone(&((), alloc), Player::Network, command, rules)?;
-            Ok(Told::Reply(reply))
+            let reply = reply_alone::<NetGame, ((), Global)>(&((), alloc), command, rules)?;
+            Ok(Outcome::Reply(reply))
         }
         Request::Help(text) | Request::Misuse(text) => {
             let text = format!(in alloc; "{text}")?;
-            Ok(Told::Words(text.into_bytes()))
+            Ok(Outcome::Words(text.into_bytes()))
         }
     }
 }
@@ -70,12 +73,12 @@ fn words_of<'a>(alloc: Global, text: &'a str) -> Result<Vec<&'a str>, AllocError
 }
 
 /// What is told of words and rules. It fails only for want of memory.
-pub(crate) fn tell(alloc: Global, words: &[u8], rules: &[u8]) -> Result<Told, AllocError>
-    ensures { IfOk result (IsTold rules.now) }
+pub(crate) fn tell(alloc: Global, words: &[u8], rules: &[u8]) -> Result<Outcome, AllocError>
+    ensures { IfOk result (IsOutcome rules.now) }
 {
     let Ok(text) = str::from_utf8(words) else {
         let text = format!(in alloc; "a word is no UTF-8\n")?;
-        return Ok(Told::Words(text.into_bytes()));
+        return Ok(Outcome::Words(text.into_bytes()));
     };
     let list = words_of(alloc, text)?;
     let Ok(request) = request_of(alloc, &list) else {

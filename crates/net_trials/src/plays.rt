@@ -5,7 +5,7 @@ use cut::Cut;
 use game::{AtBound, Game, Joint, Question};
 use ground::instantiate_flat_alone;
 use kif::read;
-use position::RuleGame;
+use rulegame::RuleGame;
 use rules::RuleSet;
 use share::{Answer, Gate, solve};
 use std::alloc::{AllocError, AllocGlobal, Global};

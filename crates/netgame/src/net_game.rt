@@ -16,7 +16,7 @@ use crate::net_taking::{net_take, net_told, net_verdict};
 use game::{Game, Joint, Told, words_for};
 use ground::{FlatGround, Ground};
 use propnet::Net;
-use rulebook::{copy_roles, legal_at};
+use rulebook::{GroundGame, copy_roles, legal_at};
 use std::alloc::{AllocError, Global};
 
 /// The game that an instantiation describes, played over its network.
@@ -213,4 +213,14 @@ impl Game for NetGame {
     ghost moves_in_printed_order = { λ g r m n inside less below. moves_in_order g.played r m n inside less below };
 
     ghost role_names_differ = { λ g q r less below. roles_once g.played q r less below };
+}
+
+impl GroundGame for NetGame {
+    fn over(alloc: Global, ground: FlatGround) -> Result<NetGame, AllocError> {
+        let Ok(net) = Net::of_flat(alloc, &ground) else {
+            return Err(AllocError);
+        };
+        let game = NetGame::of_flat(alloc, ground, net)?;
+        Ok(game)
+    }
 }

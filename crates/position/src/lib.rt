@@ -1,4 +1,4 @@
-//! The games of the rules: over kept instances, and over their network. What every game has comes from `game`, and stands here too.
+//! The game of the rules over their network, the laws of it, and what every game has, which comes from `game`.
 #![tactic(auto)]
 
 pub use game::{
@@ -8,9 +8,8 @@ pub use game::{
 };
 pub use netgame::{NetGame, NetPos};
 pub use rulebook::{
-    games_of_the_rules_agree, numbers_find_what_holds, rules_have_a_game,
+    GroundGame, games_of_the_rules_agree, numbers_find_what_holds, rules_have_a_game,
     the_game_plays_by_the_rules, the_rules_end_the_game, the_rules_give_the_goals,
     the_rules_give_the_moves, the_rules_give_the_next_state, the_rules_leave_the_game_stuck,
     the_rules_start_the_game,
 };
-pub use rulegame::{RuleGame, RulePos};

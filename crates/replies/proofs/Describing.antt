@@ -1,5 +1,5 @@
 -- The game of a description, and the limit that it passes.
-use Rattle.std.proofs.Common.{◌≡◌, ◌≢◌, inl, inr, List, refl, sym, subst}
+use Rattle.std.proofs.Common.{◌≡◌, ◌≢◌, inl, inr, List, refl, subst}
 use Rattle.std.specs.Prelude.{Result, Ok, Err, IfOk}
 use Rattle.statement.specs.Tree.{Tree, Trees, list_of}
 use Rattle.statement.specs.TextFaults.{refusal_line}
@@ -18,42 +18,32 @@ use Rattle.statement.specs.Replies.{IsReplyTo}
 use Rattle.listing.specs.Progress.{IsFaultOf}
 use Rattle.ground.specs.declared.flat_ground.FlatGround.{FlatGround}
 use Rattle.ground.specs.GroundView.{IsGround}
-use Rattle.netgame.specs.declared.net_game.NetGame.{NetGame}
-use Rattle.rulegame.specs.declared.rule_game.RuleGame.{RuleGame}
 use Rattle.rulebook.specs.RuleState.{named_rules_of}
 use Rattle.rulebook.proofs.Facts.{game_of_ground}
 use Rattle.words.specs.declared.command.Inquiry.{Inquiry}
 use Rattle.words.specs.declared.command.Inquiry.TheVariants.{Net, Moves, Solve}
 use Rattle.words.specs.Asked.{query_about}
-use Rattle.replies.specs.declared.games.Played.{Played}
-use Rattle.replies.specs.declared.games.Played.TheVariants.{Network, Rules}
 use Rattle.replies.specs.declared.reply.Reply as made
-use Rattle.replies.specs.Games.{IsItsGround, Plays}
+use Rattle.replies.specs.Games.{IsItsGround}
 use Rattle.replies.specs.Readings.{IsInstantiationOf, IsReplyOver}
 use Rattle.replies.specs.Replies.{reply_of}
 
 -- the game of the ground of the items is the game of the items
-its_game : (items : List Tree) (g h : FlatGround) → IsItsGround items g → h ≡ g → IsItsGame items (named_rules_of h)
-its_game items g h its same =
-    let grounded : IsGround (alternatives items) h = subst (λ (k : FlatGround). IsGround (alternatives items) k) (sym same) its.ground in
-    record { lawful = its.lawful; within = grounded.within; same = game_of_ground (alternatives items) h grounded }
-
-pub over_network : (g : FlatGround) (p : Played) (game : NetGame) → Plays g p → p ≡ Network game → game.played ≡ g
-over_network g p game is same = subst (λ (q : Played). Plays g q) same is
-
-pub over_rules : (g : FlatGround) (p : Played) (game : RuleGame) → Plays g p → p ≡ Rules game → game.played ≡ g
-over_rules g p game is same = subst (λ (q : Played). Plays g q) same is
+its_game : (items : List Tree) (g : FlatGround) → IsItsGround items g → IsItsGame items (named_rules_of g)
+its_game items g its =
+    record { lawful = its.lawful; within = its.ground.within; same = game_of_ground (alternatives items) g its.ground }
 
 -- what is told of a game that plays the ground of items is the reply to the items
-pub tells : (g h : FlatGround) (told : NamedRules → Reply → Type 0) → h ≡ g → (reply : Reply) → told (named_rules_of h) reply
-    → (items : List Tree) → IsItsGround items g → IsPlayReply items told reply
-tells g h told same reply is = λ items its. inr (named_rules_of h, its_game items g h its same, is)
+pub tells : (g : FlatGround) (game : NamedRules) (told : NamedRules → Reply → Type 0) → game ≡ named_rules_of g
+    → (reply : Reply) → told game reply → (items : List Tree) → IsItsGround items g → IsPlayReply items told reply
+tells g game told same reply is = λ items its.
+    inr (named_rules_of g, its_game items g its, subst (λ (h : NamedRules). told h reply) same is)
 
-pub tells_game : {E : Type 0} (g h : FlatGround) (told : NamedRules → Reply → Type 0) (r : Result made.Reply E) → h ≡ g
-    → IfOk r (λ reply. told (named_rules_of h) (reply_of reply))
+pub tells_game : {E : Type 0} (g : FlatGround) (game : NamedRules) (told : NamedRules → Reply → Type 0) (r : Result made.Reply E)
+    → game ≡ named_rules_of g → IfOk r (λ reply. told game (reply_of reply))
     → IfOk r (λ reply. (items : List Tree) → IsItsGround items g → IsPlayReply items told (reply_of reply))
-tells_game g h told (Ok reply) same is = tells g h told same (reply_of reply) is
-tells_game g h told (Err e) same is = tt
+tells_game g game told (Ok reply) same is = tells g game told same (reply_of reply) is
+tells_game g game told (Err e) same is = tt
 
 -- where there is no game, that is the reply to each inquiry
 no_game : (inquiry : Inquiry) (ts : Trees) (reply : Reply) → HasNoGame (list_of ts) reply → IsReplyTo (query_about inquiry) ts reply

@@ -17,6 +17,7 @@ use Rattle.rules.specs.declared.rule_set.RuleSet.{RuleSet}
 use Rattle.rules.specs.RuleSetView.{rules_in}
 use Rattle.ground.specs.declared.flat_ground.FlatGround.{FlatGround}
 use Rattle.ground.specs.GroundView.{IsGround}
+use Rattle.game.specs.declared.game.Game.{Ghosts}
 use Rattle.words.specs.declared.command.Inquiry.{Inquiry}
 use Rattle.words.specs.Asked.{query_about}
 use Rattle.replies.specs.declared.reading.Reading.{Reading}
@@ -54,9 +55,9 @@ reply_to inquiry bytes rules came read comes reply h =
     inr (read.0, read.1, h read.0 read.2.lawful all)
 
 -- so what is read and then asked comes to the reply
-pub read_and_asked : (inquiry : Inquiry) (bytes : List ℕ) (reading : Reading) (rules : RuleSet) (came : Result FlatGround GroundFault) (a : Asked)
-    → IsReadingOf bytes reading → reading ≡ Rules rules → IfOk came (IsGround (rules_in rules)) → IfErr came (IsFaultOf (excess_in (rules_in rules)))
-    → IsAsked (IsReplyOver (query_about inquiry) came) a → IsAsked (IsReply (query_about inquiry) bytes) a
-read_and_asked inquiry bytes reading rules came a was is ground fault h =
-    lift_asked (IsReplyOver (query_about inquiry) came) (IsReply (query_about inquiry) bytes)
+pub read_and_asked : {G P W M : Type 0} (of : Ghosts G P W M) (inquiry : Inquiry) (bytes : List ℕ) (reading : Reading) (rules : RuleSet)
+    (came : Result FlatGround GroundFault) (a : Asked G P W M) → IsReadingOf bytes reading → reading ≡ Rules rules → IfOk came (IsGround (rules_in rules)) → IfErr came (IsFaultOf (excess_in (rules_in rules)))
+    → IsAsked of (IsReplyOver (query_about inquiry) came) a → IsAsked of (IsReply (query_about inquiry) bytes) a
+read_and_asked of inquiry bytes reading rules came a was is ground fault h =
+    lift_asked of (IsReplyOver (query_about inquiry) came) (IsReply (query_about inquiry) bytes)
     (reply_to inquiry bytes rules came (subst (IsReadingOf bytes) is was) (ground, fault)) a h

@@ -1,20 +1,13 @@
 -- This crate's own: what `run` promises does not rest on it.
--- The game of a description, by its ground.
-use Rattle.std.specs.Prelude.{◌≡◌, List}
+-- The ground of a description.
+use Rattle.std.specs.Prelude.{List}
 use Rattle.statement.specs.Tree.{Tree}
 use Rattle.statement.specs.Items.{alternatives}
 use Rattle.statement.specs.Profile.{HasNoFault}
 use Rattle.ground.specs.declared.flat_ground.FlatGround.{FlatGround}
 use Rattle.ground.specs.GroundView.{IsGround}
-use Rattle.replies.specs.declared.games.Played.{Played}
-use Rattle.replies.specs.declared.games.Played.TheVariants.{Network, Rules}
 
 -- the ground is the instantiation of the items, which are a description within all limits
 pub record IsItsGround (items : List Tree) (g : FlatGround) : Type 0 where
   pub lawful : HasNoFault items
   pub ground : IsGround (alternatives items) g
-
--- what plays, plays this instantiation
-abbrev pub Plays : FlatGround → Played → Type 0
-Plays g (Network game) = game.played ≡ g
-Plays g (Rules game) = game.played ≡ g

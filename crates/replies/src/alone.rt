@@ -9,13 +9,13 @@ ghost use Rattle.words.specs.Asked.{query_about, query_of};
 ghost use Rattle.statement.specs.Solving.{solve_lines};
 
 use crate::asking::{Asked, ask};
-use crate::games::Player;
 use crate::reading::{Reading, check, read, show};
 use crate::reply::Reply;
 use crate::search::Search;
-use game::{Game, Question, is_stuck};
+use game::{Game, is_stuck};
 use ground::instantiate_flat_alone;
 use maximin::{Room, value_and_choice, value_in};
+use rulebook::GroundGame;
 use share::Answer;
 use std::alloc::{AllocError, AllocGlobal, Global};
 use words::{Command, Inquiry};
@@ -23,21 +23,17 @@ use words::{Command, Inquiry};
 /// The value and the first best move of a search, which one search of the state tells.
 fn found_alone<G: Game + Drop>(alloc: Global, search: &Search<G>) -> Result<Answer, AllocError>
     requires fits { G.fits search.now.game search.now.here }
-    requires role { search.now.role < (G.rules search.now.game).roles }
+    requires role { search.now.asked.role < (G.rules search.now.game).roles }
     ensures value { IfOk result (λ found. found.value
-        ≡ pos (value (G.rules search.now.game) search.now.role search.now.depth search.now.at (G.state search.now.game search.now.here))) }
+        ≡ pos (value (G.rules search.now.game) search.now.asked.role search.now.asked.depth search.now.asked.at (G.state search.now.game search.now.here))) }
     ensures choice { IfOk result (λ found. found.choice
-        ≡ choice_of (G.rules search.now.game) search.now.role search.now.depth search.now.at (G.state search.now.game search.now.here)) }
+        ≡ choice_of (G.rules search.now.game) search.now.asked.role search.now.asked.depth search.now.asked.at (G.state search.now.game search.now.here)) }
 {
     let game = &search.game;
     let here = &search.here;
-    let mut room = Room::new(alloc, game, search.depth)?;
-    let asked = Question {
-        role: search.role,
-        depth: search.depth,
-        at: search.at,
-    };
-    if search.depth == 0 || game.ended(here) || is_stuck(game, here) {
+    let asked = search.asked;
+    let mut room = Room::new(alloc, game, asked.depth)?;
+    if asked.depth == 0 || game.ended(here) || is_stuck(game, here) {
         let value = value_in(game, here, asked, -1, 101, &mut room);
         return Ok(Answer {
             value,
@@ -47,26 +43,25 @@ fn found_alone<G: Game + Drop>(alloc: Global, search: &Search<G>) -> Result<Answ
     let (value, place) = value_and_choice(game, here, asked, &mut room);
     Ok(Answer {
         value,
-        choice: game.legal(here, search.role, place),
+        choice: game.legal(here, asked.role, place),
     })
 }
 
 /// The reply after a search, which the calling thread does.
 fn told_alone<G: Game + Drop>(alloc: Global, search: Search<G>) -> Result<Reply, AllocError>
     requires fits { G.fits search.game search.here }
-    requires role { search.role < (G.rules search.game).roles }
+    requires role { search.asked.role < (G.rules search.game).roles }
     ensures { IfOk result (λ reply. reply_of reply ≡ answer (solve_lines
         (named (G.rules search.game) (G.role_name search.game) (G.move_name search.game))
-        search.role search.depth search.at (G.state search.game search.here))) }
+        search.asked.role search.asked.depth search.asked.at (G.state search.game search.here))) }
 {
     let found = found_alone(alloc, &search)?;
     search.told(alloc, found)
 }
 
 /// The reply to an inquiry over the bytes of the input.
-fn inquired_alone<T: AllocGlobal>(
+fn inquired_alone<G: GroundGame, T: AllocGlobal>(
     rt: &T,
-    player: Player,
     inquiry: &Inquiry,
     bytes: &[u8],
 ) -> Result<Reply, AllocError>
@@ -79,17 +74,16 @@ fn inquired_alone<T: AllocGlobal>(
     };
     let instantiated = instantiate_flat_alone(rt, &rules);
     drop(rules);
-    match ask(alloc, player, inquiry, instantiated)? {
+    match ask::<G>(alloc, inquiry, instantiated)? {
         Asked::Told(reply) => Ok(reply),
-        Asked::Network(search) => told_alone(alloc, search),
-        Asked::Rules(search) => told_alone(alloc, search),
+        Asked::ToSearch(search) => told_alone(alloc, search),
     }
 }
 
-/// The reply to a command over the bytes of the input, by the calling thread alone. It fails only for want of memory.
-pub fn reply_alone<T: AllocGlobal>(
+/// The reply to a command over the bytes of the input, by the calling thread alone. The type `G` says who plays the game. It fails only
+/// for want of memory.
+pub fn reply_alone<G: GroundGame, T: AllocGlobal>(
     rt: &T,
-    player: Player,
     command: &Command,
     bytes: &[u8],
 ) -> Result<Reply, AllocError>
@@ -98,6 +92,6 @@ pub fn reply_alone<T: AllocGlobal>(
     match command {
         Command::Show => show(rt.alloc(), bytes),
         Command::Check => check(rt.alloc(), bytes),
-        Command::Ask(inquiry) => inquired_alone(rt, player, inquiry, bytes),
+        Command::Ask(inquiry) => inquired_alone::<G, T>(rt, inquiry, bytes),
     }
 }

@@ -12,7 +12,7 @@ use crate::history::{position_after, refused_history};
 use crate::reply::{Reply, refused};
 use crate::roles::role_named;
 use crate::search::Search;
-use game::{Game, HistoryFault};
+use game::{Game, HistoryFault, Question};
 use std::alloc::{AllocError, Global};
 use words::Sought;
 
@@ -24,7 +24,7 @@ fn search_after<G: Game + Drop>(
     sought: &Sought,
 ) -> Result<Result<Search<G>, Reply>, AllocError>
     requires { role < (G.rules game).roles }
-    ensures { IfOk result (IsSearchOrReply G.fits (λ g. named (G.rules g) (G.role_name g) (G.move_name g)) G.state
+    ensures { IfOk result (IsSearchOrReply G.Game
         (λ reply. (ended : Result State HistoryFault)
         × IsHistoryOf (named (G.rules game) (G.role_name game) (G.move_name game)) sought.now.after.now ended
         × (reply ≡ history_reply (named (G.rules game) (G.role_name game) (G.move_name game))
@@ -34,9 +34,11 @@ fn search_after<G: Game + Drop>(
         Ok(here) => Ok(Ok(Search {
             game,
             here,
-            role,
-            depth: sought.depth,
-            at: sought.at_bound,
+            asked: Question {
+                role,
+                depth: sought.depth,
+                at: sought.at_bound,
+            },
             cut: sought.cut,
         })),
         Err(HistoryFault::NoMemory) => Err(AllocError),
@@ -50,7 +52,7 @@ pub(crate) fn search_for<G: Game + Drop>(
     game: G,
     sought: &Sought,
 ) -> Result<Result<Search<G>, Reply>, AllocError>
-    ensures { IfOk result (IsSearchOrReply G.fits (λ g. named (G.rules g) (G.role_name g) (G.move_name g)) G.state
+    ensures { IfOk result (IsSearchOrReply G.Game
         (IsSolveReply (named (G.rules game) (G.role_name game) (G.move_name game))
         sought.now.role.now sought.now.depth sought.now.at_bound sought.now.after.now)) }
 {

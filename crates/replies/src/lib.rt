@@ -1,6 +1,6 @@
 //! The reply to each command over rules as bytes. `show` and `check` are each a call. What is asked of an instantiation is three: `read` takes
 //! the bytes to their rules, the caller instantiates these, and `ask` takes the instantiation to the reply, or to a search that the caller
-//! does. `reply_alone` does all that by the calling thread.
+//! does. `reply_alone` does all that by the calling thread. Who plays the game is a type of the caller's.
 #![tactic(auto)]
 
 mod alone;
@@ -17,15 +17,10 @@ mod roles;
 mod search;
 mod sizes;
 mod solving;
-#[cfg(test)]
-mod tests;
 
 pub use alone::reply_alone;
 pub use asking::{Asked, ask};
-pub use games::Player;
 pub use laws::each_input_has_one_reply;
 pub use reading::{Reading, check, read, show};
 pub use reply::Reply;
 pub use search::Search;
-pub use statement::Status;
-pub use words::{Command, Inquiry, Request, Sought, request_of};

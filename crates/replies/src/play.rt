@@ -4,7 +4,7 @@ ghost use Rattle.statement.specs.Value.{value, choice_of};
 ghost use Rattle.maximin.specs.Room.{room_depth};
 ghost use Rattle.replies.specs.Play.{IsPlayOf, IsTurnOf};
 
-use game::{AtBound, Game, Joint, Question, new_joint};
+use game::{Game, Joint, Question, new_joint};
 use maximin::{Room, reply_by_value};
 use std::alloc::{AllocError, Global};
 use std::mem;
@@ -39,18 +39,17 @@ impl<G: Game> Play<G> {
 
     /// Plays one turn, in which the role plays its choice and all others the first reply that leaves the least value. The value of
     /// the state, which is `worth`, stays.
-    pub(crate) fn turn(&mut self, g: &G, role: usize, own: u32, depth: u32, at: AtBound, worth: i16)
-        requires role { role < (G.rules g.now).roles }
+    pub(crate) fn turn(&mut self, g: &G, asked: Question, own: u32, worth: i16)
+        requires role { asked.role < (G.rules g.now).roles }
         requires play { IsPlayOf G.Game g.now self.old }
-        requires deep { depth ≤ room_depth self.old.room }
-        requires own { choice_of (G.rules g.now) role depth at (G.state g.now self.old.here) ≡ Some own }
-        requires worth { worth ≡ pos (value (G.rules g.now) role depth at (G.state g.now self.old.here)) }
-        ensures turn { IsTurnOf (G.rules g.now) role (depth - 1) at (G.state g.now self.old.here) own worth self.new.joint.items
+        requires deep { asked.depth ≤ room_depth self.old.room }
+        requires own { choice_of (G.rules g.now) asked.role asked.depth asked.at (G.state g.now self.old.here) ≡ Some own }
+        requires worth { worth ≡ pos (value (G.rules g.now) asked.role asked.depth asked.at (G.state g.now self.old.here)) }
+        ensures turn { IsTurnOf (G.rules g.now) asked.role (asked.depth - 1) asked.at (G.state g.now self.old.here) own worth self.new.joint.items
             (G.state g.now self.new.here) }
         ensures play { IsPlayOf G.Game g.now self.new }
         ensures deep { room_depth self.new.room ≡ room_depth self.old.room }
     {
-        let asked = Question { role, depth, at };
         reply_by_value(
             g,
             &self.here,

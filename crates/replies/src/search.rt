@@ -9,7 +9,7 @@ ghost use Rattle.statement.specs.Solving.{solve_lines};
 use crate::reply::{Reply, answered};
 use crate::solving::value_lines;
 use cut::Cut;
-use game::{AtBound, Game};
+use game::{Game, Question};
 use share::Answer;
 use std::alloc::{AllocError, Global};
 
@@ -21,12 +21,8 @@ pub struct Search<G: Game + Drop> {
     pub game: G,
     /// The state that is searched.
     pub here: G::Pos,
-    /// The role, by its number.
-    pub role: usize,
-    /// How many turns are looked ahead.
-    pub depth: u32,
-    /// What a state in which play goes on is worth where these turns are over.
-    pub at: AtBound,
+    /// What is asked of the state.
+    pub asked: Question,
     /// How many workers are to search, and the parts of what. The reply does not depend on it.
     pub cut: Cut,
 }
@@ -36,21 +32,19 @@ impl<G: Game + Drop> Search<G> {
     /// calling thread. It fails only for want of memory.
     pub fn told(self, alloc: Global, found: Answer) -> Result<Reply, AllocError>
         requires fits { G.fits self.game self.here }
-        requires role { self.role < (G.rules self.game).roles }
-        requires value { found.value ≡ pos (value (G.rules self.game) self.role self.depth self.at (G.state self.game self.here)) }
-        requires choice { found.choice ≡ choice_of (G.rules self.game) self.role self.depth self.at (G.state self.game self.here) }
+        requires role { self.asked.role < (G.rules self.game).roles }
+        requires value { found.value ≡ pos (value (G.rules self.game) self.asked.role self.asked.depth self.asked.at (G.state self.game self.here)) }
+        requires choice { found.choice ≡ choice_of (G.rules self.game) self.asked.role self.asked.depth self.asked.at (G.state self.game self.here) }
         ensures { IfOk result (λ reply. reply_of reply ≡ answer (solve_lines
             (named (G.rules self.game) (G.role_name self.game) (G.move_name self.game))
-            self.role self.depth self.at (G.state self.game self.here))) }
+            self.asked.role self.asked.depth self.asked.at (G.state self.game self.here))) }
     {
         let Search {
             game,
             here,
-            role,
-            depth,
-            at,
+            asked,
             cut: _,
         } = self;
-        Ok(answered(value_lines(alloc, &game, role, depth, at, found, here)?))
+        Ok(answered(value_lines(alloc, &game, asked, found, here)?))
     }
 }

@@ -10,7 +10,7 @@ ghost use Rattle.statement.specs.Solving.{move_line, choice_text, move_texts, tu
 
 use crate::play::Play;
 use crate::reply::add_count;
-use game::{AtBound, Game, Joint, Question};
+use game::{Game, Joint, Question};
 use maximin::choice_by_value;
 use share::Answer;
 use std::alloc::{AllocError, Global};
@@ -72,35 +72,36 @@ fn add_choice<G: Game>(
 /// Each state of the line has the same value. After an error the output may have a beginning of them.
 fn add_turns<G: Game>(
     g: &G,
-    role: usize,
-    depth: u32,
-    at: AtBound,
+    asked: Question,
     worth: i16,
     first: Option<u32>,
     play: &mut Play<G>,
     output: &mut Vec<u8>,
 ) -> Result<(), AllocError>
-    requires role { role < (G.rules g.now).roles }
+    requires role { asked.role < (G.rules g.now).roles }
     requires play { IsPlayOf G.Game g.now play.old }
-    requires deep { depth ≤ room_depth play.old.room }
-    requires worth { worth ≡ pos (value (G.rules g.now) role depth at (G.state g.now play.old.here)) }
-    requires first { first ≡ choice_of (G.rules g.now) role depth at (G.state g.now play.old.here) }
+    requires deep { asked.depth ≤ room_depth play.old.room }
+    requires worth { worth ≡ pos (value (G.rules g.now) asked.role asked.depth asked.at (G.state g.now play.old.here)) }
+    requires first { first ≡ choice_of (G.rules g.now) asked.role asked.depth asked.at (G.state g.now play.old.here) }
     ensures { OnOk result (output.new.items ≡ output.old.items
         ++ turn_lines (named (G.rules g.now) (G.role_name g.now) (G.move_name g.now)) 1
-        (line_of (G.rules g.now) role depth at (G.state g.now play.old.here))) }
+        (line_of (G.rules g.now) asked.role asked.depth asked.at (G.state g.now play.old.here))) }
 {
     let mut chosen = first;
-    let mut left = depth;
+    let mut left = asked.depth;
     while let Some(own) = chosen {
-        play.turn(g, role, own, left, at, worth);
-        add_turn(g, (depth - left) as usize + 1, &play.joint, output)?;
-        left -= 1;
-        let asked = Question {
-            role,
+        let now = Question {
             depth: left,
-            at,
+            ..asked
         };
-        chosen = choice_by_value(g, &play.here, asked, worth, &mut play.room);
+        play.turn(g, now, own, worth);
+        add_turn(g, (asked.depth - left) as usize + 1, &play.joint, output)?;
+        left -= 1;
+        let next = Question {
+            depth: left,
+            ..asked
+        };
+        chosen = choice_by_value(g, &play.here, next, worth, &mut play.room);
     }
     Ok(())
 }
@@ -117,32 +118,21 @@ fn unsigned(value: i16) -> usize
 pub(crate) fn value_lines<G: Game>(
     alloc: Global,
     g: &G,
-    role: usize,
-    depth: u32,
-    at: AtBound,
+    asked: Question,
     found: Answer,
     here: G::Pos,
 ) -> Result<Vec<u8>, AllocError>
     requires fits { G.fits g.now here }
-    requires role { role < (G.rules g.now).roles }
-    requires value { found.value ≡ pos (value (G.rules g.now) role depth at (G.state g.now here)) }
-    requires choice { found.choice ≡ choice_of (G.rules g.now) role depth at (G.state g.now here) }
+    requires role { asked.role < (G.rules g.now).roles }
+    requires value { found.value ≡ pos (value (G.rules g.now) asked.role asked.depth asked.at (G.state g.now here)) }
+    requires choice { found.choice ≡ choice_of (G.rules g.now) asked.role asked.depth asked.at (G.state g.now here) }
     ensures { IfOk result (λ output. output.items
-        ≡ solve_lines (named (G.rules g.now) (G.role_name g.now) (G.move_name g.now)) role depth at (G.state g.now here)) }
+        ≡ solve_lines (named (G.rules g.now) (G.role_name g.now) (G.move_name g.now)) asked.role asked.depth asked.at (G.state g.now here)) }
 {
-    let mut play = Play::new(alloc, g, depth, here)?;
+    let mut play = Play::new(alloc, g, asked.depth, here)?;
     let mut output = Vec::new(alloc);
     add_count("value", unsigned(found.value), &mut output)?;
-    add_choice(g, role, found.choice, &mut output)?;
-    add_turns(
-        g,
-        role,
-        depth,
-        at,
-        found.value,
-        found.choice,
-        &mut play,
-        &mut output,
-    )?;
+    add_choice(g, asked.role, found.choice, &mut output)?;
+    add_turns(g, asked, found.value, found.choice, &mut play, &mut output)?;
     Ok(output)
 }

@@ -23,6 +23,11 @@ named_rules_of g = record {
   move_name = λ r m. text_at (texts_at (inputs_of g) r) m;
 }
 
+-- a game by its parts is that of an instantiation
+abbrev pub IsGameOver : FlatGround → Rules → (ℕ → List ℕ) → (ℕ → ℕ → List ℕ) → Type 0
+IsGameOver g rules role_name move_name =
+    ◌≡◌ {A = NamedRules} (record { rules = rules; role_name = role_name; move_name = move_name }) (named_rules_of g)
+
 -- what holds in a state
 abbrev pub holds_in : FlatGround → State → ℕ → Bool
 holds_in g s = holds (kinds_of g) (instances_of g) s no_turn

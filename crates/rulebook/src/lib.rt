@@ -2,6 +2,7 @@
 //! over kept instances and one over a network share.
 #![tactic(auto)]
 
+mod ground_game;
 mod kinds;
 mod naming;
 mod role_state;
@@ -9,6 +10,7 @@ mod rule_laws;
 mod standing;
 mod standings;
 
+pub use ground_game::GroundGame;
 pub use kinds::{kind_of, number_of, value_of};
 pub use naming::Naming;
 pub use role_state::{RoleState, copy_roles, legal_at, new_roles};

@@ -18,7 +18,7 @@ use Rattle.rulebook.specs.RulePlay.{marked, named_below, is_right, kind_at, is_g
 use Rattle.statement.specs.GameNumbers.{stands_in}
 use Rattle.statement.specs.Value.{greatest}
 use Rattle.rulebook.specs.Standings.{is_told, seeks, standing_at, standing_below, all_standing, names_among}
-use Rattle.rulegame.specs.Plans.{gives}
+use Rattle.rulegame.specs.Plans.{list_gives}
 use Rattle.rulebook.proofs.Facts.{filters_agree, any_standing, greatest_snoc, names_all}
 use Rattle.rulegame.proofs.Marks.{marked_are}
 
@@ -77,7 +77,7 @@ untold s j Other h = refl
 
 -- what the state and the joint move make right is told by the given atoms
 pub given_all : (kinds : List Kind) (s : State) (j : Turn) (k : ℕ) → k < length kinds
-    → gives (all_standing Given kinds) s j k ≡ is_given s j (kind_at kinds k)
+    → list_gives (all_standing Given kinds) s j k ≡ is_given s j (kind_at kinds k)
 given_all kinds s j k below =
     any_standing (λ a kind. is_given s j kind && (a == k)) is_told kinds (length kinds)
     (λ a kind h. ap (λ (b : Bool). b && (a == k)) (untold s j kind h))
@@ -87,15 +87,15 @@ given_all kinds s j k below =
 pub with_given : (kinds : List Kind) (s : State) (j : Turn) (found : List ℕ) (first new : List Bool) (list : List Standing)
     → list ≡ all_standing Given kinds
     → AreMarks first (length kinds) (λ k. stands_in k found) → length new ≡ length first
-    → ((k : ℕ) → k < length first → get_or new k false ≡ (get_or first k false || gives list s j k))
+    → ((k : ℕ) → k < length first → get_or new k false ≡ (get_or first k false || list_gives list s j k))
     → AreMarks new (length kinds) (is_right kinds s j found)
 with_given kinds s j found first new list is marks size each = record {
   size = size ∙ marks.size;
   each = λ k below.
       let many : length first ≡ length kinds = marks.size in
       each k (omega arith)
-      ∙ ap (λ (b : Bool). b || gives list s j k) (marks.each k below)
-      ∙ ap (λ (b : Bool). stands_in k found || b) (ap (λ (ps : List Standing). gives ps s j k) is ∙ given_all kinds s j k below)
+      ∙ ap (λ (b : Bool). b || list_gives list s j k) (marks.each k below)
+      ∙ ap (λ (b : Bool). stands_in k found || b) (ap (λ (ps : List Standing). list_gives ps s j k) is ∙ given_all kinds s j k below)
       ∙ or_comm (stands_in k found) (is_given s j (kind_at kinds k));
 }
 

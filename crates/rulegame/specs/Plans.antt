@@ -9,15 +9,15 @@ use Rattle.rulebook.specs.declared.naming.Naming.TheVariants.{ByNext, ByLegal}
 use Rattle.rulebook.specs.declared.standing.Sought.TheVariants.{Given, Named, Goals, Ends}
 use Rattle.rulebook.specs.declared.standing.Standing.{Standing}
 use Rattle.rulegame.specs.declared.plan.RolePlan.{RolePlan}
-use Rattle.rulegame.specs.declared.plan.Plan.{Plan}
+use Rattle.rulegame.specs.declared.plan.RulePlan.{RulePlan}
 use Rattle.statement.specs.Rules.{State, Turn}
 use Rattle.rulegame.specs.Flats.{IsFlatOf}
 use Rattle.rulebook.specs.RulePlay.{is_given}
 use Rattle.rulebook.specs.Standings.{all_standing}
 
 -- the state or the joint move makes an atom right that is listed
-abbrev pub gives : List Standing → State → Turn → ℕ → Bool
-gives list s j a = list_any (λ p. is_given s j p.kind && (p.atom == a)) list
+abbrev pub list_gives : List Standing → State → Turn → ℕ → Bool
+list_gives list s j a = list_any (λ p. is_given s j p.kind && (p.atom == a)) list
 
 -- the lists of a role
 pub record IsRolePlanOf (kinds : List Kind) (r : ℕ) (plan : RolePlan) : Type 0 where
@@ -25,7 +25,7 @@ pub record IsRolePlanOf (kinds : List Kind) (r : ℕ) (plan : RolePlan) : Type 0
   pub goals : plan.goals.items ≡ all_standing (Goals r) kinds
 
 -- the lists and the flat instances are those of the instantiation
-pub record IsPlanOf (g : FlatGround) (plan : Plan) : Type 0 where
+pub record IsPlanOf (g : FlatGround) (plan : RulePlan) : Type 0 where
   pub flat : IsFlatOf (length (kinds_of g)) (instances_of g) plan.flat.first.items plan.flat.heads.items plan.flat.ends.items plan.flat.literals.items
   pub given : plan.given.items ≡ all_standing Given (kinds_of g)
   pub nexts : plan.nexts.items ≡ all_standing (Named ByNext) (kinds_of g)

@@ -22,14 +22,14 @@ pub record HaveMarkedRoom (inputs : List (List (List ℕ))) (ms : List MoveMarks
   pub roles : HaveRoom inputs fs
 
 -- there is room for a state of the game
-pub record HasRoom (g : FlatGround) (p : RulePos) : Type 0 where
+pub record HasMarkRoom (g : FlatGround) (p : RulePos) : Type 0 where
   pub base : length p.base.items ≡ length g.starts.items
   pub right : length p.right.items ≡ length (kinds_of g)
   pub roles : HaveMarkedRoom (inputs_of g) p.marks.items p.roles.items
 
 -- what is told of the state is so
 pub record IsStateOf (g : FlatGround) (p : RulePos) : Type 0 where
-  pub room : HasRoom g p
+  pub room : HasMarkRoom g p
   pub ended : p.ended ≡ ends (kinds_of g) (holds_in g (marked p.base.items))
   pub roles : AreRead (kinds_of g) (holds_in g (marked p.base.items)) (inputs_of g) p.roles.items
 

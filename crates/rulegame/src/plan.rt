@@ -25,7 +25,7 @@ pub struct FlatInstances {
 
 /// The atoms that are asked for in play, in order, and the kept instances.
 #[derive(Drop)]
-pub struct Plan {
+pub struct RulePlan {
     pub(crate) flat: FlatInstances,
     pub(crate) given: Vec<Standing>,
     pub(crate) nexts: Vec<Standing>,

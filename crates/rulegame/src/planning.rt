@@ -5,7 +5,7 @@ ghost use Rattle.rulegame.specs.Plans.{IsRolePlanOf, IsPlanOf};
 ghost use Rattle.rulegame.specs.declared.plan.RolePlan.{RolePlan};
 
 use crate::flattening::flatten;
-use crate::plan::{Plan, RolePlan};
+use crate::plan::{RolePlan, RulePlan};
 use ground::FlatGround;
 use rulebook::{Naming, Sought, list_standing};
 use std::alloc::{AllocError, Global};
@@ -34,10 +34,10 @@ fn plan_roles(alloc: Global, ground: &FlatGround) -> Result<Vec<RolePlan>, Alloc
 }
 
 /// The plan of an instantiation.
-pub(crate) fn make_plan(alloc: Global, ground: &FlatGround) -> Result<Plan, AllocError>
+pub(crate) fn make_plan(alloc: Global, ground: &FlatGround) -> Result<RulePlan, AllocError>
     ensures { IfOk result (λ plan. IsPlanOf ground.now plan) }
 {
-    Ok(Plan {
+    Ok(RulePlan {
         flat: flatten(alloc, ground)?,
         given: list_standing(alloc, ground, Sought::Given)?,
         nexts: list_standing(alloc, ground, Sought::Named(Naming::ByNext))?,

@@ -3,14 +3,14 @@ ghost use Rattle.std.specs.Prelude.{◌≡◌, IfOk, [], length};
 ghost use Rattle.ground.specs.GroundView.{flat_of};
 ghost use Rattle.rulegame.specs.Plans.{IsPlanOf};
 
-use crate::plan::Plan;
+use crate::plan::RulePlan;
 use crate::planning::make_plan;
 use crate::rule_keys::write_marks_key;
 use crate::rule_many::{RuleMany, RuleWide, new_bases, step_each};
 use crate::rule_pos::{RulePos, read_state, start_state, step_state};
 use game::{Game, Joint, Told, words_for};
 use ground::{FlatGround, Ground};
-use rulebook::{copy_roles, legal_at};
+use rulebook::{GroundGame, copy_roles, legal_at};
 use std::alloc::{AllocError, Global};
 
 /// The game that an instantiation describes, played over its kept instances.
@@ -18,7 +18,7 @@ use std::alloc::{AllocError, Global};
 pub struct RuleGame {
     pub(crate) alloc: Global,
     pub(crate) played: FlatGround,
-    pub(crate) plan: Plan,
+    pub(crate) plan: RulePlan,
     pub ghost planned: { IsPlanOf played plan },
 }
 
@@ -204,4 +204,11 @@ impl Game for RuleGame {
     ghost moves_in_printed_order = { λ g r m n inside less below. moves_in_order g.played r m n inside less below };
 
     ghost role_names_differ = { λ g q r less below. roles_once g.played q r less below };
+}
+
+impl GroundGame for RuleGame {
+    fn over(alloc: Global, ground: FlatGround) -> Result<RuleGame, AllocError> {
+        let game = RuleGame::of_flat(alloc, ground)?;
+        Ok(game)
+    }
 }

@@ -10,7 +10,7 @@ ghost use Rattle.rulegame.specs.declared.rule_pos.MoveMarks.{MoveMarks};
 ghost use Rattle.rulegame.specs.RuleRoom.{
   HasMarkedRoom,
   HaveMarkedRoom,
-  HasRoom,
+  HasMarkRoom,
   IsStateOf,
   mark_capacities,
   marked_capacities,
@@ -86,7 +86,7 @@ fn read_roles(
 
 /// Writes what is told of the state that is marked.
 pub(crate) fn read_state(game: &RuleGame, p: &mut RulePos)
-    requires { HasRoom game.now.played p.old }
+    requires { HasMarkRoom game.now.played p.old }
     ensures state { IsStateOf game.now.played p.new }
     ensures same { p.new.base.items ≡ p.old.base.items }
     ensures capacities { capacities p.new ≡ capacities p.old }
@@ -118,7 +118,7 @@ pub(crate) fn mark_next(
 
 /// Writes the state after another and a joint move. The other's marks are read, and this one's are written.
 pub(crate) fn step_state(game: &RuleGame, p: &RulePos, joint: &[u32], q: &mut RulePos)
-    requires { HasRoom game.now.played q.old }
+    requires { HasMarkRoom game.now.played q.old }
     ensures state { IsStateOf game.now.played q.new }
     ensures after { marked q.new.base.items ≡ (rules_of game.now.played).after (marked p.now.base.items) joint.now }
     ensures capacities { capacities q.new ≡ capacities q.old }

@@ -1,28 +1,20 @@
 use Rattle.statement.specs.Replies.{IsReply}
 use Rattle.words.specs.Asked.{query_about}
 use Rattle.replies.proofs.ReadAndAsked.{read_and_asked}
-use Rattle.replies.proofs.Searches.{asked_reply, network_told, rules_told}
+use Rattle.replies.proofs.Searches.{asked_reply, search_told}
 use Rattle.replies.proofs.alone.inquired_alone.Goals as goal
 
 pub returns-in-Told : goal.returns-in-Told
 returns-in-Told g c =
-    let asked = read_and_asked c.args.inquiry.now c.args.bytes.now c.in_ok-rules.field-0 c.in-Rules.rules c.instantiate_flat_alone-instantiated.result
-    c.in_ok-reply.field-0 c.in_ok-rules.ensures c.in-Rules.is c.instantiate_flat_alone-instantiated.ensures.ground
-    c.instantiate_flat_alone-instantiated.ensures.fault c.in_ok-reply.ensures in
-    asked_reply (IsReply (query_about c.args.inquiry.now) c.args.bytes.now) c.in_ok-reply.field-0 c.in-Told.reply asked c.in-Told.is
+    let asked = read_and_asked g.G.Game c.args.inquiry.now c.args.bytes.now c.in_ok-rules.field-0 c.in-Rules.rules
+    c.instantiate_flat_alone-instantiated.result c.in_ok-reply.field-0 c.in_ok-rules.ensures c.in-Rules.is
+    c.instantiate_flat_alone-instantiated.ensures.ground c.instantiate_flat_alone-instantiated.ensures.fault c.in_ok-reply.ensures in
+    asked_reply g.G.Game (IsReply (query_about c.args.inquiry.now) c.args.bytes.now) c.in_ok-reply.field-0 c.in-Told.reply asked c.in-Told.is
 
-pub returns-in-Network : goal.returns-in-Network
-returns-in-Network g c =
-    let asked = read_and_asked c.args.inquiry.now c.args.bytes.now c.in_ok-rules.field-0 c.in-Rules.rules c.instantiate_flat_alone-instantiated.result
-    c.in_ok-reply.field-0 c.in_ok-rules.ensures c.in-Rules.is c.instantiate_flat_alone-instantiated.ensures.ground
-    c.instantiate_flat_alone-instantiated.ensures.fault c.in_ok-reply.ensures in
-    network_told (IsReply (query_about c.args.inquiry.now) c.args.bytes.now) c.in_ok-reply.field-0 c.in-Network.search c.told_alone.result asked
-    c.in-Network.is c.told_alone.ensures
-
-pub returns-in-Rules-2 : goal.returns-in-Rules-2
-returns-in-Rules-2 g c =
-    let asked = read_and_asked c.args.inquiry.now c.args.bytes.now c.in_ok-rules.field-0 c.in-Rules.rules c.instantiate_flat_alone-instantiated.result
-    c.in_ok-reply.field-0 c.in_ok-rules.ensures c.in-Rules.is c.instantiate_flat_alone-instantiated.ensures.ground
-    c.instantiate_flat_alone-instantiated.ensures.fault c.in_ok-reply.ensures in
-    rules_told (IsReply (query_about c.args.inquiry.now) c.args.bytes.now) c.in_ok-reply.field-0 c.in-Rules-2.search c.told_alone-in-Rules-2.result asked
-    c.in-Rules-2.is c.told_alone-in-Rules-2.ensures
+pub returns-in-ToSearch : goal.returns-in-ToSearch
+returns-in-ToSearch g c =
+    let asked = read_and_asked g.G.Game c.args.inquiry.now c.args.bytes.now c.in_ok-rules.field-0 c.in-Rules.rules
+    c.instantiate_flat_alone-instantiated.result c.in_ok-reply.field-0 c.in_ok-rules.ensures c.in-Rules.is
+    c.instantiate_flat_alone-instantiated.ensures.ground c.instantiate_flat_alone-instantiated.ensures.fault c.in_ok-reply.ensures in
+    search_told g.G.Game (IsReply (query_about c.args.inquiry.now) c.args.bytes.now) c.in_ok-reply.field-0 c.in-ToSearch.search c.told_alone.result
+    asked c.in-ToSearch.is c.told_alone.ensures

@@ -11,7 +11,7 @@ returns-in-Some g c =
     let game = named (g.G.Game.rules c.args.game) (g.G.Game.role_name c.args.game) (g.G.Game.move_name c.args.game) in
     let sought = c.args.sought.now in
     let role : IsRoleNamed game sought.role.now (Some c.in-Some.role) = rw c.in-Some.is at c.in_ok-role.ensures.named in
-    still_asked g.G.Game.fits (λ p. named (g.G.Game.rules p) (g.G.Game.role_name p) (g.G.Game.move_name p)) g.G.Game.state _ _
+    still_asked g.G.Game _ _
     (some_role game sought.role.now sought.depth sought.at_bound sought.after.now c.in-Some.role role) c.search_after.result
     c.search_after.ensures
 

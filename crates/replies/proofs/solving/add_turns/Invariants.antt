@@ -16,11 +16,11 @@ invariant-loop-chosen g l =
     record {
       play : IsPlayOf g.G.Game l.g l.play;
       deep : l.left ≤ room_depth l.play.room;
-      within : l.left ≤ l.depth;
-      worth : l.worth ≡ pos (value rules l.role l.left l.at (state l.play.here));
-      chosen : l.chosen ≡ choice_of rules l.role l.left l.at (state l.play.here);
-      lines : l.output.items ++ turn_lines game (l.depth - l.left + 1) (line_of rules l.role l.left l.at (state l.play.here))
-          ≡ l.fn.output.items ++ turn_lines game 1 (line_of rules l.role l.depth l.at (state l.fn.play.here));
+      within : l.left ≤ l.asked.depth;
+      worth : l.worth ≡ pos (value rules l.asked.role l.left l.asked.at (state l.play.here));
+      chosen : l.chosen ≡ choice_of rules l.asked.role l.left l.asked.at (state l.play.here);
+      lines : l.output.items ++ turn_lines game (l.asked.depth - l.left + 1) (line_of rules l.asked.role l.left l.asked.at (state l.play.here))
+          ≡ l.fn.output.items ++ turn_lines game 1 (line_of rules l.asked.role l.asked.depth l.asked.at (state l.fn.play.here));
     }
 
 abbrev pub decreases-loop-chosen : goal.decreases-loop-chosen

@@ -1,0 +1,8 @@
+//! A second opinion: the reply to each command, with the game of the rules played over their kept instances. Nothing of the program stands
+//! on it.
+#![tactic(auto)]
+
+mod second;
+
+pub use rulegame::RuleGame;
+pub use second::run_rules;

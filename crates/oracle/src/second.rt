@@ -1,0 +1,32 @@
+//! One run, with the game played over the kept instances.
+ghost use Rattle.std.specs.Prelude.{◌≡◌, ◌≢◌, ℕ, List, IfOk, IfErr};
+ghost use Rattle.std.specs.Io.KnownBytes.{Appends, Keeps};
+ghost use Rattle.kif.specs.Written.{AppendsFront};
+ghost use Rattle.statement.specs.Answers.{Reply};
+ghost use Rattle.statement.specs.Input.{RepliesTo};
+ghost use Rattle.words.specs.Asked.{query_of};
+
+use rulegame::RuleGame;
+use running::{RunFault, run_with};
+use statement::Status;
+use std::io::{Read, Write};
+use std::thread::Threads;
+use words::Command;
+
+/// Reads the rules, and writes the reply to the command and nothing else. The kept instances of the rules play their game.
+pub fn run_rules<T: Threads + Sync + AllocGlobal, R: Read, W: Write>(
+    rt: &T,
+    command: &Command,
+    input: &mut R,
+    output: &mut W,
+) -> Result<Status, RunFault>
+    ensures answers { IfOk result (λ status. (written : List ℕ)
+        × RepliesTo (query_of command.now) (R.remaining input.old) (R.remaining input.new) (record { output = written; status = status })
+        × Appends (W.contents output.old) (W.contents output.new) written) }
+    ensures silent { IfErr result (λ fault. fault ≢ RunFault.Write → Keeps (W.contents output.old) (W.contents output.new)) }
+    ensures broken { IfErr result (λ fault. fault ≡ RunFault.Write → (reply : Reply)
+        × RepliesTo (query_of command.now) (R.remaining input.old) (R.remaining input.new) reply
+        × AppendsFront (W.contents output.old) (W.contents output.new) reply.output) }
+{
+    run_with::<RuleGame, T, R, W>(rt, command, input, output)
+}

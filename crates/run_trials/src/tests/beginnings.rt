@@ -1,0 +1,218 @@
+//! Games cut after each byte. Each beginning is answered, through a run and through the command line.
+use super::games::{FOUR, MARKS, MATCH};
+use super::told;
+use cut::Cut;
+use game::AtBound;
+use running::run;
+use statement::Status;
+use std::alloc::{AllocError, Global};
+use std::io::Write;
+use std::thread::Threads;
+use words::{Command, Inquiry, Sought};
+
+/// What a beginning of a text without comments ends in, and how many whole trees it has.
+#[derive(Drop)]
+struct Cutting {
+    /// The place of the first bracket that nothing closes, if there is one.
+    open: Option<usize>,
+    trees: usize,
+}
+
+/// Where a text that closes no bracket too many is cut.
+fn cutting_of(text: &[u8]) -> Cutting {
+    let mut depth = 0usize;
+    let mut first = 0;
+    let mut trees = 0usize;
+    for place in 0..text.len() {
+        if text[place] == b'(' {
+            first = if depth == 0 { place } else { first };
+            depth = depth.saturating_add(1);
+        } else if text[place] == b')' {
+            depth = depth.saturating_sub(1);
+            trees = trees.saturating_add(usize::from(depth == 0));
+        }
+    }
+    let open = if depth == 0 { None } else { Some(first) };
+    Cutting { open, trees }
+}
+
+/// What a reply begins with, and its exit status, where an answer begins with a word.
+fn front_of(alloc: Global, cutting: &Cutting, word: &str) -> Result<(Vec<u8>, u8), AllocError> {
+    let mut text = Vec::new(alloc);
+    if let Some(place) = cutting.open {
+        writeln!(text, "refused K4 Unclosed {place}").map_err(|_| AllocError)?;
+        return Ok((text, 2));
+    }
+    if cutting.trees == 0 {
+        text.extend_from_slice(b"refused G6 NoRole\n")?;
+        return Ok((text, 2));
+    }
+    if word == "items" {
+        writeln!(text, "items {}", cutting.trees).map_err(|_| AllocError)?;
+    } else {
+        text.extend_from_slice(word.as_bytes())?;
+    }
+    Ok((text, 0))
+}
+
+/// Whether a text begins with another.
+fn begins_with(text: &[u8], front: &[u8]) -> bool {
+    front.len() <= text.len() && &text[..front.len()] == front
+}
+
+/// Whether a command is answered by a run and by its words with the same bytes, which begin in this way, and this exit status.
+fn answers<T: Threads + Sync + AllocGlobal>(
+    rt: &T,
+    command: &Command,
+    words: &[&str],
+    text: &[u8],
+    front: &[u8],
+    exit: u8,
+) -> bool {
+    let wanted = if exit == 0 {
+        Status::Answer
+    } else {
+        Status::Refused
+    };
+    let mut input = text;
+    let mut output = Vec::new(rt.alloc());
+    let ended = run(rt, command, &mut input, &mut output);
+    let (status, bytes, errors) = told(rt, words, text);
+    ended == Ok(wanted)
+        && begins_with(&output, front)
+        && status == exit
+        && bytes == output
+        && errors.is_empty()
+}
+
+/// The first beginning of a game that a command does not answer, whose answers begin with a word.
+fn first_unanswered<T: Threads + Sync + AllocGlobal>(
+    rt: &T,
+    command: &Command,
+    words: &[&str],
+    game: &[u8],
+    word: &str,
+) -> Result<Option<usize>, AllocError> {
+    for end in 0..game.len() {
+        let text = &game[..end];
+        let (front, exit) = front_of(rt.alloc(), &cutting_of(text), word)?;
+        if !answers(rt, command, words, text, &front, exit) {
+            return Ok(Some(end));
+        }
+    }
+    Ok(None)
+}
+
+/// The games, and a role of each.
+const GAMES: [(&[u8], &str); 3] = [(MATCH, "a"), (FOUR, "a"), (MARKS, "xplayer")];
+
+/// The same by `check`.
+fn first_unchecked<T: Threads + Sync + AllocGlobal>(
+    rt: &T,
+    game: &[u8],
+) -> Result<Option<usize>, AllocError> {
+    first_unanswered(rt, &Command::Check, &["check"], game, "items")
+}
+
+#[test]
+fn each_beginning_is_checked(rt: HostRuntime) -> Result<(), AllocError> {
+    for (game, _) in GAMES {
+        let first = first_unchecked(&rt, game)?;
+        assert!(rt; first.is_none(), "at {first:?} of {game:?}");
+    }
+    Ok(())
+}
+
+#[test]
+fn each_beginning_is_counted(rt: HostRuntime) -> Result<(), AllocError> {
+    for (game, _) in GAMES {
+        let first = first_unanswered(&rt, &Command::Ask(Inquiry::Net), &["net"], game, "base ")?;
+        assert!(rt; first.is_none(), "at {first:?} of {game:?}");
+    }
+    Ok(())
+}
+
+#[test]
+fn each_beginning_is_played(rt: HostRuntime) -> Result<(), AllocError> {
+    for (game, _) in GAMES {
+        let command = Command::Ask(Inquiry::Moves { after: "" });
+        let first = first_unanswered(&rt, &command, &["moves"], game, "state ")?;
+        assert!(rt; first.is_none(), "at {first:?} of {game:?}");
+    }
+    Ok(())
+}
+
+/// The first beginning of a game that `solve` does not answer for a role.
+fn first_unsolved<T: Threads + Sync + AllocGlobal>(
+    rt: &T,
+    game: &[u8],
+    role: &str,
+) -> Result<Option<usize>, AllocError> {
+    let Some(cut) = Cut::parse(b"1") else {
+        return Ok(Some(0));
+    };
+    let command = Command::Ask(Inquiry::Solve(Sought {
+        role,
+        depth: 1,
+        at_bound: AtBound::Zero,
+        cut,
+        after: "",
+    }));
+    let words = ["solve", "--role", role, "--depth", "1"];
+    first_unanswered(rt, &command, &words, game, "value ")
+}
+
+#[test]
+fn each_beginning_is_solved(rt: HostRuntime) -> Result<(), AllocError> {
+    for (game, role) in GAMES {
+        let first = first_unsolved(&rt, game, role)?;
+        assert!(rt; first.is_none(), "at {first:?} of {game:?}");
+    }
+    Ok(())
+}
+
+/// So many lines of a text, from its front.
+fn front_lines(text: &[u8], count: usize) -> &[u8] {
+    let mut lines = 0usize;
+    for place in 0..text.len() {
+        if lines == count {
+            return &text[..place];
+        }
+        lines = lines.saturating_add(usize::from(text[place] == b'\n'));
+    }
+    text
+}
+
+/// The first beginning of a game of which `show` tells other trees than those of the whole game.
+fn first_unshown<T: Threads + Sync + AllocGlobal>(
+    rt: &T,
+    game: &[u8],
+) -> Result<Option<usize>, AllocError> {
+    let (_, lines, _) = told(rt, &["show"], game);
+    for end in 0..game.len() {
+        let text = &game[..end];
+        let cutting = cutting_of(text);
+        let (refusal, _) = front_of(rt.alloc(), &cutting, "")?;
+        let (want, exit) = if cutting.open.is_some() {
+            (refusal.as_slice(), 2)
+        } else {
+            (front_lines(&lines, cutting.trees), 0)
+        };
+        let (status, output, errors) = told(rt, &["show"], text);
+        if status != exit || output.as_slice() != want || !errors.is_empty() {
+            return Ok(Some(end));
+        }
+    }
+    Ok(None)
+}
+
+#[test]
+fn each_beginning_is_shown(rt: HostRuntime) -> Result<(), AllocError> {
+    for (game, _) in GAMES {
+        let first = first_unshown(&rt, game)?;
+        assert!(rt; first.is_none(), "at {first:?} of {game:?}");
+    }
+    let (status, output, _) = told(&rt, &["show"], &MATCH[..12]);
+    assert!(rt; status == 2 && output.as_slice() == b"refused K4 Unclosed 9\n".as_slice());
+    Ok(())
+}

@@ -1,0 +1,19 @@
+use Rattle.statement.specs.Replies.{IsReply}
+use Rattle.words.specs.Asked.{query_about}
+use Rattle.replies.proofs.Facts.{read_and_asked, asked_reply, search_told}
+use Rattle.running.proofs.working.inquired_by_workers.Goals as goal
+
+pub returns-in-Told : goal.returns-in-Told
+returns-in-Told g c =
+    let asked = read_and_asked g.G.Game c.args.inquiry.now c.args.bytes.now c.in_ok-rules.field-0 c.in-Rules.rules
+    c.instantiate_flat-instantiated.result c.in_ok-reply.field-0 c.in_ok-rules.ensures c.in-Rules.is
+    c.instantiate_flat-instantiated.ensures.ground c.instantiate_flat-instantiated.ensures.fault c.in_ok-reply.ensures in
+    asked_reply g.G.Game (IsReply (query_about c.args.inquiry.now) c.args.bytes.now) c.in_ok-reply.field-0 c.in-Told.reply asked c.in-Told.is
+
+pub returns-in-ToSearch : goal.returns-in-ToSearch
+returns-in-ToSearch g c =
+    let asked = read_and_asked g.G.Game c.args.inquiry.now c.args.bytes.now c.in_ok-rules.field-0 c.in-Rules.rules
+    c.instantiate_flat-instantiated.result c.in_ok-reply.field-0 c.in_ok-rules.ensures c.in-Rules.is
+    c.instantiate_flat-instantiated.ensures.ground c.instantiate_flat-instantiated.ensures.fault c.in_ok-reply.ensures in
+    search_told g.G.Game (IsReply (query_about c.args.inquiry.now) c.args.bytes.now) c.in_ok-reply.field-0 c.in-ToSearch.search
+    c.told_by_workers.result asked c.in-ToSearch.is c.told_by_workers.ensures

@@ -1,0 +1,54 @@
+-- This crate's own: what `run` promises does not rest on it.
+-- What becomes of a request.
+use Rattle.std.specs.Prelude.{ℕ, List, Option, Result, ◌≡◌, ◌⊎◌, string_bytes}
+use Rattle.std.specs.Io.KnownBytes.{Appends, Keeps}
+use Rattle.kif.specs.Written.{AppendsFront}
+use Rattle.words.specs.declared.command.Command.{Command}
+use Rattle.words.specs.Asked.{query_of}
+use Rattle.words.specs.declared.grammar.Request.{Request}
+use Rattle.words.specs.declared.grammar.Request.TheVariants.{Run, Help, Misuse}
+use Rattle.statement.specs.declared.status.Status.{Status}
+use Rattle.running.specs.declared.fault.RunFault.{RunFault}
+use Rattle.running.specs.declared.fault.RunFault.TheVariants.{Memory, Write}
+use Rattle.running.specs.Exits.{exit_status, HasWritten, AreErrorsTold}
+use Rattle.running.specs.Faults.{fault_line}
+
+-- the three streams of the program: what is left of the input, and what the output and the errors hold, each where it is known
+pub record Streams : Type 0 where
+  pub input : Option (List ℕ)
+  pub output : Option (List ℕ)
+  pub errors : Option (List ℕ)
+
+abbrev pub streams : Option (List ℕ) → Option (List ℕ) → Option (List ℕ) → Streams
+streams input output errors = record { input = input; output = output; errors = errors }
+
+-- the command was run, and the status says how that ended
+abbrev pub IsCommandRun : Command → ℕ → Streams → Streams → Type 0
+IsCommandRun command status old new =
+    (ended : Result Status RunFault)
+    × (status ≡ exit_status ended)
+    × HasWritten (query_of command) ended old.input new.input old.output new.output
+    × AreErrorsTold ended old.errors new.errors
+
+-- the text was written whole, with status 0; or, with status 4, the writer failed and has a beginning of it
+abbrev pub HasShown : List ℕ → ℕ → Streams → Streams → Type 0
+HasShown text status old new =
+    ((status ≡ 0) × Appends old.output new.output text × Keeps old.errors new.errors)
+    ⊎ ((status ≡ 4) × AppendsFront old.output new.output text × AppendsFront old.errors new.errors (fault_line Write))
+
+-- The command of the request was run; or its text was written, and nothing was read; or its text was told to the errors, of which they
+-- may have taken a beginning alone, nothing was read or written, and the status is 1.
+abbrev pub IsFulfilled : Request → ℕ → Streams → Streams → Type 0
+IsFulfilled (Run command) status old new = IsCommandRun command status old new
+IsFulfilled (Help text) status old new = Keeps old.input new.input × HasShown (string_bytes text) status old new
+IsFulfilled (Misuse text) status old new =
+    (status ≡ 1) × Keeps old.input new.input × Keeps old.output new.output × AppendsFront old.errors new.errors (string_bytes text)
+
+-- there was no memory to make a request of the words: nothing was read or written, and the status is 3
+abbrev pub IsUnread : ℕ → Streams → Streams → Type 0
+IsUnread status old new =
+    (status ≡ 3) × Keeps old.input new.input × Keeps old.output new.output × AppendsFront old.errors new.errors (fault_line Memory)
+
+-- what becomes of words: some request was fulfilled, if there was memory to make one of them
+abbrev pub AreDone : ℕ → Streams → Streams → Type 0
+AreDone status old new = ((request : Request) × IsFulfilled request status old new) ⊎ IsUnread status old new

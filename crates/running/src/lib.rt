@@ -1,0 +1,14 @@
+//! All that the program does with words, a reader and two writers: a request of the words, a run of its command from the bytes of the input to
+//! those of the output, and the exit status. Who plays the game of the rules is a type; `run` is over the network.
+#![tactic(auto)]
+
+mod commands;
+mod fault;
+mod input;
+mod runs;
+mod working;
+
+pub use commands::{fulfil, main_with};
+pub use fault::RunFault;
+pub use runs::{run, run_with};
+pub use working::told_by_workers;

@@ -1,0 +1,71 @@
+//! One run: from the bytes of the input to those of the output.
+ghost use Rattle.std.specs.Prelude.{◌≡◌, ◌≢◌, ℕ, List, IfOk, IfErr, OnOk, OnErr};
+ghost use Rattle.std.specs.Io.KnownBytes.{Appends, Keeps};
+ghost use Rattle.kif.specs.Written.{AppendsFront};
+ghost use Rattle.statement.specs.Answers.{Reply};
+ghost use Rattle.statement.specs.Input.{RepliesTo};
+ghost use Rattle.words.specs.Asked.{query_of};
+
+use crate::fault::RunFault;
+use crate::input::read_input;
+use crate::working::reply_by_workers;
+use kif::write_bytes;
+use netgame::NetGame;
+use rulebook::GroundGame;
+use statement::Status;
+use std::io::{Read, Write};
+use std::thread::Threads;
+use words::Command;
+
+/// Writes all the bytes and flushes the writer.
+pub(crate) fn write_out<W: Write>(output: &mut W, bytes: &[u8]) -> Result<(), RunFault>
+    ensures whole { OnOk result (Appends (W.contents output.old) (W.contents output.new) bytes.now) }
+    ensures front { OnErr result (AppendsFront (W.contents output.old) (W.contents output.new) bytes.now) }
+    ensures fault { IfErr result (λ fault. fault ≡ RunFault.Write) }
+{
+    if write_bytes(output, bytes).is_err() || output.flush().is_err() {
+        return Err(RunFault::Write);
+    }
+    Ok(())
+}
+
+/// Reads the rules, and writes the reply to the command and nothing else. The type `G` says who plays their game.
+pub fn run_with<G: GroundGame, T: Threads + Sync + AllocGlobal, R: Read, W: Write>(
+    rt: &T,
+    command: &Command,
+    input: &mut R,
+    output: &mut W,
+) -> Result<Status, RunFault>
+    ensures answers { IfOk result (λ status. (written : List ℕ)
+        × RepliesTo (query_of command.now) (R.remaining input.old) (R.remaining input.new) (record { output = written; status = status })
+        × Appends (W.contents output.old) (W.contents output.new) written) }
+    ensures silent { IfErr result (λ fault. fault ≢ RunFault.Write → Keeps (W.contents output.old) (W.contents output.new)) }
+    ensures broken { IfErr result (λ fault. fault ≡ RunFault.Write → (reply : Reply)
+        × RepliesTo (query_of command.now) (R.remaining input.old) (R.remaining input.new) reply
+        × AppendsFront (W.contents output.old) (W.contents output.new) reply.output) }
+{
+    let bytes = read_input(rt.alloc(), input)?;
+    let Ok(reply) = reply_by_workers::<G, T>(rt, command, &bytes) else {
+        return Err(RunFault::Memory);
+    };
+    write_out(output, &reply.output)?;
+    Ok(reply.status)
+}
+
+/// Reads the rules, and writes the reply to the command and nothing else. The network of the rules plays their game.
+pub fn run<T: Threads + Sync + AllocGlobal, R: Read, W: Write>(
+    rt: &T,
+    command: &Command,
+    input: &mut R,
+    output: &mut W,
+) -> Result<Status, RunFault>
+    ensures answers { IfOk result (λ status. (written : List ℕ)
+        × RepliesTo (query_of command.now) (R.remaining input.old) (R.remaining input.new) (record { output = written; status = status })
+        × Appends (W.contents output.old) (W.contents output.new) written) }
+    ensures silent { IfErr result (λ fault. fault ≢ RunFault.Write → Keeps (W.contents output.old) (W.contents output.new)) }
+    ensures broken { IfErr result (λ fault. fault ≡ RunFault.Write → (reply : Reply)
+        × RepliesTo (query_of command.now) (R.remaining input.old) (R.remaining input.new) reply
+        × AppendsFront (W.contents output.old) (W.contents output.new) reply.output) }
+{
+    run_with::<NetGame, T, R, W>(rt, command, input, output)
+}

@@ -1,0 +1,83 @@
+//! The reply to a command, with its search shared by workers.
+ghost use Rattle.std.specs.Prelude.{◌≡◌, ◌<◌, IfOk};
+ghost use Rattle.statement.specs.Answers.{answer};
+ghost use Rattle.replies.specs.Histories.{named};
+ghost use Rattle.replies.specs.Replies.{reply_of};
+ghost use Rattle.statement.specs.Replies.{IsReply};
+ghost use Rattle.words.specs.Asked.{query_about, query_of};
+ghost use Rattle.statement.specs.Solving.{solve_lines};
+
+use game::Game;
+use ground::instantiate_flat;
+use replies::{Asked, Reading, Reply, Search, ask, check, read, show};
+use rulebook::GroundGame;
+use share::{Gate, solve};
+use std::alloc::AllocError;
+use std::thread::Threads;
+use words::{Command, Inquiry};
+
+/// No task of a search waits.
+#[derive(Drop)]
+struct Ungated;
+
+impl Gate for Ungated {
+    fn at(&self, _task: usize) {}
+}
+
+/// The reply after a search, which as many workers share as its cut says.
+pub fn told_by_workers<T: Threads + Sync + AllocGlobal, G: Game + Drop>(
+    rt: &T,
+    search: Search<G>,
+) -> Result<Reply, AllocError>
+    requires fits { G.fits search.game search.here }
+    requires role { search.asked.role < (G.rules search.game).roles }
+    ensures { IfOk result (λ reply. reply_of reply ≡ answer (solve_lines
+        (named (G.rules search.game) (G.role_name search.game) (G.move_name search.game))
+        search.asked.role search.asked.depth search.asked.at (G.state search.game search.here))) }
+{
+    let found = solve(
+        rt,
+        &search.game,
+        &search.here,
+        search.asked,
+        &search.cut,
+        &Ungated,
+    )?;
+    search.told(rt.alloc(), found)
+}
+
+/// The reply to an inquiry over the bytes of the input.
+fn inquired_by_workers<G: GroundGame, T: Threads + Sync + AllocGlobal>(
+    rt: &T,
+    inquiry: &Inquiry,
+    bytes: &[u8],
+) -> Result<Reply, AllocError>
+    ensures { IfOk result (λ reply. IsReply (query_about inquiry.now) bytes.now (reply_of reply)) }
+{
+    let alloc = rt.alloc();
+    let rules = match read(alloc, bytes)? {
+        Reading::Rules(rules) => rules,
+        Reading::Refused(reply) => return Ok(reply),
+    };
+    let instantiated = instantiate_flat(rt, &rules);
+    drop(rules);
+    match ask::<G>(alloc, inquiry, instantiated)? {
+        Asked::Told(reply) => Ok(reply),
+        Asked::ToSearch(search) => told_by_workers(rt, search),
+    }
+}
+
+/// The reply to a command over the bytes of the input. It fails only for want of memory.
+pub(crate) fn reply_by_workers<G: GroundGame, T: Threads + Sync + AllocGlobal>(
+    rt: &T,
+    command: &Command,
+    bytes: &[u8],
+) -> Result<Reply, AllocError>
+    ensures { IfOk result (λ reply. IsReply (query_of command.now) bytes.now (reply_of reply)) }
+{
+    match command {
+        Command::Show => show(rt.alloc(), bytes),
+        Command::Check => check(rt.alloc(), bytes),
+        Command::Ask(inquiry) => inquired_by_workers::<G, T>(rt, inquiry, bytes),
+    }
+}
