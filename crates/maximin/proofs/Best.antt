@@ -2,7 +2,7 @@ use Rattle.std.proofs.Common.{true, false, ◌≡◌, ℕ, ◌+◌, ◌-◌, ◌
 use Rattle.std.proofs.lemmas.Int.{ints, clamps}
 use Rattle.std.proofs.lemmas.Bool.{cases_lt}
 use Rattle.std.proofs.lemmas.Bool.Decides.{nat_tests}
-use Rattle.std.specs.Prelude.{ℤ, pos, negsuc, ◌<ℤ◌, ◌≤ℤ◌, ◌==◌, ◌||◌, ◌⊎◌, if◌then◌else◌, find, Option, None, slice_get}
+use Rattle.std.specs.Prelude.{ℤ, pos, negsuc, ◌<ℤ◌, ◌≤ℤ◌, ◌==◌, ◌||◌, if◌then◌else◌, find, Option, None, slice_get}
 use Rattle.statement.specs.Rules.{Rules, State, is_stuck}
 use Rattle.statement.specs.declared.at_bound.AtBound.{AtBound}
 use Rattle.game.specs.Value.{Answers}

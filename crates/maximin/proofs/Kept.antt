@@ -1,22 +1,76 @@
 -- What a search leaves as it was.
-use Rattle.std.proofs.Common.{◌≡◌, ◌++◌, ◌∷◌, [], ℕ, List, length, map, refl, sym, ap, subst, ◌∙◌, get_or}
-use Rattle.std.proofs.lemmas.List.{length-map, with_items_is}
+use Rattle.std.proofs.Common.{◌≡◌, ◌++◌, ◌∷◌, [], ℕ, List, length, map, refl, sym, ap, subst, ◌∙◌, get_or, arith}
+use Rattle.std.proofs.lemmas.List.{length-map, take_all, with_items_is}
 use Rattle.std.specs.Prelude.{All, vec_capacity}
 use Rattle.std.specs.Vec.{with_items}
 use Rattle.std.proofs.Math.ListN.{set}
+use Rattle.statement.specs.Rules.{Rules}
 use Rattle.game.specs.declared.game.Game.{Ghosts}
+use Rattle.maximin.specs.declared.children.Children.{Children}
+use Rattle.maximin.specs.declared.cursor.Cursor.{Cursor}
 use Rattle.maximin.specs.declared.level.Level.{Level}
+use Rattle.maximin.specs.declared.moves.Moves.{Moves}
+use Rattle.maximin.specs.declared.run.Run.{Run}
 use Rattle.maximin.specs.declared.room.Room.{Room}
 use Rattle.maximin.specs.declared.tools.Tools.{Tools}
+use Rattle.maximin.specs.Children.{AreSameStates, children_capacities}
+use Rattle.maximin.specs.Cursor.{cursor_capacities}
 use Rattle.maximin.specs.Level.{IsLevelOf, level_capacities}
+use Rattle.maximin.specs.Moves.{AreLonger, HaveTurns, moves_capacities}
+use Rattle.maximin.specs.Run.{turns_in, run_capacities}
 use Rattle.maximin.specs.Room.{IsRoomKept}
 use Rattle.maximin.specs.Tools.{AreFit, AreKept, tools_capacities}
-use Rattle.maximin.proofs.Parts.{All-first_and_rest, all_kept}
+use Rattle.maximin.proofs.Packs.{turns_count}
+use Rattle.maximin.proofs.Parts.{All-first_and_rest, all_kept, both_joined}
 
 kept_joined : (c : ℕ) (a b : List ℕ) (xs ys : List (List ℕ)) → a ≡ b → xs ≡ ys → (c ∷ []) ∷ a ∷ xs ≡ (c ∷ []) ∷ b ∷ ys
 kept_joined c a b xs ys e h = cc
 
+-- joint moves whose cursor and run have what they had
+pub moves_kept : (m : Moves) (cursor : Cursor) (run : Run) → cursor_capacities cursor ≡ cursor_capacities m.cursor
+    → run_capacities run ≡ run_capacities m.run → moves_capacities record { cursor = cursor; run = run } ≡ moves_capacities m
+moves_kept m cursor run h k = both_joined (cursor_capacities cursor) (run_capacities run) (cursor_capacities m.cursor) (run_capacities m.run) h k
+
+-- a run that grows from nothing added, and behind a cursor that was set up anew
+pub longer_at_first : {g : Rules} {m : Moves} → HaveTurns g m → AreLonger g m m
+longer_at_first {g} {m} h =
+    let size : length (turns_in m.run) ≡ m.run.count = turns_count g.roles m.run h.moves.run in
+    record {
+      moves = h.moves;
+      capacities = refl;
+      known = h.known;
+      count = omega arith;
+      front = take_all m.run.count (turns_in m.run) (omega arith);
+    }
+
+pub longer_from : {g : Rules} {new : Moves} (m : Moves) (cursor : Cursor) → cursor_capacities cursor ≡ cursor_capacities m.cursor
+    → AreLonger g record { cursor = cursor; run = m.run } new → AreLonger g m new
+longer_from m cursor same h = record {
+  moves = h.moves;
+  capacities = h.capacities ∙ moves_kept m cursor m.run same refl;
+  known = h.known;
+  count = h.count;
+  front = h.front;
+}
+
+module _ {G P W M : Type 0} (of : Ghosts G P W M) (game : G) where
+  -- a level whose joint moves and states have what they had
+  pub level_kept : (l : Level P M) (moves : Moves) (children : Children P M) → moves_capacities moves ≡ moves_capacities l.moves
+      → children_capacities of game children ≡ children_capacities of game l.children
+      → level_capacities of game record { moves = moves; children = children } ≡ level_capacities of game l
+  level_kept l moves children h k = both_joined (moves_capacities moves) (children_capacities of game children) (moves_capacities l.moves)
+      (children_capacities of game l.children) h k
+
+  -- one of the states is another, and what is known of them too
+  pub children_kept : (position old : P) (many new : M) → of.capacities game position ≡ of.capacities game old → new ≡ many
+      → of.capacities game position ++ of.many_capacities game new ≡ of.capacities game old ++ of.many_capacities game many
+  children_kept position old many new h k = both_joined (of.capacities game position) (of.many_capacities game new) (of.capacities game old)
+      (of.many_capacities game many) h (ap (of.many_capacities game) k)
+
 module _ {G P W M : Type 0} {of : Ghosts G P W M} {game : G} where
+  pub same_states_then : {a b c : Children P M} → AreSameStates of game a b → AreSameStates of game b c → AreSameStates of game a c
+  same_states_then h k = record { position = k.position; capacities = k.capacities ∙ h.capacities; many = k.many ∙ h.many }
+
   pub kept_at_first : {role depth : ℕ} {tools : Tools W} {levels : List (Level P M)} → AreFit of game role depth tools levels
       → AreKept of game tools levels tools levels
   kept_at_first h = record { wide = h.wide; levels = h.levels; of_tools = refl; of_levels = refl }

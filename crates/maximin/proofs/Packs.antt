@@ -39,7 +39,7 @@ use Rattle.std.proofs.Common.{
 use Rattle.std.proofs.Math.ListN.{set}
 use Rattle.std.proofs.Math.Seq.{drop-append_seam}
 use Rattle.std.proofs.lemmas.Bool.{cases_eq}
-use Rattle.std.proofs.lemmas.List.{length-map, length-take-le, length-drop, map_more, take-append-drop, take-append-le, take_all, take_at, drop-append-le, get_or-drop}
+use Rattle.std.proofs.lemmas.List.{length-map, length-take-le, length-drop, map_more, take-append-drop, take-append-le, take_all, drop-append-le, get_or-drop}
 use Rattle.std.proofs.lemmas.List.Elements.{All-append}
 use Rattle.std.specs.Option.{is_some}
 use Rattle.std.specs.Prelude.{All, IfSome, replicate}
@@ -70,12 +70,29 @@ turns_count roles run h =
     let few = h.few in
     length-map (take run.count run.joints.items) (λ (j : SmallVec ℕ). j.items) ∙ length-take-le run.count run.joints.items (omega arith)
 
+-- as many states as joint moves of a run that were stepped
+pub stepped_count : (roles : ℕ) (run : Run) (joints : List (SmallVec ℕ)) (after : Turn → State) (states : List State) → IsRunOf roles run
+    → joints ≡ run.joints.items → states ≡ map (λ (j : SmallVec ℕ). after j.items) (take run.count joints) → length states ≡ run.count
+stepped_count roles run joints after states h same e =
+    let size = h.size in
+    let few = h.few in
+    ap (λ (ss : List State). length ss) e ∙ length-map (take run.count joints) (λ (j : SmallVec ℕ). after j.items)
+    ∙ length-take-le run.count joints (omega (arith, ap (λ (js : List (SmallVec ℕ)). length js) same))
+
 pub rest_list : {A : Type 0} (xs ys all : List A) (n : ℕ) → all ≡ xs ++ ys → length xs ≡ n → drop n all ≡ ys
 rest_list {A} xs ys all n e size =
     ap (λ (l : List A). drop n l) e ∙ ap (λ (k : ℕ). drop k (xs ++ ys)) (sym size) ∙ drop-append_seam xs ys
 
 pub front_more : {A : Type 0} (xs ys front : List A) (n : ℕ) → take n xs ≡ front → n ≤ length xs → take n (xs ++ ys) ≡ front
 front_more xs ys front n e within = take-append-le n xs ys within ∙ e
+
+-- the joint moves that a run had before stand in front
+pub front_of : (roles : ℕ) (old new : Run) (more : List Turn) → IsRunOf roles old → turns_in new ≡ turns_in old ++ more
+    → take old.count (turns_in new) ≡ turns_in old
+front_of roles old new more h e =
+    let size : length (turns_in old) ≡ old.count = turns_count roles old h in
+    ap (λ (ts : List Turn). take old.count ts) e
+    ∙ front_more (turns_in old) more (turns_in old) old.count (take_all old.count (turns_in old) (omega arith)) (omega arith)
 
 -- fewer joint moves of a run
 pub turns_fewer : (count now : ℕ) (joints : List (SmallVec ℕ)) → count ≤ now

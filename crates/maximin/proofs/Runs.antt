@@ -17,6 +17,8 @@ use Rattle.std.proofs.Common.{
   suc,
   refl,
   ap,
+  subst,
+  sym,
   ◌∙◌,
   arith,
   get_or,
@@ -25,18 +27,39 @@ use Rattle.std.proofs.Common.{
 }
 use Rattle.std.proofs.Common.{length-append}
 use Rattle.std.proofs.lemmas.Bool.{cases_lt}
-use Rattle.std.proofs.lemmas.List.{map-append, length-map, get_or-map}
+use Rattle.std.proofs.lemmas.List.Elements.{All-nil, All-cons, All-append}
+use Rattle.std.proofs.lemmas.List.{length-take-le, map-append, length-map, get_or-map}
 use Rattle.std.specs.Bool.{OnTrue, OnFalse}
 use Rattle.std.specs.Prelude.{All, map, min}
 use Rattle.smallvec.specs.SmallVec.{SmallVec}
-use Rattle.statement.specs.Rules.{Turn}
+use Rattle.statement.specs.Rules.{Rules, Turn, IsTurn}
 use Rattle.statement.specs.Value.{least}
+use Rattle.maximin.specs.declared.run.Run.{Run}
+use Rattle.maximin.specs.Judged.{CanBeStepped}
+use Rattle.maximin.specs.Run.{IsRunOf, turns_in}
 
 -- what holds of each turn holds of each joint move
 pub known_each : (P : Turn → Type 0) (xs : List (SmallVec ℕ)) → All P (map (λ (j : SmallVec ℕ). j.items) xs) → All (λ (j : SmallVec ℕ). P j.items) xs
 known_each P [] h k d below = absurd (omega arith)
 known_each P (x ∷ xs) h zero d below = h 0 [] (omega arith)
 known_each P (x ∷ xs) h (suc k) d below = known_each P xs (λ i e lt. h (suc i) e (omega arith)) k d (omega arith)
+
+-- the joint moves of a run
+pub steps_of : (g : Rules) (r : Run) (joints : List (SmallVec ℕ)) → joints ≡ r.joints.items → IsRunOf g.roles r → 0 < r.count
+    → All (IsTurn g) (turns_in r) → CanBeStepped g (take r.count joints)
+steps_of g r joints e h some known =
+    let size = h.size in
+    let few = h.few in
+    let count : length (take r.count joints) ≡ r.count = length-take-le r.count joints (omega (arith, ap (λ (js : List (SmallVec ℕ)). length js) e)) in
+    record {
+      some = omega arith;
+      few = omega arith;
+      known = known_each (IsTurn g) (take r.count joints) (rw e known);
+    }
+
+-- one joint move of the game more
+pub turn_added : (P : Turn → Type 0) (ts new : List Turn) (t : Turn) → new ≡ ts ++ t ∷ [] → All P ts → P t → All P new
+turn_added P ts new t e h here = subst (All P) (sym e) (All-append P ts (t ∷ []) h (All-cons P t [] here (All-nil P)))
 
 pub some_taken : (xs : List (SmallVec ℕ)) (n : ℕ) → 0 < n → 0 < length xs → 0 < length (map (λ (j : SmallVec ℕ). j.items) (take n xs))
 some_taken xs zero some there = absurd (omega arith)

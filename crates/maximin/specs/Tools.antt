@@ -18,6 +18,11 @@ module _ {G P W M : Type 0} (of : Ghosts G P W M) (game : G) where
   abbrev pub tools_capacities : Tools W → List ℕ
   tools_capacities tools = history_capacities tools.history ++ of.wide_capacities game tools.wide
 
+  -- what all levels share serves as before, and has grown nowhere
+  pub record AreToolsKept (old new : Tools W) : Type 0 where
+    pub wide : of.fits_wide game new.wide
+    pub capacities : tools_capacities new ≡ tools_capacities old
+
   -- what a search for this role that looks so many turns ahead works with
   pub record AreFit (r depth : ℕ) (tools : Tools W) (all : List (Level P M)) : Type 0 where
     pub role : r < (of.rules game).roles

@@ -2,16 +2,18 @@
 //!
 //! A state is taken for this once, or twice where it had no room. What is found is the value itself, so it answers any window.
 //! The run of the level below serves, which the search does not use at that moment, so no memory is taken.
-ghost use Rattle.std.specs.Prelude.{◌≡◌, ◌≢◌, ◌+◌, ◌-◌, ◌<◌, ◌≤◌, ℕ, List, true, All, length, map, take, drop, slice_index_or, None, IfSome};
-ghost use Rattle.statement.specs.Rules.{State, IsTurn};
+ghost use Rattle.std.specs.Prelude.{◌≡◌, ◌+◌, ◌-◌, ◌<◌, ◌≤◌, ℕ, List, true, length, map, take, drop, slice_index_or, None, IfSome};
+ghost use Rattle.statement.specs.Rules.{State};
 ghost use Rattle.statement.specs.Value.{value};
 ghost use Rattle.statement.specs.declared.at_bound.AtBound.TheVariants.{Zero};
-ghost use Rattle.maximin.specs.Ahead.{IsAheadOf};
-ghost use Rattle.maximin.specs.Level.{IsLevelOf, level_capacities};
-ghost use Rattle.maximin.specs.Pack.{picked, packed_after, IsPartOf, IsPackOf};
-ghost use Rattle.maximin.specs.Run.{IsRunOf, turns_in, run_capacities};
-ghost use Rattle.maximin.specs.Tools.{AreFit, AreKept, tools_capacities};
+ghost use Rattle.maximin.specs.Ahead.{IsAheadOf, IsOfLastTurn};
+ghost use Rattle.maximin.specs.Children.{AreLookedAt, AreSameStates};
+ghost use Rattle.maximin.specs.Level.{IsLevelLeft, IsLevelOf, level_capacities};
+ghost use Rattle.maximin.specs.Pack.{picked, packed_after, ArePackable, IsPacked, IsPartOf, IsPackOf, IsPlacedRun};
+ghost use Rattle.maximin.specs.Run.{IsRunOf};
+ghost use Rattle.maximin.specs.Tools.{AreFit, AreKept, AreToolsKept};
 
+use crate::children::Children;
 use crate::end::{greatest_of, least_of};
 use crate::level::Level;
 use crate::pack::{Pack, Part, Pick, pack_on};
@@ -62,21 +64,13 @@ fn pack_states<G: Game>(
     level: &mut Level<G::Pos, G::Many>,
     pack: &mut Pack,
 ) -> usize
-    requires many { G.fits_many game.now many.now }
+    requires states { ArePackable G.Game game.now asked many.now }
     requires count { count ≡ length (G.states game.now many.now) }
-    requires few { count ≤ 64 }
     requires first { first < count }
-    requires role { asked.role < (G.rules game.now).roles }
-    requires turn { asked.depth ≢ 0 }
-    requires level { IsLevelOf G.Game game.now level.old }
-    requires pack { IsPackOf (G.rules game.now) (G.states game.now many.now) (value (G.rules game.now) asked.role asked.depth asked.at)
-        (value (G.rules game.now) asked.role (asked.depth - 1) asked.at) pack.old level.old.run }
+    requires pack { IsPacked G.Game game.now asked many.now level.old pack.old }
     ensures place { result ≤ count }
-    ensures level { IsLevelOf G.Game game.now level.new }
-    ensures capacities { level_capacities G.Game game.now level.new
-        ≡ level_capacities G.Game game.now level.old }
-    ensures pack { IsPackOf (G.rules game.now) (G.states game.now many.now) (value (G.rules game.now) asked.role asked.depth asked.at)
-        (value (G.rules game.now) asked.role (asked.depth - 1) asked.at) pack.new level.new.run }
+    ensures pack { IsPacked G.Game game.now asked many.now level.new pack.new }
+    ensures capacities { level_capacities G.Game game.now level.new ≡ level_capacities G.Game game.now level.old }
 {
     let mut place = first;
     'states: while place < count {
@@ -91,10 +85,7 @@ fn pack_states<G: Game>(
 /// Plays the joint moves of a pack for the end of the game alone. The answer is false where they are to be stepped.
 fn judge_pack<G: Game>(game: &G, many: &G::Many, pack: &Pack, run: &Run, wide: &mut G::Wide) -> bool
     requires many { G.fits_many game.now many.now }
-    requires some { 0 < run.now.count }
-    requires run { IsRunOf (G.rules game.now).roles run.now }
-    requires known { All (IsTurn (G.rules game.now)) (turns_in run.now) }
-    requires places { All (λ k. k < length (G.states game.now many.now)) (take run.now.count pack.now.places) }
+    requires run { IsPlacedRun (G.rules game.now) (G.states game.now many.now) pack.now.places run.now }
     requires wide { G.fits_wide game.now wide.old }
     ensures wide { G.fits_wide game.now wide.new }
     ensures wide_capacities { G.wide_capacities game.now wide.new ≡ G.wide_capacities game.now wide.old }
@@ -147,35 +138,26 @@ fn noted<G: Game>(
     }
 }
 
-/// Judges the states after the joint moves of a pack, and notes what those are worth that they come from, which stand from one place to
-/// another.
+/// Judges the states after the joint moves of a pack, and notes what those are worth that they come from.
 fn note_worths<G: Game>(
     game: &G,
-    many: &G::Many,
-    first: usize,
-    end: usize,
     asked: Question,
     pack: &Pack,
     run: &Run,
     tools: &mut Tools<G::Wide>,
-    ahead: &mut Ahead,
+    children: &mut Children<G::Pos, G::Many>,
 )
-    requires many { G.fits_many game.now many.now }
-    requires end { end ≤ length (G.states game.now many.now) }
-    requires role { asked.role < (G.rules game.now).roles }
-    requires depth { asked.depth ≡ 1 }
-    requires bound { asked.at ≡ Zero }
-    requires some { 0 < run.now.count }
-    requires run { IsRunOf (G.rules game.now).roles run.now }
-    requires pack { IsPackOf (G.rules game.now) (G.states game.now many.now) (value (G.rules game.now) asked.role asked.depth asked.at)
+    requires last { IsOfLastTurn (G.rules game.now) asked }
+    requires children { AreLookedAt G.Game game.now asked children.old }
+    requires run { IsPlacedRun (G.rules game.now) (G.states game.now children.old.many) pack.now.places run.now }
+    requires pack { IsPackOf (G.rules game.now) (G.states game.now children.old.many) (value (G.rules game.now) asked.role asked.depth asked.at)
         (value (G.rules game.now) asked.role (asked.depth - 1) asked.at) pack.now run.now }
     requires wide { G.fits_wide game.now tools.old.wide }
-    requires ahead { IsAheadOf (G.states game.now many.now) (value (G.rules game.now) asked.role asked.depth asked.at) ahead.old }
-    ensures wide { G.fits_wide game.now tools.new.wide }
-    ensures tools_capacities { tools_capacities G.Game game.now tools.new ≡ tools_capacities G.Game game.now tools.old }
-    ensures ahead { IsAheadOf (G.states game.now many.now) (value (G.rules game.now) asked.role asked.depth asked.at) ahead.new }
+    ensures tools { AreToolsKept G.Game game.now tools.old tools.new }
+    ensures children { AreLookedAt G.Game game.now asked children.new }
+    ensures same { AreSameStates G.Game game.now children.old children.new }
 {
-    tools.judges = judge_pack(game, many, pack, run, &mut tools.wide);
+    tools.judges = judge_pack(game, &children.many, pack, run, &mut tools.wide);
     if !tools.judges {
         return;
     }
@@ -183,45 +165,37 @@ fn note_worths<G: Game>(
         depth: asked.depth - 1,
         ..asked
     };
-    for place in first..end {
-        let known = ahead.worths[place];
-        ahead.worths[place] = noted(game, &tools.wide, pack.parts[place], known, last);
+    for place in 0..children.ahead.count {
+        let known = children.ahead.worths[place];
+        children.ahead.worths[place] = noted(game, &tools.wide, pack.parts[place], known, last);
     }
 }
 
 /// Packs the joint moves of the states from a place on, as long as they have room, and notes what these states are worth.
 fn look_on<G: Game>(
     game: &G,
-    many: &G::Many,
     place: usize,
     asked: Question,
     tools: &mut Tools<G::Wide>,
+    children: &mut Children<G::Pos, G::Many>,
     level: &mut Level<G::Pos, G::Many>,
-    ahead: &mut Ahead,
 )
-    requires many { G.fits_many game.now many.now }
-    requires place { place < length (G.states game.now many.now) }
-    requires role { asked.role < (G.rules game.now).roles }
-    requires depth { asked.depth ≡ 1 }
-    requires bound { asked.at ≡ Zero }
+    requires last { IsOfLastTurn (G.rules game.now) asked }
+    requires place { place < length (G.states game.now children.old.many) }
     requires wide { G.fits_wide game.now tools.old.wide }
+    requires children { AreLookedAt G.Game game.now asked children.old }
     requires level { IsLevelOf G.Game game.now level.old }
-    requires ahead { IsAheadOf (G.states game.now many.now) (value (G.rules game.now) asked.role asked.depth asked.at) ahead.old }
-    ensures wide { G.fits_wide game.now tools.new.wide }
-    ensures tools_capacities { tools_capacities G.Game game.now tools.new ≡ tools_capacities G.Game game.now tools.old }
-    ensures level { IsLevelOf G.Game game.now level.new }
-    ensures capacities { level_capacities G.Game game.now level.new
-        ≡ level_capacities G.Game game.now level.old }
-    ensures ahead { IsAheadOf (G.states game.now many.now) (value (G.rules game.now) asked.role asked.depth asked.at) ahead.new }
+    ensures tools { AreToolsKept G.Game game.now tools.old tools.new }
+    ensures children { AreLookedAt G.Game game.now asked children.new × AreSameStates G.Game game.now children.old children.new }
+    ensures level { IsLevelLeft G.Game game.now level.old level.new }
 {
     let mut pack = new_pack();
-    level.run.count = 0;
-    let end = pack_states(game, many, place, ahead.count, asked, level, &mut pack);
-    ahead.next = end.max(place + 1);
-    if level.run.count > 0 {
-        note_worths(
-            game, many, place, end, asked, &pack, &level.run, tools, ahead,
-        );
+    level.moves.run.count = 0;
+    let count = children.ahead.count;
+    let end = pack_states(game, &children.many, place, count, asked, level, &mut pack);
+    children.ahead.next = end.max(place + 1);
+    if level.moves.run.count > 0 {
+        note_worths(game, asked, &pack, &level.moves.run, tools, children);
     }
 }
 
@@ -229,25 +203,24 @@ fn look_on<G: Game>(
 /// more than 0 but an end.
 pub fn look_ahead<G: Game>(
     game: &G,
-    many: &G::Many,
     place: usize,
     asked: Question,
     tools: &mut Tools<G::Wide>,
+    children: &mut Children<G::Pos, G::Many>,
     levels: &mut [Level<G::Pos, G::Many>],
-    ahead: &mut Ahead,
 )
-    requires many { G.fits_many game.now many.now }
-    requires place { place < length (G.states game.now many.now) }
+    requires place { place < length (G.states game.now children.old.many) }
     requires fit { AreFit G.Game game.now asked.role asked.depth tools.old levels.old }
-    requires ahead { IsAheadOf (G.states game.now many.now) (value (G.rules game.now) asked.role asked.depth asked.at) ahead.old }
+    requires children { AreLookedAt G.Game game.now asked children.old }
     ensures kept { AreKept G.Game game.now tools.old levels.old tools.new levels.new }
-    ensures ahead { IsAheadOf (G.states game.now many.now) (value (G.rules game.now) asked.role asked.depth asked.at) ahead.new }
+    ensures children { AreLookedAt G.Game game.now asked children.new }
+    ensures same { AreSameStates G.Game game.now children.old children.new }
 {
-    if place < ahead.next || !tools.judges {
+    if place < children.ahead.next || !tools.judges {
         return;
     }
     match (asked.depth, asked.at) {
-        (1, AtBound::Zero) => look_on(game, many, place, asked, tools, &mut levels[0], ahead),
+        (1, AtBound::Zero) => look_on(game, place, asked, tools, children, &mut levels[0]),
         _ => (),
     }
 }

@@ -3,7 +3,7 @@ ghost use Rattle.std.specs.Prelude.{◌≡◌, ◌+◌, ◌<◌, ◌≤◌, ◌+
 ghost use Rattle.std.specs.Bool.{OnTrue};
 ghost use Rattle.smallvec.specs.SmallVec.{small_vec_len};
 ghost use Rattle.statement.specs.Rules.{IsTurn};
-ghost use Rattle.maximin.specs.Alone.{IsAlone, turns_from};
+ghost use Rattle.maximin.specs.Alone.{IsAlone, IsOwnRun};
 ghost use Rattle.maximin.specs.Run.{IsRunOf, turns_in, run_capacities};
 
 use crate::cursor::write_joint;
@@ -66,13 +66,8 @@ pub fn gather_own<G: Game>(
     requires joint { IsTurn (G.rules game.now) joint.now.items }
     requires few { most ≤ 64 }
     requires run { IsRunOf (G.rules game.now).roles run.old }
-    ensures run { IsRunOf (G.rules game.now).roles run.new }
+    ensures own { IsOwnRun (G.rules game.now) (G.state game.now from.now) role joint.now.items place most run.new }
     ensures capacities { run_capacities run.new ≡ run_capacities run.old }
-    ensures few { run.new.count ≤ most }
-    ensures within { place + run.new.count ≤ length ((G.rules game.now).legal (G.state game.now from.now) role) }
-    ensures all { run.new.count < most → length ((G.rules game.now).legal (G.state game.now from.now) role) ≤ place + run.new.count }
-    ensures known { All (IsTurn (G.rules game.now)) (turns_in run.new) }
-    ensures turns { turns_in run.new ≡ turns_from (G.rules game.now) (G.state game.now from.now) role joint.now.items place run.new.count }
 {
     run.count = 0;
     'moves: while run.count < most {

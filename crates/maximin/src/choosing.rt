@@ -1,125 +1,135 @@
 //! The first best move of a state with a turn to come.
-ghost use Rattle.std.specs.Prelude.{◌≡◌, ◌+◌, ◌-◌, ◌<◌, ◌≤◌, ◌<ℤ◌, ◌≤ℤ◌, ◌^◌, ℕ, pos, negsuc, false, [], All, length, get_or, slice_get};
+ghost use Rattle.std.specs.Prelude.{◌≡◌, ◌+◌, ◌-◌, ◌<◌, ◌≤◌, ◌<ℤ◌, ◌≤ℤ◌, ◌^◌, ℕ, pos, negsuc, false, [], length, get_or, slice_get};
 ghost use Rattle.std.specs.Int.{int_max};
 ghost use Rattle.statement.specs.Rules.{is_stuck as stuck};
 ghost use Rattle.game.specs.Value.{Answers};
 ghost use Rattle.statement.specs.Value.{choice_of, value, worst};
-ghost use Rattle.maximin.specs.Ahead.{IsAheadOf};
 ghost use Rattle.maximin.specs.Alone.{IsAlone};
-ghost use Rattle.maximin.specs.Best.{IsBest, own_worth};
+ghost use Rattle.maximin.specs.Best.{AreNextMoves, IsBest, IsBestOf, own_worth};
+ghost use Rattle.maximin.specs.Children.{AreLookedAt, AreSameStates};
 ghost use Rattle.maximin.specs.Level.{IsFilled, IsLevelKept};
 ghost use Rattle.maximin.specs.Open.{IsOpen};
 ghost use Rattle.maximin.specs.Run.{turns_in};
 ghost use Rattle.maximin.specs.Tools.{AreFit, AreKept};
 
-use crate::ahead::{Ahead, new_ahead};
+use crate::ahead::new_ahead;
 use crate::alone::{gather_own, is_alone};
+use crate::children::Children;
 use crate::cursor::start_turns;
 use crate::level::Level;
 use crate::run::LONGEST_RUN;
 use crate::search::{GREATEST, LEAST, child_at, worst_at};
 use crate::tools::Tools;
+use crate::window::SearchWindow;
 use game::{Game, Question, is_stuck};
 
-/// The best of the moves up to some place.
+/// The best of the first moves.
 #[derive(Clone, Copy)]
 pub struct Best {
     /// What it is worth; -1 before there is one.
     pub worth: i16,
     /// The place of the first move that is worth that.
     pub place: usize,
+    /// How many moves were seen.
+    pub seen: usize,
 }
 
-/// The best of the moves up to a place and the one there, whose worth was found in the window from the best to 101.
-fn better_of(best: Best, worth: i16, place: usize) -> Best
-    ensures greater { result.worth ≡ int_max best.worth worth }
-    ensures best { (own : ℕ → ℕ) → own place ≤ 100 → Answers (own place) best.worth (pos 101) worth → IsBest own place best.worth best.place
-        → IsBest own (place + 1) result.worth result.place }
+/// The best of no moves.
+fn no_best() -> Best
+    ensures worth { result.worth ≡ negsuc 0 }
+    ensures place { result.place ≡ 0 }
+    ensures seen { result.seen ≡ 0 }
 {
-    if worth > best.worth {
-        return Best { worth, place };
+    Best {
+        worth: -1,
+        place: 0,
+        seen: 0,
     }
-    best
+}
+
+/// The best of the moves that were seen and of the next one, whose worth was found in the window from the best to 101.
+fn better_of(best: Best, worth: i16) -> Best
+    requires few { best.seen + 1 < 2 ^ 64 }
+    ensures greater { result.worth ≡ int_max best.worth worth }
+    ensures seen { result.seen ≡ best.seen + 1 }
+    ensures best { (own : ℕ → ℕ) → own best.seen ≤ 100 → Answers (own best.seen) best.worth (pos 101) worth
+        → IsBest own best.seen best.worth best.place → IsBest own (best.seen + 1) result.worth result.place }
+{
+    let seen = best.seen + 1;
+    if worth > best.worth {
+        return Best {
+            worth,
+            place: best.seen,
+            seen,
+        };
+    }
+    Best { seen, ..best }
 }
 
 /// The value of one of many states, in the window from the best worth so far to 101.
 fn child_above<G: Game>(
     game: &G,
-    many: &G::Many,
     place: usize,
     asked: Question,
     best: i16,
     tools: &mut Tools<G::Wide>,
-    position: &mut G::Pos,
+    children: &mut Children<G::Pos, G::Many>,
     levels: &mut [Level<G::Pos, G::Many>],
-    ahead: &mut Ahead,
 ) -> i16
-    requires many { G.fits_many game.now many.now }
-    requires place { place < length (G.states game.now many.now) }
+    requires place { place < length (G.states game.now children.old.many) }
     requires fit { AreFit G.Game game.now asked.role asked.depth tools.old levels.old }
-    requires position { G.fits game.now position.old }
-    requires ahead { IsAheadOf (G.states game.now many.now) (value (G.rules game.now) asked.role asked.depth asked.at) ahead.old }
+    requires children { AreLookedAt G.Game game.now asked children.old }
     requires best { (negsuc 0 ≤ℤ best) × (best <ℤ pos 101) }
-    ensures answers { Answers (value (G.rules game.now) asked.role asked.depth asked.at (get_or (G.states game.now many.now) place [])) best (pos 101)
-        result }
+    ensures answers { Answers (value (G.rules game.now) asked.role asked.depth asked.at (get_or (G.states game.now children.old.many) place []))
+        best (pos 101) result }
     ensures kept { AreKept G.Game game.now tools.old levels.old tools.new levels.new }
-    ensures position { G.fits game.now position.new }
-    ensures position_capacities { G.capacities game.now position.new ≡ G.capacities game.now position.old }
-    ensures ahead { IsAheadOf (G.states game.now many.now) (value (G.rules game.now) asked.role asked.depth asked.at) ahead.new }
+    ensures children { AreLookedAt G.Game game.now asked children.new }
+    ensures same { AreSameStates G.Game game.now children.old children.new }
 {
     let low = best.max(LEAST);
     if low >= GREATEST {
         return low;
     }
-    child_at(
-        game, many, place, asked, low, GREATEST, tools, position, levels, ahead,
-    )
+    let window = SearchWindow {
+        low,
+        high: GREATEST,
+    };
+    child_at(game, place, asked, window, tools, children, levels)
 }
 
-/// The first best move up to the end of a run of moves, the first of which stands at a place of the list of moves. These are the states
-/// after them.
+/// The first best move up to the end of a run of moves. These are the states after them.
 fn best_among<G: Game>(
     game: &G,
-    many: &G::Many,
-    count: usize,
     asked: Question,
-    place: usize,
     best: Best,
     tools: &mut Tools<G::Wide>,
-    position: &mut G::Pos,
+    children: &mut Children<G::Pos, G::Many>,
     levels: &mut [Level<G::Pos, G::Many>],
 ) -> Best
-    requires many { G.fits_many game.now many.now }
-    requires count { count ≡ length (G.states game.now many.now) }
-    requires few { count ≤ 64 }
-    requires places { place + count < 2 ^ 64 }
     requires fit { AreFit G.Game game.now asked.role asked.depth tools.old levels.old }
-    requires position { G.fits game.now position.old }
+    requires children { AreLookedAt G.Game game.now asked children.old }
+    requires few { best.seen + length (G.states game.now children.old.many) < 2 ^ 64 }
     requires range { (negsuc 0 ≤ℤ best.worth) × (best.worth <ℤ pos 101) }
-    ensures best { (own : ℕ → ℕ) → ((k : ℕ) → k < count
-        → value (G.rules game.now) asked.role asked.depth asked.at (get_or (G.states game.now many.now) k []) ≡ own (place + k))
-        → IsBest own place best.worth best.place → IsBest own (place + count) result.worth result.place }
+    ensures best { (own : ℕ → ℕ) → ((k : ℕ) → k < length (G.states game.now children.old.many)
+        → value (G.rules game.now) asked.role asked.depth asked.at (get_or (G.states game.now children.old.many) k []) ≡ own (best.seen + k))
+        → IsBest own best.seen best.worth best.place → IsBest own result.seen result.worth result.place }
+    ensures seen { result.seen ≡ best.seen + length (G.states game.now children.old.many) }
     ensures kept { AreKept G.Game game.now tools.old levels.old tools.new levels.new }
-    ensures position { G.fits game.now position.new }
-    ensures position_capacities { G.capacities game.now position.new ≡ G.capacities game.now position.old }
+    ensures same { AreSameStates G.Game game.now children.old children.new }
 {
-    let mut ahead = new_ahead(count);
     let mut best = best;
-    for child in 0..count {
-        let worth = child_above(
-            game, many, child, asked, best.worth, tools, position, levels, &mut ahead,
-        );
-        best = better_of(best, worth, place + child);
+    for child in 0..children.ahead.count {
+        let worth = child_above(game, child, asked, best.worth, tools, children, levels);
+        best = better_of(best, worth);
     }
     best
 }
 
-/// The first best move up to the end of a level's run, which stands at a place of the list of moves.
+/// The first best move up to the end of a level's run, which stands behind the moves that were seen.
 fn best_after<G: Game>(
     game: &G,
     from: &G::Pos,
     asked: Question,
-    place: usize,
     best: Best,
     tools: &mut Tools<G::Wide>,
     level: &mut Level<G::Pos, G::Many>,
@@ -128,30 +138,18 @@ fn best_after<G: Game>(
     requires fits { G.fits game.now from.now }
     requires fit { AreFit G.Game game.now asked.role asked.depth tools.old levels.old }
     requires level { IsFilled G.Game game.now level.old }
-    requires few { place + level.old.run.count ≤ length ((G.rules game.now).legal (G.state game.now from.now) asked.role) }
-    requires worths { (k : ℕ) → k < level.old.run.count → value (G.rules game.now) asked.role asked.depth asked.at
-        ((G.rules game.now).after (G.state game.now from.now) (get_or (turns_in level.old.run) k []))
-        ≡ own_worth (G.rules game.now) asked.role asked.depth asked.at (G.state game.now from.now) (place + k) }
-    requires best { IsBest (own_worth (G.rules game.now) asked.role asked.depth asked.at (G.state game.now from.now)) place best.worth best.place }
-    ensures best { IsBest (own_worth (G.rules game.now) asked.role asked.depth asked.at (G.state game.now from.now))
-        (place + level.old.run.count) result.worth result.place }
+    requires moves { AreNextMoves (G.rules game.now) asked (G.state game.now from.now) best.seen (turns_in level.old.moves.run) }
+    requires best { IsBest (own_worth (G.rules game.now) asked.role asked.depth asked.at (G.state game.now from.now)) best.seen best.worth best.place }
+    ensures best { IsBestOf (own_worth (G.rules game.now) asked.role asked.depth asked.at (G.state game.now from.now))
+        (best.seen + level.old.moves.run.count) result }
     ensures kept { AreKept G.Game game.now tools.old levels.old tools.new levels.new }
     ensures level { IsLevelKept G.Game game.now level.old level.new }
 {
-    let count = level.run.count;
-    let joints = &level.run.joints[..count];
-    game.steps(from, joints, &mut tools.wide, &mut level.many);
-    best_among(
-        game,
-        &level.many,
-        count,
-        asked,
-        place,
-        best,
-        tools,
-        &mut level.position,
-        levels,
-    )
+    let count = level.moves.run.count;
+    let joints = &level.moves.run.joints[..count];
+    game.steps(from, joints, &mut tools.wide, &mut level.children.many);
+    level.children.ahead = new_ahead(count);
+    best_among(game, asked, best, tools, &mut level.children, levels)
 }
 
 /// The first best of all moves, where no other role has a choice: they are stepped by runs.
@@ -172,28 +170,22 @@ fn best_alone<G: Game>(
 {
     let (first, rest) = levels.split_at_mut(1);
     let level = &mut first[0];
-    start_turns(game, from, asked.role, 0, &mut level.cursor);
-    let mut best = Best {
-        worth: -1,
-        place: 0,
-    };
-    let mut place = 0;
+    start_turns(game, from, asked.role, 0, &mut level.moves.cursor);
+    let mut best = no_best();
     'runs: loop {
         gather_own(
             game,
             from,
             asked.role,
-            place,
-            &level.cursor.joint,
+            best.seen,
+            &level.moves.cursor.joint,
             LONGEST_RUN,
-            &mut level.run,
+            &mut level.moves.run,
         );
-        let count = level.run.count;
-        if count == 0 {
+        if level.moves.run.count == 0 {
             return best;
         }
-        best = best_after(game, from, asked, place, best, tools, level, rest);
-        place += count;
+        best = best_after(game, from, asked, best, tools, level, rest);
     }
 }
 
@@ -219,7 +211,11 @@ fn worst_above<G: Game>(
     if low >= GREATEST {
         return low;
     }
-    worst_at(game, from, asked, own, low, GREATEST, tools, levels)
+    let window = SearchWindow {
+        low,
+        high: GREATEST,
+    };
+    worst_at(game, from, asked, own, window, tools, levels)
 }
 
 /// The first best of all moves, one by one.
@@ -237,15 +233,10 @@ fn best_of_each<G: Game>(
         (length ((G.rules game.now).legal (G.state game.now from.now) asked.role)) result.worth result.place }
     ensures kept { AreKept G.Game game.now tools.old levels.old tools.new levels.new }
 {
-    let mut best = Best {
-        worth: -1,
-        place: 0,
-    };
-    let mut place = 0;
-    while let Some(own) = game.legal(from, asked.role, place) {
+    let mut best = no_best();
+    while let Some(own) = game.legal(from, asked.role, best.seen) {
         let worth = worst_above(game, from, asked, own, best.worth, tools, levels);
-        best = better_of(best, worth, place);
-        place += 1;
+        best = better_of(best, worth);
     }
     best
 }

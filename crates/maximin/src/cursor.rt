@@ -1,10 +1,9 @@
 //! A place among the joint moves of a state.
 ghost use Rattle.std.specs.Prelude.{◌≡◌, ◌≢◌, ℕ, ◌+◌, ◌<◌, ◌≤◌, ◌∷◌, [], false, IfOk, slice_get, slice_index_or};
-ghost use Rattle.std.specs.Bool.{OnTrue, OnFalse};
 ghost use Rattle.smallvec.specs.SmallVec.{small_vec_len};
 ghost use Rattle.statement.specs.Rules.{is_stuck as stuck, choices, turns_with};
 ghost use Rattle.maximin.specs.Turns.{StandsAt, later};
-ghost use Rattle.maximin.specs.Cursor.{IsCursorOf, cursor_capacities};
+ghost use Rattle.maximin.specs.Cursor.{IsCursorOf, IsNext, cursor_capacities};
 
 use game::{Game, Joint};
 use smallvec::SmallVec;
@@ -102,11 +101,7 @@ pub fn next_turn<G: Game>(
     requires stands { StandsAt (choices (G.rules game.now) (G.state game.now from.now) role own) cursor.old.places.items cursor.old.joint.items }
     ensures cursor { IsCursorOf (G.rules game.now).roles cursor.new }
     ensures capacities { cursor_capacities cursor.new ≡ cursor_capacities cursor.old }
-    ensures stands { OnTrue result (StandsAt (choices (G.rules game.now) (G.state game.now from.now) role own) cursor.new.places.items
-        cursor.new.joint.items) }
-    ensures next { OnTrue result (later (choices (G.rules game.now) (G.state game.now from.now) role own) cursor.old.places.items
-        ≡ cursor.new.joint.items ∷ later (choices (G.rules game.now) (G.state game.now from.now) role own) cursor.new.places.items) }
-    ensures none { OnFalse result (later (choices (G.rules game.now) (G.state game.now from.now) role own) cursor.old.places.items ≡ []) }
+    ensures next { IsNext (choices (G.rules game.now) (G.state game.now from.now) role own) result cursor.old cursor.new }
 {
     for other in (0..game.roles()).rev() {
         let place = cursor.places[other] + 1;

@@ -1,10 +1,11 @@
 //! The last turn, where all that counts is whether the game ends in it.
-ghost use Rattle.std.specs.Prelude.{◌≡◌, ◌+◌, ◌<◌, ◌≤◌, pos, true, [], All, length, map, max, min, take, drop, get_or};
+ghost use Rattle.std.specs.Prelude.{◌≡◌, ◌+◌, ◌<◌, ◌≤◌, pos, true, [], length, map, max, min, take, drop, get_or};
 ghost use Rattle.statement.specs.declared.at_bound.AtBound.TheVariants.{Zero};
-ghost use Rattle.statement.specs.Rules.{IsTurn};
 ghost use Rattle.game.specs.Value.{Answers};
 ghost use Rattle.statement.specs.Value.{greatest, least, value};
+ghost use Rattle.maximin.specs.Judged.{AreJudged, CanBeStepped};
 
+use crate::window::SearchWindow;
 use game::{AtBound, Game, Joint, Question};
 
 /// Plays joint moves for the end of the game alone, where the states after them are those of the last turn, and worth nothing unless
@@ -17,16 +18,11 @@ pub fn judge_last<G: Game>(
     wide: &mut G::Wide,
 ) -> bool
     requires from { G.fits game.now from.now }
-    requires some { 0 < length joints.now }
-    requires few { length joints.now ≤ 64 }
-    requires joints { All (λ j. IsTurn (G.rules game.now) j.items) joints.now }
+    requires joints { CanBeStepped (G.rules game.now) joints.now }
     requires wide { G.fits_wide game.now wide.old }
     ensures wide { G.fits_wide game.now wide.new }
     ensures wide_capacities { G.wide_capacities game.now wide.new ≡ G.wide_capacities game.now wide.old }
-    ensures depth { result ≡ true → asked.depth ≡ 0 }
-    ensures bound { result ≡ true → asked.at ≡ Zero }
-    ensures after { result ≡ true
-        → G.judged game.now wide.new ≡ map (λ j. (G.rules game.now).after (G.state game.now from.now) j.items) joints.now }
+    ensures judged { result ≡ true → AreJudged G.Game game.now asked (G.state game.now from.now) joints.now wide.new }
 {
     match (asked.depth, asked.at) {
         (0, AtBound::Zero) => game.judge(from, joints, wide),
@@ -65,8 +61,7 @@ pub fn least_judged<G: Game>(
     wide: &G::Wide,
     count: usize,
     asked: Question,
-    a: i16,
-    b: i16,
+    window: SearchWindow,
 ) -> i16
     requires wide { G.fits_wide game.now wide.now }
     requires count { count ≡ length (G.judged game.now wide.now) }
@@ -74,12 +69,12 @@ pub fn least_judged<G: Game>(
     requires role { asked.role < (G.rules game.now).roles }
     requires depth { asked.depth ≡ 0 }
     requires bound { asked.at ≡ Zero }
-    ensures { Answers (least (map (value (G.rules game.now) asked.role asked.depth asked.at) (G.judged game.now wide.now))) a b result }
+    ensures { Answers (least (map (value (G.rules game.now) asked.role asked.depth asked.at) (G.judged game.now wide.now))) window.low window.high result }
 {
-    let mut upper = b;
+    let mut upper = window.high;
     for place in 0..count {
         upper = upper.min(judged_worth(game, wide, place, asked));
-        if upper <= a {
+        if upper <= window.low {
             return upper;
         }
     }
@@ -92,8 +87,7 @@ pub fn greatest_judged<G: Game>(
     wide: &G::Wide,
     count: usize,
     asked: Question,
-    a: i16,
-    b: i16,
+    window: SearchWindow,
 ) -> i16
     requires wide { G.fits_wide game.now wide.now }
     requires count { count ≡ length (G.judged game.now wide.now) }
@@ -101,12 +95,12 @@ pub fn greatest_judged<G: Game>(
     requires role { asked.role < (G.rules game.now).roles }
     requires depth { asked.depth ≡ 0 }
     requires bound { asked.at ≡ Zero }
-    ensures { Answers (greatest (map (value (G.rules game.now) asked.role asked.depth asked.at) (G.judged game.now wide.now))) a b result }
+    ensures { Answers (greatest (map (value (G.rules game.now) asked.role asked.depth asked.at) (G.judged game.now wide.now))) window.low window.high result }
 {
-    let mut lower = a;
+    let mut lower = window.low;
     for place in 0..count {
         lower = lower.max(judged_worth(game, wide, place, asked));
-        if lower >= b {
+        if lower >= window.high {
             return lower;
         }
     }

@@ -9,6 +9,7 @@ use crate::cursor::{next_turn, start_turns, write_joint};
 use crate::level::Level;
 use crate::search::{value_within, worst_at};
 use crate::tools::Tools;
+use crate::window::SearchWindow;
 use game::{Game, Joint, Question, is_stuck};
 
 /// The first move of the role that attains the value of the state, which is `worth`. A move that has no other behind it attains it
@@ -41,7 +42,11 @@ pub fn choice_worth<G: Game>(
     let mut own = first?;
     let mut place = 0;
     while let Some(further) = game.legal(from, asked.role, place + 1) {
-        if worst_at(game, from, next, own, worth - 1, worth, tools, levels) >= worth {
+        let window = SearchWindow {
+            low: worth - 1,
+            high: worth,
+        };
+        if worst_at(game, from, next, own, window, tools, levels) >= worth {
             return Some(own);
         }
         own = further;
@@ -50,37 +55,49 @@ pub fn choice_worth<G: Game>(
     Some(own)
 }
 
-/// Writes the first joint move that leaves the least value where the role plays `own`, which is `worth`. A joint move that has no
-/// other behind it leaves it where none before it does.
+/// A move of the role, and the least value that it leaves.
+#[derive(Clone, Copy)]
+pub struct KnownMove {
+    pub own: u32,
+    pub worth: i16,
+}
+
+/// Writes the first joint move that leaves the least value where the role plays a move of which that is known. A joint move that has
+/// no other behind it leaves it where none before it does.
 pub fn reply_worth<G: Game>(
     game: &G,
     from: &G::Pos,
     asked: Question,
-    own: u32,
-    worth: i16,
+    known: KnownMove,
     tools: &mut Tools<G::Wide>,
     levels: &mut [Level<G::Pos, G::Many>],
     out: &mut Joint,
 )
     requires fits { G.fits game.now from.now }
     requires fit { AreFit G.Game game.now asked.role (asked.depth + 1) tools.old levels.old }
-    requires own { own < (G.rules game.now).moves asked.role }
+    requires own { known.own < (G.rules game.now).moves asked.role }
     requires open { stuck (G.rules game.now) (G.state game.now from.now) ≡ false }
-    requires worth { worth ≡ pos (worst (G.rules game.now) asked.role asked.depth asked.at (G.state game.now from.now) own) }
+    requires worth { known.worth ≡ pos (worst (G.rules game.now) asked.role asked.depth asked.at (G.state game.now from.now) known.own) }
     requires out { (G.rules game.now).roles ≤ out.old.capacity }
-    ensures reply { IsWritten (reply_of (G.rules game.now) asked.role asked.depth asked.at (G.state game.now from.now) own) out.old out.new }
+    ensures reply { IsWritten (reply_of (G.rules game.now) asked.role asked.depth asked.at (G.state game.now from.now) known.own) out.old out.new }
     ensures kept { AreKept G.Game game.now tools.old levels.old tools.new levels.new }
 {
     let (first, rest) = levels.split_at_mut(1);
     let level = &mut first[0];
-    start_turns(game, from, asked.role, own, &mut level.cursor);
+    let window = SearchWindow {
+        low: known.worth,
+        high: known.worth + 1,
+    };
+    let role = asked.role;
+    start_turns(game, from, role, known.own, &mut level.moves.cursor);
     'turns: loop {
-        write_joint(&level.cursor.joint, out);
-        if !next_turn(game, from, asked.role, own, &mut level.cursor) {
+        write_joint(&level.moves.cursor.joint, out);
+        if !next_turn(game, from, role, known.own, &mut level.moves.cursor) {
             return;
         }
-        game.step(from, out, &mut level.position);
-        if value_within(game, &level.position, asked, worth, worth + 1, tools, rest) <= worth {
+        let position = &mut level.children.position;
+        game.step(from, out, position);
+        if value_within(game, position, asked, window, tools, rest) <= known.worth {
             return;
         }
     }

@@ -2,32 +2,23 @@
 ghost use Rattle.std.specs.Prelude.{IfOk};
 ghost use Rattle.maximin.specs.Level.{IsLevelOf};
 
-use crate::cursor::Cursor;
-use crate::run::{Run, new_run};
+use crate::children::{Children, new_children};
+use crate::moves::{Moves, new_moves};
 use game::Game;
 use std::alloc::{AllocError, Global};
 
-/// What the search keeps of one turn: a place among the joint moves, a run of them, the states after these, and one of those.
+/// What the search keeps of one turn: the joint moves of a state, and the states after a run of them.
 #[derive(Drop)]
 pub struct Level<P, M> {
-    pub position: P,
-    pub cursor: Cursor,
-    pub run: Run,
-    pub many: M,
+    pub moves: Moves,
+    pub children: Children<P, M>,
 }
 
 /// A level for a game.
 pub fn new_level<G: Game>(alloc: Global, game: &G) -> Result<Level<G::Pos, G::Many>, AllocError>
     ensures { IfOk result (λ level. IsLevelOf G.Game game.now level) }
 {
-    let cursor = Cursor::new(alloc, game.roles())?;
-    let run = new_run(alloc, game.roles())?;
-    let many = game.new_many()?;
-    let position = game.fresh()?;
-    Ok(Level {
-        position,
-        cursor,
-        run,
-        many,
-    })
+    let moves = new_moves(alloc, game.roles())?;
+    let children = new_children(game)?;
+    Ok(Level { moves, children })
 }

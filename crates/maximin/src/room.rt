@@ -8,10 +8,11 @@ ghost use Rattle.maximin.specs.Room.{IsRoomOf, IsRoomFor, IsRoomKept, room_depth
 ghost use Rattle.maximin.specs.Tools.{IsWindow};
 
 use crate::choosing::{best_move, choice_at};
-use crate::known::{choice_worth, reply_worth};
+use crate::known::{KnownMove, choice_worth, reply_worth};
 use crate::level::{Level, new_level};
 use crate::search::{reply_at, value_within};
 use crate::tools::{Tools, new_tools};
+use crate::window::SearchWindow;
 use game::{Game, Joint, Question};
 use std::alloc::{AllocError, Global};
 
@@ -57,7 +58,8 @@ pub fn value_in<G: Game>(
     ensures room { IsRoomKept G.Game g.now room.old room.new }
 {
     let levels = room.levels.as_mut_slice();
-    value_within(g, p, asked, a, b, &mut room.tools, levels)
+    let window = SearchWindow { low: a, high: b };
+    value_within(g, p, asked, window, &mut room.tools, levels)
 }
 
 /// The value of a state for a role, where there is a turn to come, and the place of the first legal move of the role, in printed
@@ -164,5 +166,6 @@ pub fn reply_by_value<G: Game>(
         ..asked
     };
     let levels = room.levels.as_mut_slice();
-    reply_worth(g, p, next, own, worth, &mut room.tools, levels, out)
+    let known = KnownMove { own, worth };
+    reply_worth(g, p, next, known, &mut room.tools, levels, out)
 }

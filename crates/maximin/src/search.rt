@@ -4,23 +4,26 @@ ghost use Rattle.statement.specs.AtBound.{bound_worth};
 ghost use Rattle.statement.specs.Rules.{is_stuck as stuck};
 ghost use Rattle.game.specs.Value.{Answers};
 ghost use Rattle.statement.specs.Value.{greatest, least, reply_of, value, worst};
-ghost use Rattle.maximin.specs.Ahead.{IsAheadOf};
 ghost use Rattle.maximin.specs.Alone.{IsAlone};
+ghost use Rattle.maximin.specs.Children.{AreChildrenOf, AreJointsTo, AreLookedAt, AreSameStates};
 ghost use Rattle.maximin.specs.Level.{IsFilled, IsLevelKept};
 ghost use Rattle.maximin.specs.Run.{turns_in};
 ghost use Rattle.maximin.specs.Replies.{IsWritten};
 ghost use Rattle.maximin.specs.Tools.{AreFit, AreKept, IsWindow};
 
-use crate::ahead::{Ahead, look_ahead, new_ahead};
+use crate::ahead::{look_ahead, new_ahead};
 use crate::alone::{gather_own, is_alone};
+use crate::children::Children;
 use crate::cursor::{next_turn, start_turns, write_joint};
 use crate::end::{greatest_judged, judge_last, least_judged};
 use crate::history::Movers;
 use crate::level::Level;
+use crate::moves::gather;
 use crate::order::order_of;
-use crate::run::{LONGEST_RUN, gather};
+use crate::run::LONGEST_RUN;
 use crate::told::{greatest_told, least_told, told_worth};
 use crate::tools::Tools;
+use crate::window::SearchWindow;
 use game::{AtBound, Game, Joint, Question, is_stuck};
 
 /// What a state that is not ended is worth where no turn is left.
@@ -43,15 +46,14 @@ fn value_at<G: Game>(
     game: &G,
     from: &G::Pos,
     asked: Question,
-    a: i16,
-    b: i16,
+    window: SearchWindow,
     tools: &mut Tools<G::Wide>,
     levels: &mut [Level<G::Pos, G::Many>],
 ) -> i16
     requires fits { G.fits game.now from.now }
     requires fit { AreFit G.Game game.now asked.role asked.depth tools.old levels.old }
-    requires window { IsWindow a b }
-    ensures answers { Answers (value (G.rules game.now) asked.role asked.depth asked.at (G.state game.now from.now)) a b result }
+    requires window { IsWindow window.low window.high }
+    ensures answers { Answers (value (G.rules game.now) asked.role asked.depth asked.at (G.state game.now from.now)) window.low window.high result }
     ensures kept { AreKept G.Game game.now tools.old levels.old tools.new levels.new }
 {
     if game.ended(from) {
@@ -68,13 +70,17 @@ fn value_at<G: Game>(
         ..asked
     };
     if is_alone(game, from, asked.role) {
-        return best_at(game, from, next, a, b, tools, levels);
+        return best_at(game, from, next, window, tools, levels);
     }
-    let mut best = a;
+    let mut best = window.low;
     let mut place = 0;
     while let Some(own) = game.legal(from, asked.role, place) {
-        best = best.max(worst_at(game, from, next, own, best, b, tools, levels));
-        if best >= b {
+        let above = SearchWindow {
+            low: best,
+            ..window
+        };
+        best = best.max(worst_at(game, from, next, own, above, tools, levels));
+        if best >= window.high {
             return best;
         }
         place += 1;
@@ -89,8 +95,7 @@ pub fn worst_at<G: Game>(
     from: &G::Pos,
     asked: Question,
     own: u32,
-    a: i16,
-    b: i16,
+    window: SearchWindow,
     tools: &mut Tools<G::Wide>,
     levels: &mut [Level<G::Pos, G::Many>],
 ) -> i16
@@ -98,28 +103,24 @@ pub fn worst_at<G: Game>(
     requires fit { AreFit G.Game game.now asked.role (asked.depth + 1) tools.old levels.old }
     requires own { own < (G.rules game.now).moves asked.role }
     requires open { stuck (G.rules game.now) (G.state game.now from.now) ≡ false }
-    requires window { IsWindow a b }
-    ensures answers { Answers (worst (G.rules game.now) asked.role asked.depth asked.at (G.state game.now from.now) own) a b result }
+    requires window { IsWindow window.low window.high }
+    ensures answers { Answers (worst (G.rules game.now) asked.role asked.depth asked.at (G.state game.now from.now) own) window.low window.high result }
     ensures kept { AreKept G.Game game.now tools.old levels.old tools.new levels.new }
 {
     let (first, rest) = levels.split_at_mut(1);
     let level = &mut first[0];
-    start_turns(game, from, asked.role, own, &mut level.cursor);
-    let mut upper = b;
+    start_turns(game, from, asked.role, own, &mut level.moves.cursor);
+    let mut upper = window.high;
     let mut most = game.abreast();
     'runs: loop {
-        let more = gather(
-            game,
-            from,
-            asked.role,
-            own,
-            &mut level.cursor,
-            most,
-            &mut level.run,
-        );
-        let least = least_after(game, from, asked, a, upper, tools, level, rest);
+        let more = gather(game, from, asked.role, own, most, &mut level.moves);
+        let below = SearchWindow {
+            high: upper,
+            ..window
+        };
+        let least = least_after(game, from, asked, below, tools, level, rest);
         upper = upper.min(least);
-        if upper <= a || !more {
+        if upper <= window.low || !more {
             return upper;
         }
         most = LONGEST_RUN.min(most * 8);
@@ -132,8 +133,7 @@ fn least_after<G: Game>(
     game: &G,
     from: &G::Pos,
     asked: Question,
-    a: i16,
-    b: i16,
+    window: SearchWindow,
     tools: &mut Tools<G::Wide>,
     level: &mut Level<G::Pos, G::Many>,
     levels: &mut [Level<G::Pos, G::Many>],
@@ -141,110 +141,98 @@ fn least_after<G: Game>(
     requires fits { G.fits game.now from.now }
     requires fit { AreFit G.Game game.now asked.role asked.depth tools.old levels.old }
     requires level { IsFilled G.Game game.now level.old }
-    requires window { IsWindow a b }
+    requires window { IsWindow window.low window.high }
     ensures answers { Answers (least (map (λ j. value (G.rules game.now) asked.role asked.depth asked.at
-        ((G.rules game.now).after (G.state game.now from.now) j)) (turns_in level.old.run))) a b result }
+        ((G.rules game.now).after (G.state game.now from.now) j)) (turns_in level.old.moves.run))) window.low window.high result }
     ensures kept { AreKept G.Game game.now tools.old levels.old tools.new levels.new }
     ensures level { IsLevelKept G.Game game.now level.old level.new }
 {
-    let count = level.run.count;
-    let joints = &level.run.joints[..count];
+    let count = level.moves.run.count;
+    let joints = &level.moves.run.joints[..count];
     if judge_last(game, from, joints, asked, &mut tools.wide) {
-        return least_judged(game, &tools.wide, count, asked, a, b);
+        return least_judged(game, &tools.wide, count, asked, window);
     }
-    game.steps(from, joints, &mut tools.wide, &mut level.many);
+    game.steps(from, joints, &mut tools.wide, &mut level.children.many);
     least_at(
         game,
         joints,
-        &level.many,
         asked,
-        a,
-        b,
+        window,
         tools,
-        &mut level.position,
+        &mut level.children,
         levels,
     )
 }
 
-/// The value of one of many states, within a window.
+/// The value of one of the states after a run, within a window.
 #[cycle(search)]
 pub fn child_at<G: Game>(
     game: &G,
-    many: &G::Many,
     place: usize,
     asked: Question,
-    a: i16,
-    b: i16,
+    window: SearchWindow,
     tools: &mut Tools<G::Wide>,
-    position: &mut G::Pos,
+    children: &mut Children<G::Pos, G::Many>,
     levels: &mut [Level<G::Pos, G::Many>],
-    ahead: &mut Ahead,
 ) -> i16
-    requires many { G.fits_many game.now many.now }
-    requires place { place < length (G.states game.now many.now) }
+    requires place { place < length (G.states game.now children.old.many) }
     requires fit { AreFit G.Game game.now asked.role asked.depth tools.old levels.old }
-    requires position { G.fits game.now position.old }
-    requires ahead { IsAheadOf (G.states game.now many.now) (value (G.rules game.now) asked.role asked.depth asked.at) ahead.old }
-    requires window { IsWindow a b }
-    ensures answers { Answers (value (G.rules game.now) asked.role asked.depth asked.at (get_or (G.states game.now many.now) place [])) a b result }
+    requires children { AreLookedAt G.Game game.now asked children.old }
+    requires window { IsWindow window.low window.high }
+    ensures answers { Answers (value (G.rules game.now) asked.role asked.depth asked.at (get_or (G.states game.now children.old.many) place []))
+        window.low window.high result }
     ensures kept { AreKept G.Game game.now tools.old levels.old tools.new levels.new }
-    ensures position { G.fits game.now position.new }
-    ensures position_capacities { G.capacities game.now position.new ≡ G.capacities game.now position.old }
-    ensures ahead { IsAheadOf (G.states game.now many.now) (value (G.rules game.now) asked.role asked.depth asked.at) ahead.new }
+    ensures children { AreLookedAt G.Game game.now asked children.new }
+    ensures same { AreSameStates G.Game game.now children.old children.new }
 {
-    if let Some(worth) = told_worth(game, many, place, asked) {
+    if let Some(worth) = told_worth(game, &children.many, place, asked) {
         return worth;
     }
-    look_ahead(game, many, place, asked, tools, levels, ahead);
-    if let Some(worth) = ahead.worths[place] {
+    look_ahead(game, place, asked, tools, children, levels);
+    if let Some(worth) = children.ahead.worths[place] {
         return i16::from(worth);
     }
-    game.take(many, place, position);
-    value_at(game, position, asked, a, b, tools, levels)
+    game.take(&children.many, place, &mut children.position);
+    value_at(game, &children.position, asked, window, tools, levels)
 }
 
-/// The least value of some states, within a window.
+/// The least value of the states after a run, within a window.
 #[cycle(search)]
 fn least_at<G: Game>(
     game: &G,
     joints: &[Joint],
-    many: &G::Many,
     asked: Question,
-    a: i16,
-    b: i16,
+    window: SearchWindow,
     tools: &mut Tools<G::Wide>,
-    position: &mut G::Pos,
+    children: &mut Children<G::Pos, G::Many>,
     levels: &mut [Level<G::Pos, G::Many>],
 ) -> i16
-    requires many { G.fits_many game.now many.now }
-    requires count { length joints.now ≡ length (G.states game.now many.now) }
-    requires some { 0 < length joints.now }
-    requires few { length joints.now ≤ 64 }
+    requires joints { AreJointsTo (G.states game.now children.old.many) joints.now }
     requires fit { AreFit G.Game game.now asked.role asked.depth tools.old levels.old }
-    requires position { G.fits game.now position.old }
-    requires window { IsWindow a b }
-    ensures answers { Answers (least (map (value (G.rules game.now) asked.role asked.depth asked.at) (G.states game.now many.now))) a b result }
+    requires children { AreChildrenOf G.Game game.now children.old }
+    requires window { IsWindow window.low window.high }
+    ensures answers { Answers (least (map (value (G.rules game.now) asked.role asked.depth asked.at) (G.states game.now children.old.many)))
+        window.low window.high result }
     ensures kept { AreKept G.Game game.now tools.old levels.old tools.new levels.new }
-    ensures position { G.fits game.now position.new }
-    ensures position_capacities { G.capacities game.now position.new ≡ G.capacities game.now position.old }
+    ensures same { AreSameStates G.Game game.now children.old children.new }
 {
     let count = joints.len();
-    let mut upper = least_told(game, many, count, asked, b);
-    if upper <= a {
+    let mut upper = least_told(game, &children.many, count, asked, window.high);
+    if upper <= window.low {
         return upper;
     }
-    let mut ahead = new_ahead(count);
+    children.ahead = new_ahead(count);
     let order = order_of(&tools.history, joints, asked.depth);
     for place in 0..count {
         let child = order[place];
-        let worth = child_at(
-            game, many, child, asked, a, upper, tools, position, levels, &mut ahead,
-        );
-        upper = upper.min(worth);
-        if upper <= a {
-            tools
-                .history
-                .note_cut(&joints[child], Movers::Others(asked.role), asked.depth);
+        let below = SearchWindow {
+            high: upper,
+            ..window
+        };
+        upper = upper.min(child_at(game, child, asked, below, tools, children, levels));
+        if upper <= window.low {
+            let movers = Movers::Others(asked.role);
+            tools.history.note_cut(&joints[child], movers, asked.depth);
             return upper;
         }
     }
@@ -257,8 +245,7 @@ fn best_at<G: Game>(
     game: &G,
     from: &G::Pos,
     asked: Question,
-    a: i16,
-    b: i16,
+    window: SearchWindow,
     tools: &mut Tools<G::Wide>,
     levels: &mut [Level<G::Pos, G::Many>],
 ) -> i16
@@ -266,15 +253,15 @@ fn best_at<G: Game>(
     requires fit { AreFit G.Game game.now asked.role (asked.depth + 1) tools.old levels.old }
     requires open { stuck (G.rules game.now) (G.state game.now from.now) ≡ false }
     requires alone { IsAlone (G.rules game.now) (G.state game.now from.now) asked.role }
-    requires window { IsWindow a b }
+    requires window { IsWindow window.low window.high }
     ensures answers { Answers (greatest (map (worst (G.rules game.now) asked.role asked.depth asked.at (G.state game.now from.now))
-        ((G.rules game.now).legal (G.state game.now from.now) asked.role))) a b result }
+        ((G.rules game.now).legal (G.state game.now from.now) asked.role))) window.low window.high result }
     ensures kept { AreKept G.Game game.now tools.old levels.old tools.new levels.new }
 {
     let (first, rest) = levels.split_at_mut(1);
     let level = &mut first[0];
-    start_turns(game, from, asked.role, 0, &mut level.cursor);
-    let mut best = a;
+    start_turns(game, from, asked.role, 0, &mut level.moves.cursor);
+    let mut best = window.low;
     let mut place = 0;
     let mut most = game.abreast();
     'runs: loop {
@@ -283,17 +270,21 @@ fn best_at<G: Game>(
             from,
             asked.role,
             place,
-            &level.cursor.joint,
+            &level.moves.cursor.joint,
             most,
-            &mut level.run,
+            &mut level.moves.run,
         );
-        let count = level.run.count;
+        let count = level.moves.run.count;
         if count == 0 {
             return best;
         }
-        let greatest = greatest_after(game, from, asked, best, b, tools, level, rest);
+        let above = SearchWindow {
+            low: best,
+            ..window
+        };
+        let greatest = greatest_after(game, from, asked, above, tools, level, rest);
         best = best.max(greatest);
-        if best >= b {
+        if best >= window.high {
             return best;
         }
         place += count;
@@ -307,8 +298,7 @@ fn greatest_after<G: Game>(
     game: &G,
     from: &G::Pos,
     asked: Question,
-    a: i16,
-    b: i16,
+    window: SearchWindow,
     tools: &mut Tools<G::Wide>,
     level: &mut Level<G::Pos, G::Many>,
     levels: &mut [Level<G::Pos, G::Many>],
@@ -316,73 +306,66 @@ fn greatest_after<G: Game>(
     requires fits { G.fits game.now from.now }
     requires fit { AreFit G.Game game.now asked.role asked.depth tools.old levels.old }
     requires level { IsFilled G.Game game.now level.old }
-    requires window { IsWindow a b }
+    requires window { IsWindow window.low window.high }
     ensures answers { Answers (greatest (map (λ j. value (G.rules game.now) asked.role asked.depth asked.at
-        ((G.rules game.now).after (G.state game.now from.now) j)) (turns_in level.old.run))) a b result }
+        ((G.rules game.now).after (G.state game.now from.now) j)) (turns_in level.old.moves.run))) window.low window.high result }
     ensures kept { AreKept G.Game game.now tools.old levels.old tools.new levels.new }
     ensures level { IsLevelKept G.Game game.now level.old level.new }
 {
-    let count = level.run.count;
-    let joints = &level.run.joints[..count];
+    let count = level.moves.run.count;
+    let joints = &level.moves.run.joints[..count];
     if judge_last(game, from, joints, asked, &mut tools.wide) {
-        return greatest_judged(game, &tools.wide, count, asked, a, b);
+        return greatest_judged(game, &tools.wide, count, asked, window);
     }
-    game.steps(from, joints, &mut tools.wide, &mut level.many);
+    game.steps(from, joints, &mut tools.wide, &mut level.children.many);
     greatest_at(
         game,
         joints,
-        &level.many,
         asked,
-        a,
-        b,
+        window,
         tools,
-        &mut level.position,
+        &mut level.children,
         levels,
     )
 }
 
-/// The greatest value of some states, within a window.
+/// The greatest value of the states after a run, within a window.
 #[cycle(search)]
 fn greatest_at<G: Game>(
     game: &G,
     joints: &[Joint],
-    many: &G::Many,
     asked: Question,
-    a: i16,
-    b: i16,
+    window: SearchWindow,
     tools: &mut Tools<G::Wide>,
-    position: &mut G::Pos,
+    children: &mut Children<G::Pos, G::Many>,
     levels: &mut [Level<G::Pos, G::Many>],
 ) -> i16
-    requires many { G.fits_many game.now many.now }
-    requires count { length joints.now ≡ length (G.states game.now many.now) }
-    requires some { 0 < length joints.now }
-    requires few { length joints.now ≤ 64 }
+    requires joints { AreJointsTo (G.states game.now children.old.many) joints.now }
     requires fit { AreFit G.Game game.now asked.role asked.depth tools.old levels.old }
-    requires position { G.fits game.now position.old }
-    requires window { IsWindow a b }
-    ensures answers { Answers (greatest (map (value (G.rules game.now) asked.role asked.depth asked.at) (G.states game.now many.now))) a b result }
+    requires children { AreChildrenOf G.Game game.now children.old }
+    requires window { IsWindow window.low window.high }
+    ensures answers { Answers (greatest (map (value (G.rules game.now) asked.role asked.depth asked.at) (G.states game.now children.old.many)))
+        window.low window.high result }
     ensures kept { AreKept G.Game game.now tools.old levels.old tools.new levels.new }
-    ensures position { G.fits game.now position.new }
-    ensures position_capacities { G.capacities game.now position.new ≡ G.capacities game.now position.old }
+    ensures same { AreSameStates G.Game game.now children.old children.new }
 {
     let count = joints.len();
-    let mut lower = greatest_told(game, many, count, asked, a);
-    if lower >= b {
+    let mut lower = greatest_told(game, &children.many, count, asked, window.low);
+    if lower >= window.high {
         return lower;
     }
-    let mut ahead = new_ahead(count);
+    children.ahead = new_ahead(count);
     let order = order_of(&tools.history, joints, asked.depth);
     for place in 0..count {
         let child = order[place];
-        let worth = child_at(
-            game, many, child, asked, lower, b, tools, position, levels, &mut ahead,
-        );
-        lower = lower.max(worth);
-        if lower >= b {
-            tools
-                .history
-                .note_cut(&joints[child], Movers::Role(asked.role), asked.depth);
+        let above = SearchWindow {
+            low: lower,
+            ..window
+        };
+        lower = lower.max(child_at(game, child, asked, above, tools, children, levels));
+        if lower >= window.high {
+            let movers = Movers::Role(asked.role);
+            tools.history.note_cut(&joints[child], movers, asked.depth);
             return lower;
         }
     }
@@ -399,23 +382,22 @@ pub fn value_within<G: Game>(
     game: &G,
     from: &G::Pos,
     asked: Question,
-    a: i16,
-    b: i16,
+    window: SearchWindow,
     tools: &mut Tools<G::Wide>,
     levels: &mut [Level<G::Pos, G::Many>],
 ) -> i16
     requires fits { G.fits game.now from.now }
     requires fit { AreFit G.Game game.now asked.role asked.depth tools.old levels.old }
-    requires order { a <ℤ b }
-    ensures answers { Answers (value (G.rules game.now) asked.role asked.depth asked.at (G.state game.now from.now)) a b result }
+    requires order { window.low <ℤ window.high }
+    ensures answers { Answers (value (G.rules game.now) asked.role asked.depth asked.at (G.state game.now from.now)) window.low window.high result }
     ensures kept { AreKept G.Game game.now tools.old levels.old tools.new levels.new }
 {
-    let low = a.max(LEAST);
-    let high = b.min(GREATEST);
+    let low = window.low.max(LEAST);
+    let high = window.high.min(GREATEST);
     if low >= high {
         return high;
     }
-    value_at(game, from, asked, low, high, tools, levels)
+    value_at(game, from, asked, SearchWindow { low, high }, tools, levels)
 }
 
 /// Writes the first joint move that leaves the least value where the role plays `own`.
@@ -438,16 +420,21 @@ pub fn reply_at<G: Game>(
 {
     let (first, rest) = levels.split_at_mut(1);
     let level = &mut first[0];
-    start_turns(game, from, asked.role, own, &mut level.cursor);
+    start_turns(game, from, asked.role, own, &mut level.moves.cursor);
     let mut upper = 101;
     loop {
-        game.step(from, &level.cursor.joint, &mut level.position);
-        let worth = value_at(game, &level.position, asked, -1, upper, tools, rest);
+        let position = &mut level.children.position;
+        game.step(from, &level.moves.cursor.joint, position);
+        let below = SearchWindow {
+            low: -1,
+            high: upper,
+        };
+        let worth = value_at(game, position, asked, below, tools, rest);
         if worth < upper {
             upper = worth;
-            write_joint(&level.cursor.joint, out);
+            write_joint(&level.moves.cursor.joint, out);
         }
-        if !next_turn(game, from, asked.role, own, &mut level.cursor) {
+        if !next_turn(game, from, asked.role, own, &mut level.moves.cursor) {
             return;
         }
     }

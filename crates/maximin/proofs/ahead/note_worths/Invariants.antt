@@ -1,8 +1,10 @@
-use Rattle.statement.specs.Value.{value}
-use Rattle.maximin.specs.Ahead.{IsAheadOf}
+use Rattle.std.proofs.Common.{◌≡◌}
+use Rattle.maximin.specs.Children.{AreLookedAt, AreSameStates}
 use Rattle.maximin.proofs.ahead.note_worths.Given as goal
 
 abbrev pub invariant-loop-place : goal.invariant-loop-place
-invariant-loop-place g l =
-    let rules = g.G.Game.rules l.game in
-    IsAheadOf (g.G.Game.states l.game l.many) (value rules l.fn.asked.role l.fn.asked.depth l.fn.asked.at) l.ahead
+invariant-loop-place g l = record {
+  known : AreLookedAt g.G.Game l.game l.fn.asked l.children;
+  same : AreSameStates g.G.Game l.game l.initial.children l.children;
+  count : l.children.ahead.count ≡ l.initial.children.ahead.count;
+}

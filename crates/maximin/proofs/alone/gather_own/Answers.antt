@@ -17,11 +17,32 @@ overflow_add-place g c =
     (law.moves_within c.args.game.now c.args.role c.requires.role) in
     omega (arith, c.moves.invariant.within)
 
-pub returns-in_default-clause-all : goal.returns-in_default-clause-all
-returns-in_default-clause-all g c =
+pub returns-in_default-clause-own : goal.returns-in_default-clause-own
+returns-in_default-clause-own g c =
     let rules = g.G.Game.rules c.args.game.now in
     let state = g.G.Game.state c.args.game.now c.args.from.now in
-    λ _. none_past (rules.legal state c.args.role) (c.args.place + c.moves.run.count) c.legal.result c.legal.ensures c.in_default.is
+    let is = c.moves.invariant in
+    record {
+      run = is.run;
+      few = is.few;
+      within = is.within;
+      all = λ _. none_past (rules.legal state c.args.role) (c.args.place + c.moves.run.count) c.legal.result c.legal.ensures c.in_default.is;
+      known = is.known;
+      turns = is.turns;
+    }
+
+pub returns-clause-own : goal.returns-clause-own
+returns-clause-own g c =
+    let is = c.moves.invariant in
+    let full = c.moves-test.false in
+    record {
+      run = is.run;
+      few = is.few;
+      within = is.within;
+      all = λ less. absurd (omega arith);
+      known = is.known;
+      turns = is.turns;
+    }
 
 pub moves-preserved : goal.moves-preserved
 moves-preserved g c =

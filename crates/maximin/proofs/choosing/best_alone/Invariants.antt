@@ -15,10 +15,10 @@ invariant-runs g l =
       capacities : level_capacities g.G.Game l.game l.level ≡ level_capacities g.G.Game l.game l.initial.level;
       kept : AreKept g.G.Game l.game l.fn.tools l.initial.rest l.tools l.rest;
       deep : l.asked.depth ≤ length l.rest;
-      stands : StandsAt (choices rules state l.asked.role 0) l.level.cursor.places.items l.level.cursor.joint.items;
-      in_list : l.place ≤ length (rules.legal state l.asked.role);
-      is_best : IsBest (own_worth rules l.asked.role l.asked.depth l.asked.at state) l.place l.best.worth l.best.place;
+      stands : StandsAt (choices rules state l.asked.role 0) l.level.moves.cursor.places.items l.level.moves.cursor.joint.items;
+      in_list : l.best.seen ≤ length (rules.legal state l.asked.role);
+      is_best : IsBest (own_worth rules l.asked.role l.asked.depth l.asked.at state) l.best.seen l.best.worth l.best.place;
     }
 
 abbrev pub decreases-runs : goal.decreases-runs
-decreases-runs g l = length ((g.G.Game.rules l.game).legal (g.G.Game.state l.game l.from) l.asked.role) - l.place
+decreases-runs g l = length ((g.G.Game.rules l.game).legal (g.G.Game.state l.game l.from) l.asked.role) - l.best.seen

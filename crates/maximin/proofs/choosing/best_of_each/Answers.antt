@@ -1,4 +1,4 @@
-use Rattle.std.proofs.Common.{◌≡◌, ◌<◌, ◌≤◌, length, get_or, refl, arith, ◌∙◌, w16, rules as facts}
+use Rattle.std.proofs.Common.{◌≡◌, ◌<◌, ◌≤◌, length, get_or, refl, arith, w16, rules as facts}
 use Rattle.std.proofs.lemmas.Int.{to_z-of_z}
 use mir.Val.{SFits}
 use Rattle.std.specs.Prelude.{pos}
@@ -17,8 +17,9 @@ loop-own-init g c =
     record {
       kept = kept_at_first c.requires.fit;
       deep = refl;
-      in_list = omega arith;
-      is_best = best_none (own_worth rules c.args.asked.role c.args.asked.depth c.args.asked.at state);
+      in_list = omega (arith, c.no_best-best.ensures.seen);
+      is_best = rw (c.no_best-best.ensures.seen, c.no_best-best.ensures.worth, c.no_best-best.ensures.place)
+          (best_none (own_worth rules c.args.asked.role c.args.asked.depth c.args.asked.at state));
     }
 
 pub worst_above-worth-requires-clause-own : goal.worst_above-worth-requires-clause-own
@@ -26,7 +27,7 @@ worst_above-worth-requires-clause-own g c κs within =
     let rules = g.G.Game.rules c.args.game.now in
     let state = g.G.Game.state c.args.game.now c.args.from.now in
     let law = g.met.G.Game g.world.𝓛 g.world.𝓜 g.world.𝓡 ((λ _ x. x), (λ x. x), (λ x. x), λ x. x) in
-    legal_known rules state c.args.asked.role c.loop-own.place c.in-Some.own c.legal.result
+    legal_known rules state c.args.asked.role c.loop-own.best.seen c.in-Some.own c.legal.result
     (law.legal_within c.args.game.now state c.args.asked.role c.requires.fit.role) c.legal.ensures c.in-Some.is
 
 pub worst_above-worth-requires-clause-best : goal.worst_above-worth-requires-clause-best
@@ -34,11 +35,11 @@ worst_above-worth-requires-clause-best g c κs within =
     let fits : SFits w16 c.loop-own.best.worth = search facts in
     rw (to_z-of_z w16 c.loop-own.best.worth fits) (c.loop-own.invariant.is_best.low, c.loop-own.invariant.is_best.high)
 
-pub overflow_add-place : goal.overflow_add-place
-overflow_add-place g c =
+pub better_of-best-requires : goal.better_of-best-requires
+better_of-best-requires g c =
     let rules = g.G.Game.rules c.args.game.now in
     let state = g.G.Game.state c.args.game.now c.args.from.now in
-    let here = legal_place rules state c.args.asked.role c.loop-own.place c.in-Some.own c.legal.result c.legal.ensures c.in-Some.is in
+    let here = legal_place rules state c.args.asked.role c.loop-own.best.seen c.in-Some.own c.legal.result c.legal.ensures c.in-Some.is in
     let law = g.met.G.Game g.world.𝓛 g.world.𝓜 g.world.𝓡 ((λ _ x. x), (λ x. x), (λ x. x), λ x. x) in
     let few = legal_count rules state c.args.asked.role (law.legal_ascending c.args.game.now state c.args.asked.role c.requires.fit.role)
     (law.legal_within c.args.game.now state c.args.asked.role c.requires.fit.role)
@@ -49,39 +50,39 @@ pub loop-own-smaller : goal.loop-own-smaller
 loop-own-smaller g c =
     let rules = g.G.Game.rules c.args.game.now in
     let state = g.G.Game.state c.args.game.now c.args.from.now in
-    let here = legal_place rules state c.args.asked.role c.loop-own.place c.in-Some.own c.legal.result c.legal.ensures c.in-Some.is in
-    let inside : c.loop-own.place < length (rules.legal state c.args.asked.role) = here.0 in
-    omega arith
+    let here = legal_place rules state c.args.asked.role c.loop-own.best.seen c.in-Some.own c.legal.result c.legal.ensures c.in-Some.is in
+    let inside : c.loop-own.best.seen < length (rules.legal state c.args.asked.role) = here.0 in
+    omega (arith, c.better_of-best.ensures.seen)
 
 pub loop-own-preserved : goal.loop-own-preserved
 loop-own-preserved g c =
     let rules = g.G.Game.rules c.args.game.now in
     let state = g.G.Game.state c.args.game.now c.args.from.now in
-    let here = legal_place rules state c.args.asked.role c.loop-own.place c.in-Some.own c.legal.result c.legal.ensures c.in-Some.is in
+    let here = legal_place rules state c.args.asked.role c.loop-own.best.seen c.in-Some.own c.legal.result c.legal.ensures c.in-Some.is in
     let law = g.met.G.Game g.world.𝓛 g.world.𝓜 g.world.𝓡 ((λ _ x. x), (λ x. x), (λ x. x), λ x. x) in
     let worth = own_worth rules c.args.asked.role c.args.asked.depth c.args.asked.at state in
     let old = c.loop-own.best in
     let r = c.worst_above-worth.result in
-    let few : worth c.loop-own.place ≤ 100 =
+    let few : worth c.loop-own.best.seen ≤ 100 =
     worst_at_most rules c.args.asked.role (λ s r. law.goal_within c.args.game.now s r) c.args.asked.depth c.args.asked.at state
-    (get_or (rules.legal state c.args.asked.role) c.loop-own.place 0) in
+    (get_or (rules.legal state c.args.asked.role) c.loop-own.best.seen 0) in
     let fits : SFits w16 old.worth = search facts in
     let fits_r : SFits w16 r = search facts in
     let same = to_z-of_z w16 r fits_r in
-    let answers : Answers (worth c.loop-own.place) old.worth (pos 101) r = rw (← here.1, to_z-of_z w16 old.worth fits) at
+    let answers : Answers (worth c.loop-own.best.seen) old.worth (pos 101) r = rw (← here.1, to_z-of_z w16 old.worth fits) at
     c.worst_above-worth.ensures.answers in
     record {
       kept = kept_then c.loop-own.invariant.kept c.worst_above-worth.ensures.kept;
       deep = omega arith;
-      in_list = omega (arith, here.0);
-      is_best = c.better_of-best.ensures.best worth few (rw same answers) c.loop-own.invariant.is_best;
+      in_list = omega (arith, here.0, c.better_of-best.ensures.seen);
+      is_best = rw c.better_of-best.ensures.seen (c.better_of-best.ensures.best worth few (rw same answers) c.loop-own.invariant.is_best);
     }
 
 pub returns-clause-best : goal.returns-clause-best
 returns-clause-best g c =
     let rules = g.G.Game.rules c.args.game.now in
     let state = g.G.Game.state c.args.game.now c.args.from.now in
-    let past : length (rules.legal state c.args.asked.role) ≤ c.loop-own.place = none_past (rules.legal state c.args.asked.role) c.loop-own.place
+    let past : length (rules.legal state c.args.asked.role) ≤ c.loop-own.best.seen = none_past (rules.legal state c.args.asked.role) c.loop-own.best.seen
     c.legal.result c.legal.ensures c.in_default.is in
-    let all : c.loop-own.place ≡ length (rules.legal state c.args.asked.role) = omega arith in
+    let all : c.loop-own.best.seen ≡ length (rules.legal state c.args.asked.role) = omega arith in
     rw all at c.loop-own.invariant.is_best

@@ -12,7 +12,7 @@ returns-then-worth-best-clause-best c own few answers is =
     let same = to_z-of_z w16 c.args.worth c.ranges.worth in
     let more : c.args.best.worth <ℤ c.args.worth = rw (same, to_z-of_z w16 c.args.best.worth fits) at
     (lt_z_true (to_z w16 (of_z w16 c.args.best.worth)) (to_z w16 (of_z w16 c.args.worth)) c.if-worth-best.true) in
-    rw same (best_raised own c.args.place c.args.best.worth c.args.worth c.args.best.place few answers more is)
+    rw same (best_raised own c.args.best.seen c.args.best.worth c.args.worth c.args.best.place few answers more is)
 
 pub returns-clause-best : goal.returns-clause-best
 returns-clause-best c own few answers is =
@@ -20,4 +20,4 @@ returns-clause-best c own few answers is =
     let same = to_z-of_z w16 c.args.worth c.ranges.worth in
     let less : c.args.worth ≤ℤ c.args.best.worth = rw (same, to_z-of_z w16 c.args.best.worth fits) at
     (lt_z_false (to_z w16 (of_z w16 c.args.best.worth)) (to_z w16 (of_z w16 c.args.worth)) c.if-worth-best.false) in
-    best_kept own c.args.place c.args.best.worth c.args.worth c.args.best.place few answers less is
+    rw (to_z-of_z w16 c.args.best.worth fits) (best_kept own c.args.best.seen c.args.best.worth c.args.worth c.args.best.place few answers less is)

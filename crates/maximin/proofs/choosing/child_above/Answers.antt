@@ -12,7 +12,7 @@ use Rattle.maximin.proofs.choosing.child_above.Goals as goal
 pub returns-then-low-ge-GREATEST-clause-answers : goal.returns-then-low-ge-GREATEST-clause-answers
 returns-then-low-ge-GREATEST-clause-answers g c =
     let rules = g.G.Game.rules c.args.game.now in
-    let state = get_or (g.G.Game.states c.args.game.now c.args.many.now) c.args.place [] in
+    let state = get_or (g.G.Game.states c.args.game.now c.args.children.now.many) c.args.place [] in
     let worth = value rules c.args.asked.role c.args.asked.depth c.args.asked.at state in
     let law = g.met.G.Game g.world.𝓛 g.world.𝓜 g.world.𝓡 ((λ _ x. x), (λ x. x), (λ x. x), λ x. x) in
     let few : worth ≤ 100 = value_at_most rules c.args.asked.role (λ s r. law.goal_within c.args.game.now s r) c.args.asked.depth c.args.asked.at state in
@@ -27,7 +27,7 @@ returns-then-low-ge-GREATEST-clause-answers g c =
 pub returns-clause-answers : goal.returns-clause-answers
 returns-clause-answers g c =
     let rules = g.G.Game.rules c.args.game.now in
-    let state = get_or (g.G.Game.states c.args.game.now c.args.many.now) c.args.place [] in
+    let state = get_or (g.G.Game.states c.args.game.now c.args.children.now.many) c.args.place [] in
     let worth = value rules c.args.asked.role c.args.asked.depth c.args.asked.at state in
     let law = g.met.G.Game g.world.𝓛 g.world.𝓜 g.world.𝓡 ((λ _ x. x), (λ x. x), (λ x. x), λ x. x) in
     let few : worth ≤ 100 = value_at_most rules c.args.asked.role (λ s r. law.goal_within c.args.game.now s r) c.args.asked.depth c.args.asked.at state in

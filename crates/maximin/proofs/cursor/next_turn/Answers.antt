@@ -2,6 +2,7 @@ use Rattle.std.proofs.Common.{ℕ, List, ◌≡◌, ◌<◌, ◌≤◌, ◌^◌,
 use Rattle.std.proofs.Math.ListN.{set, length-set}
 use Rattle.game.proofs.Facts.{legal_count, none_past}
 use Rattle.statement.specs.Rules.{choices}
+use Rattle.maximin.specs.Turns.{StandsAt}
 use Rattle.maximin.proofs.Choices.{length-choices, choices_some, choices_count}
 use Rattle.maximin.proofs.CursorSteps.{wrapped_more, wrapped_all, up_stands, up_later}
 use Rattle.maximin.proofs.cursor.next_turn.Goals as goal
@@ -24,34 +25,29 @@ overflow_add-place g c =
     (omega arith) in
     rw (c.deref.ensures, stayed) (omega arith)
 
-pub returns-in-Some-clause-stands : goal.returns-in-Some-clause-stands
-returns-in-Some-clause-stands g c =
-    let rules = g.G.Game.rules c.args.game.now in
-    let state = g.G.Game.state c.args.game.now c.args.from.now in
-    let lists = choices rules state c.args.role c.args.own in
-    let count : length lists ≡ rules.roles = length-choices rules state c.args.role c.args.own in
-    let moves : length c.loop-other.cursor.joint.items ≡ rules.roles = c.loop-other.invariant.cursor.joint in
-    let places : length c.loop-other.cursor.places.items ≡ rules.roles = c.loop-other.invariant.cursor.places in
-    up_stands lists (c.loop-other.other - 1) c.args.cursor.now.places.items c.args.cursor.now.joint.items c.loop-other.cursor.places.items
-    c.loop-other.cursor.joint.items c.in-Some.next c.put.new.self.places.items c.put.new.self.joint.items c.loop-other.other (omega arith)
-    (omega arith) (omega arith) (omega arith)
-    (c.put.ensures.places ∙ ap (λ (p : List ℕ). set c.loop-other.cursor.places.items (c.loop-other.other - 1)
-    (get_or p (c.loop-other.other - 1) 0 + 1)) c.deref.ensures) c.put.ensures.joint
-    (rw (← c.deref.ensures) (sym c.in-Some.is ∙ c.option_at.ensures)) c.requires.stands c.loop-other.invariant.wrapped
-
 pub returns-in-Some-clause-next : goal.returns-in-Some-clause-next
 returns-in-Some-clause-next g c =
     let rules = g.G.Game.rules c.args.game.now in
     let state = g.G.Game.state c.args.game.now c.args.from.now in
     let lists = choices rules state c.args.role c.args.own in
+    let old = c.args.cursor.now in
+    let turned = c.loop-other.cursor in
+    let new = c.put.new.self in
+    let n = c.loop-other.other - 1 in
     let count : length lists ≡ rules.roles = length-choices rules state c.args.role c.args.own in
-    let moves : length c.loop-other.cursor.joint.items ≡ rules.roles = c.loop-other.invariant.cursor.joint in
-    let places : length c.loop-other.cursor.places.items ≡ rules.roles = c.loop-other.invariant.cursor.places in
-    up_later lists (c.loop-other.other - 1) c.args.cursor.now.places.items c.args.cursor.now.joint.items c.loop-other.cursor.places.items
-    c.loop-other.cursor.joint.items c.in-Some.next c.put.new.self.places.items c.put.new.self.joint.items c.loop-other.other (omega arith)
-    (omega arith) (omega arith) (c.put.ensures.places
-    ∙ ap (λ (p : List ℕ). set c.loop-other.cursor.places.items (c.loop-other.other - 1) (get_or p (c.loop-other.other - 1) 0 + 1)) c.deref.ensures)
-    c.requires.stands (returns-in-Some-clause-stands g c) c.loop-other.invariant.wrapped
+    let moves : length turned.joint.items ≡ rules.roles = c.loop-other.invariant.cursor.joint in
+    let places : length turned.places.items ≡ rules.roles = c.loop-other.invariant.cursor.places in
+    let put = c.put.ensures.places ∙ ap (λ (p : List ℕ). set turned.places.items n (get_or p n 0 + 1)) c.deref.ensures in
+    let stands : StandsAt lists new.places.items new.joint.items =
+    up_stands lists n old.places.items old.joint.items turned.places.items turned.joint.items c.in-Some.next new.places.items new.joint.items
+    c.loop-other.other (omega arith) (omega arith) (omega arith) (omega arith) put c.put.ensures.joint
+    (rw (← c.deref.ensures) (sym c.in-Some.is ∙ c.option_at.ensures)) c.requires.stands c.loop-other.invariant.wrapped in
+    record {
+      stands = stands;
+      next = up_later lists n old.places.items old.joint.items turned.places.items turned.joint.items c.in-Some.next new.places.items
+          new.joint.items c.loop-other.other (omega arith) (omega arith) (omega arith) put c.requires.stands stands c.loop-other.invariant.wrapped;
+      none = tt;
+    }
 
 pub loop-other-preserved-in-Some-option_at : goal.loop-other-preserved-in-Some-option_at
 loop-other-preserved-in-Some-option_at g c =
@@ -90,11 +86,14 @@ loop-other-preserved g c =
     c.in_default-option_at.is in
     absurd (omega arith)
 
-pub returns-clause-none : goal.returns-clause-none
-returns-clause-none g c =
+pub returns-clause-next : goal.returns-clause-next
+returns-clause-next g c =
     let rules = g.G.Game.rules c.args.game.now in
     let state = g.G.Game.state c.args.game.now c.args.from.now in
     let all : c.loop-other.other ≡ 0 = omega arith in
-    wrapped_all (choices rules state c.args.role c.args.own) c.args.cursor.now.places.items c.args.cursor.now.joint.items
-    c.loop-other.cursor.places.items c.loop-other.cursor.joint.items
-    (rw all at c.loop-other.invariant.wrapped)
+    record {
+      stands = tt;
+      next = tt;
+      none = wrapped_all (choices rules state c.args.role c.args.own) c.args.cursor.now.places.items c.args.cursor.now.joint.items
+          c.loop-other.cursor.places.items c.loop-other.cursor.joint.items (rw all at c.loop-other.invariant.wrapped);
+    }

@@ -15,8 +15,10 @@ loop-place-preserved g c =
     let states = g.G.Game.judged c.args.game.now c.args.wide.now in
     let all = greatest (map worth states) in
     let here = worth (get_or states c.loop-place.place []) in
-    let a = to_z w16 (of_z w16 c.args.a) in
-    let b = to_z w16 (of_z w16 c.args.b) in
+    let a = c.args.window.low in
+    let ea : to_z w16 (of_z w16 a) ≡ a = to_z-of_z w16 a (search facts) in
+    let b = c.args.window.high in
+    let eb : to_z w16 (of_z w16 b) ≡ b = to_z-of_z w16 b (search facts) in
     let r = c.judged_worth.result in
     let lower = to_z w16 c.loop-place.lower-bits in
     let fits_r : SFits w16 r = search facts in
@@ -33,14 +35,16 @@ loop-place-preserved g c =
           (rw raised (raised_now here b lower r answers));
     }
 
-pub returns-then-lower-b : goal.returns-then-lower-b
-returns-then-lower-b g c =
+pub returns-then-lower-window : goal.returns-then-lower-window
+returns-then-lower-window g c =
     let worth : List ℕ → ℕ = value (g.G.Game.rules c.args.game.now) c.args.asked.role c.args.asked.depth c.args.asked.at in
     let states = g.G.Game.judged c.args.game.now c.args.wide.now in
     let all = greatest (map worth states) in
     let here = worth (get_or states c.loop-place.place []) in
-    let a = to_z w16 (of_z w16 c.args.a) in
-    let b = to_z w16 (of_z w16 c.args.b) in
+    let a = c.args.window.low in
+    let ea : to_z w16 (of_z w16 a) ≡ a = to_z-of_z w16 a (search facts) in
+    let b = c.args.window.high in
+    let eb : to_z w16 (of_z w16 b) ≡ b = to_z-of_z w16 b (search facts) in
     let r = c.judged_worth.result in
     let lower = to_z w16 c.loop-place.lower-bits in
     let fits_r : SFits w16 r = search facts in
@@ -50,20 +54,18 @@ returns-then-lower-b g c =
     let answers : Answers here lower b r = exact here lower b r c.judged_worth.ensures in
     let part : here ≤ all = greatest_worth_above worth states c.loop-place.place (omega (arith, c.requires.count, c.loop-place-test.true)) in
     let most : int_max lower r ≤ℤ int_max (pos all) a = raised_most all here a b lower r part c.loop-place.invariant.at_most answers in
-    let ea : a ≡ c.args.a = to_z-of_z w16 c.args.a c.ranges.a in
-    let eb : b ≡ c.args.b = to_z-of_z w16 c.args.b c.ranges.b in
-    rw (← ea, ← eb, raised) (cut_above all a b (int_max lower r) (rw raised at (le_z_true b _ c.if-lower-b.true)) most)
+    rw raised (cut_above all a b (int_max lower r) (rw (raised, eb) at (le_z_true (to_z w16 (of_z w16 b)) (to_z w16 (of_z w16 c.max-lower.result)) c.if-lower-window.true)) most)
 
 pub returns : goal.returns
 returns g c =
     let worth : List ℕ → ℕ = value (g.G.Game.rules c.args.game.now) c.args.asked.role c.args.asked.depth c.args.asked.at in
     let states = g.G.Game.judged c.args.game.now c.args.wide.now in
-    let a = to_z w16 (of_z w16 c.args.a) in
-    let b = to_z w16 (of_z w16 c.args.b) in
-    let ea : a ≡ c.args.a = to_z-of_z w16 c.args.a c.ranges.a in
-    let eb : b ≡ c.args.b = to_z-of_z w16 c.args.b c.ranges.b in
+    let a = c.args.window.low in
+    let ea : to_z w16 (of_z w16 a) ≡ a = to_z-of_z w16 a (search facts) in
+    let b = c.args.window.high in
+    let eb : to_z w16 (of_z w16 b) ≡ b = to_z-of_z w16 b (search facts) in
     let top = greatest_worth_reached worth states (omega (arith, c.requires.count, c.requires.some)) in
-    rw (← ea, ← eb) record {
+    record {
       at_least = rw top.2 at (c.loop-place.invariant.seen top.0 (omega (arith, top.1, c.requires.count, c.loop-place-test.false)));
       at_most = c.loop-place.invariant.at_most;
     }

@@ -10,7 +10,7 @@ invariant-loop-place g l =
     let worth = value (g.G.Game.rules l.game) l.asked.role l.asked.depth l.asked.at in
     let states = g.G.Game.judged l.game l.wide in
     record {
-      above : l.a ≤ℤ l.lower;
-      at_most : l.lower ≤ℤ int_max (pos (greatest (map worth states))) l.a;
-      seen : (k : ℕ) → k < l.place → int_min (pos (worth (get_or states k []))) l.b ≤ℤ l.lower;
+      above : l.window.low ≤ℤ l.lower;
+      at_most : l.lower ≤ℤ int_max (pos (greatest (map worth states))) l.window.low;
+      seen : (k : ℕ) → k < l.place → int_min (pos (worth (get_or states k []))) l.window.high ≤ℤ l.lower;
     }

@@ -15,8 +15,10 @@ loop-place-preserved g c =
     let states = g.G.Game.judged c.args.game.now c.args.wide.now in
     let all = least (map worth states) in
     let here = worth (get_or states c.loop-place.place []) in
-    let a = to_z w16 (of_z w16 c.args.a) in
-    let b = to_z w16 (of_z w16 c.args.b) in
+    let a = c.args.window.low in
+    let ea : to_z w16 (of_z w16 a) ≡ a = to_z-of_z w16 a (search facts) in
+    let b = c.args.window.high in
+    let eb : to_z w16 (of_z w16 b) ≡ b = to_z-of_z w16 b (search facts) in
     let r = c.judged_worth.result in
     let upper = to_z w16 c.loop-place.upper-bits in
     let fits_r : SFits w16 r = search facts in
@@ -33,14 +35,16 @@ loop-place-preserved g c =
           (rw lowered (lowered_now here a upper r answers));
     }
 
-pub returns-then-upper-a : goal.returns-then-upper-a
-returns-then-upper-a g c =
+pub returns-then-upper-window : goal.returns-then-upper-window
+returns-then-upper-window g c =
     let worth : List ℕ → ℕ = value (g.G.Game.rules c.args.game.now) c.args.asked.role c.args.asked.depth c.args.asked.at in
     let states = g.G.Game.judged c.args.game.now c.args.wide.now in
     let all = least (map worth states) in
     let here = worth (get_or states c.loop-place.place []) in
-    let a = to_z w16 (of_z w16 c.args.a) in
-    let b = to_z w16 (of_z w16 c.args.b) in
+    let a = c.args.window.low in
+    let ea : to_z w16 (of_z w16 a) ≡ a = to_z-of_z w16 a (search facts) in
+    let b = c.args.window.high in
+    let eb : to_z w16 (of_z w16 b) ≡ b = to_z-of_z w16 b (search facts) in
     let r = c.judged_worth.result in
     let upper = to_z w16 c.loop-place.upper-bits in
     let fits_r : SFits w16 r = search facts in
@@ -51,20 +55,18 @@ returns-then-upper-a g c =
     let part : all ≤ here = least_worth_below worth states c.loop-place.place (omega (arith, c.requires.count, c.loop-place-test.true)) in
     let low : int_min (pos all) b ≤ℤ int_min upper r = lowered_least all here a b upper r part c.loop-place.invariant.at_least
     c.loop-place.invariant.below answers in
-    let ea : a ≡ c.args.a = to_z-of_z w16 c.args.a c.ranges.a in
-    let eb : b ≡ c.args.b = to_z-of_z w16 c.args.b c.ranges.b in
-    rw (← ea, ← eb, lowered) (cut_below all a b (int_min upper r) (rw lowered at (le_z_true _ a c.if-upper-a.true)) low)
+    rw lowered (cut_below all a b (int_min upper r) (rw (lowered, ea) at (le_z_true (to_z w16 (of_z w16 c.min-upper.result)) (to_z w16 (of_z w16 a)) c.if-upper-window.true)) low)
 
 pub returns : goal.returns
 returns g c =
     let worth : List ℕ → ℕ = value (g.G.Game.rules c.args.game.now) c.args.asked.role c.args.asked.depth c.args.asked.at in
     let states = g.G.Game.judged c.args.game.now c.args.wide.now in
-    let a = to_z w16 (of_z w16 c.args.a) in
-    let b = to_z w16 (of_z w16 c.args.b) in
-    let ea : a ≡ c.args.a = to_z-of_z w16 c.args.a c.ranges.a in
-    let eb : b ≡ c.args.b = to_z-of_z w16 c.args.b c.ranges.b in
+    let a = c.args.window.low in
+    let ea : to_z w16 (of_z w16 a) ≡ a = to_z-of_z w16 a (search facts) in
+    let b = c.args.window.high in
+    let eb : to_z w16 (of_z w16 b) ≡ b = to_z-of_z w16 b (search facts) in
     let bottom = least_worth_reached worth states (omega (arith, c.requires.count, c.requires.some)) in
-    rw (← ea, ← eb) record {
+    record {
       at_least = c.loop-place.invariant.at_least;
       at_most = rw bottom.2 at (c.loop-place.invariant.seen bottom.0 (omega (arith, bottom.1, c.requires.count, c.loop-place-test.false)));
     }

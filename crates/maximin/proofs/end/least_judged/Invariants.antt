@@ -10,7 +10,7 @@ invariant-loop-place g l =
     let worth = value (g.G.Game.rules l.game) l.asked.role l.asked.depth l.asked.at in
     let states = g.G.Game.judged l.game l.wide in
     record {
-      below : l.upper ≤ℤ l.b;
-      at_least : int_min (pos (least (map worth states))) l.b ≤ℤ l.upper;
-      seen : (k : ℕ) → k < l.place → l.upper ≤ℤ int_max (pos (worth (get_or states k []))) l.a;
+      below : l.upper ≤ℤ l.window.high;
+      at_least : int_min (pos (least (map worth states))) l.window.high ≤ℤ l.upper;
+      seen : (k : ℕ) → k < l.place → l.upper ≤ℤ int_max (pos (worth (get_or states k []))) l.window.low;
     }

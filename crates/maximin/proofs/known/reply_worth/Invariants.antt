@@ -12,7 +12,7 @@ abbrev pub invariant-turns : goal.invariant-turns
 invariant-turns g l =
     let rules = g.G.Game.rules l.game in
     let state = g.G.Game.state l.game l.from in
-    let lists = choices rules state l.asked.role l.own in
+    let lists = choices rules state l.asked.role l.known.own in
     let worth : Turn → ℕ = λ j. value rules l.asked.role l.asked.depth l.asked.at (rules.after state j) in
     record {
       level : IsLevelOf g.G.Game l.game l.level;
@@ -20,12 +20,12 @@ invariant-turns g l =
       kept : AreKept g.G.Game l.game l.fn.tools l.initial.rest l.tools l.rest;
       deep : l.asked.depth ≤ length l.rest;
       capacity : l.out.capacity ≡ l.fn.out.capacity;
-      stands : StandsAt lists l.level.cursor.places.items l.level.cursor.joint.items;
-      is_ahead : IsAhead worth (turns_with rules state l.asked.role l.own) (worst rules l.asked.role l.asked.depth l.asked.at state l.own)
-          (l.level.cursor.joint.items ∷ later lists l.level.cursor.places.items);
+      stands : StandsAt lists l.level.moves.cursor.places.items l.level.moves.cursor.joint.items;
+      is_ahead : IsAhead worth (turns_with rules state l.asked.role l.known.own) (worst rules l.asked.role l.asked.depth l.asked.at state l.known.own)
+          (l.level.moves.cursor.joint.items ∷ later lists l.level.moves.cursor.places.items);
     }
 
 abbrev pub decreases-turns : goal.decreases-turns
 decreases-turns g l =
     let rules = g.G.Game.rules l.game in
-    length (later (choices rules (g.G.Game.state l.game l.from) l.asked.role l.own) l.level.cursor.places.items)
+    length (later (choices rules (g.G.Game.state l.game l.from) l.asked.role l.known.own) l.level.moves.cursor.places.items)

@@ -10,13 +10,15 @@ abbrev pub invariant-moves : goal.invariant-moves
 invariant-moves g l =
     let rules = g.G.Game.rules l.game in
     let legal = rules.legal (g.G.Game.state l.game l.from) l.role in
+    let old = l.initial.moves in
     record {
-      run : IsRunOf rules.roles l.run;
-      capacities : run_capacities l.run ≡ run_capacities l.initial.run;
-      known : All (IsTurn rules) (turns_in l.run);
+      cursor : l.moves.cursor ≡ old.cursor;
+      run : IsRunOf rules.roles l.moves.run;
+      capacities : run_capacities l.moves.run ≡ run_capacities old.run;
+      known : All (IsTurn rules) (turns_in l.moves.run);
       in_list : l.place ≤ length legal;
-      count : l.initial.run.count ≤ l.run.count;
-      turns : turns_in l.run ≡ turns_in l.initial.run ++ map (λ m. set l.joint.items l.role m) (take l.place legal);
+      count : old.run.count ≤ l.moves.run.count;
+      turns : turns_in l.moves.run ≡ turns_in old.run ++ map (λ m. set old.cursor.joint.items l.role m) (take l.place legal);
     }
 
 abbrev pub decreases-moves : goal.decreases-moves

@@ -27,7 +27,7 @@ use Rattle.std.proofs.Math.ListN.{set}
 use Rattle.std.proofs.lemmas.Int.{ints, clamps, to_z-of_z}
 use Rattle.std.proofs.lemmas.List.{length-map}
 use mir.Val.{SFits, of_z, to_z}
-use Rattle.std.specs.Prelude.{pos, ◌≤ℤ◌, map}
+use Rattle.std.specs.Prelude.{ℤ, pos, ◌≤ℤ◌, map}
 use Rattle.std.specs.Int.{int_min, int_max}
 use Rattle.smallvec.specs.SmallVec.{SmallVec}
 use Rattle.statement.specs.Rules.{Turn, choices, IsTurn}
@@ -35,9 +35,8 @@ use Rattle.game.specs.Value.{Answers}
 use Rattle.statement.specs.Value.{value, worst, least, greatest}
 use Rattle.maximin.specs.declared.level.Level.{Level}
 use Rattle.maximin.specs.Turns.{later}
-use Rattle.maximin.specs.Cursor.{cursor_capacities}
-use Rattle.maximin.specs.Run.{turns_in, run_capacities}
-use Rattle.maximin.specs.Level.{IsLevelOf, level_capacities}
+use Rattle.maximin.specs.Run.{turns_in}
+use Rattle.maximin.specs.Level.{level_capacities}
 use Rattle.maximin.proofs.Windows.{
   raised_most,
   raised_seen,
@@ -62,10 +61,10 @@ use Rattle.maximin.proofs.Choices.{legal_some}
 use Rattle.maximin.proofs.OwnTurns.{alone_worst, own_worths, run_seen, run_most, run_end, greatest_worth_above, greatest_worth_reached, map_part}
 use Rattle.maximin.specs.Open.{IsOpen}
 use Rattle.maximin.proofs.Values.{turn_known, value_open, worst_le_value, value_reached, value_ended, value_stuck}
-use Rattle.maximin.proofs.Parts.{four_joined}
-use Rattle.maximin.proofs.Kept.{kept_at_first, kept_then, all_levels_kept}
+use Rattle.maximin.proofs.Kept.{kept_at_first, kept_then, all_levels_kept, level_kept, moves_kept, same_states_then}
 use Rattle.maximin.proofs.Runs.{
   known_each,
+  steps_of,
   some_taken,
   worths_after,
   least_worth_below,
@@ -76,7 +75,7 @@ use Rattle.maximin.proofs.Runs.{
 }
 use Rattle.game.proofs.Facts.{legal_known, legal_place, legal_count, none_past}
 use Rattle.maximin.proofs.search.+search.Goals as goal
-use Rattle.maximin.proofs.search.+search.Goals.{worst_at-then-upper-a-via-then-upper-a, worst_at-then-upper-a-via-else-upper-a+then-not-more}
+use Rattle.maximin.proofs.search.+search.Goals.{worst_at-then-upper-window-via-then-upper-window, worst_at-then-upper-window-via-else-upper-window+then-not-more}
 
 pub value_at-worst_at-requires-clause-own : goal.value_at-worst_at-requires-clause-own
 value_at-worst_at-requires-clause-own g t c κs within =
@@ -87,8 +86,8 @@ value_at-worst_at-requires-clause-own g t c κs within =
     legal_known rules state c.args.asked.role c.loop-own.place c.in-Some.own c.legal.result
     (law.legal_within c.args.game.now state c.args.asked.role c.requires.fit.role) c.legal.ensures c.in-Some.is
 
-pub value_at-returns-then-best-b-clause-answers : goal.value_at-returns-then-best-b-clause-answers
-value_at-returns-then-best-b-clause-answers g t c =
+pub value_at-returns-then-best-window-clause-answers : goal.value_at-returns-then-best-window-clause-answers
+value_at-returns-then-best-window-clause-answers g t c =
     let rules = g.G.Game.rules c.args.game.now in
     let state = g.G.Game.state c.args.game.now c.args.from.now in
     let legal = rules.legal state c.args.asked.role in
@@ -98,8 +97,10 @@ value_at-returns-then-best-b-clause-answers g t c =
       free = sym c.is_stuck.ensures ∙ c.if-is_stuck.false;
     } in
     let here = legal_place rules state c.args.asked.role c.loop-own.place c.in-Some.own c.legal.result c.legal.ensures c.in-Some.is in
-    let a = to_z w16 (of_z w16 c.args.a) in
-    let b = to_z w16 (of_z w16 c.args.b) in
+    let a = c.args.window.low in
+    let ea : to_z w16 (of_z w16 a) ≡ a = to_z-of_z w16 a (search facts) in
+    let b = c.args.window.high in
+    let eb : to_z w16 (of_z w16 b) ≡ b = to_z-of_z w16 b (search facts) in
     let r = c.worst_at.result in
     let best = to_z w16 c.loop-own.best-bits in
     let fits_r : SFits w16 r = search facts in
@@ -110,11 +111,9 @@ value_at-returns-then-best-b-clause-answers g t c =
     raised_most (value rules c.args.asked.role c.args.asked.depth c.args.asked.at state)
     (worst rules c.args.asked.role (c.args.asked.depth - 1) c.args.asked.at state c.in-Some.own) a b best r
     (rw here.1 at (worst_le_value rules c.args.asked.role c.args.asked.depth c.args.asked.at state c.loop-own.place free here.0))
-    c.loop-own.invariant.at_most c.worst_at.ensures.answers in
-    let ea : a ≡ c.args.a = to_z-of_z w16 c.args.a c.ranges.a in
-    let eb : b ≡ c.args.b = to_z-of_z w16 c.args.b c.ranges.b in
-    let cut : b ≤ℤ int_max best r = rw raised at (le_z_true b _ c.if-best-b.true) in
-    rw (← ea, ← eb, raised) (cut_above (value rules c.args.asked.role c.args.asked.depth c.args.asked.at state) a b (int_max best r) cut most)
+    c.loop-own.invariant.at_most (rw eb at c.worst_at.ensures.answers) in
+    let cut : b ≤ℤ int_max best r = rw (raised, eb) at (le_z_true (to_z w16 (of_z w16 b)) (to_z w16 (of_z w16 c.max-best.result)) c.if-best-window.true) in
+    rw raised (cut_above (value rules c.args.asked.role c.args.asked.depth c.args.asked.at state) a b (int_max best r) cut most)
 
 pub value_at-overflow_add-place : goal.value_at-overflow_add-place
 value_at-overflow_add-place g t c =
@@ -148,8 +147,10 @@ value_at-loop-own-preserved g t c =
       free = sym c.is_stuck.ensures ∙ c.if-is_stuck.false;
     } in
     let here = legal_place rules state c.args.asked.role c.loop-own.place c.in-Some.own c.legal.result c.legal.ensures c.in-Some.is in
-    let a = to_z w16 (of_z w16 c.args.a) in
-    let b = to_z w16 (of_z w16 c.args.b) in
+    let a = c.args.window.low in
+    let ea : to_z w16 (of_z w16 a) ≡ a = to_z-of_z w16 a (search facts) in
+    let b = c.args.window.high in
+    let eb : to_z w16 (of_z w16 b) ≡ b = to_z-of_z w16 b (search facts) in
     let r = c.worst_at.result in
     let best = to_z w16 c.loop-own.best-bits in
     let fits_r : SFits w16 r = search facts in
@@ -160,19 +161,19 @@ value_at-loop-own-preserved g t c =
     raised_most (value rules c.args.asked.role c.args.asked.depth c.args.asked.at state)
     (worst rules c.args.asked.role (c.args.asked.depth - 1) c.args.asked.at state c.in-Some.own) a b best r
     (rw here.1 at (worst_le_value rules c.args.asked.role c.args.asked.depth c.args.asked.at state c.loop-own.place free here.0))
-    c.loop-own.invariant.at_most c.worst_at.ensures.answers in
+    c.loop-own.invariant.at_most (rw eb at c.worst_at.ensures.answers) in
     record {
       kept = kept_then c.loop-own.invariant.kept c.worst_at.ensures.kept;
       deep = omega arith;
       in_list = omega (arith, here.0);
       above = rw raised (raised_above a best r c.loop-own.invariant.above);
-      below = le_z_false b _ c.if-best-b.false;
+      below = rw eb at (le_z_false (to_z w16 (of_z w16 b)) (to_z w16 (of_z w16 c.max-best.result)) c.if-best-window.false);
       at_most = rw raised most;
       seen = below_more _ _
           (λ k lt. rw raised (raised_seen (worst rules c.args.asked.role (c.args.asked.depth - 1) c.args.asked.at state (get_or legal k 0)) b best r
           (c.loop-own.invariant.seen k lt)))
           (rw (raised, here.1) (raised_now (worst rules c.args.asked.role (c.args.asked.depth - 1) c.args.asked.at state c.in-Some.own) b best r
-          c.worst_at.ensures.answers));
+          (rw eb at c.worst_at.ensures.answers)));
     }
 
 pub value_at-returns-clause-answers : goal.value_at-returns-clause-answers
@@ -187,11 +188,11 @@ value_at-returns-clause-answers g t c =
     } in
     let past : length legal ≤ c.loop-own.place = none_past legal c.loop-own.place c.legal.result c.legal.ensures c.in_default.is in
     let top = value_reached rules c.args.asked.role c.args.asked.depth c.args.asked.at state free c.requires.fit.role in
-    let a = to_z w16 (of_z w16 c.args.a) in
-    let b = to_z w16 (of_z w16 c.args.b) in
-    let ea : a ≡ c.args.a = to_z-of_z w16 c.args.a c.ranges.a in
-    let eb : b ≡ c.args.b = to_z-of_z w16 c.args.b c.ranges.b in
-    rw (← ea, ← eb) record {
+    let a = c.args.window.low in
+    let ea : to_z w16 (of_z w16 a) ≡ a = to_z-of_z w16 a (search facts) in
+    let b = c.args.window.high in
+    let eb : to_z w16 (of_z w16 b) ≡ b = to_z-of_z w16 b (search facts) in
+    record {
       at_least = rw top.2 at (c.loop-own.invariant.seen top.0 (omega (arith, top.1)));
       at_most = c.loop-own.invariant.at_most;
     }
@@ -202,7 +203,7 @@ value_at-returns-then-ended-clause-answers g t c =
     let state = g.G.Game.state c.args.game.now c.args.from.now in
     let fits : SFits w16 c.from.result = search facts in
     let same = to_z-of_z w16 c.from.result fits in
-    exact (value rules c.args.asked.role c.args.asked.depth c.args.asked.at state) c.args.a c.args.b (to_z w16 (of_z w16 c.from.result))
+    exact (value rules c.args.asked.role c.args.asked.depth c.args.asked.at state) c.args.window.low c.args.window.high (to_z w16 (of_z w16 c.from.result))
     (same ∙ c.from.ensures ∙ ap pos (c.goal.ensures
     ∙ sym (value_ended rules c.args.asked.role c.args.asked.depth c.args.asked.at state (sym c.ended.ensures ∙ c.if-ended.true))))
 
@@ -210,14 +211,14 @@ pub value_at-returns-then-is_stuck-clause-answers : goal.value_at-returns-then-i
 value_at-returns-then-is_stuck-clause-answers g t c =
     let rules = g.G.Game.rules c.args.game.now in
     let state = g.G.Game.state c.args.game.now c.args.from.now in
-    exact (value rules c.args.asked.role c.args.asked.depth c.args.asked.at state) c.args.a c.args.b (pos 0)
+    exact (value rules c.args.asked.role c.args.asked.depth c.args.asked.at state) c.args.window.low c.args.window.high (pos 0)
     (ap pos (sym (value_stuck rules c.args.asked.role c.args.asked.depth c.args.asked.at state (sym c.ended.ensures ∙ c.if-ended.false)
     (sym c.is_stuck.ensures ∙ c.if-is_stuck.true))))
 
 pub least_at-loop-place-preserved : goal.least_at-loop-place-preserved
 least_at-loop-place-preserved g t c =
     let rules = g.G.Game.rules c.args.game.now in
-    let states = g.G.Game.states c.args.game.now c.args.many.now in
+    let states = g.G.Game.states c.args.game.now c.args.children.now.many in
     let worth : List ℕ → ℕ = λ s. value rules c.args.asked.role c.args.asked.depth c.args.asked.at s in
     let all = least (map worth states) in
     let count = length c.args.joints.now in
@@ -225,23 +226,25 @@ least_at-loop-place-preserved g t c =
     let child = get_or order c.loop-place.place 0 in
     let inside : child < count = place_within count order c.loop-place.place 0 c.order_of-order.ensures (omega (arith, c.loop-place-test.true)) in
     let here = worth (get_or states child []) in
-    let a = to_z w16 (of_z w16 c.args.a) in
-    let b = to_z w16 (of_z w16 c.args.b) in
-    let r = c.child_at-worth.result in
+    let a = c.args.window.low in
+    let ea : to_z w16 (of_z w16 a) ≡ a = to_z-of_z w16 a (search facts) in
+    let b = c.args.window.high in
+    let eb : to_z w16 (of_z w16 b) ≡ b = to_z-of_z w16 b (search facts) in
+    let same : c.loop-place.children.many ≡ c.args.children.now.many = c.loop-place.invariant.same.many in
+    let r = c.child_at.result in
     let upper = to_z w16 c.loop-place.upper-bits in
     let fits_r : SFits w16 r = search facts in
     let fits_m : SFits w16 c.min-upper.result = search facts in
     let lowered : to_z w16 (of_z w16 c.min-upper.result) ≡ int_min upper r =
     to_z-of_z w16 c.min-upper.result fits_m ∙ c.min-upper.ensures.value ∙ ap (λ z. int_min upper z) (to_z-of_z w16 r fits_r) in
-    let answers : Answers here a upper r = c.child_at-worth.ensures.answers in
-    let part : all ≤ here = least_worth_below worth states child (omega (arith, c.requires.count)) in
+    let answers : Answers here a upper r = rw (same, ea) at c.child_at.ensures.answers in
+    let part : all ≤ here = least_worth_below worth states child (omega (arith, c.requires.joints.count)) in
     record {
-      position = c.child_at-worth.ensures.position;
-      kept = kept_then c.loop-place.invariant.kept c.child_at-worth.ensures.kept;
-      position_capacities = c.child_at-worth.ensures.position_capacities ∙ c.loop-place.invariant.position_capacities;
+      kept = kept_then c.loop-place.invariant.kept c.child_at.ensures.kept;
       deep = omega arith;
-      ahead = c.child_at-worth.ensures.ahead;
-      above = le_z_false _ a c.if-upper-a-2.false;
+      known = c.child_at.ensures.children;
+      same = same_states_then c.loop-place.invariant.same c.child_at.ensures.same;
+      above = rw ea at (le_z_false (to_z w16 (of_z w16 c.min-upper.result)) (to_z w16 (of_z w16 a)) c.if-upper-window-2.false);
       below = rw lowered (lowered_below b upper r c.loop-place.invariant.below);
       at_least = rw lowered (lowered_least all here a b upper r part c.loop-place.invariant.at_least c.loop-place.invariant.below answers);
       seen = below_more _ _
@@ -249,25 +252,25 @@ least_at-loop-place-preserved g t c =
           (rw lowered (lowered_now here a upper r answers));
     }
 
-pub least_at-returns-then-upper-a-clause-answers : goal.least_at-returns-then-upper-a-clause-answers
-least_at-returns-then-upper-a-clause-answers g t c =
+pub least_at-returns-then-upper-window-clause-answers : goal.least_at-returns-then-upper-window-clause-answers
+least_at-returns-then-upper-window-clause-answers g t c =
     let rules = g.G.Game.rules c.args.game.now in
-    let states = g.G.Game.states c.args.game.now c.args.many.now in
+    let states = g.G.Game.states c.args.game.now c.args.children.now.many in
     let worth : List ℕ → ℕ = λ s. value rules c.args.asked.role c.args.asked.depth c.args.asked.at s in
-    let a = to_z w16 (of_z w16 c.args.a) in
-    let b = to_z w16 (of_z w16 c.args.b) in
+    let a = c.args.window.low in
+    let ea : to_z w16 (of_z w16 a) ≡ a = to_z-of_z w16 a (search facts) in
+    let b = c.args.window.high in
+    let eb : to_z w16 (of_z w16 b) ≡ b = to_z-of_z w16 b (search facts) in
     let upper = c.least_told-upper.result in
     let fits : SFits w16 upper = search facts in
     let eu : to_z w16 (of_z w16 upper) ≡ upper = to_z-of_z w16 upper fits in
-    let ea : a ≡ c.args.a = to_z-of_z w16 c.args.a c.ranges.a in
-    let eb : b ≡ c.args.b = to_z-of_z w16 c.args.b c.ranges.b in
-    rw (← ea, ← eb, eu) (cut_below (least (map worth states)) a b upper (rw eu at (le_z_true _ a c.if-upper-a.true))
-    c.least_told-upper.ensures.at_least)
+    rw eu (cut_below (least (map worth states)) a b upper (rw (eu, ea) at (le_z_true (to_z w16 (of_z w16 upper)) (to_z w16 (of_z w16 a)) c.if-upper-window.true))
+    (subst (λ (z : ℤ). int_min (pos (least (map worth states))) z ≤ℤ upper) eb c.least_told-upper.ensures.at_least))
 
-pub least_at-returns-then-upper-a-2-clause-answers : goal.least_at-returns-then-upper-a-2-clause-answers
-least_at-returns-then-upper-a-2-clause-answers g t c =
+pub least_at-returns-then-upper-window-2-clause-answers : goal.least_at-returns-then-upper-window-2-clause-answers
+least_at-returns-then-upper-window-2-clause-answers g t c =
     let rules = g.G.Game.rules c.args.game.now in
-    let states = g.G.Game.states c.args.game.now c.args.many.now in
+    let states = g.G.Game.states c.args.game.now c.args.children.now.many in
     let worth : List ℕ → ℕ = λ s. value rules c.args.asked.role c.args.asked.depth c.args.asked.at s in
     let all = least (map worth states) in
     let count = length c.args.joints.now in
@@ -275,38 +278,39 @@ least_at-returns-then-upper-a-2-clause-answers g t c =
     let child = get_or order c.loop-place.place 0 in
     let inside : child < count = place_within count order c.loop-place.place 0 c.order_of-order.ensures (omega (arith, c.loop-place-test.true)) in
     let here = worth (get_or states child []) in
-    let a = to_z w16 (of_z w16 c.args.a) in
-    let b = to_z w16 (of_z w16 c.args.b) in
-    let r = c.child_at-worth.result in
+    let a = c.args.window.low in
+    let ea : to_z w16 (of_z w16 a) ≡ a = to_z-of_z w16 a (search facts) in
+    let b = c.args.window.high in
+    let eb : to_z w16 (of_z w16 b) ≡ b = to_z-of_z w16 b (search facts) in
+    let same : c.loop-place.children.many ≡ c.args.children.now.many = c.loop-place.invariant.same.many in
+    let r = c.child_at.result in
     let upper = to_z w16 c.loop-place.upper-bits in
     let fits_r : SFits w16 r = search facts in
     let fits_m : SFits w16 c.min-upper.result = search facts in
     let lowered : to_z w16 (of_z w16 c.min-upper.result) ≡ int_min upper r =
     to_z-of_z w16 c.min-upper.result fits_m ∙ c.min-upper.ensures.value ∙ ap (λ z. int_min upper z) (to_z-of_z w16 r fits_r) in
-    let answers : Answers here a upper r = c.child_at-worth.ensures.answers in
-    let part : all ≤ here = least_worth_below worth states child (omega (arith, c.requires.count)) in
+    let answers : Answers here a upper r = rw (same, ea) at c.child_at.ensures.answers in
+    let part : all ≤ here = least_worth_below worth states child (omega (arith, c.requires.joints.count)) in
     let low : int_min (pos all) b ≤ℤ int_min upper r = lowered_least all here a b upper r part c.loop-place.invariant.at_least
     c.loop-place.invariant.below answers in
-    let ea : a ≡ c.args.a = to_z-of_z w16 c.args.a c.ranges.a in
-    let eb : b ≡ c.args.b = to_z-of_z w16 c.args.b c.ranges.b in
-    rw (← ea, ← eb, lowered) (cut_below all a b (int_min upper r) (rw lowered at (le_z_true _ a c.if-upper-a-2.true)) low)
+    rw lowered (cut_below all a b (int_min upper r) (rw (lowered, ea) at (le_z_true (to_z w16 (of_z w16 c.min-upper.result)) (to_z w16 (of_z w16 a)) c.if-upper-window-2.true)) low)
 
 pub least_at-returns-clause-answers : goal.least_at-returns-clause-answers
 least_at-returns-clause-answers g t c =
     let rules = g.G.Game.rules c.args.game.now in
-    let states = g.G.Game.states c.args.game.now c.args.many.now in
+    let states = g.G.Game.states c.args.game.now c.args.children.now.many in
     let worth : List ℕ → ℕ = λ s. value rules c.args.asked.role c.args.asked.depth c.args.asked.at s in
-    let a = to_z w16 (of_z w16 c.args.a) in
-    let b = to_z w16 (of_z w16 c.args.b) in
-    let ea : a ≡ c.args.a = to_z-of_z w16 c.args.a c.ranges.a in
-    let eb : b ≡ c.args.b = to_z-of_z w16 c.args.b c.ranges.b in
-    let bottom = least_worth_reached worth states (omega (arith, c.requires.count, c.requires.some)) in
+    let a = c.args.window.low in
+    let ea : to_z w16 (of_z w16 a) ≡ a = to_z-of_z w16 a (search facts) in
+    let b = c.args.window.high in
+    let eb : to_z w16 (of_z w16 b) ≡ b = to_z-of_z w16 b (search facts) in
+    let bottom = least_worth_reached worth states (omega (arith, c.requires.joints.count, c.requires.joints.some)) in
     let upper = to_z w16 c.loop-place.upper-bits in
     let each = all_places (λ k. upper ≤ℤ int_max (pos (worth (get_or states k []))) a) (length c.args.joints.now) c.order_of-order.result
     c.order_of-order.ensures (λ k lt. c.loop-place.invariant.seen k (omega (arith, c.loop-place-test.false))) in
-    rw (← ea, ← eb) record {
+    record {
       at_least = c.loop-place.invariant.at_least;
-      at_most = rw bottom.2 at (each bottom.0 (omega (arith, bottom.1, c.requires.count)));
+      at_most = rw bottom.2 at (each bottom.0 (omega (arith, bottom.1, c.requires.joints.count)));
     }
 
 pub worst_at-runs-init : goal.worst_at-runs-init
@@ -316,18 +320,18 @@ worst_at-runs-init g t c =
     let lists = choices rules state c.args.asked.role c.args.own in
     let worth : List ℕ → ℕ = λ j. value rules c.args.asked.role c.args.asked.depth c.args.asked.at (rules.after state j) in
     let all = worst rules c.args.asked.role c.args.asked.depth c.args.asked.at state c.args.own in
-    let a = to_z w16 (of_z w16 c.args.a) in
-    let b = to_z w16 (of_z w16 c.args.b) in
+    let a = c.args.window.low in
+    let ea : to_z w16 (of_z w16 a) ≡ a = to_z-of_z w16 a (search facts) in
+    let b = c.args.window.high in
+    let eb : to_z w16 (of_z w16 b) ≡ b = to_z-of_z w16 b (search facts) in
     let left = least (map worth (c.start_turns.new.cursor.joint.items ∷ later lists c.start_turns.new.cursor.places.items)) in
     let same : all ≡ left = ap (λ (turns : List (List ℕ)). least (map worth turns)) c.start_turns.ensures.first in
     let first = c.requires.fit.levels 0 c.index-first-0.result (omega arith) in
     let there = c.split_at_mut-first.ensures.by_index.0 0 c.index-first-0.result (omega arith) in
     record {
       level = record {
-        position = rw there first.position;
-        cursor = c.start_turns.ensures.cursor;
-        run = rw there first.run;
-        many = rw there first.many;
+        moves = record { cursor = c.start_turns.ensures.cursor; run = rw there first.moves.run };
+        children = rw there first.children;
       };
       capacities = refl;
       kept = record {
@@ -342,87 +346,81 @@ worst_at-runs-init g t c =
       stands = c.start_turns.ensures.stands;
       above = omega (arith, ints);
       below = omega (arith, ints);
-      at_least = start_least all b;
+      at_least = subst (λ (z : ℤ). int_min (pos all) b ≤ℤ z) (sym eb) (start_least all b);
       part = omega (arith, same);
-      at_most = start_most all left a b same;
+      at_most = subst (λ (z : ℤ). int_min z (pos left) ≤ℤ int_max (pos all) a) (sym eb) (start_most all left a b same);
     }
 
 pub worst_at-least_after-least-requires-clause-level : goal.worst_at-least_after-least-requires-clause-level
 worst_at-least_after-least-requires-clause-level g t c κs within =
-    let kept = c.runs.invariant.level in
-    let taken = c.gather-more.ensures in
+    let taken = c.gather-more.ensures.taken in
     record {
-      level = record { position = kept.position; cursor = taken.cursor; run = taken.run; many = kept.many };
+      level = record { moves = taken.moves; children = c.runs.invariant.level.children };
       some = taken.some;
       known = taken.known;
     }
 
-pub worst_at-returns-then-upper-a-clause-answers : goal.worst_at-returns-then-upper-a-clause-answers
-worst_at-returns-then-upper-a-clause-answers g t c =
+pub worst_at-returns-then-upper-window-clause-answers : goal.worst_at-returns-then-upper-window-clause-answers
+worst_at-returns-then-upper-window-clause-answers g t c =
     let rules = g.G.Game.rules c.args.game.now in
     let state = g.G.Game.state c.args.game.now c.args.from.now in
     let lists = choices rules state c.args.asked.role c.args.own in
     let value_of : List ℕ → ℕ = λ s. value rules c.args.asked.role c.args.asked.depth c.args.asked.at s in
     let worth : List ℕ → ℕ = λ j. value_of (rules.after state j) in
     let all = worst rules c.args.asked.role c.args.asked.depth c.args.asked.at state c.args.own in
-    let run = c.gather-more.new.run in
+    let run = c.gather-more.new.moves.run in
     let here = least (map worth (turns_in run)) in
-    let left = c.runs.level.cursor.joint.items ∷ later lists c.runs.level.cursor.places.items in
-    let a = to_z w16 (of_z w16 c.args.a) in
-    let b = to_z w16 (of_z w16 c.args.b) in
+    let left = c.runs.level.moves.cursor.joint.items ∷ later lists c.runs.level.moves.cursor.places.items in
+    let a = c.args.window.low in
+    let ea : to_z w16 (of_z w16 a) ≡ a = to_z-of_z w16 a (search facts) in
+    let b = c.args.window.high in
+    let eb : to_z w16 (of_z w16 b) ≡ b = to_z-of_z w16 b (search facts) in
     let r = c.least_after-least.result in
     let upper = to_z w16 c.runs.upper-bits in
     let fits_r : SFits w16 r = search facts in
     let fits_m : SFits w16 c.min-upper.result = search facts in
     let lowered : to_z w16 (of_z w16 c.min-upper.result) ≡ int_min upper r =
     to_z-of_z w16 c.min-upper.result fits_m ∙ c.min-upper.ensures.value ∙ ap (λ z. int_min upper z) (to_z-of_z w16 r fits_r) in
-    let answers : Answers here a upper r = c.least_after-least.ensures.answers in
-    let some : 0 < length (turns_in run) = some_taken run.joints.items run.count c.gather-more.ensures.some
-    (omega (arith, c.gather-more.ensures.run.size)) in
+    let answers : Answers here a upper r = rw ea at c.least_after-least.ensures.answers in
+    let some : 0 < length (turns_in run) = some_taken run.joints.items run.count c.gather-more.ensures.taken.some
+    (omega (arith, c.gather-more.ensures.taken.moves.run.size)) in
     let part : all ≤ here =
     omega (
       arith,
       c.runs.invariant.part,
-      least_of_run worth left (turns_in run) c.gather-more.new.cursor.joint.items (later lists c.gather-more.new.cursor.places.items)
-          c.gather-more.result c.gather-more.ensures.more c.gather-more.ensures.all some,
+      least_of_run worth left (turns_in run) c.gather-more.new.moves.cursor.joint.items (later lists c.gather-more.new.moves.cursor.places.items)
+          c.gather-more.result c.gather-more.ensures.left.more c.gather-more.ensures.left.all some,
     ) in
     let low : int_min (pos all) b ≤ℤ int_min upper r = lowered_least all here a b upper r part c.runs.invariant.at_least c.runs.invariant.below
     answers in
-    let ea : a ≡ c.args.a = to_z-of_z w16 c.args.a c.ranges.a in
-    let eb : b ≡ c.args.b = to_z-of_z w16 c.args.b c.ranges.b in
-    rw (← ea, ← eb, lowered) (elim c.then-upper-a.branch [
-      | worst_at-then-upper-a-via-then-upper-a w ↦ cut_below all a b (int_min upper r) (rw lowered at (le_z_true _ a w.if-upper-a.true)) low
-      | worst_at-then-upper-a-via-else-upper-a+then-not-more w ↦
+    rw lowered (elim c.then-upper-window.branch [
+      | worst_at-then-upper-window-via-then-upper-window w ↦ cut_below all a b (int_min upper r) (rw (lowered, ea) at (le_z_true (to_z w16 (of_z w16 c.min-upper.result)) (to_z w16 (of_z w16 a)) w.if-upper-window.true)) low
+      | worst_at-then-upper-window-via-else-upper-window+then-not-more w ↦
           let end : int_min upper (pos here) ≤ℤ int_max (pos all) a =
-          subst (λ (turns : List Turn). int_min upper (pos (least (map worth turns))) ≤ℤ int_max (pos all) a) w.if-not-more.ensures.all
+          subst (λ (turns : List Turn). int_min upper (pos (least (map worth turns))) ≤ℤ int_max (pos all) a) w.if-not-more.ensures.left.all
           c.runs.invariant.at_most in
           record { at_least = low; at_most = lowered_end all here a upper r end answers }
     ])
 
-pub worst_at-returns-then-upper-a-clause-kept : goal.worst_at-returns-then-upper-a-clause-kept
-worst_at-returns-then-upper-a-clause-kept g t c =
-    let of_position = g.G.Game.capacities c.args.game.now in
-    let of_many = g.G.Game.many_capacities c.args.game.now in
+pub worst_at-returns-then-upper-window-clause-kept : goal.worst_at-returns-then-upper-window-clause-kept
+worst_at-returns-then-upper-window-clause-kept g t c =
     let split = c.split_at_mut-first.ensures in
     let old = get_or c.split_at_mut-first.result.0.now 0 c.index-first-0.result in
     let now = c.runs.level in
     let begun : level_capacities g.G.Game c.args.game.now now ≡ level_capacities g.G.Game c.args.game.now old =
     c.runs.invariant.capacities
-    ∙ four_joined (cursor_capacities c.start_turns.new.cursor) (run_capacities old.run) (of_position old.position) (of_many old.many)
-    (cursor_capacities old.cursor) (run_capacities old.run) (of_position old.position) (of_many old.many) c.start_turns.ensures.capacities refl refl
-    refl in
+    ∙ level_kept g.G.Game c.args.game.now old record { cursor = c.start_turns.new.cursor; run = old.moves.run } old.children
+    (moves_kept old.moves c.start_turns.new.cursor old.moves.run c.start_turns.ensures.capacities refl) refl in
     let turned : level_capacities g.G.Game c.args.game.now c.least_after-least.new.level ≡ level_capacities g.G.Game c.args.game.now now =
     c.least_after-least.ensures.level.capacities
-    ∙ four_joined (cursor_capacities c.gather-more.new.cursor) (run_capacities c.gather-more.new.run) (of_position now.position) (of_many now.many)
-    (cursor_capacities now.cursor) (run_capacities now.run) (of_position now.position) (of_many now.many)
-    c.gather-more.ensures.cursor_capacities c.gather-more.ensures.run_capacities refl refl in
+    ∙ level_kept g.G.Game c.args.game.now now c.gather-more.new.moves now.children c.gather-more.ensures.taken.capacities refl in
     let kept =
     all_levels_kept c.args.levels.now c.split_at_mut-first.result.0.now c.split_at_mut-first.result.1.now
     c.least_after-least.new.levels c.least_after-least.new.level c.index-first-0.result split.value split.front_len c.least_after-least.ensures.level.level
     (turned ∙ begun) (kept_then c.runs.invariant.kept c.least_after-least.ensures.kept) in
-    elim c.then-upper-a.branch [
-      | worst_at-then-upper-a-via-then-upper-a w ↦ rw w.levels-is kept
-      | worst_at-then-upper-a-via-else-upper-a+then-not-more w ↦ rw w.levels-is kept
+    elim c.then-upper-window.branch [
+      | worst_at-then-upper-window-via-then-upper-window w ↦ rw w.levels-is kept
+      | worst_at-then-upper-window-via-else-upper-window+then-not-more w ↦ rw w.levels-is kept
     ]
 
 pub worst_at-runs-smaller : goal.worst_at-runs-smaller
@@ -430,12 +428,12 @@ worst_at-runs-smaller g t c =
     let rules = g.G.Game.rules c.args.game.now in
     let state = g.G.Game.state c.args.game.now c.args.from.now in
     let lists = choices rules state c.args.asked.role c.args.own in
-    let run = c.gather-more.new.run in
-    let some : 0 < length (turns_in run) = some_taken run.joints.items run.count c.gather-more.ensures.some
-    (omega (arith, c.gather-more.ensures.run.size)) in
-    rw c.least_after-least.ensures.level.cursor (fewer_behind c.runs.level.cursor.joint.items c.gather-more.new.cursor.joint.items (later lists
-    c.runs.level.cursor.places.items) (turns_in run)
-    (later lists c.gather-more.new.cursor.places.items) c.if-not-more.ensures.more some)
+    let run = c.gather-more.new.moves.run in
+    let some : 0 < length (turns_in run) = some_taken run.joints.items run.count c.gather-more.ensures.taken.some
+    (omega (arith, c.gather-more.ensures.taken.moves.run.size)) in
+    rw c.least_after-least.ensures.level.moves (fewer_behind c.runs.level.moves.cursor.joint.items c.gather-more.new.moves.cursor.joint.items (later lists
+    c.runs.level.moves.cursor.places.items) (turns_in run)
+    (later lists c.gather-more.new.moves.cursor.places.items) c.if-not-more.ensures.left.more some)
 
 pub worst_at-runs-preserved : goal.worst_at-runs-preserved
 worst_at-runs-preserved g t c =
@@ -445,53 +443,51 @@ worst_at-runs-preserved g t c =
     let value_of : List ℕ → ℕ = λ s. value rules c.args.asked.role c.args.asked.depth c.args.asked.at s in
     let worth : List ℕ → ℕ = λ j. value_of (rules.after state j) in
     let all = worst rules c.args.asked.role c.args.asked.depth c.args.asked.at state c.args.own in
-    let run = c.gather-more.new.run in
+    let run = c.gather-more.new.moves.run in
     let here = least (map worth (turns_in run)) in
-    let before = c.runs.level.cursor.joint.items ∷ later lists c.runs.level.cursor.places.items in
-    let left = least (map worth (c.gather-more.new.cursor.joint.items ∷ later lists c.gather-more.new.cursor.places.items)) in
-    let a = to_z w16 (of_z w16 c.args.a) in
-    let b = to_z w16 (of_z w16 c.args.b) in
+    let before = c.runs.level.moves.cursor.joint.items ∷ later lists c.runs.level.moves.cursor.places.items in
+    let left = least (map worth (c.gather-more.new.moves.cursor.joint.items ∷ later lists c.gather-more.new.moves.cursor.places.items)) in
+    let a = c.args.window.low in
+    let ea : to_z w16 (of_z w16 a) ≡ a = to_z-of_z w16 a (search facts) in
+    let b = c.args.window.high in
+    let eb : to_z w16 (of_z w16 b) ≡ b = to_z-of_z w16 b (search facts) in
     let r = c.least_after-least.result in
     let upper = to_z w16 c.runs.upper-bits in
     let fits_r : SFits w16 r = search facts in
     let fits_m : SFits w16 c.min-upper.result = search facts in
     let lowered : to_z w16 (of_z w16 c.min-upper.result) ≡ int_min upper r =
     to_z-of_z w16 c.min-upper.result fits_m ∙ c.min-upper.ensures.value ∙ ap (λ z. int_min upper z) (to_z-of_z w16 r fits_r) in
-    let answers : Answers here a upper r = c.least_after-least.ensures.answers in
-    let some : 0 < length (turns_in run) = some_taken run.joints.items run.count c.gather-more.ensures.some
-    (omega (arith, c.gather-more.ensures.run.size)) in
+    let answers : Answers here a upper r = rw ea at c.least_after-least.ensures.answers in
+    let some : 0 < length (turns_in run) = some_taken run.joints.items run.count c.gather-more.ensures.taken.some
+    (omega (arith, c.gather-more.ensures.taken.moves.run.size)) in
     let next : least (map worth before) ≡ min here left =
-    least_behind worth before (turns_in run) c.gather-more.new.cursor.joint.items (later lists c.gather-more.new.cursor.places.items)
-    c.if-not-more.ensures.more some in
+    least_behind worth before (turns_in run) c.gather-more.new.moves.cursor.joint.items (later lists c.gather-more.new.moves.cursor.places.items)
+    c.if-not-more.ensures.left.more some in
     let part : all ≤ here = omega (arith, next, c.runs.invariant.part) in
     let low : int_min (pos all) b ≤ℤ int_min upper r = lowered_least all here a b upper r part c.runs.invariant.at_least c.runs.invariant.below
     answers in
     let now = c.runs.level in
-    let of_position = g.G.Game.capacities c.args.game.now in
-    let of_many = g.G.Game.many_capacities c.args.game.now in
     record {
       level = c.least_after-least.ensures.level.level;
       capacities = c.least_after-least.ensures.level.capacities
-          ∙ four_joined (cursor_capacities c.gather-more.new.cursor) (run_capacities c.gather-more.new.run) (of_position now.position)
-          (of_many now.many) (cursor_capacities now.cursor) (run_capacities now.run) (of_position now.position) (of_many now.many)
-          c.gather-more.ensures.cursor_capacities c.gather-more.ensures.run_capacities refl refl
+          ∙ level_kept g.G.Game c.args.game.now now c.gather-more.new.moves now.children c.gather-more.ensures.taken.capacities refl
           ∙ c.runs.invariant.capacities;
       kept = kept_then c.runs.invariant.kept c.least_after-least.ensures.kept;
       deep = omega arith;
       some = omega (arith, c.min-most.ensures, c.runs.invariant.some);
       few = omega (arith, c.min-most.ensures);
-      stands = rw c.least_after-least.ensures.level.cursor c.if-not-more.ensures.stands;
-      above = le_z_false _ a c.if-upper-a.false;
+      stands = rw c.least_after-least.ensures.level.moves c.if-not-more.ensures.left.stands;
+      above = rw ea at (le_z_false (to_z w16 (of_z w16 c.min-upper.result)) (to_z w16 (of_z w16 a)) c.if-upper-window.false);
       below = rw lowered (lowered_below b upper r c.runs.invariant.below);
       at_least = rw lowered low;
-      part = rw c.least_after-least.ensures.level.cursor (omega (arith, next, c.runs.invariant.part));
-      at_most = rw (lowered, c.least_after-least.ensures.level.cursor) (lowered_most all here left a upper r (rw next at c.runs.invariant.at_most) answers);
+      part = rw c.least_after-least.ensures.level.moves (omega (arith, next, c.runs.invariant.part));
+      at_most = rw (lowered, c.least_after-least.ensures.level.moves) (lowered_most all here left a upper r (rw next at c.runs.invariant.at_most) answers);
     }
 
 pub greatest_at-loop-place-preserved : goal.greatest_at-loop-place-preserved
 greatest_at-loop-place-preserved g t c =
     let rules = g.G.Game.rules c.args.game.now in
-    let states = g.G.Game.states c.args.game.now c.args.many.now in
+    let states = g.G.Game.states c.args.game.now c.args.children.now.many in
     let worth : List ℕ → ℕ = λ s. value rules c.args.asked.role c.args.asked.depth c.args.asked.at s in
     let all = greatest (map worth states) in
     let count = length c.args.joints.now in
@@ -499,49 +495,51 @@ greatest_at-loop-place-preserved g t c =
     let child = get_or order c.loop-place.place 0 in
     let inside : child < count = place_within count order c.loop-place.place 0 c.order_of-order.ensures (omega (arith, c.loop-place-test.true)) in
     let here = worth (get_or states child []) in
-    let a = to_z w16 (of_z w16 c.args.a) in
-    let b = to_z w16 (of_z w16 c.args.b) in
-    let r = c.child_at-worth.result in
+    let a = c.args.window.low in
+    let ea : to_z w16 (of_z w16 a) ≡ a = to_z-of_z w16 a (search facts) in
+    let b = c.args.window.high in
+    let eb : to_z w16 (of_z w16 b) ≡ b = to_z-of_z w16 b (search facts) in
+    let same : c.loop-place.children.many ≡ c.args.children.now.many = c.loop-place.invariant.same.many in
+    let r = c.child_at.result in
     let lower = to_z w16 c.loop-place.lower-bits in
     let fits_r : SFits w16 r = search facts in
     let fits_m : SFits w16 c.max-lower.result = search facts in
     let raised : to_z w16 (of_z w16 c.max-lower.result) ≡ int_max lower r =
     to_z-of_z w16 c.max-lower.result fits_m ∙ c.max-lower.ensures.value ∙ ap (λ z. int_max lower z) (to_z-of_z w16 r fits_r) in
-    let answers : Answers here lower b r = c.child_at-worth.ensures.answers in
-    let part : here ≤ all = greatest_worth_above worth states child (omega (arith, c.requires.count)) in
+    let answers : Answers here lower b r = rw (same, eb) at c.child_at.ensures.answers in
+    let part : here ≤ all = greatest_worth_above worth states child (omega (arith, c.requires.joints.count)) in
     record {
-      position = c.child_at-worth.ensures.position;
-      kept = kept_then c.loop-place.invariant.kept c.child_at-worth.ensures.kept;
-      position_capacities = c.child_at-worth.ensures.position_capacities ∙ c.loop-place.invariant.position_capacities;
+      kept = kept_then c.loop-place.invariant.kept c.child_at.ensures.kept;
       deep = omega arith;
-      ahead = c.child_at-worth.ensures.ahead;
+      known = c.child_at.ensures.children;
+      same = same_states_then c.loop-place.invariant.same c.child_at.ensures.same;
       above = rw raised (raised_above a lower r c.loop-place.invariant.above);
-      below = le_z_false b _ c.if-lower-b-2.false;
+      below = rw eb at (le_z_false (to_z w16 (of_z w16 b)) (to_z w16 (of_z w16 c.max-lower.result)) c.if-lower-window-2.false);
       at_most = rw raised (raised_most all here a b lower r part c.loop-place.invariant.at_most answers);
       seen = below_more _ _
           (λ k lt. rw raised (raised_seen (worth (get_or states (get_or order k 0) [])) b lower r (c.loop-place.invariant.seen k lt)))
           (rw raised (raised_now here b lower r answers));
     }
 
-pub greatest_at-returns-then-lower-b-clause-answers : goal.greatest_at-returns-then-lower-b-clause-answers
-greatest_at-returns-then-lower-b-clause-answers g t c =
+pub greatest_at-returns-then-lower-window-clause-answers : goal.greatest_at-returns-then-lower-window-clause-answers
+greatest_at-returns-then-lower-window-clause-answers g t c =
     let rules = g.G.Game.rules c.args.game.now in
-    let states = g.G.Game.states c.args.game.now c.args.many.now in
+    let states = g.G.Game.states c.args.game.now c.args.children.now.many in
     let worth : List ℕ → ℕ = λ s. value rules c.args.asked.role c.args.asked.depth c.args.asked.at s in
-    let a = to_z w16 (of_z w16 c.args.a) in
-    let b = to_z w16 (of_z w16 c.args.b) in
+    let a = c.args.window.low in
+    let ea : to_z w16 (of_z w16 a) ≡ a = to_z-of_z w16 a (search facts) in
+    let b = c.args.window.high in
+    let eb : to_z w16 (of_z w16 b) ≡ b = to_z-of_z w16 b (search facts) in
     let lower = c.greatest_told-lower.result in
     let fits : SFits w16 lower = search facts in
     let el : to_z w16 (of_z w16 lower) ≡ lower = to_z-of_z w16 lower fits in
-    let ea : a ≡ c.args.a = to_z-of_z w16 c.args.a c.ranges.a in
-    let eb : b ≡ c.args.b = to_z-of_z w16 c.args.b c.ranges.b in
-    rw (← ea, ← eb, el) (cut_above (greatest (map worth states)) a b lower (rw el at (le_z_true b _ c.if-lower-b.true))
-    c.greatest_told-lower.ensures.at_most)
+    rw el (cut_above (greatest (map worth states)) a b lower (rw (el, eb) at (le_z_true (to_z w16 (of_z w16 b)) (to_z w16 (of_z w16 lower)) c.if-lower-window.true))
+    (subst (λ (z : ℤ). lower ≤ℤ int_max (pos (greatest (map worth states))) z) ea c.greatest_told-lower.ensures.at_most))
 
-pub greatest_at-returns-then-lower-b-2-clause-answers : goal.greatest_at-returns-then-lower-b-2-clause-answers
-greatest_at-returns-then-lower-b-2-clause-answers g t c =
+pub greatest_at-returns-then-lower-window-2-clause-answers : goal.greatest_at-returns-then-lower-window-2-clause-answers
+greatest_at-returns-then-lower-window-2-clause-answers g t c =
     let rules = g.G.Game.rules c.args.game.now in
-    let states = g.G.Game.states c.args.game.now c.args.many.now in
+    let states = g.G.Game.states c.args.game.now c.args.children.now.many in
     let worth : List ℕ → ℕ = λ s. value rules c.args.asked.role c.args.asked.depth c.args.asked.at s in
     let all = greatest (map worth states) in
     let count = length c.args.joints.now in
@@ -549,36 +547,37 @@ greatest_at-returns-then-lower-b-2-clause-answers g t c =
     let child = get_or order c.loop-place.place 0 in
     let inside : child < count = place_within count order c.loop-place.place 0 c.order_of-order.ensures (omega (arith, c.loop-place-test.true)) in
     let here = worth (get_or states child []) in
-    let a = to_z w16 (of_z w16 c.args.a) in
-    let b = to_z w16 (of_z w16 c.args.b) in
-    let r = c.child_at-worth.result in
+    let a = c.args.window.low in
+    let ea : to_z w16 (of_z w16 a) ≡ a = to_z-of_z w16 a (search facts) in
+    let b = c.args.window.high in
+    let eb : to_z w16 (of_z w16 b) ≡ b = to_z-of_z w16 b (search facts) in
+    let same : c.loop-place.children.many ≡ c.args.children.now.many = c.loop-place.invariant.same.many in
+    let r = c.child_at.result in
     let lower = to_z w16 c.loop-place.lower-bits in
     let fits_r : SFits w16 r = search facts in
     let fits_m : SFits w16 c.max-lower.result = search facts in
     let raised : to_z w16 (of_z w16 c.max-lower.result) ≡ int_max lower r =
     to_z-of_z w16 c.max-lower.result fits_m ∙ c.max-lower.ensures.value ∙ ap (λ z. int_max lower z) (to_z-of_z w16 r fits_r) in
-    let answers : Answers here lower b r = c.child_at-worth.ensures.answers in
-    let part : here ≤ all = greatest_worth_above worth states child (omega (arith, c.requires.count)) in
+    let answers : Answers here lower b r = rw (same, eb) at c.child_at.ensures.answers in
+    let part : here ≤ all = greatest_worth_above worth states child (omega (arith, c.requires.joints.count)) in
     let most : int_max lower r ≤ℤ int_max (pos all) a = raised_most all here a b lower r part c.loop-place.invariant.at_most answers in
-    let ea : a ≡ c.args.a = to_z-of_z w16 c.args.a c.ranges.a in
-    let eb : b ≡ c.args.b = to_z-of_z w16 c.args.b c.ranges.b in
-    rw (← ea, ← eb, raised) (cut_above all a b (int_max lower r) (rw raised at (le_z_true b _ c.if-lower-b-2.true)) most)
+    rw raised (cut_above all a b (int_max lower r) (rw (raised, eb) at (le_z_true (to_z w16 (of_z w16 b)) (to_z w16 (of_z w16 c.max-lower.result)) c.if-lower-window-2.true)) most)
 
 pub greatest_at-returns-clause-answers : goal.greatest_at-returns-clause-answers
 greatest_at-returns-clause-answers g t c =
     let rules = g.G.Game.rules c.args.game.now in
-    let states = g.G.Game.states c.args.game.now c.args.many.now in
+    let states = g.G.Game.states c.args.game.now c.args.children.now.many in
     let worth : List ℕ → ℕ = λ s. value rules c.args.asked.role c.args.asked.depth c.args.asked.at s in
-    let a = to_z w16 (of_z w16 c.args.a) in
-    let b = to_z w16 (of_z w16 c.args.b) in
-    let ea : a ≡ c.args.a = to_z-of_z w16 c.args.a c.ranges.a in
-    let eb : b ≡ c.args.b = to_z-of_z w16 c.args.b c.ranges.b in
-    let top = greatest_worth_reached worth states (omega (arith, c.requires.count, c.requires.some)) in
+    let a = c.args.window.low in
+    let ea : to_z w16 (of_z w16 a) ≡ a = to_z-of_z w16 a (search facts) in
+    let b = c.args.window.high in
+    let eb : to_z w16 (of_z w16 b) ≡ b = to_z-of_z w16 b (search facts) in
+    let top = greatest_worth_reached worth states (omega (arith, c.requires.joints.count, c.requires.joints.some)) in
     let lower = to_z w16 c.loop-place.lower-bits in
     let each = all_places (λ k. int_min (pos (worth (get_or states k []))) b ≤ℤ lower) (length c.args.joints.now) c.order_of-order.result
     c.order_of-order.ensures (λ k lt. c.loop-place.invariant.seen k (omega (arith, c.loop-place-test.false))) in
-    rw (← ea, ← eb) record {
-      at_least = rw top.2 at (each top.0 (omega (arith, top.1, c.requires.count)));
+    record {
+      at_least = rw top.2 at (each top.0 (omega (arith, top.1, c.requires.joints.count)));
       at_most = c.loop-place.invariant.at_most;
     }
 
@@ -591,24 +590,20 @@ value_at-returns-then-is_alone-clause-answers g t c =
       going = sym c.ended.ensures ∙ c.if-ended.false;
       free = sym c.is_stuck.ensures ∙ c.if-is_stuck.false;
     } in
-    let ea = to_z-of_z w16 c.args.a c.ranges.a in
-    let eb = to_z-of_z w16 c.args.b c.ranges.b in
     let fits : SFits w16 c.best_at.result = search facts in
     rw (to_z-of_z w16 c.best_at.result fits, value_open rules c.args.asked.role c.args.asked.depth c.args.asked.at state free)
-    (rw (ea, eb) at c.best_at.ensures.answers)
+    c.best_at.ensures.answers
 
 pub best_at-runs-init : goal.best_at-runs-init
 best_at-runs-init g t c =
-    let a = to_z w16 (of_z w16 c.args.a) in
-    let ea : a ≡ c.args.a = to_z-of_z w16 c.args.a c.ranges.a in
+    let a = c.args.window.low in
+    let ea : to_z w16 (of_z w16 a) ≡ a = to_z-of_z w16 a (search facts) in
     let first = c.requires.fit.levels 0 c.index-first-0.result (omega arith) in
     let there = c.split_at_mut-first.ensures.by_index.0 0 c.index-first-0.result (omega arith) in
     record {
       level = record {
-        position = rw there first.position;
-        cursor = c.start_turns.ensures.cursor;
-        run = rw there first.run;
-        many = rw there first.many;
+        moves = record { cursor = c.start_turns.ensures.cursor; run = rw there first.moves.run };
+        children = rw there first.children;
       };
       capacities = refl;
       kept = record {
@@ -635,16 +630,16 @@ best_at-gather_own-requires-clause-joint g t c κs within =
     let law = g.met.G.Game g.world.𝓛 g.world.𝓜 g.world.𝓡 ((λ _ x. x), (λ x. x), (λ x. x), λ x. x) in
     let some = legal_some rules state c.args.asked.role c.requires.«open» c.requires.fit.role in
     let first = law.legal_within c.args.game.now state c.args.asked.role c.requires.fit.role 0 0 some in
-    turn_known rules state c.args.asked.role 0 c.runs.level.cursor.places.items c.runs.level.cursor.joint.items c.runs.invariant.stands (omega arith)
+    turn_known rules state c.args.asked.role 0 c.runs.level.moves.cursor.places.items c.runs.level.moves.cursor.joint.items c.runs.invariant.stands (omega arith)
     (λ q below. law.legal_within c.args.game.now state q below)
 
 pub best_at-greatest_after-greatest-requires-clause-level : goal.best_at-greatest_after-greatest-requires-clause-level
 best_at-greatest_after-greatest-requires-clause-level g t c κs within =
     let kept = c.runs.invariant.level in
-    let taken = c.gather_own.ensures in
+    let taken = c.gather_own.ensures.own in
     let some = c.if-count-eq0.false in
     record {
-      level = record { position = kept.position; cursor = kept.cursor; run = taken.run; many = kept.many };
+      level = record { moves = record { cursor = kept.moves.cursor; run = taken.run }; children = kept.children };
       some = omega arith;
       known = taken.known;
     }
@@ -658,94 +653,84 @@ best_at-returns-then-count-eq0-clause-answers g t c =
     (worst rules c.args.asked.role c.args.asked.depth c.args.asked.at state) in
     let some = legal_some rules state c.args.asked.role c.requires.«open» c.requires.fit.role in
     let none = c.if-count-eq0.true in
-    let past = c.gather_own.ensures.all (omega (arith, c.runs.invariant.some)) in
-    let a = to_z w16 (of_z w16 c.args.a) in
-    let b = to_z w16 (of_z w16 c.args.b) in
-    let ea : a ≡ c.args.a = to_z-of_z w16 c.args.a c.ranges.a in
-    let eb : b ≡ c.args.b = to_z-of_z w16 c.args.b c.ranges.b in
-    rw (← ea, ← eb) record {
+    let past = c.gather_own.ensures.own.all (omega (arith, c.runs.invariant.some)) in
+    let a = c.args.window.low in
+    let ea : to_z w16 (of_z w16 a) ≡ a = to_z-of_z w16 a (search facts) in
+    let b = c.args.window.high in
+    let eb : to_z w16 (of_z w16 b) ≡ b = to_z-of_z w16 b (search facts) in
+    record {
       at_least = run_end worths c.runs.place b (to_z w16 c.runs.best-bits) (omega arith) (omega arith) c.runs.invariant.seen;
       at_most = c.runs.invariant.at_most;
     }
 
 pub best_at-returns-then-count-eq0-clause-kept : goal.best_at-returns-then-count-eq0-clause-kept
 best_at-returns-then-count-eq0-clause-kept g t c =
-    let of_position = g.G.Game.capacities c.args.game.now in
-    let of_many = g.G.Game.many_capacities c.args.game.now in
     let split = c.split_at_mut-first.ensures in
     let old = get_or c.split_at_mut-first.result.0.now 0 c.index-first-0.result in
     let now = c.runs.level in
     let begun : level_capacities g.G.Game c.args.game.now now ≡ level_capacities g.G.Game c.args.game.now old =
     c.runs.invariant.capacities
-    ∙ four_joined (cursor_capacities c.start_turns.new.cursor) (run_capacities old.run) (of_position old.position) (of_many old.many)
-    (cursor_capacities old.cursor) (run_capacities old.run) (of_position old.position) (of_many old.many) c.start_turns.ensures.capacities refl refl
-    refl in
+    ∙ level_kept g.G.Game c.args.game.now old record { cursor = c.start_turns.new.cursor; run = old.moves.run } old.children
+    (moves_kept old.moves c.start_turns.new.cursor old.moves.run c.start_turns.ensures.capacities refl) refl in
     let level : Level g.row.G-Pos.Denot g.row.G-Many.Denot = record {
-      position = now.position;
-      cursor = now.cursor;
-      run = c.gather_own.new.run;
-      many = now.many;
+      moves = record { cursor = now.moves.cursor; run = c.gather_own.new.run };
+      children = now.children;
     } in
     let turned : level_capacities g.G.Game c.args.game.now level ≡ level_capacities g.G.Game c.args.game.now now =
-    four_joined (cursor_capacities now.cursor) (run_capacities c.gather_own.new.run) (of_position now.position) (of_many now.many)
-    (cursor_capacities now.cursor) (run_capacities now.run) (of_position now.position) (of_many now.many) refl c.gather_own.ensures.capacities refl
-    refl in
+    level_kept g.G.Game c.args.game.now now level.moves now.children
+    (moves_kept now.moves now.moves.cursor c.gather_own.new.run refl c.gather_own.ensures.capacities) refl in
     let is = c.runs.invariant.level in
     all_levels_kept c.args.levels.now c.split_at_mut-first.result.0.now c.split_at_mut-first.result.1.now
-    c.runs.rest level c.index-first-0.result split.value split.front_len (record { position = is.position; cursor = is.cursor; run = c.gather_own.ensures.run; many = is.many })
+    c.runs.rest level c.index-first-0.result split.value split.front_len (record { moves = record { cursor = is.moves.cursor; run = c.gather_own.ensures.own.run }; children = is.children })
     (turned ∙ begun) (c.runs.invariant.kept)
 
-pub best_at-returns-then-best-b-clause-answers : goal.best_at-returns-then-best-b-clause-answers
-best_at-returns-then-best-b-clause-answers g t c =
+pub best_at-returns-then-best-window-clause-answers : goal.best_at-returns-then-best-window-clause-answers
+best_at-returns-then-best-window-clause-answers g t c =
     let rules = g.G.Game.rules c.args.game.now in
     let state = g.G.Game.state c.args.game.now c.args.from.now in
     let legal = rules.legal state c.args.asked.role in
     let own_worth = worst rules c.args.asked.role c.args.asked.depth c.args.asked.at state in
     let worths = map own_worth legal in
     let value_of : List ℕ → ℕ = λ s. value rules c.args.asked.role c.args.asked.depth c.args.asked.at s in
-    let joint = c.runs.level.cursor.joint.items in
+    let joint = c.runs.level.moves.cursor.joint.items in
     let run = c.gather_own.new.run in
-    let a = to_z w16 (of_z w16 c.args.a) in
-    let b = to_z w16 (of_z w16 c.args.b) in
+    let a = c.args.window.low in
+    let ea : to_z w16 (of_z w16 a) ≡ a = to_z-of_z w16 a (search facts) in
+    let b = c.args.window.high in
+    let eb : to_z w16 (of_z w16 b) ≡ b = to_z-of_z w16 b (search facts) in
     let best = to_z w16 c.runs.best-bits in
     let r = c.greatest_after-greatest.result in
     let fits_r : SFits w16 r = search facts in
     let fits_m : SFits w16 c.max-best.result = search facts in
     let raised : to_z w16 (of_z w16 c.max-best.result) ≡ int_max best r =
     to_z-of_z w16 c.max-best.result fits_m ∙ c.max-best.ensures.value ∙ ap (λ z. int_max best z) (to_z-of_z w16 r fits_r) in
-    let each = alone_worst rules c.args.asked.role c.args.asked.depth c.args.asked.at state 0 c.runs.level.cursor.places.items joint c.requires.fit.role
+    let each = alone_worst rules c.args.asked.role c.args.asked.depth c.args.asked.at state 0 c.runs.level.moves.cursor.places.items joint c.requires.fit.role
     c.requires.alone c.runs.invariant.stands in
     let found : map (λ j. value_of (rules.after state j)) (turns_in run) ≡ take run.count (drop c.runs.place worths) =
-    ap (λ (ts : List Turn). map (λ t. value_of (rules.after state t)) ts) c.gather_own.ensures.turns
+    ap (λ (ts : List Turn). map (λ t. value_of (rules.after state t)) ts) c.gather_own.ensures.own.turns
     ∙ own_worths (λ t. value_of (rules.after state t)) (λ m. set joint c.args.asked.role m) own_worth each (take run.count (drop c.runs.place legal))
     ∙ map_part own_worth c.runs.place run.count legal in
     let answers : Answers (greatest (take run.count (drop c.runs.place worths))) best b r = subst (λ (ws : List ℕ). Answers (greatest ws) best b r)
-    found c.greatest_after-greatest.ensures.answers in
+    found (rw eb at c.greatest_after-greatest.ensures.answers) in
     let size : length worths ≡ length legal = length-map legal own_worth in
     let some = c.if-count-eq0.false in
-    let most = run_most worths c.runs.place run.count a b best r (omega arith) (omega (arith, c.gather_own.ensures.within)) c.runs.invariant.at_most
+    let most = run_most worths c.runs.place run.count a b best r (omega arith) (omega (arith, c.gather_own.ensures.own.within)) c.runs.invariant.at_most
     answers in
-    let ea : a ≡ c.args.a = to_z-of_z w16 c.args.a c.ranges.a in
-    let eb : b ≡ c.args.b = to_z-of_z w16 c.args.b c.ranges.b in
-    rw (← ea, ← eb, raised) (cut_above (greatest worths) a b (int_max best r) (rw raised at (le_z_true b _ c.if-best-b.true)) most)
+    rw raised (cut_above (greatest worths) a b (int_max best r) (rw (raised, eb) at (le_z_true (to_z w16 (of_z w16 b)) (to_z w16 (of_z w16 c.max-best.result)) c.if-best-window.true)) most)
 
-pub best_at-returns-then-best-b-clause-kept : goal.best_at-returns-then-best-b-clause-kept
-best_at-returns-then-best-b-clause-kept g t c =
-    let of_position = g.G.Game.capacities c.args.game.now in
-    let of_many = g.G.Game.many_capacities c.args.game.now in
+pub best_at-returns-then-best-window-clause-kept : goal.best_at-returns-then-best-window-clause-kept
+best_at-returns-then-best-window-clause-kept g t c =
     let split = c.split_at_mut-first.ensures in
     let old = get_or c.split_at_mut-first.result.0.now 0 c.index-first-0.result in
     let now = c.runs.level in
     let begun : level_capacities g.G.Game c.args.game.now now ≡ level_capacities g.G.Game c.args.game.now old =
     c.runs.invariant.capacities
-    ∙ four_joined (cursor_capacities c.start_turns.new.cursor) (run_capacities old.run) (of_position old.position) (of_many old.many)
-    (cursor_capacities old.cursor) (run_capacities old.run) (of_position old.position) (of_many old.many) c.start_turns.ensures.capacities refl refl
-    refl in
+    ∙ level_kept g.G.Game c.args.game.now old record { cursor = c.start_turns.new.cursor; run = old.moves.run } old.children
+    (moves_kept old.moves c.start_turns.new.cursor old.moves.run c.start_turns.ensures.capacities refl) refl in
     let turned : level_capacities g.G.Game c.args.game.now c.greatest_after-greatest.new.level ≡ level_capacities g.G.Game c.args.game.now now =
     c.greatest_after-greatest.ensures.level.capacities
-    ∙ four_joined (cursor_capacities now.cursor) (run_capacities c.gather_own.new.run) (of_position now.position) (of_many now.many)
-    (cursor_capacities now.cursor) (run_capacities now.run) (of_position now.position) (of_many now.many)
-    refl c.gather_own.ensures.capacities refl refl in
+    ∙ level_kept g.G.Game c.args.game.now now record { cursor = now.moves.cursor; run = c.gather_own.new.run } now.children
+    (moves_kept now.moves now.moves.cursor c.gather_own.new.run refl c.gather_own.ensures.capacities) refl in
     all_levels_kept c.args.levels.now c.split_at_mut-first.result.0.now c.split_at_mut-first.result.1.now
     c.greatest_after-greatest.new.levels c.greatest_after-greatest.new.level c.index-first-0.result split.value split.front_len c.greatest_after-greatest.ensures.level.level
     (turned ∙ begun) (kept_then c.runs.invariant.kept c.greatest_after-greatest.ensures.kept)
@@ -758,45 +743,44 @@ best_at-runs-preserved g t c =
     let own_worth = worst rules c.args.asked.role c.args.asked.depth c.args.asked.at state in
     let worths = map own_worth legal in
     let value_of : List ℕ → ℕ = λ s. value rules c.args.asked.role c.args.asked.depth c.args.asked.at s in
-    let joint = c.runs.level.cursor.joint.items in
+    let joint = c.runs.level.moves.cursor.joint.items in
     let run = c.gather_own.new.run in
-    let a = to_z w16 (of_z w16 c.args.a) in
-    let b = to_z w16 (of_z w16 c.args.b) in
+    let a = c.args.window.low in
+    let ea : to_z w16 (of_z w16 a) ≡ a = to_z-of_z w16 a (search facts) in
+    let b = c.args.window.high in
+    let eb : to_z w16 (of_z w16 b) ≡ b = to_z-of_z w16 b (search facts) in
     let best = to_z w16 c.runs.best-bits in
     let r = c.greatest_after-greatest.result in
     let fits_r : SFits w16 r = search facts in
     let fits_m : SFits w16 c.max-best.result = search facts in
     let raised : to_z w16 (of_z w16 c.max-best.result) ≡ int_max best r =
     to_z-of_z w16 c.max-best.result fits_m ∙ c.max-best.ensures.value ∙ ap (λ z. int_max best z) (to_z-of_z w16 r fits_r) in
-    let each = alone_worst rules c.args.asked.role c.args.asked.depth c.args.asked.at state 0 c.runs.level.cursor.places.items joint c.requires.fit.role
+    let each = alone_worst rules c.args.asked.role c.args.asked.depth c.args.asked.at state 0 c.runs.level.moves.cursor.places.items joint c.requires.fit.role
     c.requires.alone c.runs.invariant.stands in
     let found : map (λ j. value_of (rules.after state j)) (turns_in run) ≡ take run.count (drop c.runs.place worths) =
-    ap (λ (ts : List Turn). map (λ t. value_of (rules.after state t)) ts) c.gather_own.ensures.turns
+    ap (λ (ts : List Turn). map (λ t. value_of (rules.after state t)) ts) c.gather_own.ensures.own.turns
     ∙ own_worths (λ t. value_of (rules.after state t)) (λ m. set joint c.args.asked.role m) own_worth each (take run.count (drop c.runs.place legal))
     ∙ map_part own_worth c.runs.place run.count legal in
     let answers : Answers (greatest (take run.count (drop c.runs.place worths))) best b r = subst (λ (ws : List ℕ). Answers (greatest ws) best b r)
-    found c.greatest_after-greatest.ensures.answers in
+    found (rw eb at c.greatest_after-greatest.ensures.answers) in
     let size : length worths ≡ length legal = length-map legal own_worth in
     let some = c.if-count-eq0.false in
-    let inside : c.runs.place + run.count ≤ length worths = omega (arith, c.gather_own.ensures.within) in
+    let inside : c.runs.place + run.count ≤ length worths = omega (arith, c.gather_own.ensures.own.within) in
     let now = c.runs.level in
-    let of_position = g.G.Game.capacities c.args.game.now in
-    let of_many = g.G.Game.many_capacities c.args.game.now in
     record {
       level = c.greatest_after-greatest.ensures.level.level;
       capacities = c.greatest_after-greatest.ensures.level.capacities
-          ∙ four_joined (cursor_capacities now.cursor) (run_capacities c.gather_own.new.run) (of_position now.position) (of_many now.many)
-          (cursor_capacities now.cursor) (run_capacities now.run) (of_position now.position) (of_many now.many)
-          refl c.gather_own.ensures.capacities refl refl
+          ∙ level_kept g.G.Game c.args.game.now now record { cursor = now.moves.cursor; run = c.gather_own.new.run } now.children
+          (moves_kept now.moves now.moves.cursor c.gather_own.new.run refl c.gather_own.ensures.capacities) refl
           ∙ c.runs.invariant.capacities;
       kept = kept_then c.runs.invariant.kept c.greatest_after-greatest.ensures.kept;
       deep = omega arith;
       some = omega (arith, c.min-most.ensures, c.runs.invariant.some);
       few = omega (arith, c.min-most.ensures);
-      stands = rw c.greatest_after-greatest.ensures.level.cursor c.runs.invariant.stands;
-      in_list = omega (arith, c.gather_own.ensures.within);
+      stands = rw c.greatest_after-greatest.ensures.level.moves c.runs.invariant.stands;
+      in_list = omega (arith, c.gather_own.ensures.own.within);
       above = rw raised (raised_above a best r c.runs.invariant.above);
-      below = le_z_false b _ c.if-best-b.false;
+      below = rw eb at (le_z_false (to_z w16 (of_z w16 b)) (to_z w16 (of_z w16 c.max-best.result)) c.if-best-window.false);
       at_most = rw raised (run_most worths c.runs.place run.count a b best r (omega arith) inside c.runs.invariant.at_most answers);
       seen = λ k lt. rw raised (run_seen worths c.runs.place run.count b best r inside c.runs.invariant.seen answers k lt);
     }
@@ -809,17 +793,17 @@ best_at-overflow_add-place g t c =
     let few = legal_count rules state c.args.asked.role (law.legal_ascending c.args.game.now state c.args.asked.role c.requires.fit.role)
     (law.legal_within c.args.game.now state c.args.asked.role c.requires.fit.role)
     (law.moves_within c.args.game.now c.args.asked.role c.requires.fit.role) in
-    omega (arith, c.gather_own.ensures.within)
+    omega (arith, c.gather_own.ensures.own.within)
 
 pub least_after-judge_last-requires-clause-joints : goal.least_after-judge_last-requires-clause-joints
 least_after-judge_last-requires-clause-joints g t c κs within =
-    let rules = g.G.Game.rules c.args.game.now in
-    known_each (λ j. IsTurn rules j) (take c.args.level.now.run.count c.deref.result.now) (rw c.deref.ensures.value c.requires.level.known)
+    steps_of (g.G.Game.rules c.args.game.now) c.args.level.now.moves.run _ c.deref.ensures.value c.requires.level.level.moves.run
+    c.requires.level.some c.requires.level.known
 
 pub least_after-steps-requires-clause-joints : goal.least_after-steps-requires-clause-joints
 least_after-steps-requires-clause-joints g t c =
     let rules = g.G.Game.rules c.args.game.now in
-    known_each (λ j. IsTurn rules j) (take c.args.level.now.run.count c.deref.result.now) (rw c.deref.ensures.value c.requires.level.known)
+    known_each (λ j. IsTurn rules j) (take c.args.level.now.moves.run.count c.deref.result.now) (rw c.deref.ensures.value c.requires.level.known)
 
 pub least_after-returns-then-judge_last-clause-answers : goal.least_after-returns-then-judge_last-clause-answers
 least_after-returns-then-judge_last-clause-answers g t c =
@@ -827,19 +811,19 @@ least_after-returns-then-judge_last-clause-answers g t c =
     let state = g.G.Game.state c.args.game.now c.args.from.now in
     let value_of : List ℕ → ℕ = λ s. value rules c.args.asked.role c.args.asked.depth c.args.asked.at s in
     let worth : List ℕ → ℕ = λ j. value_of (rules.after state j) in
-    let run = c.args.level.now.run in
-    let a = to_z w16 (of_z w16 c.args.a) in
-    let b = to_z w16 (of_z w16 c.args.b) in
-    let ea : a ≡ c.args.a = to_z-of_z w16 c.args.a c.ranges.a in
-    let eb : b ≡ c.args.b = to_z-of_z w16 c.args.b c.ranges.b in
+    let run = c.args.level.now.moves.run in
+    let a = c.args.window.low in
+    let ea : to_z w16 (of_z w16 a) ≡ a = to_z-of_z w16 a (search facts) in
+    let b = c.args.window.high in
+    let eb : to_z w16 (of_z w16 b) ≡ b = to_z-of_z w16 b (search facts) in
     let r = c.least_judged.result in
     let fits_r : SFits w16 r = search facts in
     let worths : map value_of (g.G.Game.judged c.args.game.now c.judge_last.new.wide) ≡ map worth (turns_in run) =
-    ap (map value_of) (c.judge_last.ensures.after c.if-judge_last.true
+    ap (map value_of) ((c.judge_last.ensures.judged c.if-judge_last.true).after
     ∙ ap (λ (js : List (SmallVec ℕ)). map (λ (j : SmallVec ℕ). rules.after state j.items) (take run.count js)) c.deref.ensures.value)
     ∙ worths_after value_of (rules.after state) (take run.count run.joints.items) in
     rw (to_z-of_z w16 r fits_r)
-    (subst (λ (ws : List ℕ). Answers (least ws) c.args.a c.args.b r) worths (rw (ea, eb) at c.least_judged.ensures))
+    (subst (λ (ws : List ℕ). Answers (least ws) c.args.window.low c.args.window.high r) worths c.least_judged.ensures)
 
 pub least_after-returns-clause-answers : goal.least_after-returns-clause-answers
 least_after-returns-clause-answers g t c =
@@ -847,11 +831,11 @@ least_after-returns-clause-answers g t c =
     let state = g.G.Game.state c.args.game.now c.args.from.now in
     let value_of : List ℕ → ℕ = λ s. value rules c.args.asked.role c.args.asked.depth c.args.asked.at s in
     let worth : List ℕ → ℕ = λ j. value_of (rules.after state j) in
-    let run = c.args.level.now.run in
-    let a = to_z w16 (of_z w16 c.args.a) in
-    let b = to_z w16 (of_z w16 c.args.b) in
-    let ea : a ≡ c.args.a = to_z-of_z w16 c.args.a c.ranges.a in
-    let eb : b ≡ c.args.b = to_z-of_z w16 c.args.b c.ranges.b in
+    let run = c.args.level.now.moves.run in
+    let a = c.args.window.low in
+    let ea : to_z w16 (of_z w16 a) ≡ a = to_z-of_z w16 a (search facts) in
+    let b = c.args.window.high in
+    let eb : to_z w16 (of_z w16 b) ≡ b = to_z-of_z w16 b (search facts) in
     let r = c.least_at.result in
     let fits_r : SFits w16 r = search facts in
     let worths : map value_of (g.G.Game.states c.args.game.now c.steps.new.out) ≡ map worth (turns_in run) =
@@ -859,17 +843,17 @@ least_after-returns-clause-answers g t c =
     ∙ ap (λ (js : List (SmallVec ℕ)). map (λ (j : SmallVec ℕ). rules.after state j.items) (take run.count js)) c.deref.ensures.value)
     ∙ worths_after value_of (rules.after state) (take run.count run.joints.items) in
     rw (to_z-of_z w16 r fits_r)
-    (subst (λ (ws : List ℕ). Answers (least ws) c.args.a c.args.b r) worths (rw (ea, eb) at c.least_at.ensures.answers))
+    (subst (λ (ws : List ℕ). Answers (least ws) c.args.window.low c.args.window.high r) worths c.least_at.ensures.answers)
 
 pub greatest_after-judge_last-requires-clause-joints : goal.greatest_after-judge_last-requires-clause-joints
 greatest_after-judge_last-requires-clause-joints g t c κs within =
-    let rules = g.G.Game.rules c.args.game.now in
-    known_each (λ j. IsTurn rules j) (take c.args.level.now.run.count c.deref.result.now) (rw c.deref.ensures.value c.requires.level.known)
+    steps_of (g.G.Game.rules c.args.game.now) c.args.level.now.moves.run _ c.deref.ensures.value c.requires.level.level.moves.run
+    c.requires.level.some c.requires.level.known
 
 pub greatest_after-steps-requires-clause-joints : goal.greatest_after-steps-requires-clause-joints
 greatest_after-steps-requires-clause-joints g t c =
     let rules = g.G.Game.rules c.args.game.now in
-    known_each (λ j. IsTurn rules j) (take c.args.level.now.run.count c.deref.result.now) (rw c.deref.ensures.value c.requires.level.known)
+    known_each (λ j. IsTurn rules j) (take c.args.level.now.moves.run.count c.deref.result.now) (rw c.deref.ensures.value c.requires.level.known)
 
 pub greatest_after-returns-then-judge_last-clause-answers : goal.greatest_after-returns-then-judge_last-clause-answers
 greatest_after-returns-then-judge_last-clause-answers g t c =
@@ -877,19 +861,19 @@ greatest_after-returns-then-judge_last-clause-answers g t c =
     let state = g.G.Game.state c.args.game.now c.args.from.now in
     let value_of : List ℕ → ℕ = λ s. value rules c.args.asked.role c.args.asked.depth c.args.asked.at s in
     let worth : List ℕ → ℕ = λ j. value_of (rules.after state j) in
-    let run = c.args.level.now.run in
-    let a = to_z w16 (of_z w16 c.args.a) in
-    let b = to_z w16 (of_z w16 c.args.b) in
-    let ea : a ≡ c.args.a = to_z-of_z w16 c.args.a c.ranges.a in
-    let eb : b ≡ c.args.b = to_z-of_z w16 c.args.b c.ranges.b in
+    let run = c.args.level.now.moves.run in
+    let a = c.args.window.low in
+    let ea : to_z w16 (of_z w16 a) ≡ a = to_z-of_z w16 a (search facts) in
+    let b = c.args.window.high in
+    let eb : to_z w16 (of_z w16 b) ≡ b = to_z-of_z w16 b (search facts) in
     let r = c.greatest_judged.result in
     let fits_r : SFits w16 r = search facts in
     let worths : map value_of (g.G.Game.judged c.args.game.now c.judge_last.new.wide) ≡ map worth (turns_in run) =
-    ap (map value_of) (c.judge_last.ensures.after c.if-judge_last.true
+    ap (map value_of) ((c.judge_last.ensures.judged c.if-judge_last.true).after
     ∙ ap (λ (js : List (SmallVec ℕ)). map (λ (j : SmallVec ℕ). rules.after state j.items) (take run.count js)) c.deref.ensures.value)
     ∙ worths_after value_of (rules.after state) (take run.count run.joints.items) in
     rw (to_z-of_z w16 r fits_r)
-    (subst (λ (ws : List ℕ). Answers (greatest ws) c.args.a c.args.b r) worths (rw (ea, eb) at c.greatest_judged.ensures))
+    (subst (λ (ws : List ℕ). Answers (greatest ws) c.args.window.low c.args.window.high r) worths c.greatest_judged.ensures)
 
 pub greatest_after-returns-clause-answers : goal.greatest_after-returns-clause-answers
 greatest_after-returns-clause-answers g t c =
@@ -897,11 +881,11 @@ greatest_after-returns-clause-answers g t c =
     let state = g.G.Game.state c.args.game.now c.args.from.now in
     let value_of : List ℕ → ℕ = λ s. value rules c.args.asked.role c.args.asked.depth c.args.asked.at s in
     let worth : List ℕ → ℕ = λ j. value_of (rules.after state j) in
-    let run = c.args.level.now.run in
-    let a = to_z w16 (of_z w16 c.args.a) in
-    let b = to_z w16 (of_z w16 c.args.b) in
-    let ea : a ≡ c.args.a = to_z-of_z w16 c.args.a c.ranges.a in
-    let eb : b ≡ c.args.b = to_z-of_z w16 c.args.b c.ranges.b in
+    let run = c.args.level.now.moves.run in
+    let a = c.args.window.low in
+    let ea : to_z w16 (of_z w16 a) ≡ a = to_z-of_z w16 a (search facts) in
+    let b = c.args.window.high in
+    let eb : to_z w16 (of_z w16 b) ≡ b = to_z-of_z w16 b (search facts) in
     let r = c.greatest_at.result in
     let fits_r : SFits w16 r = search facts in
     let worths : map value_of (g.G.Game.states c.args.game.now c.steps.new.out) ≡ map worth (turns_in run) =
@@ -909,13 +893,14 @@ greatest_after-returns-clause-answers g t c =
     ∙ ap (λ (js : List (SmallVec ℕ)). map (λ (j : SmallVec ℕ). rules.after state j.items) (take run.count js)) c.deref.ensures.value)
     ∙ worths_after value_of (rules.after state) (take run.count run.joints.items) in
     rw (to_z-of_z w16 r fits_r)
-    (subst (λ (ws : List ℕ). Answers (greatest ws) c.args.a c.args.b r) worths (rw (ea, eb) at c.greatest_at.ensures.answers))
+    (subst (λ (ws : List ℕ). Answers (greatest ws) c.args.window.low c.args.window.high r) worths c.greatest_at.ensures.answers)
 
-pub least_at-child_at-worth-requires-clause-place : goal.least_at-child_at-worth-requires-clause-place
-least_at-child_at-worth-requires-clause-place g t c κs within =
+pub least_at-child_at-requires-clause-place : goal.least_at-child_at-requires-clause-place
+least_at-child_at-requires-clause-place g t c κs within =
     let inside = place_within (length c.args.joints.now) c.order_of-order.result c.loop-place.place 0 c.order_of-order.ensures
     (omega (arith, c.loop-place-test.true)) in
-    omega (arith, c.requires.count)
+    let same : c.loop-place.children.many ≡ c.args.children.now.many = c.loop-place.invariant.same.many in
+    rw same (omega (arith, c.requires.joints.count))
 
 pub least_at-bounds-joints-child : goal.least_at-bounds-joints-child
 least_at-bounds-joints-child g t c =
@@ -926,13 +911,14 @@ pub least_at-offset_bounds-joints-child : goal.least_at-offset_bounds-joints-chi
 least_at-offset_bounds-joints-child g t c =
     let inside = place_within (length c.args.joints.now) c.order_of-order.result c.loop-place.place 0 c.order_of-order.ensures
     (omega (arith, c.loop-place-test.true)) in
-    omega (arith, c.requires.few)
+    omega (arith, c.requires.joints.few)
 
-pub greatest_at-child_at-worth-requires-clause-place : goal.greatest_at-child_at-worth-requires-clause-place
-greatest_at-child_at-worth-requires-clause-place g t c κs within =
+pub greatest_at-child_at-requires-clause-place : goal.greatest_at-child_at-requires-clause-place
+greatest_at-child_at-requires-clause-place g t c κs within =
     let inside = place_within (length c.args.joints.now) c.order_of-order.result c.loop-place.place 0 c.order_of-order.ensures
     (omega (arith, c.loop-place-test.true)) in
-    omega (arith, c.requires.count)
+    let same : c.loop-place.children.many ≡ c.args.children.now.many = c.loop-place.invariant.same.many in
+    rw same (omega (arith, c.requires.joints.count))
 
 pub greatest_at-bounds-joints-child : goal.greatest_at-bounds-joints-child
 greatest_at-bounds-joints-child g t c =
@@ -943,52 +929,58 @@ pub greatest_at-offset_bounds-joints-child : goal.greatest_at-offset_bounds-join
 greatest_at-offset_bounds-joints-child g t c =
     let inside = place_within (length c.args.joints.now) c.order_of-order.result c.loop-place.place 0 c.order_of-order.ensures
     (omega (arith, c.loop-place-test.true)) in
-    omega (arith, c.requires.few)
+    omega (arith, c.requires.joints.few)
 
 pub least_at-loop-place-init : goal.least_at-loop-place-init
 least_at-loop-place-init g t c =
     let rules = g.G.Game.rules c.args.game.now in
-    let states = g.G.Game.states c.args.game.now c.args.many.now in
+    let states = g.G.Game.states c.args.game.now c.args.children.now.many in
     let worth : List ℕ → ℕ = λ s. value rules c.args.asked.role c.args.asked.depth c.args.asked.at s in
-    let a = to_z w16 (of_z w16 c.args.a) in
-    let b = to_z w16 (of_z w16 c.args.b) in
+    let a = c.args.window.low in
+    let ea : to_z w16 (of_z w16 a) ≡ a = to_z-of_z w16 a (search facts) in
+    let b = c.args.window.high in
+    let eb : to_z w16 (of_z w16 b) ≡ b = to_z-of_z w16 b (search facts) in
     let upper = c.least_told-upper.result in
     let fits : SFits w16 upper = search facts in
     let eu : to_z w16 (of_z w16 upper) ≡ upper = to_z-of_z w16 upper fits in
-    let ea : a ≡ c.args.a = to_z-of_z w16 c.args.a c.ranges.a in
-    let eb : b ≡ c.args.b = to_z-of_z w16 c.args.b c.ranges.b in
     record {
-      position = c.requires.position;
       kept = kept_at_first c.requires.fit;
-      position_capacities = refl;
       deep = refl;
-      ahead = c.new_ahead-ahead.ensures states worth (sym c.requires.count);
-      above = le_z_false _ a c.if-upper-a.false;
-      below = rw eu c.least_told-upper.ensures.at_most;
-      at_least = rw eu c.least_told-upper.ensures.at_least;
+      known = record {
+        many = c.requires.children.many;
+        position = c.requires.children.position;
+        ahead = c.new_ahead-children.ensures states worth (sym c.requires.joints.count);
+      };
+      same = record { position = c.requires.children.position; capacities = refl; many = refl };
+      above = rw ea at (le_z_false (to_z w16 (of_z w16 upper)) (to_z w16 (of_z w16 a)) c.if-upper-window.false);
+      below = rw eu (subst (λ (z : ℤ). upper ≤ℤ z) eb c.least_told-upper.ensures.at_most);
+      at_least = rw eu (subst (λ (z : ℤ). int_min (pos (least (map worth states))) z ≤ℤ upper) eb c.least_told-upper.ensures.at_least);
       seen = λ k lt. absurd (omega arith);
     }
 
 pub greatest_at-loop-place-init : goal.greatest_at-loop-place-init
 greatest_at-loop-place-init g t c =
     let rules = g.G.Game.rules c.args.game.now in
-    let states = g.G.Game.states c.args.game.now c.args.many.now in
+    let states = g.G.Game.states c.args.game.now c.args.children.now.many in
     let worth : List ℕ → ℕ = λ s. value rules c.args.asked.role c.args.asked.depth c.args.asked.at s in
-    let a = to_z w16 (of_z w16 c.args.a) in
-    let b = to_z w16 (of_z w16 c.args.b) in
+    let a = c.args.window.low in
+    let ea : to_z w16 (of_z w16 a) ≡ a = to_z-of_z w16 a (search facts) in
+    let b = c.args.window.high in
+    let eb : to_z w16 (of_z w16 b) ≡ b = to_z-of_z w16 b (search facts) in
     let lower = c.greatest_told-lower.result in
     let fits : SFits w16 lower = search facts in
     let el : to_z w16 (of_z w16 lower) ≡ lower = to_z-of_z w16 lower fits in
-    let ea : a ≡ c.args.a = to_z-of_z w16 c.args.a c.ranges.a in
-    let eb : b ≡ c.args.b = to_z-of_z w16 c.args.b c.ranges.b in
     record {
-      position = c.requires.position;
       kept = kept_at_first c.requires.fit;
-      position_capacities = refl;
       deep = refl;
-      ahead = c.new_ahead-ahead.ensures states worth (sym c.requires.count);
-      above = rw el c.greatest_told-lower.ensures.at_least;
-      below = le_z_false b _ c.if-lower-b.false;
-      at_most = rw el c.greatest_told-lower.ensures.at_most;
+      known = record {
+        many = c.requires.children.many;
+        position = c.requires.children.position;
+        ahead = c.new_ahead-children.ensures states worth (sym c.requires.joints.count);
+      };
+      same = record { position = c.requires.children.position; capacities = refl; many = refl };
+      above = rw el (subst (λ (z : ℤ). z ≤ℤ lower) ea c.greatest_told-lower.ensures.at_least);
+      below = rw eb at (le_z_false (to_z w16 (of_z w16 b)) (to_z w16 (of_z w16 lower)) c.if-lower-window.false);
+      at_most = rw el (subst (λ (z : ℤ). lower ≤ℤ int_max (pos (greatest (map worth states))) z) ea c.greatest_told-lower.ensures.at_most);
       seen = λ k lt. absurd (omega arith);
     }

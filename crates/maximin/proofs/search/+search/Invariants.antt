@@ -4,7 +4,7 @@ use Rattle.std.specs.Int.{int_min, int_max}
 use Rattle.statement.specs.Rules.{choices}
 use Rattle.statement.specs.Value.{value, worst, least, greatest}
 use Rattle.maximin.specs.Turns.{StandsAt, later}
-use Rattle.maximin.specs.Ahead.{IsAheadOf}
+use Rattle.maximin.specs.Children.{AreLookedAt, AreSameStates}
 use Rattle.maximin.specs.Tools.{AreKept}
 use Rattle.maximin.specs.Level.{IsLevelOf, level_capacities}
 use Rattle.maximin.proofs.search.+search.Given as goal
@@ -33,11 +33,11 @@ invariant-value_at-loop-own g l =
       kept : AreKept g.G.Game l.game l.fn.tools l.initial.levels l.tools l.levels;
       deep : length l.levels ≡ length l.initial.levels;
       in_list : l.place ≤ length (rules.legal state l.asked.role);
-      above : l.a ≤ℤ l.best;
-      below : l.best <ℤ l.b;
-      at_most : l.best ≤ℤ int_max (pos (value rules l.asked.role l.asked.depth l.asked.at state)) l.a;
+      above : l.window.low ≤ℤ l.best;
+      below : l.best <ℤ l.window.high;
+      at_most : l.best ≤ℤ int_max (pos (value rules l.asked.role l.asked.depth l.asked.at state)) l.window.low;
       seen : (k : ℕ) → k < l.place → int_min (pos
-          (worst rules l.asked.role (l.asked.depth - 1) l.asked.at state (get_or (rules.legal state l.asked.role) k 0))) l.b ≤ℤ l.best;
+          (worst rules l.asked.role (l.asked.depth - 1) l.asked.at state (get_or (rules.legal state l.asked.role) k 0))) l.window.high ≤ℤ l.best;
     }
 
 abbrev pub decreases-value_at-loop-own : goal.decreases-value_at-loop-own
@@ -53,7 +53,7 @@ invariant-worst_at-runs g l =
     let lists = choices rules state l.asked.role l.own in
     let all = worst rules l.asked.role l.asked.depth l.asked.at state l.own in
     let left = least (map (λ j. value rules l.asked.role l.asked.depth l.asked.at (rules.after state j))
-    (l.level.cursor.joint.items ∷ later lists l.level.cursor.places.items)) in
+    (l.level.moves.cursor.joint.items ∷ later lists l.level.moves.cursor.places.items)) in
     record {
       level : IsLevelOf g.G.Game l.game l.level;
       capacities : level_capacities g.G.Game l.game l.level ≡ level_capacities g.G.Game l.game l.initial.level;
@@ -61,37 +61,36 @@ invariant-worst_at-runs g l =
       deep : l.asked.depth ≤ length l.rest;
       some : 0 < l.most;
       few : l.most ≤ 64;
-      stands : StandsAt lists l.level.cursor.places.items l.level.cursor.joint.items;
-      above : l.a <ℤ l.upper;
-      below : l.upper ≤ℤ l.b;
-      at_least : int_min (pos all) l.b ≤ℤ l.upper;
+      stands : StandsAt lists l.level.moves.cursor.places.items l.level.moves.cursor.joint.items;
+      above : l.window.low <ℤ l.upper;
+      below : l.upper ≤ℤ l.window.high;
+      at_least : int_min (pos all) l.window.high ≤ℤ l.upper;
       part : all ≤ left;
-      at_most : int_min l.upper (pos left) ≤ℤ int_max (pos all) l.a;
+      at_most : int_min l.upper (pos left) ≤ℤ int_max (pos all) l.window.low;
     }
 
 abbrev pub decreases-worst_at-runs : goal.decreases-worst_at-runs
 decreases-worst_at-runs g l =
     let rules = g.G.Game.rules l.game in
     let lists = choices rules (g.G.Game.state l.game l.from) l.asked.role l.own in
-    length (later lists l.level.cursor.places.items)
+    length (later lists l.level.moves.cursor.places.items)
 
 -- upper is an upper bound of the answer, and no state so far is worth less, unless it is a or less
 abbrev pub invariant-least_at-loop-place : goal.invariant-least_at-loop-place
 invariant-least_at-loop-place g l =
     let rules = g.G.Game.rules l.game in
-    let states = g.G.Game.states l.game l.many in
+    let states = g.G.Game.states l.game l.fn.children.many in
     let all = least (map (value rules l.asked.role l.asked.depth l.asked.at) states) in
     record {
-      position : g.G.Game.fits l.game l.position;
       kept : AreKept g.G.Game l.game l.fn.tools l.initial.levels l.tools l.levels;
-      position_capacities : g.G.Game.capacities l.game l.position ≡ g.G.Game.capacities l.game l.fn.position;
       deep : length l.levels ≡ length l.initial.levels;
-      ahead : IsAheadOf states (value rules l.asked.role l.asked.depth l.asked.at) l.ahead;
-      above : l.a <ℤ l.upper;
-      below : l.upper ≤ℤ l.b;
-      at_least : int_min (pos all) l.b ≤ℤ l.upper;
+      known : AreLookedAt g.G.Game l.game l.asked l.children;
+      same : AreSameStates g.G.Game l.game l.fn.children l.children;
+      above : l.window.low <ℤ l.upper;
+      below : l.upper ≤ℤ l.window.high;
+      at_least : int_min (pos all) l.window.high ≤ℤ l.upper;
       seen : (k : ℕ) → k < l.place
-          → l.upper ≤ℤ int_max (pos (value rules l.asked.role l.asked.depth l.asked.at (get_or states (get_or l.order k 0) []))) l.a;
+          → l.upper ≤ℤ int_max (pos (value rules l.asked.role l.asked.depth l.asked.at (get_or states (get_or l.order k 0) []))) l.window.low;
     }
 
 abbrev pub decreases-best_at : goal.decreases-best_at
@@ -116,12 +115,12 @@ invariant-best_at-runs g l =
       deep : l.asked.depth ≤ length l.rest;
       some : 0 < l.most;
       few : l.most ≤ 64;
-      stands : StandsAt (choices rules state l.asked.role 0) l.level.cursor.places.items l.level.cursor.joint.items;
+      stands : StandsAt (choices rules state l.asked.role 0) l.level.moves.cursor.places.items l.level.moves.cursor.joint.items;
       in_list : l.place ≤ length (rules.legal state l.asked.role);
-      above : l.a ≤ℤ l.best;
-      below : l.best <ℤ l.b;
-      at_most : l.best ≤ℤ int_max (pos (greatest worths)) l.a;
-      seen : (k : ℕ) → k < l.place → int_min (pos (get_or worths k 0)) l.b ≤ℤ l.best;
+      above : l.window.low ≤ℤ l.best;
+      below : l.best <ℤ l.window.high;
+      at_most : l.best ≤ℤ int_max (pos (greatest worths)) l.window.low;
+      seen : (k : ℕ) → k < l.place → int_min (pos (get_or worths k 0)) l.window.high ≤ℤ l.best;
     }
 
 abbrev pub decreases-best_at-runs : goal.decreases-best_at-runs
@@ -131,17 +130,16 @@ decreases-best_at-runs g l = length ((g.G.Game.rules l.game).legal (g.G.Game.sta
 abbrev pub invariant-greatest_at-loop-place : goal.invariant-greatest_at-loop-place
 invariant-greatest_at-loop-place g l =
     let rules = g.G.Game.rules l.game in
-    let states = g.G.Game.states l.game l.many in
+    let states = g.G.Game.states l.game l.fn.children.many in
     let all = greatest (map (value rules l.asked.role l.asked.depth l.asked.at) states) in
     record {
-      position : g.G.Game.fits l.game l.position;
       kept : AreKept g.G.Game l.game l.fn.tools l.initial.levels l.tools l.levels;
-      position_capacities : g.G.Game.capacities l.game l.position ≡ g.G.Game.capacities l.game l.fn.position;
       deep : length l.levels ≡ length l.initial.levels;
-      ahead : IsAheadOf states (value rules l.asked.role l.asked.depth l.asked.at) l.ahead;
-      above : l.a ≤ℤ l.lower;
-      below : l.lower <ℤ l.b;
-      at_most : l.lower ≤ℤ int_max (pos all) l.a;
+      known : AreLookedAt g.G.Game l.game l.asked l.children;
+      same : AreSameStates g.G.Game l.game l.fn.children l.children;
+      above : l.window.low ≤ℤ l.lower;
+      below : l.lower <ℤ l.window.high;
+      at_most : l.lower ≤ℤ int_max (pos all) l.window.low;
       seen : (k : ℕ) → k < l.place
-          → int_min (pos (value rules l.asked.role l.asked.depth l.asked.at (get_or states (get_or l.order k 0) []))) l.b ≤ℤ l.lower;
+          → int_min (pos (value rules l.asked.role l.asked.depth l.asked.at (get_or states (get_or l.order k 0) []))) l.window.high ≤ℤ l.lower;
     }

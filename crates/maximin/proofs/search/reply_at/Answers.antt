@@ -7,14 +7,11 @@ use Rattle.game.specs.Value.{Answers}
 use Rattle.statement.specs.Value.{value, worst}
 use Rattle.maximin.specs.declared.level.Level.{Level}
 use Rattle.maximin.specs.Turns.{later}
-use Rattle.maximin.specs.Cursor.{cursor_capacities}
-use Rattle.maximin.specs.Run.{run_capacities}
-use Rattle.maximin.specs.Level.{IsLevelOf, level_capacities}
+use Rattle.maximin.specs.Level.{level_capacities}
 use Rattle.maximin.proofs.Values.{turn_known}
 use Rattle.maximin.proofs.Bounds.{worst_at_most}
 use Rattle.maximin.proofs.Windows.{lt_z_true, lt_z_false}
-use Rattle.maximin.proofs.Parts.{four_joined}
-use Rattle.maximin.proofs.Kept.{kept_then, all_levels_kept}
+use Rattle.maximin.proofs.Kept.{kept_then, all_levels_kept, children_kept, level_kept, moves_kept}
 use Rattle.maximin.proofs.Reply.{IsFirstAt, first_start, first_lowered, first_kept, first_next, first_end}
 use Rattle.maximin.proofs.search.reply_at.Goals as goal
 use Rattle.maximin.proofs.search.reply_at.Goals.{then-worth-upper, else-worth-upper}
@@ -32,10 +29,8 @@ loop-upper-init g c =
     let there = c.split_at_mut-first.ensures.by_index.0 0 c.index-first-0.result (omega arith) in
     record {
       level = record {
-        position = rw there first.position;
-        cursor = c.start_turns.ensures.cursor;
-        run = rw there first.run;
-        many = rw there first.many;
+        moves = record { cursor = c.start_turns.ensures.cursor; run = rw there first.moves.run };
+        children = rw there first.children;
       };
       capacities = refl;
       kept = record {
@@ -57,7 +52,7 @@ step-requires-clause-joint g c =
     let rules = g.G.Game.rules c.args.game.now in
     let state = g.G.Game.state c.args.game.now c.args.from.now in
     let law = g.met.G.Game g.world.𝓛 g.world.𝓜 g.world.𝓡 ((λ _ x. x), (λ x. x), (λ x. x), λ x. x) in
-    turn_known rules state c.args.asked.role c.args.own c.loop-upper.level.cursor.places.items c.loop-upper.level.cursor.joint.items
+    turn_known rules state c.args.asked.role c.args.own c.loop-upper.level.moves.cursor.places.items c.loop-upper.level.moves.cursor.joint.items
     c.loop-upper.invariant.stands c.requires.own
     (λ q below. law.legal_within c.args.game.now state q below)
 
@@ -69,8 +64,8 @@ returns-then-not-next_turn-clause-reply g c =
     let worth : List ℕ → ℕ = λ j. value rules c.args.asked.role c.args.asked.depth c.args.asked.at (rules.after state j) in
     let all = worst rules c.args.asked.role c.args.asked.depth c.args.asked.at state c.args.own in
     let turns = turns_with rules state c.args.asked.role c.args.own in
-    let joint = c.loop-upper.level.cursor.joint.items in
-    let behind = later lists c.loop-upper.level.cursor.places.items in
+    let joint = c.loop-upper.level.moves.cursor.joint.items in
+    let behind = later lists c.loop-upper.level.moves.cursor.places.items in
     let upper = to_z w16 c.loop-upper.upper-bits in
     let r = c.value_at-worth.result in
     let fits : SFits w16 r = search facts in
@@ -88,7 +83,7 @@ returns-then-not-next_turn-clause-reply g c =
           c.loop-upper.invariant.is_first)
     ] in
     record {
-      turn = first_end worth turns all joint behind (to_z w16 c.if-worth-upper.upper-bits) c.if-worth-upper.out.items c.if-not-next_turn.ensures.none at;
+      turn = first_end worth turns all joint behind (to_z w16 c.if-worth-upper.upper-bits) c.if-worth-upper.out.items c.if-not-next_turn.ensures.next.none at;
       capacity = elim c.if-worth-upper.branch [
         | then-worth-upper w ↦ rw w.out-is (w.write_joint.ensures.capacity ∙ c.loop-upper.invariant.capacity)
         | else-worth-upper w ↦ rw w.out-is c.loop-upper.invariant.capacity
@@ -103,8 +98,8 @@ loop-upper-preserved g c =
     let worth : List ℕ → ℕ = λ j. value rules c.args.asked.role c.args.asked.depth c.args.asked.at (rules.after state j) in
     let all = worst rules c.args.asked.role c.args.asked.depth c.args.asked.at state c.args.own in
     let turns = turns_with rules state c.args.asked.role c.args.own in
-    let joint = c.loop-upper.level.cursor.joint.items in
-    let behind = later lists c.loop-upper.level.cursor.places.items in
+    let joint = c.loop-upper.level.moves.cursor.joint.items in
+    let behind = later lists c.loop-upper.level.moves.cursor.places.items in
     let upper = to_z w16 c.loop-upper.upper-bits in
     let r = c.value_at-worth.result in
     let fits : SFits w16 r = search facts in
@@ -122,19 +117,16 @@ loop-upper-preserved g c =
           c.loop-upper.invariant.is_first)
     ] in
     let now = c.loop-upper.level in
-    let of_position = g.G.Game.capacities c.args.game.now in
-    let of_many = g.G.Game.many_capacities c.args.game.now in
     record {
       level = record {
-        position = c.step.ensures.fits;
-        cursor = c.next_turn.ensures.cursor;
-        run = c.loop-upper.invariant.level.run;
-        many = c.loop-upper.invariant.level.many;
+        moves = record { cursor = c.next_turn.ensures.cursor; run = c.loop-upper.invariant.level.moves.run };
+        children = record { many = c.loop-upper.invariant.level.children.many; position = c.step.ensures.fits };
       };
-      capacities =
-          four_joined (cursor_capacities c.next_turn.new.cursor) (run_capacities now.run) (of_position c.step.new.q) (of_many now.many)
-          (cursor_capacities now.cursor) (run_capacities now.run) (of_position now.position) (of_many now.many)
-          c.next_turn.ensures.capacities refl c.step.ensures.capacities refl
+      capacities = level_kept g.G.Game c.args.game.now now record { cursor = c.next_turn.new.cursor; run = now.moves.run }
+          record { many = now.children.many; position = c.step.new.q; ahead = now.children.ahead }
+          (moves_kept now.moves c.next_turn.new.cursor now.moves.run c.next_turn.ensures.capacities refl)
+          (children_kept g.G.Game c.args.game.now c.step.new.q now.children.position now.children.many now.children.many
+          c.step.ensures.capacities refl)
           ∙ c.loop-upper.invariant.capacities;
       kept = kept_then c.loop-upper.invariant.kept c.value_at-worth.ensures.kept;
       deep = omega arith;
@@ -142,34 +134,34 @@ loop-upper-preserved g c =
         | then-worth-upper w ↦ rw w.out-is (w.write_joint.ensures.capacity ∙ c.loop-upper.invariant.capacity)
         | else-worth-upper w ↦ rw w.out-is c.loop-upper.invariant.capacity
       ];
-      stands = c.if-not-next_turn.ensures.stands;
+      stands = c.if-not-next_turn.ensures.next.stands;
       is_first = first_next worth turns all joint behind (to_z w16 c.if-worth-upper.upper-bits) c.if-worth-upper.out.items
-          c.next_turn.new.cursor.joint.items (later lists c.next_turn.new.cursor.places.items) c.if-not-next_turn.ensures.next at;
+          c.next_turn.new.cursor.joint.items (later lists c.next_turn.new.cursor.places.items) c.if-not-next_turn.ensures.next.next at;
     }
 
 pub returns-then-not-next_turn-clause-kept : goal.returns-then-not-next_turn-clause-kept
 returns-then-not-next_turn-clause-kept g c =
-    let of_position = g.G.Game.capacities c.args.game.now in
-    let of_many = g.G.Game.many_capacities c.args.game.now in
     let split = c.split_at_mut-first.ensures in
     let old = get_or c.split_at_mut-first.result.0.now 0 c.index-first-0.result in
     let now = c.loop-upper.level in
     let begun : level_capacities g.G.Game c.args.game.now now ≡ level_capacities g.G.Game c.args.game.now old =
     c.loop-upper.invariant.capacities
-    ∙ four_joined (cursor_capacities c.start_turns.new.cursor) (run_capacities old.run) (of_position old.position) (of_many old.many)
-    (cursor_capacities old.cursor) (run_capacities old.run) (of_position old.position) (of_many old.many) c.start_turns.ensures.capacities refl refl
-    refl in
+    ∙ level_kept g.G.Game c.args.game.now old record { cursor = c.start_turns.new.cursor; run = old.moves.run } old.children
+    (moves_kept old.moves c.start_turns.new.cursor old.moves.run c.start_turns.ensures.capacities refl) refl in
     let level : Level g.row.G-Pos.Denot g.row.G-Many.Denot = record {
-      position = c.step.new.q;
-      cursor = c.next_turn.new.cursor;
-      run = now.run;
-      many = now.many;
+      moves = record { cursor = c.next_turn.new.cursor; run = now.moves.run };
+      children = record { many = now.children.many; position = c.step.new.q; ahead = now.children.ahead };
     } in
     let turned : level_capacities g.G.Game c.args.game.now level ≡ level_capacities g.G.Game c.args.game.now now =
-    four_joined (cursor_capacities c.next_turn.new.cursor) (run_capacities now.run) (of_position c.step.new.q) (of_many now.many)
-    (cursor_capacities now.cursor) (run_capacities now.run) (of_position now.position) (of_many now.many)
-    c.next_turn.ensures.capacities refl c.step.ensures.capacities refl in
+    level_kept g.G.Game c.args.game.now now level.moves level.children
+    (moves_kept now.moves c.next_turn.new.cursor now.moves.run c.next_turn.ensures.capacities refl)
+    (children_kept g.G.Game c.args.game.now c.step.new.q now.children.position now.children.many now.children.many
+    c.step.ensures.capacities refl) in
     let is = c.loop-upper.invariant.level in
     all_levels_kept c.args.levels.now c.split_at_mut-first.result.0.now c.split_at_mut-first.result.1.now
-    c.value_at-worth.new.levels level c.index-first-0.result split.value split.front_len (record { position = c.step.ensures.fits; cursor = c.next_turn.ensures.cursor; run = is.run; many = is.many })
+    c.value_at-worth.new.levels level c.index-first-0.result split.value split.front_len
+    record {
+      moves = record { cursor = c.next_turn.ensures.cursor; run = is.moves.run };
+      children = record { many = is.children.many; position = c.step.ensures.fits };
+    }
     (turned ∙ begun) (kept_then c.loop-upper.invariant.kept c.value_at-worth.ensures.kept)

@@ -19,12 +19,12 @@ invariant-loop-upper g l =
       kept : AreKept g.G.Game l.game l.fn.tools l.initial.rest l.tools l.rest;
       deep : l.asked.depth ≤ length l.rest;
       capacity : l.out.capacity ≡ l.fn.out.capacity;
-      stands : StandsAt lists l.level.cursor.places.items l.level.cursor.joint.items;
+      stands : StandsAt lists l.level.moves.cursor.places.items l.level.moves.cursor.joint.items;
       is_first : IsFirst worth (turns_with rules state l.asked.role l.own) (worst rules l.asked.role l.asked.depth l.asked.at state l.own)
-          (l.level.cursor.joint.items ∷ later lists l.level.cursor.places.items) l.upper l.out.items;
+          (l.level.moves.cursor.joint.items ∷ later lists l.level.moves.cursor.places.items) l.upper l.out.items;
     }
 
 abbrev pub decreases-loop-upper : goal.decreases-loop-upper
 decreases-loop-upper g l =
     let rules = g.G.Game.rules l.game in
-    length (later (choices rules (g.G.Game.state l.game l.from) l.asked.role l.own) l.level.cursor.places.items)
+    length (later (choices rules (g.G.Game.state l.game l.from) l.asked.role l.own) l.level.moves.cursor.places.items)

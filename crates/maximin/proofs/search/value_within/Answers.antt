@@ -20,11 +20,11 @@ returns-then-low-high-clause-answers g c =
     let high = to_z w16 (of_z w16 c.min-high.result) in
     let fits_low : SFits w16 c.max-low.result = search facts in
     let fits_high : SFits w16 c.min-high.result = search facts in
-    let low_is : low ≡ int_max c.args.a (pos 0) =
-    to_z-of_z w16 c.max-low.result fits_low ∙ c.max-low.ensures.value ∙ ap (λ z. int_max z (pos 0)) (to_z-of_z w16 c.args.a c.ranges.a) in
-    let high_is : high ≡ int_min c.args.b (pos 100) =
-    to_z-of_z w16 c.min-high.result fits_high ∙ c.min-high.ensures.value ∙ ap (λ z. int_min z (pos 100)) (to_z-of_z w16 c.args.b c.ranges.b) in
-    outside_goals worth c.args.a c.args.b low high few low_is high_is (le_z_true high low c.if-low-high.true)
+    let low_is : low ≡ int_max c.args.window.low (pos 0) =
+    to_z-of_z w16 c.max-low.result fits_low ∙ c.max-low.ensures.value ∙ ap (λ z. int_max z (pos 0)) (to_z-of_z w16 c.args.window.low (search facts)) in
+    let high_is : high ≡ int_min c.args.window.high (pos 100) =
+    to_z-of_z w16 c.min-high.result fits_high ∙ c.min-high.ensures.value ∙ ap (λ z. int_min z (pos 100)) (to_z-of_z w16 c.args.window.high (search facts)) in
+    outside_goals worth c.args.window.low c.args.window.high low high few low_is high_is (le_z_true high low c.if-low-high.true)
 
 pub returns-clause-answers : goal.returns-clause-answers
 returns-clause-answers g c =
@@ -38,12 +38,12 @@ returns-clause-answers g c =
     let fits_low : SFits w16 c.max-low.result = search facts in
     let fits_high : SFits w16 c.min-high.result = search facts in
     let fits_r : SFits w16 c.value_at.result = search facts in
-    let low_is : low ≡ int_max c.args.a (pos 0) =
-    to_z-of_z w16 c.max-low.result fits_low ∙ c.max-low.ensures.value ∙ ap (λ z. int_max z (pos 0)) (to_z-of_z w16 c.args.a c.ranges.a) in
-    let high_is : high ≡ int_min c.args.b (pos 100) =
-    to_z-of_z w16 c.min-high.result fits_high ∙ c.min-high.ensures.value ∙ ap (λ z. int_min z (pos 100)) (to_z-of_z w16 c.args.b c.ranges.b) in
+    let low_is : low ≡ int_max c.args.window.low (pos 0) =
+    to_z-of_z w16 c.max-low.result fits_low ∙ c.max-low.ensures.value ∙ ap (λ z. int_max z (pos 0)) (to_z-of_z w16 c.args.window.low (search facts)) in
+    let high_is : high ≡ int_min c.args.window.high (pos 100) =
+    to_z-of_z w16 c.min-high.result fits_high ∙ c.min-high.ensures.value ∙ ap (λ z. int_min z (pos 100)) (to_z-of_z w16 c.args.window.high (search facts)) in
     rw (to_z-of_z w16 c.value_at.result fits_r)
-    (within_goals worth c.args.a c.args.b low high c.value_at.result few low_is high_is c.value_at.ensures.answers)
+    (within_goals worth c.args.window.low c.args.window.high low high c.value_at.result few low_is high_is c.value_at.ensures.answers)
 
 pub value_at-requires-clause-window : goal.value_at-requires-clause-window
 value_at-requires-clause-window g c κs within =
@@ -51,7 +51,7 @@ value_at-requires-clause-window g c κs within =
     let fits_high : SFits w16 c.min-high.result = search facts in
     let same_low = to_z-of_z w16 c.max-low.result fits_low in
     let same_high = to_z-of_z w16 c.min-high.result fits_high in
-    goals_window c.args.a c.args.b _ _
-    (same_low ∙ c.max-low.ensures.value ∙ ap (λ z. int_max z (pos 0)) (to_z-of_z w16 c.args.a c.ranges.a))
-    (same_high ∙ c.min-high.ensures.value ∙ ap (λ z. int_min z (pos 100)) (to_z-of_z w16 c.args.b c.ranges.b))
+    goals_window c.args.window.low c.args.window.high _ _
+    (same_low ∙ c.max-low.ensures.value ∙ ap (λ z. int_max z (pos 0)) (to_z-of_z w16 c.args.window.low (search facts)))
+    (same_high ∙ c.min-high.ensures.value ∙ ap (λ z. int_min z (pos 100)) (to_z-of_z w16 c.args.window.high (search facts)))
     (le_z_false _ _ c.if-low-high.false)
