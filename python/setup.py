@@ -1,4 +1,5 @@
-"""Packs the shared object that c/build has built with the modules. All else is told in pyproject.toml."""
+"""Packs the shared object that c/build has built with the modules, and the licences of the repository. All else is told in
+pyproject.toml."""
 
 from __future__ import annotations
 
@@ -10,8 +11,10 @@ from setuptools import Distribution, setup
 from setuptools.command.build_py import build_py
 from wheel.bdist_wheel import bdist_wheel
 
-TOP = Path(__file__).resolve().parent.parent
+HERE = Path(__file__).resolve().parent
+TOP = HERE.parent
 LIBRARY = TOP / "c/out/libgdlsolve.so"
+LICENCES = ("LICENSE-APACHE", "LICENSE-MIT", "COPYRIGHT")
 
 
 class WithLibrary(build_py):
@@ -41,5 +44,9 @@ class ForAnyPython(bdist_wheel):
     def get_tag(self) -> tuple[str, str, str]:
         return "py3", "none", super().get_tag()[2]
 
+
+for licence in LICENCES:
+    # setuptools looks for them beside this file alone.
+    shutil.copyfile(TOP / licence, HERE / licence)
 
 setup(distclass=OfPlatform, cmdclass={"build_py": WithLibrary, "bdist_wheel": ForAnyPython})
