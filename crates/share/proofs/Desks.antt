@@ -1,23 +1,24 @@
 -- A desk that is opened and closed.
-use Rattle.std.proofs.Common.{◌≡◌, ℕ, [], ◌∷◌, ◌++◌, length, length-append, suc, ◌∙◌, ap, subst, sym, arith}
+use Rattle.std.proofs.Common.{◌≡◌, ℕ, [], ◌∷◌, ◌++◌, ◌≤◌, length, length-append, suc, ◌∙◌, ap, subst, sym, arith}
 use Rattle.std.proofs.lemmas.List.Elements.{All-pop, All-push}
 use Rattle.std.specs.Prelude.{Some, All, vec_capacity}
 use Rattle.game.specs.declared.game.Game.{Ghosts}
 use Rattle.maximin.specs.Room.{IsRoomOf, room_depth}
 use Rattle.maximin.specs.declared.room.Room.{Room}
 use Rattle.share.specs.Step.{IsStepOf}
-use Rattle.share.specs.Desk.{IsDeskOf}
+use Rattle.share.specs.Desk.{IsDeskOf, IsDeskFor, IsOpenOf}
 use Rattle.share.specs.declared.step.Step.{Step}
 use Rattle.share.specs.declared.desk.Desk.{Desk}
+use Rattle.share.specs.declared.desk.OpenDesk.{OpenDesk}
 
 module _ {G P W M : Type 0} (of : Ghosts G P W M) (game : G) (depth : ℕ) where
   -- the worker's own step is one of the game
-  pub opened_step : (n : ℕ) (d e : Desk G P W M) (s : Step P) → IsDeskOf of game depth n d → d.steps.items ≡ e.steps.items ++ s ∷ []
+  opened_step : (n : ℕ) (d e : Desk G P W M) (s : Step P) → IsDeskOf of game depth n d → d.steps.items ≡ e.steps.items ++ s ∷ []
       → IsStepOf of game s
   opened_step n d e s h is = (All-pop (IsStepOf of game) d.steps.items e.steps.items (Some s) is h.steps).1
 
   -- and what is left is a desk of one level less
-  pub opened_desk : (n m : ℕ) (d e : Desk G P W M) (s : Step P) → n ≡ suc m → IsDeskOf of game depth n d
+  opened_desk : (n m : ℕ) (d e : Desk G P W M) (s : Step P) → n ≡ suc m → IsDeskOf of game depth n d
       → d.steps.items ≡ e.steps.items ++ s ∷ []
       → vec_capacity e.steps ≡ vec_capacity d.steps → e.room ≡ d.room → e.depth ≡ d.depth → IsDeskOf of game depth m e
   opened_desk n m d e s more h is capacity room told = record {
@@ -30,7 +31,7 @@ module _ {G P W M : Type 0} (of : Ghosts G P W M) (game : G) (depth : ℕ) where
   }
 
   -- with the step it is the desk again
-  pub closed_desk : (n m : ℕ) (d e : Desk G P W M) (s : Step P) → n ≡ suc m → IsDeskOf of game depth m e → IsStepOf of game s
+  closed_desk : (n m : ℕ) (d e : Desk G P W M) (s : Step P) → n ≡ suc m → IsDeskOf of game depth m e → IsStepOf of game s
       → d.steps.items ≡ e.steps.items ++ s ∷ []
       → vec_capacity d.steps ≡ vec_capacity e.steps → d.room ≡ e.room → d.depth ≡ e.depth → IsDeskOf of game depth n d
   closed_desk n m d e s more h step is capacity room told = record {
@@ -46,3 +47,23 @@ module _ {G P W M : Type 0} (of : Ghosts G P W M) (game : G) (depth : ℕ) where
   pub desk_at : (depth' n : ℕ) (d : Desk G P W M) → depth' ≡ depth → IsDeskOf of game depth n d
       → IsDeskOf of game depth' n d
   desk_at depth' n d same h = subst (λ (k : ℕ). IsDeskOf of game k n d) (sym same) h
+
+  -- and by the depth to which its worker looks ahead
+  pub desk_for : (reach n : ℕ) (d : Desk G P W M) → reach ≤ depth → IsDeskOf of game depth n d → IsDeskFor of game reach n d
+  desk_for reach n d few h = record { whole = desk_at d.depth n d h.told h; reach = omega (arith, few, h.told) }
+
+  pub opened_parts : (n m : ℕ) (d : Desk G P W M) (o : OpenDesk G P W M) → n ≡ suc m → IsDeskOf of game depth n d
+      → d.steps.items ≡ o.rest.steps.items ++ o.step ∷ []
+      → vec_capacity o.rest.steps ≡ vec_capacity d.steps → o.rest.room ≡ d.room → o.rest.depth ≡ d.depth → IsOpenOf of game depth m o
+  opened_parts n m d o more h is capacity room told = record {
+    own = opened_step n d o.rest o.step h is;
+    behind = opened_desk n m d o.rest o.step more h is capacity room told;
+  }
+
+  pub closed_parts : (n m : ℕ) (d : Desk G P W M) (o : OpenDesk G P W M) → n ≡ suc m → IsOpenOf of game depth m o
+      → d.steps.items ≡ o.rest.steps.items ++ o.step ∷ []
+      → vec_capacity d.steps ≡ vec_capacity o.rest.steps → d.room ≡ o.rest.room → d.depth ≡ o.rest.depth → IsDeskOf of game depth n d
+  closed_parts n m d o more h is capacity room told = closed_desk n m d o.rest o.step more h.behind h.own is capacity room told
+
+  pub open_at : (depth' m : ℕ) (o : OpenDesk G P W M) → depth' ≡ depth → IsOpenOf of game depth m o → IsOpenOf of game depth' m o
+  open_at depth' m o same h = record { own = h.own; behind = desk_at depth' m o.rest same h.behind }
