@@ -144,7 +144,7 @@ class Browser(unittest.TestCase):
         """Presses keys where the focus is."""
         self.browser.switch_to.active_element.send_keys(*keys)
 
-    def wait(self, test: Callable[[], Any], seconds: float = 60) -> None:
+    def wait(self, test: Callable[[], Any], seconds: float = 120) -> None:
         """Waits until something is so. What changes while it is looked at is looked at again."""
         from selenium.common.exceptions import WebDriverException
 

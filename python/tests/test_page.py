@@ -138,6 +138,9 @@ class Games(Served):
                 here = self.ask("position", game=told["id"], after=[])
                 self.assertEqual(here["state"], "open")
                 self.assertIsNotNone(here["facts"])
+                style = TOP / f"games/{name}.board"
+                if style.exists() and json.loads(style.read_text()).get("draw", True):
+                    self.assertEqual(len(here["boards"]), 1)
 
 
 class Positions(Served):
@@ -268,6 +271,15 @@ class Guards(Served):
 
 
 class Ends(unittest.TestCase):
+    def test_a_server_without_an_engine_says_so(self) -> None:
+        known = {**os.environ, "PYTHONPATH": str(TOP / "python"), "GDLSOLVE_PROGRAM": ""}
+        for more, want in (["--program", "/no/program"], "/no/program"), ([], "/no/library"):
+            words = [sys.executable, "-B", "-m", "gdlsolve.page", "--port", "0", *more]
+            known["GDLSOLVE_LIBRARY"] = "/no/library"
+            done = subprocess.run(words, env=known, capture_output=True, text=True, timeout=60)
+            self.assertEqual((done.returncode, done.stdout), (1, ""))
+            self.assertIn(want, done.stderr)
+
     def test_a_killed_server_leaves_no_process(self) -> None:
         known = {**os.environ, "PYTHONPATH": str(TOP / "python")}
         words = [sys.executable, "-B", "-m", "gdlsolve.page", "--port", "0", "--workers", "2"]
@@ -309,6 +321,7 @@ class Places(unittest.TestCase):
         text = "; a (comment\n(role a)\r\n\t(p) q ; (\n(r\n (s))\n"
         self.assertEqual(self.place("refused K4 Unclosed 0", text), (1, 1))
         self.assertEqual(self.place("refused K4 Unclosed 13", text), (2, 1))
+        self.assertEqual(self.place("refused K4 Unclosed 7", ";\n; é (p"), (2, 5))
         for item, want in ((1, (2, 1)), (2, (3, 2)), (3, (3, 6)), (4, (4, 1)), (5, None)):
             self.assertEqual(self.place(f"refused G3 Unsafe {item}", text), want)
         self.assertIsNone(self.place("refused G6 NoRole", text))

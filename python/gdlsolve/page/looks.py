@@ -96,20 +96,21 @@ class Look:
 
     def start(self, work: Callable[[Look], str]) -> None:
         """Begins the work, which says at its end how it ended."""
-        threading.Thread(target=self._run, args=(work,), daemon=True).start()
-        if self.asked.seconds is not None:
-            clock = threading.Timer(self.asked.seconds, self.stop, args=("time",))
-            clock.daemon = True
-            clock.start()
+        seconds = threading.TIMEOUT_MAX if self.asked.seconds is None else self.asked.seconds
+        clock = threading.Timer(seconds, self.stop, args=("time",))
+        clock.daemon = True
+        threading.Thread(target=self._run, args=(work, clock), daemon=True).start()
 
-    def _run(self, work: Callable[[Look], str]) -> None:
-        """Does the work, and notes how it ended."""
+    def _run(self, work: Callable[[Look], str], clock: threading.Timer) -> None:
+        """Does the work under a clock, and notes how it ended."""
+        clock.start()
         try:
             ended, why = work(self), ""
         except Stopped:
             ended, why = "stopped", ""
         except (Failed, Refusal, Misuse, OSError) as fault:
             ended, why = "failed", str(fault)
+        clock.cancel()
         self.task.stop()
         with self.changed:
             self.ended, self.why = self.ended or ended, why

@@ -134,10 +134,12 @@ function fillRefusal(refused, text) {
 
 async function open(question, { turns = [], you = null, at = null } = {}) {
   leave();
-  const told = await ask("open", question);
+  $("game").hidden = true;
+  $("opening").textContent = `Opening ${question.name ? question.name.replaceAll("_", " ") : "these rules"} …`;
+  $("opening").hidden = false;
+  const told = await ask("open", question).finally(() => { $("opening").hidden = true; });
   $("text").value = told.text;
   $("refusal").hidden = !told.refused;
-  $("game").hidden = Boolean(told.refused);
   if (told.refused) {
     now.game = null;
     fillRefusal(told.refused, told.text);
@@ -200,6 +202,7 @@ async function show({ auto = false } = {}) {
   now.source = null;
   remember();
   drawAll();
+  $("game").hidden = false;
   now.auto = auto;
   onward();
 }

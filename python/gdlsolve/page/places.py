@@ -53,9 +53,10 @@ class Place:
 
 
 def place_of(text: bytes, offset: int) -> Place:
-    """The place of a byte."""
+    """The place of a byte; columns count characters."""
     before = text[:offset]
-    return Place(before.count(b"\n") + 1, offset - (before.rfind(b"\n") + 1) + 1)
+    line = before[before.rfind(b"\n") + 1 :]
+    return Place(before.count(b"\n") + 1, len(line.decode(errors="replace")) + 1)
 
 
 def item_starts(text: bytes) -> Iterator[int]:
