@@ -1,0 +1,74 @@
+"""Serves the page on the loopback: python -m gdlsolve.page [--port N] [FOLDER]"""
+
+from __future__ import annotations
+
+import argparse
+import os
+import shlex
+import signal
+import sys
+import webbrowser
+from pathlib import Path
+
+from gdlsolve.page.engine import Engine
+from gdlsolve.page.server import Desk, Server
+
+PORT = 9160
+CLONE = Path(__file__).resolve().parent.parent.parent.parent / "games"
+
+
+def options() -> argparse.Namespace:
+    """The words of the command line."""
+    words = argparse.ArgumentParser(prog="python -m gdlsolve.page", description=__doc__)
+    words.add_argument("folder", type=Path, nargs="?", metavar="FOLDER",
+                       help="the games to choose from, files NAME.kif; else those of the clone")
+    words.add_argument("--port", type=int, default=PORT, help=f"{PORT} if not given; 0: a free one")
+    words.add_argument("--program", default=os.environ.get("GDLSOLVE_PROGRAM", ""),
+                       help="the command of the program; if not given, the library answers")
+    words.add_argument("--workers", type=int, default=max(1, min(4, os.cpu_count() or 1)),
+                       help="how many questions are looked at, at once")
+    words.add_argument("--open", action="store_true", help="open the page in a browser")
+    given = words.parse_args()
+    if given.folder is not None and not given.folder.is_dir():
+        words.error(f"{given.folder} is no folder")
+    if not 1 <= given.workers <= 64:
+        words.error("--workers is a number from 1 to 64")
+    return given
+
+
+def end(number: int, frame: object) -> None:
+    """Ends the server as a key would."""
+    raise KeyboardInterrupt
+
+
+def main() -> int:
+    """Serves the page until it is ended."""
+    given = options()
+    folder = given.folder or (CLONE if CLONE.is_dir() else None)
+    desk = Desk(Engine(shlex.split(given.program), given.workers), folder)
+    told = desk.engine.ask_within(["--version"], b"", 60)
+    if told.status not in (0, 1):
+        print(told.errors.decode(errors="replace"), file=sys.stderr)
+        return 1
+    try:
+        server = Server(desk, given.port)
+    except OSError as fault:
+        print(f"port {given.port}: {fault.strerror}", file=sys.stderr)
+        return 1
+    signal.signal(signal.SIGTERM, end)
+    address = f"http://127.0.0.1:{server.server_address[1]}/"
+    print(f"The page is at {address}", flush=True)
+    if given.open:
+        webbrowser.open(address)
+    try:
+        server.serve_forever()
+    except KeyboardInterrupt:
+        pass
+    finally:
+        desk.close()
+        server.server_close()
+    return 0
+
+
+if __name__ == "__main__":
+    sys.exit(main())

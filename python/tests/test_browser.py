@@ -1,0 +1,317 @@
+"""The page in a browser: headless Chromium, by its driver. Left out where it is not there.
+
+With the variable GDLSOLVE_PICTURES pictures of the page are put into the folder that it names.
+"""
+
+from __future__ import annotations
+
+import importlib.util
+import io
+import os
+import shlex
+import shutil
+import sys
+import threading
+import time
+import unittest
+from collections.abc import Callable
+from pathlib import Path
+from typing import Any
+
+from gdlsolve.page.engine import Engine
+from gdlsolve.page.server import Desk, Server
+from tests import TOP
+
+PROGRAM = os.environ.get("GDLSOLVE_PROGRAM", "")
+PICTURES = os.environ.get("GDLSOLVE_PICTURES", "")
+# Where Debian puts the driver's package, for a Python that is not Debian's.
+PACKAGES = "/usr/lib/python3/dist-packages"
+CHROMIUM = shutil.which("chromium") or shutil.which("chromium-browser")
+DRIVER = shutil.which("chromedriver")
+
+
+def why_not() -> str:
+    """Why there is no browser to test in; empty where there is one."""
+    if not CHROMIUM or not DRIVER:
+        return "there is no chromium, or no chromedriver"
+    if importlib.util.find_spec("selenium") is None and Path(PACKAGES, "selenium").is_dir():
+        sys.path.append(PACKAGES)
+    if importlib.util.find_spec("selenium") is None:
+        return "there is no selenium (python3-selenium)"
+    return ""
+
+
+MISSING = why_not()
+# The contrast of each visible text with its ground, where it is under 4.5 (3 for large letters).
+CONTRAST = """
+const parse = (text) => (text.match(/[\\d.]+/g) || []).map(Number);
+const light = ([r, g, b]) => {
+  const part = (v) => { v /= 255; return v <= .03928 ? v / 12.92 : ((v + .055) / 1.055) ** 2.4; };
+  return .2126 * part(r) + .7152 * part(g) + .0722 * part(b);
+};
+const ground = (element) => {
+  for (let at = element; at; at = at.parentElement) {
+    const colour = parse(getComputedStyle(at).backgroundColor);
+    if (colour.length === 3 || colour[3] > .9) return colour;
+  }
+  return [255, 255, 255];
+};
+const found = [];
+const walker = document.createTreeWalker(document.body, NodeFilter.SHOW_TEXT);
+while (walker.nextNode()) {
+  const element = walker.currentNode.parentElement;
+  if (!walker.currentNode.data.trim() || !element.checkVisibility()) continue;
+  if (element.closest("script, option, .unseen, :disabled")) continue;
+  const style = getComputedStyle(element);
+  const [one, other] = [light(parse(style.color)), light(ground(element))].sort((a, b) => b - a);
+  const ratio = (one + .05) / (other + .05);
+  if (ratio < (parseFloat(style.fontSize) >= 24 ? 3 : 4.5)) {
+    found.push(`${walker.currentNode.data.trim()}: ${ratio.toFixed(2)}`);
+  }
+}
+return found;
+"""
+# What a screen reader would find without a name.
+NAMELESS = """
+const named = (element) => element.getAttribute("aria-label") || element.labels?.length
+  || element.getAttribute("aria-labelledby") || element.textContent.trim();
+const field = (element) => /SELECT|TEXTAREA|INPUT/.test(element.tagName);
+const kinds = "button, a[href], input, textarea, select, [role=tree], progress";
+return [...document.querySelectorAll(kinds)].filter((each) => !named(each)
+  || (field(each) && !each.getAttribute("aria-label") && !each.labels?.length))
+  .map((each) => each.outerHTML.slice(0, 80));
+"""
+
+
+@unittest.skipIf(MISSING, f"the page is not tested in a browser: {MISSING}")
+class Browser(unittest.TestCase):
+    """Tests of one page in one browser."""
+
+    browser: Any
+
+    @classmethod
+    def setUpClass(cls) -> None:
+        from selenium import webdriver
+        from selenium.webdriver.chrome.options import Options
+        from selenium.webdriver.chrome.service import Service
+
+        options = Options()
+        options.binary_location = CHROMIUM
+        options.set_capability("goog:loggingPrefs", {"browser": "ALL"})
+        for word in ("headless=new", "no-sandbox", "disable-gpu", "disable-dev-shm-usage"):
+            options.add_argument(f"--{word}")
+        options.add_argument("--window-size=1200,1000")
+        cls.desk = Desk(Engine(shlex.split(PROGRAM), 3), TOP / "games")
+        cls.addClassCleanup(cls.desk.close)
+        cls.server = Server(cls.desk, 0)
+        threading.Thread(target=cls.server.serve_forever, daemon=True).start()
+        cls.addClassCleanup(cls.server.server_close)
+        cls.addClassCleanup(cls.server.shutdown)
+        cls.browser = webdriver.Chrome(service=Service(DRIVER), options=options)
+        cls.addClassCleanup(cls.browser.quit)
+
+    def setUp(self) -> None:
+        self.browser.get("about:blank")
+
+    def tearDown(self) -> None:
+        said = [line["message"] for line in self.browser.get_log("browser")]
+        self.assertEqual([line for line in said if " 400 " not in line], [])
+
+    def go(self, place: str) -> None:
+        """Opens the page at a place, and looks for a second only."""
+        port = self.server.server_address[1]
+        self.browser.get(f"http://127.0.0.1:{port}/#{place}")
+        self.wait(lambda: self.text("status"))
+        self.pick("seconds", "1")
+
+    def element(self, name: str) -> Any:
+        return self.browser.find_element("id", name)
+
+    def all(self, selector: str) -> list[Any]:
+        return list(self.browser.find_elements("css selector", selector))
+
+    def text(self, name: str) -> str:
+        return str(self.element(name).text)
+
+    def run_js(self, script: str, *given: Any) -> Any:
+        return self.browser.execute_script(script, *given)
+
+    def pick(self, name: str, value: str) -> None:
+        """Takes the option of a list."""
+        self.element(name).find_element("css selector", f'option[value="{value}"]').click()
+
+    def keys(self, *keys: str) -> None:
+        """Presses keys where the focus is."""
+        self.browser.switch_to.active_element.send_keys(*keys)
+
+    def wait(self, test: Callable[[], Any], seconds: float = 120) -> None:
+        """Waits until something is so. What changes while it is looked at is looked at again."""
+        from selenium.common.exceptions import WebDriverException
+
+        end = time.monotonic() + seconds
+        while time.monotonic() < end:
+            try:
+                if test():
+                    return
+            except WebDriverException:
+                pass
+            time.sleep(0.1)
+        self.fail(f"not so within {seconds} s; status: {self.text('status')!r}")
+
+    def picture(self, name: str) -> None:
+        """Puts a picture of the page into a folder, where one is asked for."""
+        if not PICTURES:
+            return
+        sys.path.append(PACKAGES)
+        from PIL import Image
+
+        image = Image.open(io.BytesIO(self.browser.get_screenshot_as_png())).convert("RGB")
+        small = image.quantize(128, dither=Image.Dither.NONE)
+        small.save(Path(PICTURES, f"{name}.png"), optimize=True)
+
+    def check_access(self) -> None:
+        """Each control has a name, and each text can be read on its ground."""
+        self.assertEqual(self.run_js(NAMELESS), [])
+        for ground in ("dark", "light"):
+            asked = {"name": "prefers-color-scheme", "value": ground}
+            self.browser.execute_cdp_cmd("Emulation.setEmulatedMedia", {"features": [asked]})
+            with self.subTest(ground=ground):
+                self.assertEqual(self.run_js(CONTRAST), [])
+
+
+class Play(Browser):
+    def test_tic_tac_toe_is_played_to_its_end(self) -> None:
+        self.go("game=tic_tac_toe")
+        self.element("tell").click()
+        self.pick("seconds", "60")
+        for turn in (0, 2, 4, 6, 8):
+            self.wait(lambda: "Your move" in self.text("status") or self.is_over())
+            if self.is_over():
+                break
+            self.assertEqual(len(self.all("#list button")), turn + 1 if turn else 1)
+            self.wait(lambda: self.all(".board button"))
+            self.all(".board button")[0].click()
+            self.wait(lambda: len(self.all("#list button")) > turn + 1)
+        self.wait(self.is_over)
+        goals = [int(goal.text) for goal in self.all(".goal b")]
+        self.assertEqual(sum(goals), 100)
+        self.assertGreaterEqual(goals[1], 50)
+        self.check_access()
+        self.element("undo").click()
+        self.wait(lambda: "Your move" in self.text("status"))
+
+    def is_over(self) -> bool:
+        return "The game has ended" in self.text("status")
+
+    def test_values_are_told_and_a_move_goes_to_the_next_turn(self) -> None:
+        after = "((mark 1 1) noop) (noop (mark 2 2)) ((mark 3 3) noop) (noop (mark 1 2))"
+        self.go(f"game=tic_tac_toe&you=xplayer&after={after}")
+        self.pick("seconds", "60")
+        self.wait(lambda: "settled" in self.text("looked"))
+        best = [row.get_dom_attribute("data-move") for row in self.all("#rows tr.best")]
+        self.assertEqual(best, ["(mark 3 2)"])
+        self.check_access()
+        self.picture("play")
+        self.all("#tree [role=treeitem]")[0].send_keys("*")
+        self.wait(lambda: len(self.all("#tree > [role=treeitem]")) == 5)
+        self.all("#rows tr.best button")[0].click()
+        self.wait(lambda: "Turn 6" in self.text("status") or self.is_over())
+
+    def test_two_roles_at_once_are_both_asked(self) -> None:
+        self.go("game=matching_pennies&you=a,b")
+        self.wait(lambda: "Your move, a" in self.text("status"))
+        self.all("#rows button")[0].click()
+        self.wait(lambda: "Your move, b" in self.text("status"))
+        self.all("#rows button")[1].click()
+        self.wait(self.is_over)
+        self.assertEqual([goal.text for goal in self.all(".goal b")], ["0", "100"])
+
+    def test_the_keyboard_is_enough(self) -> None:
+        self.go("game=tic_tac_toe&you=xplayer,oplayer")
+        self.wait(lambda: len(self.all(".board button")) == 9)
+        self.run_js("document.querySelector('.board button').focus()")
+        self.keys("\ue015")
+        self.keys("\ue014")
+        name = self.run_js("return document.activeElement.getAttribute('aria-label')")
+        self.assertEqual(name, "column 2, row 2: empty; play (mark 2 2)")
+        self.keys("\ue007")
+        self.wait(lambda: "Your move, oplayer" in self.text("status"))
+        self.browser.find_element("tag name", "body").send_keys(",")
+        self.wait(lambda: not self.text("status").startswith("Turn"))
+        self.browser.find_element("tag name", "body").send_keys(".")
+        self.wait(lambda: self.text("status").startswith("Turn 1: xplayer (mark 2 2)."))
+
+
+class Long(Browser):
+    def test_a_long_look_is_cancelled(self) -> None:
+        self.go("game=connect_four_5x4")
+        self.pick("seconds", "")
+        self.wait(lambda: "turns ahead" in self.text("looked"))
+        self.assertTrue(self.element("stop").is_enabled())
+        self.picture("look")
+        begun = time.monotonic()
+        self.element("stop").click()
+        self.wait(lambda: "Stopped" in self.text("looked"), 10)
+        self.assertLess(time.monotonic() - begun, 10)
+        self.assertFalse(self.element("stop").is_enabled())
+        self.pick("subject", "black")
+        self.wait(lambda: "Moves of black" in self.text("moves-title"))
+
+    def test_the_solver_moves_now_when_it_is_told_to(self) -> None:
+        self.go("game=connect_four_5x4&you=none")
+        self.wait(lambda: len(self.all("#list button")) > 1)
+        self.pick("seat-black", "you")
+        self.pick("seconds", "60")
+        self.wait(lambda: "Your move, black" in self.text("status"))
+        self.all("#rows button")[0].click()
+        self.wait(lambda: self.text("stop") == "Move now")
+        turns = len(self.all("#list button"))
+        self.keys("\ue00c")
+        self.wait(lambda: len(self.all("#list button")) == turns + 1, 10)
+
+
+class Texts(Browser):
+    def put(self, name: str, text: str) -> None:
+        """Puts a text into a field."""
+        self.run_js("arguments[0].value = arguments[1]", self.element(name), text)
+
+    def test_a_refusal_is_shown_at_its_line_and_mended(self) -> None:
+        self.go("game=tic_tac_toe")
+        self.element("write").click()
+        good = "(true (control oplayer)))"
+        rules = (TOP / "games/tic_tac_toe.kif").read_text()
+        bad = rules.replace(f"(next (control xplayer)) {good}", f"(next (control ?who)) {good}")
+        self.put("text", bad)
+        self.element("open").click()
+        self.wait(lambda: self.element("refusal").is_displayed())
+        self.assertIn("refused G3 Unsafe 26", self.text("refusal-told"))
+        self.assertIn("?who", self.all("#refusal-text .at")[0].text)
+        self.assertFalse(self.element("game").is_displayed())
+        self.check_access()
+        self.picture("refusal")
+        self.element("mend").click()
+        start = self.run_js("return document.activeElement.selectionStart")
+        self.assertIn(bad[:start].count("\n"), range(21, 24))
+        self.put("text", rules)
+        self.element("open").click()
+        self.wait(lambda: "Your move" in self.text("status"))
+        self.assertFalse(self.element("refusal").is_displayed())
+
+    def test_a_record_is_stepped_through(self) -> None:
+        self.go("game=nim")
+        self.element("load").click()
+        self.put("record-text", '{"game": "matching_pennies", "moves": [["H", "t"]]}')
+        self.element("take").click()
+        self.wait(lambda: self.element("forward").is_enabled())
+        self.element("forward").click()
+        self.wait(lambda: "The game has ended: a 0, b 100" in self.text("status"))
+        self.element("load").click()
+        self.put("record-text", "((mark 1 1) noop)")
+        self.element("take").click()
+        self.wait(lambda: "does not fit" in self.text("record-fault"))
+
+
+del Browser
+
+if __name__ == "__main__":
+    unittest.main()

@@ -1,0 +1,375 @@
+"""The server of the page over the engine: games, refusals, positions, looks, records, guards."""
+
+import http.client
+import json
+import os
+import shlex
+import signal
+import subprocess
+import sys
+import threading
+import time
+import unittest
+from pathlib import Path
+from typing import Any
+
+from gdlsolve.page import looks, places, records, state
+from gdlsolve.page.engine import Engine, Refused
+from gdlsolve.page.server import Desk, Server
+from tests import TOP
+
+# Where this is set, the page asks this program in place of the library.
+PROGRAM = os.environ.get("GDLSOLVE_PROGRAM", "")
+MARKS = (TOP / "games/tic_tac_toe.kif").read_bytes()
+UNSAFE = "(role a) ; one\n(base p)\n  (<= (next p)\n (not (true ?x)))\n"
+
+
+def children(parent: int) -> set[int]:
+    """The processes below a process."""
+    found: set[int] = set()
+    for each in Path("/proc").glob("[0-9]*/stat"):
+        try:
+            before, _, after = each.read_text().rpartition(")")
+        except OSError:
+            continue
+        if int(after.split()[1]) == parent and after.split()[0] != "Z":
+            number = int(before.split()[0])
+            found |= {number} | children(number)
+    return found
+
+
+def alive(processes: set[int]) -> set[int]:
+    """Which of the processes are there."""
+    return {each for each in processes if Path(f"/proc/{each}").exists()}
+
+
+def turns(*moves: str) -> list[list[str]]:
+    """Turns of two roles that move in turn."""
+    pairs = enumerate(moves)
+    return [["noop", move] if place % 2 else [move, "noop"] for place, move in pairs]
+
+
+def until(test: Any, seconds: float = 20.0) -> bool:
+    """Waits so long for something to be."""
+    end = time.monotonic() + seconds
+    while not test() and time.monotonic() < end:
+        time.sleep(0.05)
+    return bool(test())
+
+
+class Served(unittest.TestCase):
+    """Tests over a server in a thread."""
+
+    @classmethod
+    def setUpClass(cls) -> None:
+        cls.desk = Desk(Engine(shlex.split(PROGRAM), 2), TOP / "games")
+        cls.server = Server(cls.desk, 0)
+        cls.port = cls.server.server_address[1]
+        threading.Thread(target=cls.server.serve_forever, daemon=True).start()
+
+    @classmethod
+    def tearDownClass(cls) -> None:
+        cls.server.shutdown()
+        cls.server.server_close()
+        cls.desk.close()
+
+    def request(
+        self, method: str, path: str, body: bytes = b"", **headers: str
+    ) -> tuple[int, bytes]:
+        link = http.client.HTTPConnection("127.0.0.1", self.port, timeout=60)
+        named = {name.replace("_", "-"): value for name, value in headers.items()}
+        try:
+            link.request(method, path, body, named)
+            answer = link.getresponse()
+            return answer.status, answer.read()
+        finally:
+            link.close()
+
+    def post(self, path: str, body: bytes, **headers: str) -> tuple[int, bytes]:
+        return self.request("POST", path, body, **{"Content_Type": "application/json", **headers})
+
+    def ask(self, what: str, status: int = 200, **question: Any) -> Any:
+        found, body = self.post(f"/api/{what}", json.dumps(question).encode())
+        self.assertEqual(found, status, body)
+        return json.loads(body)
+
+    def opened(self, name: str) -> str:
+        return self.ask("open", name=name)["id"]
+
+    def ended(self, look: int) -> Any:
+        """What a look has found at its end."""
+        told = {"version": -1, "ended": ""}
+        while not told["ended"]:
+            told = self.ask("news", look=look, seen=told["version"])
+        return told
+
+    def looked(
+        self, what: str, name: str, role: str, after: list[list[str]], seconds: float = 60
+    ) -> Any:
+        about = {"game": self.opened(name), "role": role, "after": after, "seconds": seconds}
+        return self.ended(self.ask(what, **about)["look"])
+
+
+class Games(Served):
+    def test_the_games_of_the_folder(self) -> None:
+        games = self.ask("games")["games"]
+        stored = sorted(path.stem for path in (TOP / "games").glob("*.kif"))
+        self.assertEqual([each["name"] for each in games], stored)
+        about = "Tic-tac-toe on a board of three by three cells"
+        self.assertIn({"name": "tic_tac_toe", "about": about}, games)
+
+    def test_a_game_is_opened_by_name_or_text(self) -> None:
+        told = self.ask("open", name="tic_tac_toe")
+        self.assertEqual((told["roles"], told["text"]), (["xplayer", "oplayer"], MARKS.decode()))
+        self.assertEqual(self.ask("open", text=MARKS.decode())["roles"], ["xplayer", "oplayer"])
+        self.assertIn("no game", self.ask("open", 400, name="../games/nim")["error"])
+
+    def test_a_refusal_is_told_at_its_line(self) -> None:
+        told = self.ask("open", text=UNSAFE)["refused"]
+        self.assertEqual((told["code"], told["name"], told["line"]), ("G3", "Unsafe", 3))
+        told = self.ask("open", text="(role a)\n(base p\n")["refused"]
+        self.assertEqual((told["code"], told["line"], told["column"]), ("K4", 2, 1))
+
+    def test_every_stored_game_has_a_position_with_its_state(self) -> None:
+        for name in [each["name"] for each in self.ask("games")["games"]]:
+            with self.subTest(game=name):
+                told = self.ask("open", name=name)
+                self.assertEqual(told["notes"], [])
+                here = self.ask("position", game=told["id"], after=[])
+                self.assertEqual(here["state"], "open")
+                self.assertIsNotNone(here["facts"])
+                style = TOP / f"games/{name}.board"
+                if style.exists() and json.loads(style.read_text()).get("draw", True):
+                    self.assertEqual(len(here["boards"]), 1)
+
+
+class Positions(Served):
+    def test_the_board_and_what_else_holds(self) -> None:
+        game = self.opened("tic_tac_toe")
+        here = self.ask("position", game=game, after=[["(mark 1 3)", "noop"]])
+        cells = here["boards"][0]["cells"]
+        marks = [["".join(piece["name"] for piece in cell) for cell in row] for row in cells]
+        self.assertEqual(marks, [["", "", "x"], ["", "", ""], ["", "", ""]])
+        self.assertEqual(here["facts"], ["(control oplayer)"])
+        self.assertEqual(here["legal"]["xplayer"], ["noop"])
+        self.assertEqual(here["spots"]["oplayer"]["(mark 2 1)"]["press"], [["1", "2"]])
+
+    def test_the_state_is_told_where_play_has_ended(self) -> None:
+        game = self.opened("tic_tac_toe")
+        after = turns("(mark 1 1)", "(mark 2 1)", "(mark 1 2)", "(mark 2 2)", "(mark 1 3)")
+        here = self.ask("position", game=game, after=after)
+        self.assertEqual((here["state"], here["legal"]), ("ended", {}))
+        self.assertEqual(here["goals"], {"xplayer": 100, "oplayer": 0})
+        top = here["boards"][0]["cells"][0]
+        self.assertEqual([piece["name"] for cell in top for piece in cell], ["x", "x", "x"])
+
+    def test_a_history_that_does_not_fit_is_told(self) -> None:
+        game = self.opened("tic_tac_toe")
+        for after, code in ([["noop", "noop"]], "H2"), ([["noop"]], "H1"):
+            told = self.ask("position", game=game, after=after)
+            self.assertEqual(told["refused"]["code"], code)
+        for bad in (None, "", [1], [[1]], ["noop"]):
+            told = self.ask("position", 400, game=game, after=bad)
+            self.assertIn("is a list", told["error"])
+        self.assertIn("not open", self.ask("position", 400, game="0", after=[])["error"])
+
+    def test_what_the_rules_name_stands_in_the_way_of_nothing(self) -> None:
+        rules = (
+            b"(role a)(base see)(base (see_0 legal_0))(input a go)(legal a go)(init see)"
+            b"(<= terminal (true (see_0 legal_0)))"
+        )
+        engine = self.desk.engine
+
+        def ask(words: Any, text: bytes) -> list[str]:
+            if words[0] == "state":
+                words = ["no such command"]
+            return engine.ask_within(words, text, 30).lines()
+
+        self.assertEqual(state.facts(rules, "a", "", ask), ["see"])
+        self.assertEqual(sorted(state.base(rules, "a", ask)), ["(see_0 legal_0)", "see"])
+
+
+class Looks(Served):
+    def values(self, told: Any) -> dict[str, tuple[int, int]]:
+        return {each["move"]: (each["low"], each["high"]) for each in told["moves"]}
+
+    def test_values_of_moves_are_settled(self) -> None:
+        told = self.looked("values", "four_moves", "a", [])
+        self.assertEqual(told["ended"], "settled")
+        self.assertEqual(sorted(low for low, high in self.values(told).values()), [10, 40, 70, 70])
+        told = self.looked("values", "matching_pennies", "a", [])
+        self.assertEqual(self.values(told), {"h": (0, 0), "t": (0, 0)})
+        self.assertEqual([each["line"] for each in told["moves"]], [[["h", "t"]], [["t", "h"]]])
+
+    def test_a_side_alone_holds_against_two_corners(self) -> None:
+        after = turns("(mark 1 1)", "(mark 2 2)", "(mark 3 3)")
+        told = self.looked("values", "tic_tac_toe", "oplayer", after)
+        held = {move for move, bounds in self.values(told).items() if bounds == (50, 50)}
+        self.assertEqual(told["ended"], "settled")
+        self.assertEqual(held, {"(mark 1 2)", "(mark 2 1)", "(mark 2 3)", "(mark 3 2)"})
+
+    def test_replies_are_turns(self) -> None:
+        told = self.looked("replies", "matching_pennies", "b", [])
+        won, lost = (100, 100), (0, 0)
+        self.assertEqual(self.values(told), {"h h": lost, "h t": won, "t h": won, "t t": lost})
+
+    def test_the_solver_takes_a_win(self) -> None:
+        after = turns("(mark 1 1)", "(mark 2 1)", "(mark 1 2)", "(mark 3 3)")
+        told = self.looked("choose", "tic_tac_toe", "xplayer", after)
+        self.assertEqual((told["best"]["move"], told["best"]["value"]), ("(mark 1 3)", 100))
+        self.assertEqual(told["ended"], "settled")
+
+    def test_a_look_ends_with_its_time(self) -> None:
+        begun = time.monotonic()
+        told = self.looked("values", "connect_four_5x4", "red", [], 0.5)
+        self.assertEqual(told["ended"], "time")
+        self.assertLess(time.monotonic() - begun, 15)
+
+    def test_a_long_look_is_stopped_and_its_processes_end(self) -> None:
+        game = self.opened("connect_four_5x4")
+        look = self.ask("values", game=game, role="red", after=[], seconds=None)["look"]
+        self.assertTrue(until(lambda: self.ask("news", look=look, seen=-1)["depth"] >= 2, 60))
+        at_work = children(os.getpid())
+        self.ask("stop", look=look)
+        self.assertEqual(self.ended(look)["ended"], "stopped")
+        self.assertTrue(until(lambda: at_work - children(os.getpid())))
+        self.assertEqual(self.ask("position", game=game, after=[])["state"], "open")
+
+    def test_bad_questions_about_looks_are_told(self) -> None:
+        game = self.opened("nim")
+        about = {"game": game, "role": "first", "after": []}
+        told = self.ask("values", 400, **{**about, "role": "third"}, seconds=1)
+        self.assertIn("no role", told["error"])
+        for seconds in (0, -1, "1", 1e9):
+            told = self.ask("values", 400, **about, seconds=seconds)
+            self.assertIn("time", told["error"])
+        for look in (0, None, "1"):
+            self.assertIn("over", self.ask("news", 400, look=look)["error"])
+        look = self.ask("values", **{**about, "after": [["noop", "noop"]]}, seconds=9)["look"]
+        told = self.ended(look)
+        self.assertEqual((told["ended"], told["why"]), ("failed", "refused H2 NotLegal 1 first"))
+
+
+class Guards(Served):
+    def test_the_files_of_the_page(self) -> None:
+        for path in ("/", "/page.css", "/page.js", "/icon.svg", "/?x=1"):
+            self.assertEqual(self.request("GET", path)[0], 200)
+        for path in ("/server.py", "/../server.py", "/api/games"):
+            self.assertEqual(self.request("GET", path)[0], 404)
+
+    def test_other_pages_are_not_heard(self) -> None:
+        self.assertEqual(self.request("GET", "/", Host="example.org")[0], 403)
+        foreign = f"example.org:{self.port}"
+        self.assertEqual(self.post("/api/games", b"{}", Host=foreign)[0], 403)
+        self.assertEqual(self.post("/api/games", b"{}", Content_Type="text/plain")[0], 400)
+
+    def test_what_is_no_question(self) -> None:
+        for body in (b"", b"[]", b"{", b"\xff"):
+            self.assertEqual(self.post("/api/games", body)[0], 400)
+        self.assertEqual(self.post("/api/none", b"{}")[0], 404)
+        self.assertEqual(self.post("/api/games", b"", Content_Length="999999999")[0], 413)
+
+
+class Ends(unittest.TestCase):
+    def test_a_server_without_an_engine_says_so(self) -> None:
+        known = {**os.environ, "PYTHONPATH": str(TOP / "python"), "GDLSOLVE_PROGRAM": ""}
+        for more, want in (["--program", "/no/program"], "/no/program"), ([], "/no/library"):
+            words = [sys.executable, "-B", "-m", "gdlsolve.page", "--port", "0", *more]
+            known["GDLSOLVE_LIBRARY"] = "/no/library"
+            done = subprocess.run(words, env=known, capture_output=True, text=True, timeout=60)
+            self.assertEqual((done.returncode, done.stdout), (1, ""))
+            self.assertIn(want, done.stderr)
+
+    def test_a_killed_server_leaves_no_process(self) -> None:
+        known = {**os.environ, "PYTHONPATH": str(TOP / "python")}
+        words = [sys.executable, "-B", "-m", "gdlsolve.page", "--port", "0", "--workers", "2"]
+        for number, status in (signal.SIGTERM, 0), (signal.SIGKILL, -signal.SIGKILL):
+            pipe = subprocess.PIPE
+            with (
+                self.subTest(signal=number),
+                subprocess.Popen(words, env=known, stdout=pipe, text=True) as server,
+            ):
+                assert server.stdout is not None
+                port = int(server.stdout.readline().rsplit(":", 1)[1].strip("/\n"))
+                self.begin_long_look(port)
+                below = children(server.pid)
+                self.assertTrue(below)
+                server.send_signal(number)
+                self.assertEqual(server.wait(20), status)
+                self.assertTrue(until(lambda: not alive(below)), alive(below))
+
+    def begin_long_look(self, port: int) -> None:
+        link = http.client.HTTPConnection("127.0.0.1", port, timeout=60)
+        self.addCleanup(link.close)
+
+        def ask(what: str, **question: Any) -> Any:
+            body = json.dumps(question)
+            link.request("POST", f"/api/{what}", body, {"Content-Type": "application/json"})
+            return json.loads(link.getresponse().read())
+
+        game = ask("open", name="connect_four_5x4")["id"]
+        look = ask("values", game=game, role="red", after=[], seconds=None)["look"]
+        self.assertTrue(until(lambda: ask("news", look=look, seen=-1)["depth"] >= 2, 60))
+
+
+class Places(unittest.TestCase):
+    def place(self, line: str, text: str, explanation: str = "") -> tuple[int, int] | None:
+        found = places.where(Refused(line, explanation), text.encode())
+        return (found.line, found.column) if found else None
+
+    def test_offsets_and_items(self) -> None:
+        text = "; a (comment\n(role a)\r\n\t(p) q ; (\n(r\n (s))\n"
+        self.assertEqual(self.place("refused K4 Unclosed 0", text), (1, 1))
+        self.assertEqual(self.place("refused K4 Unclosed 13", text), (2, 1))
+        self.assertEqual(self.place("refused K4 Unclosed 7", ";\n; é (p"), (2, 5))
+        for item, want in ((1, (2, 1)), (2, (3, 2)), (3, (3, 6)), (4, (4, 1)), (5, None)):
+            self.assertEqual(self.place(f"refused G3 Unsafe {item}", text), want)
+        self.assertIsNone(self.place("refused G6 NoRole", text))
+        self.assertIsNone(self.place("refused H2 NotLegal 1 a", text))
+
+    def test_the_engine_knows_better(self) -> None:
+        said = "<input>:4:2: refused G3 Unsafe: no positive literal binds ?x\n"
+        self.assertEqual(self.place("refused G3 Unsafe 1", "(role a)", said), (4, 2))
+
+    def test_each_fault_has_its_words(self) -> None:
+        usage = (TOP / "docs/USAGE.md").read_text()
+        codes = {line.split()[2] for line in usage.splitlines() if line.startswith("| `refused ")}
+        self.assertEqual(codes, set(places.CAUSES))
+
+
+class Records(unittest.TestCase):
+    def test_records_of_the_repository_of_matches(self) -> None:
+        told = {
+            "gameMetaURL": "http://games.ggp.org/base/games/ticTacToe/v0/",
+            "moves": [["( MARK 1 1 )", "noop"]],
+            "states": [],
+        }
+        want = records.Record("ticTacToe", "", [["(mark 1 1)", "noop"]])
+        self.assertEqual(records.record(json.dumps(told)), want)
+        text = '{"game": "nim.kif", "moves": [], "rules": "(role a)"}'
+        self.assertEqual(records.record(text), records.Record("nim", "(role a)", []))
+
+    def test_histories(self) -> None:
+        found = records.record("((mark 1 1) noop) ; first\n(noop ( Mark 2 2))")
+        self.assertEqual(found.turns, [["(mark 1 1)", "noop"], ["noop", "(mark 2 2)"]])
+        self.assertEqual(records.record("").turns, [])
+
+    def test_what_is_no_record(self) -> None:
+        bad = ["1", "[1]", '[["a b"]]', '[[")"]]']
+        moves = [f'{{"moves": {each}}}' for each in bad]
+        for text in ["{", "{}", "(", ")", "noop", *moves]:
+            with self.subTest(text=text), self.assertRaises(records.BadRecord):
+                records.record(text)
+
+
+class Choices(unittest.TestCase):
+    def test_the_worst_reply_says_what_a_move_is_worth(self) -> None:
+        bounds = {"a": (30, 100), "b": (10, 90), "c": (10, 80)}
+        replies = [looks.Reply(("m", reply), *each) for reply, each in bounds.items()]
+        choice = looks.Choice("m", replies)
+        self.assertEqual(choice.bounds(), (10, 80))
+        self.assertEqual(choice.worst().turn, ("m", "c"))
+
+
+if __name__ == "__main__":
+    unittest.main()
