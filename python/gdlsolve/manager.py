@@ -1,0 +1,296 @@
+"""A referee of matches for players over HTTP.
+
+    python -m gdlsolve.manager GAME.kif --player http://127.0.0.1:9147 --player random
+
+Each player has the start clock to get ready, and the play clock for each move. For one that fails,
+and for a role that is `random`, a legal move is chosen at random. The record of the match is JSON;
+it is written behind each turn, and a match that was broken off goes on from it.
+"""
+
+from __future__ import annotations
+
+import argparse
+import http
+import http.client
+import json
+import random
+import socket
+import sys
+import threading
+import time
+from collections.abc import Callable, Sequence
+from concurrent.futures import ThreadPoolExecutor
+from dataclasses import asdict, dataclass, field
+from functools import partial
+from pathlib import Path
+from urllib.parse import urlsplit
+
+import gdlsolve
+from gdlsolve.calls import Refusal
+from gdlsolve.engine import Turn, history
+from gdlsolve.messages import Malformed, tree, trees
+from gdlsolve.replies import Position, State
+
+RANDOM = "random"
+# An answer is no longer, in bytes.
+MOST_BYTES = 1 << 20
+# So long a player may take for what ends a match, in seconds.
+FAREWELL = 5.0
+
+
+@dataclass
+class Record:
+    """A match as JSON tells it. Errors are texts, empty where the role's own move was played."""
+
+    matchId: str
+    game: str
+    rules: str
+    roles: list[str]
+    players: list[str]
+    startClock: float
+    playClock: float
+    startTime: int
+    moves: list[list[str]] = field(default_factory=list)
+    errors: list[list[str]] = field(default_factory=list)
+    seconds: list[list[float]] = field(default_factory=list)
+    isCompleted: bool = False
+    state: str = State.OPEN.value
+    goalValues: list[int] = field(default_factory=list)
+
+    def write(self, file: Path | None) -> None:
+        """Puts the record in place of the last one, whole or not at all."""
+        if file is not None:
+            new = file.with_name(file.name + ".new")
+            new.write_text(json.dumps(asdict(self), indent=1) + "\n")
+            new.replace(file)
+
+    @classmethod
+    def read(cls, file: Path) -> Record:
+        """The record in a file."""
+        try:
+            told = json.loads(file.read_text())
+            found = cls(**{name: told[name] for name in cls.__dataclass_fields__})
+        except (KeyError, TypeError, ValueError) as fault:
+            raise ValueError(f"{file} is no record of a match: {fault!r}") from None
+        lengths = {len(found.moves), len(found.errors), len(found.seconds)}
+        if len(lengths) != 1 or len(found.players) != len(found.roles):
+            raise ValueError(f"{file} is no record of a match: its lists differ in length")
+        return found
+
+
+@dataclass(frozen=True)
+class Told:
+    """What a player answered, why there is nothing, and after how many seconds."""
+
+    text: str | None
+    error: str
+    seconds: float
+
+
+def reached(player: str, seconds: float) -> tuple[http.client.HTTPConnection, str]:
+    """A connection to a player, and its path there."""
+    where = urlsplit(player)
+    if where.scheme != "http" or not where.hostname:
+        raise ValueError(f"{player} is no http://HOST:PORT")
+    link = http.client.HTTPConnection(where.hostname, where.port or 80, timeout=seconds)
+    return link, where.path or "/"
+
+
+def asked(link: http.client.HTTPConnection, path: str, message: str, until: float) -> str:
+    """The answer to a message. At the clock the connection is cut, however slowly it comes."""
+    link.connect()
+    cut = partial(link.sock.shutdown, socket.SHUT_RDWR)
+    clock = threading.Timer(max(until - time.monotonic(), 0.001), cut)
+    clock.daemon = True
+    clock.start()
+    try:
+        link.request("POST", path, message.encode(), {"Content-Type": "text/acl"})
+        answer = link.getresponse()
+        text = answer.read(MOST_BYTES).decode(errors="replace").strip()
+        if answer.status != http.HTTPStatus.OK:
+            raise http.client.HTTPException(f"status {answer.status} {text[:200]}")
+        return text
+    finally:
+        clock.cancel()
+
+
+def post(player: str, message: str, seconds: float) -> Told:
+    """Sends a message to a player, and waits so long for the answer."""
+    begun = time.monotonic()
+    link, path = reached(player, max(seconds, 0.001))
+    text, error = None, ""
+    try:
+        text = asked(link, path, message, begun + seconds)
+    except (OSError, http.client.HTTPException) as fault:
+        error = str(fault) or repr(fault)
+    finally:
+        link.close()
+    took = time.monotonic() - begun
+    if took >= seconds:
+        text, error = None, "late"
+    return Told(text, error, round(took, 3))
+
+
+class Referee:
+    """Leads a match: tells the players, takes their moves, and keeps the record."""
+
+    def __init__(self, record: Record, dice: random.Random, slack: float, file: Path | None):
+        self.record, self.dice, self.slack, self.file = record, dice, slack, file
+        self.here: Position = gdlsolve.moves(record.rules, self.turns)
+        # The players that were not ready, and why.
+        self.failed: list[str] = []
+
+    @property
+    def turns(self) -> list[Turn]:
+        """The turns so far."""
+        return [tuple(moves) for moves in self.record.moves]
+
+    def tell(self, message: Callable[[str], str], seconds: float) -> list[Told]:
+        """What each player says to the message to its role; those at random are not asked."""
+
+        def one(role: str, player: str) -> Told:
+            if player == RANDOM:
+                return Told(None, "", 0.0)
+            return post(player, message(role), seconds)
+
+        with ThreadPoolExecutor(len(self.record.roles)) as threads:
+            return list(threads.map(one, self.record.roles, self.record.players))
+
+    def tell_turn(self, word: str, last: Sequence[Turn], seconds: float) -> list[Told]:
+        """What each player says to a message with the last of these turns."""
+        text = f"({word} {self.record.matchId} {history(last[-1:]) or 'NIL'})"
+        return self.tell(lambda role: text, seconds)
+
+    def start(self) -> list[str]:
+        """Begins the match at each player, and tells it the turns so far. Gives what failed."""
+        record = self.record
+        rules = "(" + " ".join(trees(record.rules)) + ")"
+        clocks = f"{record.startClock:g} {record.playClock:g}"
+        told = self.tell(
+            lambda role: f"(START {record.matchId} {role} {rules} {clocks})",
+            record.startClock + self.slack,
+        )
+        turns = self.turns
+        for done in range(len(turns)):
+            self.tell_turn("PLAY", turns[:done], record.playClock + self.slack)
+        return [
+            f"{role}: {one.error or one.text}"
+            for role, player, one in zip(record.roles, record.players, told)
+            if player != RANDOM and (one.text or "").lower() != "ready"
+        ]
+
+    def move(self, role: str, told: Told) -> tuple[str, str]:
+        """The move of a role, and what was wrong with its own."""
+        legal, error = self.here.legal[role], told.error
+        if told.text is not None:
+            try:
+                own = tree(told.text)
+                if own in legal:
+                    return own, ""
+            except Malformed:
+                pass
+            error = f"not legal: {told.text[:200]}"
+        return self.dice.choice(legal), error
+
+    def turn(self) -> None:
+        """Plays a turn."""
+        record = self.record
+        told = self.tell_turn("PLAY", self.turns, record.playClock + self.slack)
+        found = [self.move(role, one) for role, one in zip(record.roles, told)]
+        record.moves.append([move for move, _ in found])
+        record.errors.append([error for _, error in found])
+        record.seconds.append([one.seconds for one in told])
+        self.here = gdlsolve.moves(record.rules, self.turns)
+
+    def note(self) -> None:
+        """Puts down how the match stands."""
+        self.record.state = self.here.state.value
+        self.record.isCompleted = self.here.state is State.ENDED
+        self.record.goalValues = [self.here.goals[role] for role in self.here.goals]
+        self.record.write(self.file)
+
+    def play(self, most_turns: int) -> Record:
+        """Plays to the end, or to so many turns."""
+        self.failed = self.start()
+        self.note()
+        while self.here.state is State.OPEN and len(self.record.moves) < most_turns:
+            self.turn()
+            self.note()
+        self.tell_turn("STOP", self.turns, FAREWELL)
+        return self.record
+
+
+def made(given: argparse.Namespace) -> Record:
+    """The record of a new match."""
+    rules = given.rules.read_bytes().decode(errors="replace")
+    roles = list(gdlsolve.check(rules).roles)
+    if len(given.player) > len(roles):
+        raise ValueError(f"there are {len(given.player)} players, and {len(roles)} roles")
+    players = given.player + [RANDOM] * (len(roles) - len(given.player))
+    now = time.time_ns()
+    name = given.id or f"{given.rules.stem}.{now // 1_000_000}"
+    clocks = float(given.start), float(given.play)
+    return Record(name, given.rules.name, rules, roles, players, *clocks, now // 1_000_000)
+
+
+def resumed(given: argparse.Namespace) -> Record:
+    """The record of a match that goes on. It has another name, since players may know the old one
+    with other turns; at those it is ended."""
+    record = Record.read(given.resume)
+    for player in dict.fromkeys(record.players):
+        if player != RANDOM:
+            post(player, f"(ABORT {record.matchId})", FAREWELL)
+    if given.player:
+        if len(given.player) != len(record.roles):
+            raise ValueError(f"there are {len(record.roles)} roles: name a player for each")
+        record.players = given.player
+    record.matchId = given.id or f"{record.matchId}.{len(record.moves)}"
+    return record
+
+
+def options(words: Sequence[str] | None) -> argparse.Namespace:
+    """What the command line asks for."""
+    known = argparse.ArgumentParser(prog="gdlsolve-manager", description="Referees a match.")
+    known.add_argument("rules", type=Path, nargs="?", help="the rules of the game")
+    known.add_argument("--resume", type=Path, help="go on with the match of this record")
+    known.add_argument(
+        "--player", action="append", default=[], help="a URL or random, for each role in order"
+    )
+    known.add_argument("--start", type=float, default=10.0, help="the start clock, in seconds")
+    known.add_argument("--play", type=float, default=5.0, help="the play clock, in seconds")
+    known.add_argument("--slack", type=float, default=0.5, help="seconds beyond a clock")
+    known.add_argument("--turns", type=int, default=200, help="break off after so many")
+    known.add_argument("--seed", help="what moves at random come from")
+    known.add_argument("--id", help="the name of the match")
+    known.add_argument("--record", type=Path, help="where the record is written")
+    found = known.parse_args(words)
+    if (found.rules is None) == (found.resume is None):
+        known.error("either rules or a record to go on with")
+    if min(found.start, found.play, found.slack) < 0:
+        known.error("a clock is below 0")
+    return found
+
+
+def main(words: Sequence[str] | None = None) -> int:
+    """The command `gdlsolve-manager`."""
+    given = options(words)
+    try:
+        record = resumed(given) if given.resume else made(given)
+        file = given.record or given.resume
+        referee = Referee(record, random.Random(given.seed), given.slack, file)
+        referee.play(given.turns)
+        for failed in referee.failed:
+            print(f"not ready: {failed}", file=sys.stderr)
+    except (Refusal, ValueError, OSError) as fault:
+        print(fault, file=sys.stderr)
+        return 1
+    wrong = sum(1 for turn in record.errors for error in turn if error)
+    count = f"{len(record.moves)} turns, {wrong} failed moves"
+    print(f"{record.matchId}: {record.state} after {count}")
+    for role, goal in zip(record.roles, record.goalValues):
+        print(f"{role} {goal}")
+    return 0
+
+
+if __name__ == "__main__":
+    sys.exit(main())

@@ -1,0 +1,99 @@
+"""Players over HTTP for tests, on the loopback alone, and what is said to them."""
+
+from __future__ import annotations
+
+import re
+import sys
+import tempfile
+import threading
+import time
+import urllib.error
+import urllib.request
+from collections.abc import Sequence
+from pathlib import Path
+from typing import Any
+from unittest import TestCase
+
+from gdlsolve.player import Options, Player, Server
+from tests import TOP
+
+HANGING = Path(__file__).with_name("hanging.py")
+# A machine may be busy: so long an answer is waited for that has to come.
+LONG = 60.0
+
+
+def is_alive(process: int) -> bool:
+    """Whether a process runs; one that ended and is not yet waited for does not."""
+    try:
+        return Path(f"/proc/{process}/stat").read_text().rsplit(")", 1)[1].split()[0] != "Z"
+    except (FileNotFoundError, ProcessLookupError):
+        return False
+
+
+def wait_for_end(process: int, seconds: float = LONG) -> bool:
+    """Whether a process ends in time."""
+    until = time.monotonic() + seconds
+    while is_alive(process) and time.monotonic() < until:
+        time.sleep(0.02)
+    return not is_alive(process)
+
+
+def rules_of(game: str) -> str:
+    """The rules of a game as a message tells them."""
+    text = (TOP / f"games/{game}.kif").read_text()
+    return "(" + re.sub(r";[^\n]*", "", text) + ")"
+
+
+def post(url: str, message: str | bytes, seconds: float = LONG) -> tuple[int, str]:
+    """The status and the text of the answer to a message."""
+    body = message if isinstance(message, bytes) else message.encode()
+    try:
+        with urllib.request.urlopen(urllib.request.Request(url, body), timeout=seconds) as found:
+            return found.status, found.read().decode()
+    except urllib.error.HTTPError as fault:
+        with fault:
+            return fault.code, fault.read().decode()
+
+
+class Served:
+    """A player that serves while a test runs."""
+
+    def __init__(self, test: TestCase, command: Sequence[str] | None = None, **options: Any):
+        self.player = Player(Options(is_quiet=True, **options), command)
+        self.server = Server("127.0.0.1", 0, self.player)
+        self.url = f"http://127.0.0.1:{self.server.server_address[1]}"
+        thread = threading.Thread(target=self.server.serve_forever, args=(0.05,), daemon=True)
+        thread.start()
+        test.addCleanup(self.close)
+
+    def close(self) -> None:
+        """Ends the player."""
+        self.server.shutdown()
+        self.server.server_close()
+        self.player.close()
+
+    def says(self, message: str) -> str:
+        """The answer to a message that is one."""
+        status, text = post(self.url, message)
+        if status != 200:
+            raise AssertionError(f"{status} {text}")
+        return text
+
+    def start(self, name: str, game: str, role: str, clocks: str) -> str:
+        """The answer to the message that begins a match."""
+        return self.says(f"(START {name} {role} {rules_of(game)} {clocks})")
+
+
+class Held:
+    """The command of a solver that hangs at what a test says."""
+
+    def __init__(self, test: TestCase):
+        folder = tempfile.TemporaryDirectory()
+        test.addCleanup(folder.cleanup)
+        self.file = Path(folder.name) / "held"
+        self.at("")
+        self.command = [sys.executable, str(HANGING), str(self.file)]
+
+    def at(self, words: str) -> None:
+        """From now on it hangs at these commands."""
+        self.file.write_text(words)

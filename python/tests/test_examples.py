@@ -1,0 +1,55 @@
+"""The examples at the terminal, with what is typed on their standard input."""
+
+import os
+import subprocess
+import sys
+import unittest
+
+from tests import TOP
+
+
+def ran(example: str, words: list[str], typed: str) -> tuple[int, list[str], str]:
+    """The exit status of an example, the lines that it writes, and what it says of faults."""
+    known = {**os.environ, "PYTHONPATH": str(TOP / "python")}
+    command = [sys.executable, "-B", str(TOP / "examples" / example), *words]
+    done = subprocess.run(
+        command, input=typed, capture_output=True, env=known, check=False, text=True
+    )
+    return done.returncode, done.stdout.splitlines(), done.stderr
+
+
+class Play(unittest.TestCase):
+    def test_a_game_is_played_to_its_end(self) -> None:
+        words = [str(TOP / "games/nim.kif"), "--time", "30"]
+        status, lines, errors = ran("play.py", words, "1\n" * 20)
+        self.assertEqual((status, errors, lines[0]), (0, "", "you are first"))
+        # Whoever takes 1 from the first heap leaves 2 and 4, with which the other wins.
+        self.assertEqual(lines[-2:], ["first 0", "second 100"])
+        self.assertIn("(sure of 100)", "\n".join(lines))
+
+    def test_a_move_is_taken_back(self) -> None:
+        words = [str(TOP / "games/tic_tac_toe.kif"), "--time", "0.5"]
+        typed = "(MARK 2  2)\nback\n5\nno such move\nquit\n"
+        status, lines, errors = ran("play.py", words, typed)
+        self.assertEqual((status, errors), (0, ""))
+        self.assertEqual(sum(line.endswith("  9  (mark 3 3)") for line in lines), 2)
+        self.assertIn("> a number, a legal move, back or quit", lines)
+
+    def test_what_is_no_role_or_no_game(self) -> None:
+        status, _, errors = ran("play.py", [str(TOP / "games/nim.kif"), "--role", "third"], "")
+        self.assertEqual((status, errors), (1, "third is none of the roles first, second\n"))
+        status, _, errors = ran("play.py", [str(TOP / "examples/solve.c")], "")
+        self.assertEqual(status, 1)
+        self.assertTrue(errors.startswith("refused K"))
+
+
+class Referee(unittest.TestCase):
+    def test_a_match(self) -> None:
+        words = [str(TOP / "games/nim.kif"), "--depth", "7", "--seed", "1"]
+        status, lines, errors = ran("referee.py", words, "")
+        self.assertEqual((status, errors), (0, ""))
+        self.assertEqual([line.split() for line in lines[-2:]], [["first", "100"], ["second", "0"]])
+
+
+if __name__ == "__main__":
+    unittest.main()

@@ -1,0 +1,225 @@
+"""Matches over HTTP: player against player, players that fail, records, and matches that go on."""
+
+import json
+import os
+import random
+import subprocess
+import sys
+import tempfile
+import threading
+import time
+import unittest
+from collections.abc import Callable, Sequence
+from concurrent.futures import ThreadPoolExecutor
+from http.server import BaseHTTPRequestHandler, ThreadingHTTPServer
+from pathlib import Path
+from typing import Any
+
+import gdlsolve
+from gdlsolve import State
+from gdlsolve.manager import Record, Referee, made, options, resumed
+from tests import TOP
+from tests.serving import Served
+
+# Games, and what roles are sure of from the start: nothing less is the goal of the match.
+MATCHES: list[tuple[str, dict[str, int]]] = [
+    ("tic_tac_toe", {}),
+    ("hexapawn", {"black": 100}),
+    ("nim", {"first": 100}),
+    ("domineering", {"upright": 100}),
+    ("connect_three", {"red": 50, "black": 50}),
+    ("auction", {"east": 50, "west": 50}),
+    ("cake", {"anna": 30}),
+    ("rock_paper_scissors", {}),
+    ("blotto", {}),
+    ("lights_out", {"player": 100}),
+    ("queens", {"player": 100}),
+    ("dead_end", {"walker": 80}),
+    ("breakthrough_3x4", {}),
+]
+
+
+def game(name: str) -> str:
+    """The file of a game."""
+    return str(TOP / f"games/{name}.kif")
+
+
+def played(words: Sequence[str], seed: int = 1) -> Record:
+    """The record of a match with these words for the manager."""
+    given = options(words)
+    record = resumed(given) if given.resume else made(given)
+    file = given.record or given.resume
+    return Referee(record, random.Random(seed), given.slack, file).play(given.turns)
+
+
+class Odd:
+    """A server that answers in its own way, while a test runs."""
+
+    def __init__(self, test: unittest.TestCase, says: Callable[[str], str | None]):
+        heard = self.heard = list[str]()
+
+        class Handler(BaseHTTPRequestHandler):
+            def do_POST(self) -> None:
+                text = self.rfile.read(int(self.headers["Content-Length"])).decode()
+                heard.append(text)
+                told = says(text)
+                if told is None:
+                    self.send_error(500)
+                    return
+                self.send_response(200)
+                self.end_headers()
+                self.wfile.write(told.encode())
+
+            def log_message(self, format: str, *words: Any) -> None:
+                pass
+
+        class Server(ThreadingHTTPServer):
+            daemon_threads = True
+
+            def handle_error(self, request: Any, client_address: Any) -> None:
+                pass
+
+        self.server = Server(("127.0.0.1", 0), Handler)
+        self.url = f"http://127.0.0.1:{self.server.server_address[1]}"
+        threading.Thread(target=self.server.serve_forever, args=(0.05,), daemon=True).start()
+        test.addCleanup(self.server.server_close)
+        test.addCleanup(self.server.shutdown)
+
+
+class Matches(unittest.TestCase):
+    def judge(self, record: Record) -> None:
+        """The record tells a match by the rules, and its goals."""
+        position = gdlsolve.moves(record.rules, record.moves)
+        self.assertEqual((record.state, record.isCompleted), ("ended", True))
+        self.assertEqual(position.state, State.ENDED)
+        self.assertEqual(dict(zip(record.roles, record.goalValues)), position.goals)
+
+    def test_player_against_player(self) -> None:
+        # A player takes one role of a match.
+        served = [Served(self, matches=4) for _ in range(3)]
+
+        def play(name: str) -> Record:
+            roles = gdlsolve.check(Path(game(name)).read_bytes()).roles
+            players = [each.url for each, _ in zip(served, roles)]
+            words = [word for player in players for word in ("--player", player)]
+            clocks = ["--start", "20", "--play", "2", "--slack", "3"]
+            return played([game(name), *clocks, *words])
+
+        with ThreadPoolExecutor(4) as threads:
+            records = list(threads.map(play, [name for name, _ in MATCHES]))
+        for record, (name, sure) in zip(records, MATCHES):
+            with self.subTest(game=name):
+                self.judge(record)
+                self.assertEqual({error for turn in record.errors for error in turn}, {""})
+                goals = dict(zip(record.roles, record.goalValues))
+                for role, least in sure.items():
+                    self.assertGreaterEqual(goals[role], least)
+        self.assertEqual([each.player.matches for each in served], [{}] * 3)
+
+    def test_against_moves_at_random(self) -> None:
+        served = Served(self)
+        for seed in range(3):
+            clocks = ["--start", "20", "--play", "2", "--slack", "3"]
+            players = ["--player", "random", "--player", served.url]
+            record = played([game("hexapawn"), *clocks, *players], seed)
+            self.judge(record)
+            self.assertEqual(record.goalValues, [0, 100])
+        alone = [played([game("draft")], 5).moves for _ in range(2)]
+        self.assertEqual(alone[0], alone[1])
+
+    def test_players_that_fail_have_moves_at_random(self) -> None:
+        def slow(text: str) -> str:
+            time.sleep(3)
+            return "ready"
+
+        for says, error in [
+            (lambda text: "noop", "not legal: noop"),
+            (lambda text: "((", "not legal: (("),
+            (lambda text: "", "not legal: "),
+            (lambda text: None, "status 500"),
+            (slow, "late"),
+        ]:
+            odd = Odd(self, says)
+            words = ["--start", "0.2", "--play", "0.2", "--slack", "0", "--player", odd.url]
+            record = played([game("matching_pennies"), *words])
+            self.judge(record)
+            self.assertEqual((len(record.errors), record.errors[0][1]), (1, ""))
+            self.assertTrue(record.errors[0][0].startswith(error), record.errors)
+        record = played([game("matching_pennies"), "--player", "http://127.0.0.1:1"])
+        self.judge(record)
+        self.assertNotEqual(record.errors[0][0], "")
+
+    def test_what_players_are_told(self) -> None:
+        odd = Odd(self, lambda text: "READY" if text.startswith("(START") else " H\n")
+        words = ["--id", "m", "--start", "7", "--play", "1.5", "--player", odd.url]
+        record = played([game("matching_pennies"), *words])
+        self.assertEqual([move for move, _ in record.moves], ["h"])
+        start, play, stop = odd.heard
+        self.assertRegex(start, r"^\(START m a \(\(role a\) .*\) 7 1.5\)$")
+        self.assertEqual(play, "(PLAY m NIL)")
+        self.assertEqual(stop, f"(STOP m (h {record.moves[0][1]}))")
+
+
+class Records(unittest.TestCase):
+    def setUp(self) -> None:
+        folder = tempfile.TemporaryDirectory()
+        self.addCleanup(folder.cleanup)
+        self.file = Path(folder.name) / "match.json"
+
+    def test_a_record_is_read_as_it_was_written(self) -> None:
+        record = played([game("nim"), "--record", str(self.file)])
+        self.assertEqual(Record.read(self.file), record)
+        told = json.loads(self.file.read_text())
+        self.assertEqual(told["roles"], ["first", "second"])
+        self.assertEqual(len(told["moves"]), len(told["seconds"]))
+
+    def test_a_match_goes_on(self) -> None:
+        served = Served(self)
+        clocks = ["--start", "20", "--play", "2", "--slack", "3", "--id", "m"]
+        players = ["--player", served.url, "--player", "random"]
+        record = ["--record", str(self.file)]
+        part = played([game("tic_tac_toe"), *clocks, *players, *record, "--turns", "3"])
+        self.assertEqual((part.state, len(part.moves)), ("open", 3))
+        whole = played(["--resume", str(self.file), "--slack", "3"])
+        self.assertEqual((whole.state, whole.matchId), ("ended", "m.3"))
+        self.assertEqual(whole.moves[:3], part.moves)
+        self.assertEqual({error for turn in whole.errors for error in turn}, {""})
+        self.assertEqual(Record.read(self.file), whole)
+        self.assertEqual(served.player.matches, {})
+
+    def test_what_is_no_record(self) -> None:
+        good = played([game("nim")])
+        good.write(self.file)
+        told = json.loads(self.file.read_text())
+        for bad in ({}, [], {**told, "moves": []}, {**told, "players": []}, "x"):
+            self.file.write_text(json.dumps(bad))
+            with self.subTest(bad=str(bad)[:40]), self.assertRaises(ValueError):
+                Record.read(self.file)
+        self.file.write_text("{")
+        with self.assertRaises(ValueError):
+            Record.read(self.file)
+
+
+class Program(unittest.TestCase):
+    def ran(self, *words: str) -> tuple[int, str, str]:
+        known = {**os.environ, "PYTHONPATH": str(TOP / "python")}
+        command = [sys.executable, "-B", "-m", "gdlsolve.manager", *words]
+        done = subprocess.run(command, capture_output=True, env=known, check=False, text=True)
+        return done.returncode, done.stdout, done.stderr
+
+    def test_it_is_started_by_one_command(self) -> None:
+        status, output, errors = self.ran(game("nim"), "--id", "m", "--seed", "1")
+        self.assertEqual((status, errors), (0, ""))
+        ended = r"^m: ended after \d+ turns, 0 failed moves\nfirst \d+\nsecond \d+\n$"
+        self.assertRegex(output, ended)
+
+    def test_words_that_are_none(self) -> None:
+        self.assertEqual(self.ran()[0], 2)
+        self.assertEqual(self.ran(game("nim"), "--play", "-1")[0], 2)
+        self.assertEqual(self.ran("no such file")[0], 1)
+        self.assertEqual(self.ran(game("nim"), "--player", "ftp://x")[0], 1)
+        self.assertEqual(self.ran(game("nim"), *["--player", "random"] * 3)[0], 1)
+
+
+if __name__ == "__main__":
+    unittest.main()

@@ -1,0 +1,76 @@
+"""Messages of the protocol: what they are, and what is none."""
+
+import unittest
+
+from gdlsolve.messages import Malformed, Message, clock, parts_of, tree, trees, turn
+
+
+class Reading(unittest.TestCase):
+    def test_messages(self) -> None:
+        for text, want in [
+            ("(INFO)", Message("info", ())),
+            ("info", Message("info", ())),
+            (" ( Ping ) ", Message("info", ())),
+            ("(PLAY M.1 NIL)", Message("play", ("m.1", "nil"))),
+            ("(PLAY m ((Mark 1 1)\tnoop)) ; so", Message("play", ("m", "((mark 1 1) noop)"))),
+            ("(REPLAY m (a b))", Message("play", ("m", "(a b)"))),
+            ("(STOP m (a b))", Message("stop", ("m", "(a b)"))),
+            ("(ABORT m)", Message("abort", ("m",))),
+            ("(KILL m)", Message("abort", ("m",))),
+            ("(PREVIEW ((role a)) 10)", Message("preview", ("((role a))", "10"))),
+            (
+                "(START m a ((role a) (base p)) 10 5)",
+                Message("start", ("m", "a", "((role a) (base p))", "10", "5")),
+            ),
+        ]:
+            with self.subTest(text=text):
+                self.assertEqual(Message.of(text), want)
+
+    def test_what_is_no_message(self) -> None:
+        for text in [
+            "",
+            " ",
+            ";(info)",
+            "(",
+            ")",
+            "()",
+            "(info",
+            "info)",
+            "(info) (info)",
+            "((info))",
+            "(hello)",
+            "(info 1)",
+            "(start m a)",
+            "(play m)",
+            "(play m nil 3)",
+            "(abort)",
+            "\0",
+            "(" * 100_000,
+            "(" * 100_000 + ")" * 100_000,
+        ]:
+            with self.subTest(text=text[:20]), self.assertRaises(Malformed):
+                Message.of(text)
+
+    def test_trees(self) -> None:
+        self.assertEqual(list(trees("A (b ( C)());x\n d")), ["a", "(b (c) ())", "d"])
+        self.assertEqual(tree("(Mark 1 1)\r\n"), "(mark 1 1)")
+        for text in ("", "a b", "(a"):
+            with self.assertRaises(Malformed):
+                tree(text)
+        with self.assertRaises(Malformed):
+            parts_of("a")
+
+    def test_clocks(self) -> None:
+        self.assertEqual([clock("10"), clock("0.1"), clock("999999999")], [10, 0.1, 604_800])
+        for text in ("", "x", "-1", "1e5", "nan", "inf", "1.", ".5", "1" * 10, "(1)", "٣"):
+            with self.subTest(text=text), self.assertRaises(Malformed):
+                clock(text)
+
+    def test_turns(self) -> None:
+        self.assertEqual([turn("nil"), turn("()"), turn("(a (b c))")], [None, None, ("a", "(b c)")])
+        with self.assertRaises(Malformed):
+            turn("noop")
+
+
+if __name__ == "__main__":
+    unittest.main()

@@ -1,0 +1,337 @@
+"""The player over HTTP: messages of all kinds, clocks, several matches, and a solver that fails."""
+
+import json
+import os
+import random
+import signal
+import socket
+import subprocess
+import sys
+import threading
+import time
+import unittest
+from collections.abc import Sequence
+from concurrent.futures import ThreadPoolExecutor
+from pathlib import Path
+
+import gdlsolve
+from tests import TOP
+from tests.serving import Held, Served, post, rules_of, wait_for_end
+
+HEXAPAWN = (TOP / "games/hexapawn.kif").read_text()
+MARKS = (TOP / "games/tic_tac_toe.kif").read_text()
+FOUR = (TOP / "games/connect_four_5x4.kif").read_text()
+# A game that is not settled within some seconds, and the role that begins.
+RED = ("connect_four_5x4", "red")
+OPENINGS = gdlsolve.moves(HEXAPAWN).legal["white"]
+LONG_TEST = bool(os.environ.get("GDLSOLVE_LONG_TESTS"))
+
+
+def legal(rules: str, role: str, turns: Sequence[Sequence[str]]) -> tuple[str, ...]:
+    """The legal moves of a role."""
+    return gdlsolve.moves(rules, turns).legal[role]
+
+
+class Messages(unittest.TestCase):
+    def setUp(self) -> None:
+        self.served = Served(self, matches=2)
+
+    def test_a_match(self) -> None:
+        says = self.served.says
+        self.assertEqual(says("(INFO)"), "((name gdlsolve) (status available) (species alien))")
+        self.assertEqual(says(f"(PREVIEW {rules_of('hexapawn')} 5)"), "ready")
+        self.assertEqual(self.served.start("M.1", "hexapawn", "Black", "60 2"), "ready")
+        self.assertEqual(says("(PLAY m.1 NIL)"), "noop")
+        first = (OPENINGS[0], "noop")
+        move = says(f"(PLAY m.1 ({OPENINGS[0]} NOOP))")
+        self.assertIn(move, legal(HEXAPAWN, "black", [first]))
+        solved = gdlsolve.solve(HEXAPAWN, "black", 7, after=[first])
+        self.assertEqual((solved.value, solved.move), (100, move))
+        self.assertEqual(says(f"(STOP M.1 (noop {move}))"), "done")
+        self.assertEqual(self.served.player.matches, {})
+
+    def test_what_is_no_message(self) -> None:
+        url, board = self.served.url, rules_of("hexapawn")
+        self.assertEqual(self.served.start("m", "hexapawn", "white", "60 1"), "ready")
+        messages: list[str | bytes] = [
+            "",
+            "(",
+            ")",
+            "()",
+            "(INFO)(INFO)",
+            "(HELLO)",
+            "(INFO \u00e9)",
+            bytes(range(256)),
+            "(" * 100_000,
+            f"(START n white {board})",
+            f"(START n white {board} x 5)",
+            f"(START n green {board} 5 3)",
+            "(START n white noop 5 3)",
+            "(PLAY m (noop))",
+            "(PLAY m noop)",
+            "(PLAY m (noop noop noop))",
+        ]
+        for message in messages:
+            with self.subTest(message=message[:30]):
+                self.assertEqual(post(url, message)[0], 400)
+        self.assertEqual(list(self.served.player.matches), ["m"])
+        self.assertIn(self.served.says("(PLAY m NIL)"), OPENINGS)
+
+    def test_what_is_not_played(self) -> None:
+        for message in [
+            "(START n white ((role white) (<= p q) (<= r p) (<= q p)) 5 3)",
+            "(START n white () 5 3)",
+            "(PLAY n NIL)",
+            "(STOP n NIL)",
+            "(ABORT n)",
+        ]:
+            with self.subTest(message=message):
+                self.assertEqual(self.served.says(message), "busy")
+        self.assertEqual(self.served.player.matches, {})
+
+    def test_repeated_late_and_foreign_messages(self) -> None:
+        says, start = self.served.says, self.served.start
+        self.assertEqual(start("m", "hexapawn", "black", "60 1"), "ready")
+        self.assertEqual(start("m", "hexapawn", "black", "60 1"), "ready")
+        self.assertEqual(start("m", "hexapawn", "white", "60 1"), "busy")
+        self.assertEqual([says("(PLAY m NIL)"), says("(PLAY m NIL)")], ["noop", "noop"])
+        first = f"(PLAY m ({OPENINGS[1]} noop))"
+        move = says(first)
+        # The same again, one before, of another match, not legal: nothing changes.
+        for message in (first, "(PLAY m NIL)", "(PLAY m ((advance 9 9) noop))", first):
+            self.assertEqual(says(message), move)
+        self.assertEqual(len(self.served.player.matches["m"].turns), 1)
+        turns = [(OPENINGS[1], "noop"), ("noop", move)]
+        self.assertEqual(says(f"(PLAY m (noop {move}))"), "noop")
+        own = legal(HEXAPAWN, "white", turns)[0]
+        reply = says(f"(PLAY m ({own} noop))")
+        self.assertIn(reply, legal(HEXAPAWN, "black", [*turns, (own, "noop")]))
+        self.assertEqual(says("(ABORT m)"), "aborted")
+        self.assertEqual(says(first), "busy")
+
+    def test_a_message_that_comes_twice_at_once_is_one_turn(self) -> None:
+        start = self.served.start("m", "rock_paper_scissors", "left", "60 1")
+        self.assertEqual(start, "ready")
+        self.served.says("(PLAY m NIL)")
+        with ThreadPoolExecutor(4) as threads:
+            found = set(threads.map(self.served.says, ["(PLAY m (rock paper))"] * 4))
+        self.assertEqual(len(found), 1)
+        self.assertEqual(len(self.served.player.matches["m"].turns), 1)
+
+    def test_a_move_that_was_replaced_by_the_referee_is_taken(self) -> None:
+        self.assertEqual(self.served.start("m", "tic_tac_toe", "xplayer", "20 2"), "ready")
+        said = self.served.says("(PLAY m NIL)")
+        other = next(move for move in legal(MARKS, "xplayer", []) if move != said)
+        self.assertEqual(self.served.says(f"(PLAY m ({other} noop))"), "noop")
+        self.assertEqual(self.served.player.matches["m"].turns, ((other, "noop"),))
+
+    def test_the_end_of_a_match(self) -> None:
+        self.assertEqual(self.served.start("m", "matching_pennies", "a", "60 1"), "ready")
+        self.assertIn(self.served.says("(PLAY m NIL)"), ("h", "t"))
+        self.assertEqual(self.served.says("(PLAY m (h t))"), "nil")
+        self.assertEqual(self.served.says("(STOP m (h t))"), "done")
+
+    def test_no_more_than_so_many_matches(self) -> None:
+        start = self.served.start
+        self.assertEqual(start("m.1", "hexapawn", "black", "60 1"), "ready")
+        self.assertEqual(start("m.2", "hexapawn", "white", "60 1"), "ready")
+        self.assertEqual(start("m.3", "hexapawn", "white", "60 1"), "busy")
+        self.assertIn("busy", self.served.says("(INFO)"))
+        self.assertEqual(self.served.says("(ABORT m.1)"), "aborted")
+        self.assertEqual(start("m.3", "hexapawn", "white", "60 1"), "ready")
+
+    def test_a_silent_match_makes_room(self) -> None:
+        served = Served(self, matches=1, idle=0.0)
+        self.assertEqual(served.start("m.1", "hexapawn", "black", "60 1"), "ready")
+        self.assertEqual(served.start("m.2", "hexapawn", "black", "60 1"), "busy")
+        served.player.matches["m.1"].heard -= 100
+        self.assertEqual(served.start("m.2", "hexapawn", "black", "60 1"), "ready")
+        self.assertEqual(list(served.player.matches), ["m.2"])
+
+    def test_odd_requests(self) -> None:
+        host, port = "127.0.0.1", self.served.server.server_address[1]
+        for raw, status in [
+            (b"POST / HTTP/1.0\r\n\r\n", b"411"),
+            (b"POST / HTTP/1.0\r\nContent-Length: -5\r\n\r\n", b"411"),
+            (b"POST / HTTP/1.0\r\nContent-Length: 99999999999999\r\n\r\n", b"413"),
+            (b"POST / HTTP/1.0\r\nContent-Length: 9999999\r\n\r\n", b"413"),
+            (b"GET / HTTP/1.0\r\n\r\n", b"501"),
+            (b"OPTIONS / HTTP/1.0\r\n\r\n", b"200"),
+            (b"\x00\x01\x02\r\n\r\n", b"400"),
+        ]:
+            with self.subTest(raw=raw), socket.create_connection((host, port), 60) as link:
+                link.sendall(raw)
+                self.assertIn(status, link.recv(400).split(b"\r\n")[0])
+        with socket.create_connection((host, port), 60) as link:
+            # A body that does not come holds up nobody else.
+            link.sendall(b"POST / HTTP/1.0\r\nContent-Length: 100\r\n\r\n(INFO")
+            self.assertIn("available", self.served.says("(INFO)"))
+
+
+class Clocks(unittest.TestCase):
+    """Times are those of a busy machine: what is to come by the clock comes soon behind it."""
+
+    def setUp(self) -> None:
+        self.held = Held(self)
+        self.served = Served(self, self.held.command)
+
+    def timed(self, message: str, clock: float) -> str:
+        """The answer, which is there by the clock."""
+        begun = time.monotonic()
+        told = self.served.says(message)
+        self.assertLess(time.monotonic() - begun, clock + 2)
+        return told
+
+    def test_four_matches_at_once(self) -> None:
+        names = [f"m{number}" for number in range(4)]
+        openings = legal(FOUR, "red", [])
+        with ThreadPoolExecutor(4) as threads:
+            starts = threads.map(lambda name: self.served.start(name, *RED, "4 2"), names)
+            self.assertEqual(list(starts), ["ready"] * 4)
+            self.assertEqual(self.served.start("m4", *RED, "4 2"), "busy")
+            begun = time.monotonic()
+            found = list(threads.map(self.served.says, [f"(PLAY {name} NIL)" for name in names]))
+            self.assertLess(time.monotonic() - begun, 4)
+        self.assertLessEqual(set(found), set(openings))
+
+    def test_rules_that_hang_are_not_played(self) -> None:
+        for command in ("check", "moves"):
+            with self.subTest(command=command):
+                self.held.at(command)
+                message = f"(START m white {rules_of('hexapawn')} 1 1)"
+                self.assertEqual(self.timed(message, 1), "busy")
+        self.assertEqual(self.served.player.matches, {})
+        self.held.at("")
+        self.assertEqual(self.served.start("m", "hexapawn", "white", "60 1"), "ready")
+
+    def test_a_search_that_hangs(self) -> None:
+        self.held.at("solve")
+        self.assertEqual(self.timed(f"(START m white {rules_of('hexapawn')} 3 2)", 3), "ready")
+        move = self.timed("(PLAY m NIL)", 2)
+        self.assertIn(move, OPENINGS)
+        turns = [(move, "noop")]
+        self.assertEqual(self.timed(f"(PLAY m ({move} noop))", 2), "noop")
+        reply = legal(HEXAPAWN, "black", turns)[0]
+        self.assertIn(
+            self.timed(f"(PLAY m (noop {reply}))", 2),
+            legal(HEXAPAWN, "white", [*turns, ("noop", reply)]),
+        )
+
+    def test_a_solver_that_hangs_at_all(self) -> None:
+        self.held.at("solve")
+        self.assertEqual(self.timed(f"(START m black {rules_of('hexapawn')} 3 2)", 3), "ready")
+        self.assertEqual(self.timed("(PLAY m NIL)", 2), "noop")
+        move = self.timed(f"(PLAY m ({OPENINGS[0]} noop))", 2)
+        self.held.at("check moves solve")
+        # Random play has been there, and so the legal moves are known.
+        turns = [(OPENINGS[0], "noop"), ("noop", move)]
+        self.assertEqual(self.timed(f"(PLAY m (noop {move}))", 2), "noop")
+        other = legal(HEXAPAWN, "white", turns)[0]
+        self.timed(f"(PLAY m ({other} noop))", 2)
+        self.held.at("")
+        # What was not known is asked again with the next turn.
+        self.assertEqual(len(self.served.player.matches["m"].turns), 3)
+
+    def test_a_solver_that_hangs_once_is_asked_again(self) -> None:
+        self.assertEqual(self.served.start("m", "hexapawn", "black", "60 6"), "ready")
+        self.served.says("(PLAY m NIL)")
+        self.held.at("moves solve")
+        threading.Timer(1.0, self.held.at, [""]).start()
+        move = self.timed(f"(PLAY m ({OPENINGS[0]} noop))", 6)
+        self.assertIn(move, legal(HEXAPAWN, "black", [(OPENINGS[0], "noop")]))
+
+    def test_a_solver_that_is_killed(self) -> None:
+        served = Served(self)
+        self.assertEqual(served.start("m", *RED, "3 3"), "ready")
+        match = served.player.matches["m"]
+
+        def kill() -> None:
+            children = [match.quick.child, match.deep.child, *served.player.children.idle]
+            for child in filter(None, children):
+                os.kill(child.process.pid, signal.SIGKILL)
+
+        threading.Timer(0.5, kill).start()
+        begun = time.monotonic()
+        opening = served.says("(PLAY m NIL)")
+        self.assertLess(time.monotonic() - begun, 5)
+        turns = [(opening, "noop")]
+        self.assertEqual(served.says(f"(PLAY m ({opening} noop))"), "noop")
+        threading.Timer(0.5, kill).start()
+        reply = legal(FOUR, "black", turns)[0]
+        move = served.says(f"(PLAY m (noop {reply}))")
+        self.assertIn(move, legal(FOUR, "red", [*turns, ("noop", reply)]))
+
+    def test_a_solver_that_always_ends(self) -> None:
+        self.held.at("end")
+        self.assertEqual(self.timed(f"(START m white {rules_of('hexapawn')} 2 1)", 2), "busy")
+
+
+class Program(unittest.TestCase):
+    def test_it_is_started_by_one_command_and_leaves_nothing(self) -> None:
+        known = {**os.environ, "PYTHONPATH": str(TOP / "python")}
+        words = [sys.executable, "-B", "-m", "gdlsolve.player", "--port", "0", "--name", "me"]
+        with subprocess.Popen(
+            words, stdout=subprocess.PIPE, stderr=subprocess.PIPE, env=known, text=True
+        ) as player:
+            try:
+                assert player.stdout is not None
+                where = player.stdout.readline().split()[-1]
+                self.assertIn("(name me)", post(f"http://{where}", "(INFO)")[1])
+                start = f"(START m a {rules_of('matching_pennies')} 30 1)"
+                self.assertEqual(post(f"http://{where}", start), (200, "ready"))
+                self.assertEqual(post(f"http://{where}", "(PLAY m NIL)"), (200, "h"))
+                left = Path(f"/proc/{player.pid}/task/{player.pid}/children").read_text().split()
+                player.terminate()
+                _, errors = player.communicate(timeout=60)
+            finally:
+                player.kill()
+        self.assertEqual(player.returncode, 0)
+        self.assertEqual(json.loads(errors.splitlines()[0])["move"], "h")
+        self.assertTrue(all(wait_for_end(int(child)) for child in left))
+
+    def test_words_that_are_none(self) -> None:
+        known = {**os.environ, "PYTHONPATH": str(TOP / "python")}
+        for words in (["--depth", "0"], ["--depth", "65"], ["--matches", "0"], ["--margin", "-1"]):
+            command = [sys.executable, "-B", "-m", "gdlsolve.player", *words]
+            done = subprocess.run(command, capture_output=True, env=known, check=False)
+            self.assertEqual(done.returncode, 2)
+
+
+class Leaks(unittest.TestCase):
+    """Many matches leave no memory, no process, no thread and no file behind."""
+
+    def used(self) -> tuple[int, int, int]:
+        """Kilobytes, threads and files of this process."""
+        status = Path("/proc/self/status").read_text()
+        size = int(status.split("VmRSS:")[1].split()[0])
+        return size, threading.active_count(), len(os.listdir("/proc/self/fd"))
+
+    def play(self, served: Served, number: int, dice: random.Random) -> None:
+        """A match of one turn of 0.1 s."""
+        game, role, turn = dice.choice(
+            [("hexapawn", "white", ""), ("matching_pennies", "a", "(h t)"), ("nim", "second", "")]
+        )
+        served.start(f"m{number}", game, role, "10 0.1")
+        self.assertNotIn(served.says(f"(PLAY m{number} NIL)"), ("nil", "busy"))
+        if turn:
+            self.assertEqual(served.says(f"(PLAY m{number} {turn})"), "nil")
+        self.assertEqual(served.says(f"(STOP m{number} NIL)"), "done")
+
+    def test_many_short_matches(self) -> None:
+        served, dice = Served(self, matches=2), random.Random(7)
+        for number in range(50):
+            self.play(served, number, dice)
+        size, threads, files = self.used()
+        for number in range(50, 1000 if LONG_TEST else 200):
+            self.play(served, number, dice)
+        time.sleep(0.5)
+        now_size, now_threads, now_files = self.used()
+        self.assertLess(now_size - size, 8_000)
+        self.assertLessEqual(now_threads, threads + 4)
+        self.assertLessEqual(now_files, files + 8)
+        self.assertLessEqual(len(served.player.children.idle), 6)
+        self.assertEqual(served.player.matches, {})
+
+
+if __name__ == "__main__":
+    unittest.main()
