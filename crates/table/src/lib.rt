@@ -8,10 +8,8 @@ mod bounds;
 mod entry;
 mod hash;
 mod position_table;
-mod positions;
 mod rows;
 
 pub use bounds::Bounds;
 pub use hash::hash_of;
 pub use position_table::PositionTable;
-pub use positions::{NoTable, Positions};
