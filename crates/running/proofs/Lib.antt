@@ -1,3 +1,4 @@
 mod Ending
 mod Filling
+mod Telling
 mod WholeInput

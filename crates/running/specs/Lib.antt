@@ -2,3 +2,5 @@ pub mod Input
 pub mod Faults
 pub mod Exits
 pub mod Fulfilling
+pub mod Ran
+pub mod Explained
