@@ -4,3 +4,4 @@ pub mod Exits
 pub mod Fulfilling
 pub mod Ran
 pub mod Explained
+pub mod Linted

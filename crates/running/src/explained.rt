@@ -19,7 +19,7 @@ use std::thread::Threads;
 use words::{Command, Request, request_of};
 
 /// Tells the errors what explains a reply, if it is a refusal and there is memory for it.
-fn explain_ran<T: Threads + Sync + AllocGlobal, E: Write>(
+pub(crate) fn explain_ran<T: Threads + Sync + AllocGlobal, E: Write>(
     rt: &T,
     command: &Command,
     ran: &Result<Ran, RunFault>,

@@ -1,3 +1,4 @@
+use Rattle.std.proofs.Common.{◌∙◌}
 use Rattle.words.specs.Asked.{query_of}
 use Rattle.running.specs.Ran.{ended_of}
 use Rattle.running.proofs.Telling.{written, tells_if, refused_is_two}
@@ -13,5 +14,5 @@ returns g c =
         rw c.ended.ensures (written (query_of c.args.command.now) ran _ _ _ _ c.run_keeping-ran.ensures.answers c.run_keeping-ran.ensures.silent c.run_keeping-ran.ensures.broken),
         c.status_of-status.ensures.told,
       ),
-      tells_if _ _ (λ e. refused_is_two c.ended.result _ c.status_of-status.ensures.status (rw c.ended.ensures e)) c.explain_ran.ensures,
+      tells_if _ _ (λ e. refused_is_two c.ended.result _ c.status_of-status.ensures.status (c.ended.ensures ∙ e)) c.explain_ran.ensures,
     )
