@@ -176,6 +176,12 @@ ANSWERS = {
 }
 
 
+def explains(refusal, errors):
+    """Whether the errors begin as an explanation of a refusal does: with a place, and the number and name of the fault."""
+    name = b" ".join(refusal.split()[:3])
+    return re.match(rb"(<input>|--after|--role)(:" + PLACE + rb":" + PLACE + rb")?: " + re.escape(name) + rb": ", errors) is not None
+
+
 def unlawful(command, told):
     """Why a reply to a command is none of the lawful ones, or None."""
     if told.status is None:
@@ -183,7 +189,7 @@ def unlawful(command, told):
     if told.status not in STATUSES.values():
         return "no status of the program"
     if told.status in (0, 2):
-        if told.errors:
+        if told.errors and (told.status == 0 or not explains(told.output, told.errors)):
             return "errors beside a reply"
         if told.output and not told.output.endswith(b"\n"):
             return "no line end"

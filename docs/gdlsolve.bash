@@ -27,13 +27,13 @@ _gdlsolve() {
     *)
       case $command in
         '')
-          words='show check net moves solve help --help --version'
+          words='show check lint net moves solve help --help --version'
           [ "${COMP_WORDS[0]}" = ./gdlsolve ] && words+=' --prove --proved'
           ;;
-        show | check | net) words='--help' ;;
+        show | check | lint | net) words='--help' ;;
         moves) words='--after --help' ;;
         solve) words='--role --depth --at-bound --unfinished --cut --after --help' ;;
-        help) words='show check net moves solve' ;;
+        help) words='show check lint net moves solve' ;;
       esac
       ;;
   esac

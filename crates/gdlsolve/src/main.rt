@@ -1,7 +1,7 @@
 //! The program `gdlsolve`: the rules of a game on standard input, answers on standard output.
 #![tactic(auto)]
 
-use running::main_with;
+use running::main_program;
 use std::io::{ErrorKind, Read, Write};
 use std::process::ExitCode;
 use std::thread::Threads;
@@ -25,7 +25,7 @@ fn ended<T: Threads + Sync + AllocGlobal, R: Read, W: Write, E: Write>(
     for word in arguments.iter().skip(1) {
         words.push(word.as_str())?;
     }
-    Ok(main_with(rt, &words, input, output, errors))
+    Ok(main_program(rt, &words, input, output, errors))
 }
 
 fn main(rt: HostRuntime) -> ExitCode {

@@ -1,3 +1,5 @@
 mod Ending
 mod Filling
+mod Findings
+mod Telling
 mod WholeInput

@@ -29,14 +29,14 @@ const STARVED: u8 = 3;
 const BROKEN: u8 = 4;
 
 /// Writes a text to the errors. A fault in writing it is passed over.
-fn tell<E: Write>(errors: &mut E, text: &[u8])
+pub(crate) fn tell<E: Write>(errors: &mut E, text: &[u8])
     ensures { AppendsFront (E.contents errors.old) (E.contents errors.new) text.now }
 {
     let _ = write_bytes(errors, text);
 }
 
 /// The exit status of a run, whose fault is told to the errors.
-fn status_of<E: Write>(ended: Result<Status, RunFault>, errors: &mut E) -> u8
+pub(crate) fn status_of<E: Write>(ended: Result<Status, RunFault>, errors: &mut E) -> u8
     ensures status { result ≡ exit_status ended }
     ensures told { AreErrorsTold ended (E.contents errors.old) (E.contents errors.new) }
 {

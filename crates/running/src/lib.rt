@@ -2,13 +2,20 @@
 //! those of the output, and the exit status. Who plays the game of the rules is a type; `run` is over the network.
 #![tactic(auto)]
 
+mod advice;
 mod commands;
+mod explained;
+mod explaining;
 mod fault;
 mod input;
+mod linting;
+mod program;
 mod runs;
 mod working;
 
 pub use commands::{fulfil, main_with};
+pub use explained::main_explained;
 pub use fault::RunFault;
+pub use program::main_program;
 pub use runs::{run, run_with};
 pub use working::told_by_workers;

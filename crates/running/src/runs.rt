@@ -3,6 +3,8 @@ ghost use Rattle.std.specs.Prelude.{◌≡◌, ◌≢◌, ℕ, List, IfOk, IfErr
 ghost use Rattle.std.specs.Io.KnownBytes.{Appends, Keeps};
 ghost use Rattle.kif.specs.Written.{AppendsFront};
 ghost use Rattle.statement.specs.Answers.{Reply};
+ghost use Rattle.replies.specs.Replies.{reply_of};
+ghost use Rattle.running.specs.Ran.{ended_of};
 ghost use Rattle.statement.specs.Input.{RepliesTo};
 ghost use Rattle.words.specs.Asked.{query_of};
 
@@ -11,6 +13,7 @@ use crate::input::read_input;
 use crate::working::reply_by_workers;
 use kif::write_bytes;
 use netgame::NetGame;
+use replies::Reply;
 use rulebook::GroundGame;
 use statement::Status;
 use std::io::{Read, Write};
@@ -29,6 +32,46 @@ pub(crate) fn write_out<W: Write>(output: &mut W, bytes: &[u8]) -> Result<(), Ru
     Ok(())
 }
 
+/// A run that ended with its reply: the bytes that were read, and the reply that was written.
+#[derive(Drop)]
+pub(crate) struct Ran {
+    pub(crate) bytes: Vec<u8>,
+    pub(crate) reply: Reply,
+}
+
+/// Reads the rules, writes the reply to the command and nothing else, and keeps both. The type `G` says who plays their game.
+pub(crate) fn run_keeping<G: GroundGame, T: Threads + Sync + AllocGlobal, R: Read, W: Write>(
+    rt: &T,
+    command: &Command,
+    input: &mut R,
+    output: &mut W,
+) -> Result<Ran, RunFault>
+    ensures answers { IfOk result (λ ran.
+        RepliesTo (query_of command.now) (R.remaining input.old) (R.remaining input.new) (reply_of ran.reply)
+        × Appends (W.contents output.old) (W.contents output.new) ran.reply.output.items) }
+    ensures silent { IfErr result (λ fault. fault ≢ RunFault.Write → Keeps (W.contents output.old) (W.contents output.new)) }
+    ensures broken { IfErr result (λ fault. fault ≡ RunFault.Write → (reply : Reply)
+        × RepliesTo (query_of command.now) (R.remaining input.old) (R.remaining input.new) reply
+        × AppendsFront (W.contents output.old) (W.contents output.new) reply.output) }
+{
+    let bytes = read_input(rt.alloc(), input)?;
+    let Ok(reply) = reply_by_workers::<G, T>(rt, command, &bytes) else {
+        return Err(RunFault::Memory);
+    };
+    write_out(output, &reply.output)?;
+    Ok(Ran { bytes, reply })
+}
+
+/// How a run ended, without what it kept.
+pub(crate) fn ended(ran: &Result<Ran, RunFault>) -> Result<Status, RunFault>
+    ensures { result ≡ ended_of ran.now }
+{
+    match ran {
+        Ok(ran) => Ok(ran.reply.status),
+        Err(fault) => Err(*fault),
+    }
+}
+
 /// Reads the rules, and writes the reply to the command and nothing else. The type `G` says who plays their game.
 pub fn run_with<G: GroundGame, T: Threads + Sync + AllocGlobal, R: Read, W: Write>(
     rt: &T,
@@ -44,12 +87,7 @@ pub fn run_with<G: GroundGame, T: Threads + Sync + AllocGlobal, R: Read, W: Writ
         × RepliesTo (query_of command.now) (R.remaining input.old) (R.remaining input.new) reply
         × AppendsFront (W.contents output.old) (W.contents output.new) reply.output) }
 {
-    let bytes = read_input(rt.alloc(), input)?;
-    let Ok(reply) = reply_by_workers::<G, T>(rt, command, &bytes) else {
-        return Err(RunFault::Memory);
-    };
-    write_out(output, &reply.output)?;
-    Ok(reply.status)
+    ended(&run_keeping::<G, T, R, W>(rt, command, input, output))
 }
 
 /// Reads the rules, and writes the reply to the command and nothing else. The network of the rules plays their game.

@@ -116,6 +116,13 @@ fn check<'a>(alloc: Global) -> clap::Command<'a> {
     )
 }
 
+/// The command `lint`, which is no request: whoever runs the program takes its word before the words are read as one.
+fn lint<'a>(alloc: Global) -> clap::Command<'a> {
+    clap::Command::new(alloc, "lint").about(
+        "Find what is lawful in the rules and most likely wrong, and write a line for each finding",
+    )
+}
+
 /// The command `net`.
 fn net<'a>(alloc: Global) -> clap::Command<'a> {
     clap::Command::new(alloc, "net").about(
@@ -159,6 +166,7 @@ fn grammar<'a>(alloc: Global) -> Result<clap::Command<'a>, AllocError> {
         .subcommand_required(true)
         .subcommand(show(alloc))?
         .subcommand(check(alloc))?
+        .subcommand(lint(alloc))?
         .subcommand(net(alloc))?
         .subcommand(moves(alloc)?)?
         .subcommand(solve(alloc)?)

@@ -11,6 +11,7 @@ Usage: gdlsolve <COMMAND>
 Commands:
   show   Write the canonical text of each tree, one a line
   check  Name the first fault of the rules, or count what they have
+  lint   Find what is lawful in the rules and most likely wrong, and write a line for each finding
   net    Count what the rules come to: propositions, inputs, instances, and nodes of their network
   moves  Tell how play stands after a history, with the goals of an ended game or the legal moves
   solve  Tell what a role can be sure of after a history, the move that makes sure of it, and the line of play
@@ -44,6 +45,15 @@ Options:
 const CHECK: &str = "Name the first fault of the rules, or count what they have
 
 Usage: gdlsolve check
+
+Options:
+  -h, --help  Print help
+";
+
+const LINT: &str =
+    "Find what is lawful in the rules and most likely wrong, and write a line for each finding
+
+Usage: gdlsolve lint
 
 Options:
   -h, --help  Print help
@@ -97,6 +107,7 @@ fn help_is_an_answer(rt: HostRuntime) {
         (&["help"], PROGRAM),
         (&["show", "--help"], SHOW),
         (&["check", "--help"], CHECK),
+        (&["lint", "--help"], LINT),
         (&["net", "--help"], NET),
         (&["moves", "--help"], MOVES),
         (&["solve", "--help"], SOLVE),

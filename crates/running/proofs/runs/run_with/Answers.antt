@@ -1,31 +1,13 @@
-use Rattle.std.proofs.Common.{◌≡◌, rules}
-use Rattle.std.specs.Prelude.{Result, Ok, Err, IfErr}
-use Rattle.statement.specs.Answers.{Reply}
-use Rattle.running.proofs.WholeInput.{replies_to}
+use Rattle.words.specs.Asked.{query_of}
+use Rattle.running.proofs.Telling.{replied, failed}
 use Rattle.running.proofs.runs.run_with.Goals as goal
-
-if_err : {X E : Type 0} (r : Result X E) (P : E → Type 0) → ((e : E) → P e) → IfErr r P
-if_err (Ok x) P f = tt
-if_err (Err e) P f = f e
 
 pub returns-clause-answers : goal.returns-clause-answers
 returns-clause-answers g c =
-    let reply : Reply = record { output = c.in-Ok.reply.output.items; status = c.in-Ok.reply.status } in
-    let read : c.deref.result.now ≡ c.in_ok-bytes.bytes.items = search rules in
-    let made : c.deref-2.result.now ≡ c.in-Ok.reply.output.items = search rules in (
-      reply.output,
-      replies_to _ _ _ c.in_ok-bytes.bytes.items reply c.in_ok-bytes.ensures.whole (rw (← read) c.in-Ok.ensures),
-      rw (← made) c.in_ok-write_out.ensures.whole,
-    )
+    replied (query_of c.args.command.now) c.run_keeping.result c.ended.result _ _ _ _ c.ended.ensures c.run_keeping.ensures.answers
 
-pub returns-in_err-write_out-clause-broken : goal.returns-in_err-write_out-clause-broken
-returns-in_err-write_out-clause-broken g c =
-    let reply : Reply = record { output = c.in-Ok.reply.output.items; status = c.in-Ok.reply.status } in
-    let read : c.deref.result.now ≡ c.in_ok-bytes.bytes.items = search rules in
-    let made : c.deref-2.result.now ≡ c.in-Ok.reply.output.items = search rules in
-    if_err c.from_residual-in_err-write_out.result _
-    (λ e is_write. (
-      reply,
-      replies_to _ _ _ c.in_ok-bytes.bytes.items reply c.in_ok-bytes.ensures.whole (rw (← read) c.in-Ok.ensures),
-      rw (← made) c.in_err-write_out.ensures.front,
-    ))
+pub returns-clause-silent : goal.returns-clause-silent
+returns-clause-silent g c = failed _ c.run_keeping.result c.ended.result c.ended.ensures c.run_keeping.ensures.silent
+
+pub returns-clause-broken : goal.returns-clause-broken
+returns-clause-broken g c = failed _ c.run_keeping.result c.ended.result c.ended.ensures c.run_keeping.ensures.broken

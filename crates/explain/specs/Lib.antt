@@ -1,0 +1,4 @@
+pub mod Offsets
+pub mod Spots
+pub mod Unbound
+pub mod Ways

@@ -1,0 +1,58 @@
+//! Goals whose value is no number.
+ghost use Rattle.std.specs.Prelude.{◌≡◌, ◌&&◌, ◌||◌, not};
+ghost use Rattle.statement.specs.Tree.{trees_of};
+ghost use Rattle.kif.specs.View.{tree_of, trees_in};
+ghost use Rattle.lint.specs.Names.{is_digit, is_goal_number, is_goal_value, has_bad_value, states_bad_goal};
+
+use kif::Expr;
+use outline::split_atom;
+use profile::{Word, is_variable_name, split_item};
+use std::alloc::Allocator;
+
+/// Whether a byte is a digit.
+fn is_digit(byte: u8) -> bool
+    ensures { result ≡ is_digit byte }
+{
+    matches!(byte, b'0'..=b'9')
+}
+
+/// Whether bytes are a number from 0 to 100 in decimal, without a leading zero.
+fn is_goal_number(bytes: &[u8]) -> bool
+    ensures { result ≡ is_goal_number bytes.now }
+{
+    match bytes {
+        [] => false,
+        [digit] => is_digit(*digit),
+        [first, digit] => is_digit(*first) && *first != b'0' && is_digit(*digit),
+        _ => bytes == b"100".as_slice(),
+    }
+}
+
+/// Whether a term is such a number, or a variable, which may stand for one.
+fn is_goal_value<A: Allocator>(e: &Expr<A>) -> bool
+    ensures { result ≡ is_goal_value (tree_of e.now) }
+{
+    match e {
+        Expr::Name(word) => is_variable_name(word) || is_goal_number(word),
+        Expr::List(_) => false,
+    }
+}
+
+/// Whether the second of two terms is neither.
+fn has_bad_value<A: Allocator>(terms: &[Expr<A>]) -> bool
+    ensures { result ≡ has_bad_value (trees_of (trees_in terms.now)) }
+{
+    if terms.len() != 2 {
+        return false;
+    }
+    !is_goal_value(&terms[1])
+}
+
+/// Whether an item states a goal whose value is neither.
+pub(crate) fn states_bad_goal<A: Allocator>(item: &Expr<A>) -> bool
+    ensures { result ≡ states_bad_goal (tree_of item.now) }
+{
+    let (head, _) = split_item(item);
+    let (word, terms) = split_atom(head);
+    Word::Goal.is_named(word) && has_bad_value(terms)
+}

@@ -1,0 +1,119 @@
+//! The command line with explanations: behind what the errors are told of a refusal, or of words that are no command, stands why.
+ghost use Rattle.std.specs.Prelude.{◌≡◌, ◌≤◌, ◌⊎◌, Ok};
+ghost use Rattle.std.specs.Io.KnownBytes.{Keeps};
+ghost use Rattle.running.specs.Exits.{Replied};
+ghost use Rattle.running.specs.Fulfilling.{streams};
+ghost use Rattle.running.specs.Ran.{ended_of};
+ghost use Rattle.running.specs.Explained.{IsExplained, IsFulfilledExplained, IsRunExplained, TellsMore};
+
+use crate::advice::advice;
+use crate::commands::{fulfil, status_of, tell};
+use crate::explaining::explanation;
+use crate::fault::RunFault;
+use crate::runs::{Ran, ended, run_keeping};
+use netgame::NetGame;
+use statement::Status;
+use std::alloc::Global;
+use std::io::{Read, Write};
+use std::thread::Threads;
+use words::{Command, Request, request_of};
+
+/// Tells the errors what explains a reply, if it is a refusal and there is memory for it.
+pub(crate) fn explain_ran<T: Threads + Sync + AllocGlobal, E: Write>(
+    rt: &T,
+    command: &Command,
+    ran: &Result<Ran, RunFault>,
+    errors: &mut E,
+)
+    ensures { TellsMore (ended_of ran.now ≡ Ok Status.Refused) (E.contents errors.old) (E.contents errors.new) }
+{
+    let Ok(ran) = ran else {
+        return;
+    };
+    let Status::Refused = ran.reply.status else {
+        return;
+    };
+    let Ok(text) = explanation::<NetGame, T>(rt, command, &ran.bytes, &ran.reply.output) else {
+        return;
+    };
+    tell(errors, &text);
+}
+
+/// Runs a command, and tells the errors what explains a refusal.
+fn run_explained<T: Threads + Sync + AllocGlobal, R: Read, W: Write, E: Write>(
+    rt: &T,
+    command: &Command,
+    input: &mut R,
+    output: &mut W,
+    errors: &mut E,
+) -> u8
+    ensures { IsRunExplained command.now result
+        (streams (R.remaining input.old) (W.contents output.old) (E.contents errors.old))
+        (streams (R.remaining input.new) (W.contents output.new) (E.contents errors.new)) }
+{
+    let ran = run_keeping::<NetGame, T, R, W>(rt, command, input, output);
+    let status = status_of(ended(&ran), errors);
+    explain_ran(rt, command, &ran, errors);
+    status
+}
+
+/// Tells the errors what helps with words that are no command, if there is memory for it.
+fn advise<E: Write>(alloc: Global, words: &[&str], text: &str, errors: &mut E)
+    ensures { TellsMore (0 ≡ 0) (E.contents errors.old) (E.contents errors.new) }
+{
+    let Ok(text) = advice(alloc, words, text) else {
+        return;
+    };
+    tell(errors, &text);
+}
+
+/// Does what `fulfil` does, and then tells the errors what explains a refusal, or what helps with words that are no command.
+fn fulfil_explained<T: Threads + Sync + AllocGlobal, R: Read, W: Write, E: Write>(
+    rt: &T,
+    words: &[&str],
+    request: &Request,
+    input: &mut R,
+    output: &mut W,
+    errors: &mut E,
+) -> u8
+    ensures { IsFulfilledExplained request.now result
+        (streams (R.remaining input.old) (W.contents output.old) (E.contents errors.old))
+        (streams (R.remaining input.new) (W.contents output.new) (E.contents errors.new)) }
+{
+    match request {
+        Request::Run(command) => run_explained(rt, command, input, output, errors),
+        Request::Help(_) => fulfil(rt, request, input, output, errors),
+        Request::Misuse(text) => {
+            let status = fulfil(rt, request, input, output, errors);
+            advise(rt.alloc(), words, text.as_str(), errors);
+            status
+        }
+    }
+}
+
+/// Does what `main_with` does, and then tells the errors more: what explains a refusal, or what helps with words that are no command. What
+/// is told more is for people; where there is no memory for it, it is left out.
+pub fn main_explained<T: Threads + Sync + AllocGlobal, R: Read, W: Write, E: Write>(
+    rt: &T,
+    words: &[&str],
+    input: &mut R,
+    output: &mut W,
+    errors: &mut E,
+) -> u8
+    ensures explained { IsExplained result
+        (streams (R.remaining input.old) (W.contents output.old) (E.contents errors.old))
+        (streams (R.remaining input.new) (W.contents output.new) (E.contents errors.new)) }
+    ensures statuses { result ≤ 4 }
+    ensures answered { result ≡ 0
+        → Replied Status.Answer (R.remaining input.old) (R.remaining input.new) (W.contents output.old) (W.contents output.new)
+        ⊎ Keeps (R.remaining input.old) (R.remaining input.new) }
+    ensures misused { result ≡ 1 → Keeps (R.remaining input.old) (R.remaining input.new) × Keeps (W.contents output.old) (W.contents output.new) }
+    ensures refused { result ≡ 2
+        → Replied Status.Refused (R.remaining input.old) (R.remaining input.new) (W.contents output.old) (W.contents output.new) }
+    ensures starved { result ≡ 3 → Keeps (W.contents output.old) (W.contents output.new) }
+{
+    let Ok(request) = request_of(rt.alloc(), words) else {
+        return status_of(Err(RunFault::Memory), errors);
+    };
+    fulfil_explained(rt, words, &request, input, output, errors)
+}

@@ -1,0 +1,97 @@
+//! The command `lint`: what is lawful in rules and most likely wrong.
+ghost use Rattle.std.specs.Prelude.{◌≡◌, ◌≢◌, ℕ, List, IfOk, IfErr, Ok};
+ghost use Rattle.std.specs.Io.KnownBytes.{Appends, Keeps};
+ghost use Rattle.kif.specs.Written.{AppendsFront};
+ghost use Rattle.statement.specs.Answers.{Reply};
+ghost use Rattle.replies.specs.Replies.{reply_of};
+ghost use Rattle.running.specs.Input.{IsReadFrom};
+ghost use Rattle.running.specs.Ran.{ended_of};
+ghost use Rattle.running.specs.Fulfilling.{streams};
+ghost use Rattle.running.specs.Linted.{status_of_lines, IsLintReply, IsLintRun};
+
+use crate::commands::status_of;
+use crate::explained::explain_ran;
+use crate::fault::RunFault;
+use crate::input::read_input;
+use crate::runs::{Ran, ended, write_out};
+use bumpalo::Bump;
+use lint::finding_lines;
+use replies::{Reply, check};
+use statement::Status;
+use std::alloc::{AllocError, Global};
+use std::io::{Read, Write};
+use std::thread::Threads;
+use words::Command;
+
+/// The status of lines of findings.
+fn status_of_lines(lines: &[u8]) -> Status
+    ensures { result ≡ status_of_lines lines.now }
+{
+    match lines {
+        [] => Status::Answer,
+        _ => Status::Refused,
+    }
+}
+
+/// The findings in bytes that are a description without a fault.
+fn found(alloc: Global, bytes: &[u8]) -> Result<Reply, AllocError>
+    ensures { IfOk result (λ reply. reply.status ≡ status_of_lines reply.output.items) }
+{
+    let arena = Bump::new(alloc);
+    let Ok(items) = kif::read(&arena, bytes) else {
+        return Err(AllocError);
+    };
+    let output = finding_lines(alloc, bytes, &items)?;
+    let status = status_of_lines(&output);
+    Ok(Reply { output, status })
+}
+
+/// The reply to `lint` over the bytes of the input: the refusal that `check` writes, or the lines of findings.
+fn lint_reply(alloc: Global, bytes: &[u8]) -> Result<Reply, AllocError>
+    ensures { IfOk result (λ reply. IsLintReply bytes.now (reply_of reply)) }
+{
+    let checked = check(alloc, bytes)?;
+    let Status::Answer = checked.status else {
+        return Ok(checked);
+    };
+    found(alloc, bytes)
+}
+
+/// Reads the rules, writes the findings in them and nothing else, and keeps both.
+fn lint_keeping<R: Read, W: Write>(
+    alloc: Global,
+    input: &mut R,
+    output: &mut W,
+) -> Result<Ran, RunFault>
+    ensures answers { IfOk result (λ ran. IsReadFrom (R.remaining input.old) (R.remaining input.new) ran.bytes.items
+        × IsLintReply ran.bytes.items (reply_of ran.reply)
+        × Appends (W.contents output.old) (W.contents output.new) ran.reply.output.items) }
+    ensures silent { IfErr result (λ fault. fault ≢ RunFault.Write → Keeps (W.contents output.old) (W.contents output.new)) }
+    ensures broken { IfErr result (λ fault. fault ≡ RunFault.Write → (bytes : List ℕ) × (reply : Reply)
+        × IsReadFrom (R.remaining input.old) (R.remaining input.new) bytes × IsLintReply bytes reply
+        × AppendsFront (W.contents output.old) (W.contents output.new) reply.output) }
+{
+    let bytes = read_input(alloc, input)?;
+    let Ok(reply) = lint_reply(alloc, &bytes) else {
+        return Err(RunFault::Memory);
+    };
+    write_out(output, &reply.output)?;
+    Ok(Ran { bytes, reply })
+}
+
+/// Runs `lint`, and tells the errors what explains a refusal.
+pub(crate) fn run_lint<T: Threads + Sync + AllocGlobal, R: Read, W: Write, E: Write>(
+    rt: &T,
+    input: &mut R,
+    output: &mut W,
+    errors: &mut E,
+) -> u8
+    ensures { IsLintRun result
+        (streams (R.remaining input.old) (W.contents output.old) (E.contents errors.old))
+        (streams (R.remaining input.new) (W.contents output.new) (E.contents errors.new)) }
+{
+    let ran = lint_keeping(rt.alloc(), input, output);
+    let status = status_of(ended(&ran), errors);
+    explain_ran(rt, &Command::Check, &ran, errors);
+    status
+}
