@@ -1,8 +1,9 @@
 //! The board of the position behind a task, whose workers look at the board of the task.
 ghost use Rattle.std.specs.Prelude.{◌≡◌, ◌-◌, ◌≤◌, pos, negsuc, ◌≤ℤ◌, [], true, false, nat_eq, if◌then◌else◌};
 ghost use Rattle.board.specs.Values.{best_worth};
-ghost use Rattle.board.specs.Books.{seen, all_shares};
+ghost use Rattle.board.specs.Books.{seen};
 ghost use Rattle.board.specs.Boards.{kept, table_of};
+ghost use Rattle.board.specs.Looks.{IsLastSeat};
 ghost use Rattle.board.specs.Windows.{BoundsWithin};
 ghost use Rattle.board.specs.Seats.{book, setup_on, task_own, task_reply, IsSeatOf, IsTaskOf, IsInHand};
 
@@ -49,8 +50,7 @@ fn work_behind(
     requires bounds { BoundsWithin ((book above).best - (setup_on outer.now).margin)
         (seen (book above) (task_own task.now)) (setup_on inner.now) (book seat) }
     ensures outer { IsSeatOf outer.now result.0 }
-    ensures inner { IsSeatOf inner.now result.1 × ((book result.1).hand ≡ []) }
-    ensures marked { (book result.1).marked ≡ true }
+    ensures inner { IsSeatOf inner.now result.1 × ((book result.1).hand ≡ []) × ((book result.1).marked ≡ true) }
     ensures shares { (book result.1).shares ≡ (book seat).shares }
     ensures bounds { BoundsWithin ((book result.0).best - (setup_on outer.now).margin)
         (seen (book result.0) (task_own task.now)) (setup_on inner.now) (book result.1) }
@@ -77,9 +77,7 @@ fn answer(
 ) -> (Seat<Above>, i16)
     requires seats { IsSeatOf outer.now seat × IsSeatOf outer.now above }
     requires task { IsTaskOf outer.now task × IsInHand seat task }
-    requires inner { IsSeatOf inner behind × ((book behind).hand ≡ []) }
-    requires marked { (book behind).marked ≡ true }
-    requires shares { (book behind).shares ≡ all_shares }
+    requires inner { IsLastSeat inner behind }
     requires bounds { BoundsWithin ((book above).best - (setup_on outer.now).margin)
         (seen (book above) (task_own task)) (setup_on inner) (book behind) }
     requires low { (setup_on inner).low ≤ (book seat).best - (setup_on outer.now).margin }

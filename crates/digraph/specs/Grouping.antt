@@ -1,6 +1,6 @@
 -- This crate's own: what `run` promises does not rest on it.
 -- The components of a graph, and how far a walk that finds them has come.
-use Rattle.std.specs.Prelude.{ℕ, suc, zero, ◌+◌, ◌-◌, ◌*◌, ◌<◌, ◌≤◌, ◌≡◌, ◌≢◌, ◌⊎◌, ◌↔◌, List, [], ◌∷◌, ◌++◌, length, slice_index, slice_set, sum_by}
+use Rattle.std.specs.Prelude.{ℕ, suc, zero, ◌+◌, ◌-◌, ◌*◌, ◌<◌, ◌≤◌, ◌≡◌, ◌≢◌, ◌⊎◌, ◌↔◌, List, [], ◌∷◌, ◌++◌, length, slice_index, slice_set, sum_by, take}
 use Rattle.digraph.specs.declared.graph.Arrow.{Arrow}
 use Rattle.digraph.specs.declared.components.Walk.{Walk}
 use Rattle.digraph.specs.Graph.{arrow_at, Reaches}
@@ -91,6 +91,16 @@ pub record AreNumberedFrom (old new nodes : List ℕ) (from number : ℕ) : Type
   pub length_is : length new ≡ length old
   pub here : (i : ℕ) → from ≤ i → i < length nodes → slice_index new (slice_index nodes i) ≡ number
   pub others : (p : ℕ) → ((i : ℕ) → from ≤ i → i < length nodes → slice_index nodes i ≢ p) → slice_index new p ≡ slice_index old p
+
+-- the last group, of the open nodes from this place on, was given the next number
+pub record HasClosed (old new : Walk) (start : ℕ) : Type 0 where
+  pub starts : old.starts.items ≡ new.starts.items ++ start ∷ []
+  pub listed : new.open_nodes.items ≡ take start old.open_nodes.items
+  pub numbers : AreNumberedFrom old.numbers.items new.numbers.items old.open_nodes.items start (old.count + 1)
+  pub count : new.count ≡ old.count + 1
+  pub ends : new.ends.items ≡ old.ends.items
+  pub places : new.places.items ≡ old.places.items
+  pub pending : new.pending.items ≡ old.pending.items
 
 -- what was seen where an arrow leads: nothing new, a node that is opened, or groups that are joined
 pub data IsLookedAt (old new : Walk) (target : ℕ) : Type 0 where

@@ -7,7 +7,7 @@
 ghost use Rattle.std.specs.Prelude.{ℕ, ◌≡◌, ◌<◌, ◌≤◌, ◌+◌, ◌-◌, ◌^◌, ◌++◌, ◌∷◌, [], length, IfOk, OnOk, MatchOption, replicate, slice_index};
 ghost use Rattle.std.specs.Prelude.{slice_set, take};
 ghost use Rattle.digraph.specs.GraphView.{arrows_of, nodes_of};
-ghost use Rattle.digraph.specs.Grouping.{AreComponents, AreNumberedFrom, StartsCut, IsLookedAt, IsWalk, work_of};
+ghost use Rattle.digraph.specs.Grouping.{AreComponents, AreNumberedFrom, StartsCut, HasClosed, IsLookedAt, IsWalk, work_of};
 
 use crate::graph::Graph;
 use std::alloc::{AllocError, Global};
@@ -108,13 +108,7 @@ impl Walk {
             → slice_index self.old.open_nodes.items i < length self.old.numbers.items }
         requires start { start ≤ length self.old.open_nodes.items }
         requires room { self.old.count < 2 ^ 63 }
-        ensures starts { self.old.starts.items ≡ self.new.starts.items ++ start ∷ [] }
-        ensures listed { self.new.open_nodes.items ≡ take start self.old.open_nodes.items }
-        ensures numbers { AreNumberedFrom self.old.numbers.items self.new.numbers.items self.old.open_nodes.items start (self.old.count + 1) }
-        ensures count { self.new.count ≡ self.old.count + 1 }
-        ensures ends { self.new.ends.items ≡ self.old.ends.items }
-        ensures places { self.new.places.items ≡ self.old.places.items }
-        ensures pending { self.new.pending.items ≡ self.old.pending.items }
+        ensures { HasClosed self.old self.new start }
     {
         self.count += 1;
         number_from(&mut self.numbers, &self.open_nodes, start, self.count);

@@ -9,7 +9,7 @@ returns g c =
     let within : IsWithin (g.A.Above.view c.args.self.now.above) (setup_on c.args.on.now) (book c.report_in.new.s) = search facts in
     record {
       seat = c.report_in.ensures.seat;
-      settled = c.report_in.ensures.settled;
+      settled = c.report_in.ensures.reported.settled;
       follows = follows_itself (g.A.Above.view c.args.self.now.above);
       within = within;
     }
