@@ -70,7 +70,7 @@ def write(points: list[Point], file: Path) -> None:
     kept.write_text(json.dumps(told, indent=1) + "\n")
     for python in dict.fromkeys([sys.executable, DEBIANS]):
         if has_matplotlib(python):
-            words = [python, "-B", __file__, kept, file]
+            words = [python, "-B", __file__, str(kept), str(file)]
             subprocess.run(words, stderr=subprocess.DEVNULL, check=True)
             return
     why = "no chart: there is no matplotlib (python3-matplotlib)"

@@ -88,6 +88,8 @@ class Browser(unittest.TestCase):
     """Tests of one page in one browser."""
 
     browser: Any
+    desk: Desk
+    server: Server
 
     @classmethod
     def setUpClass(cls) -> None:

@@ -60,6 +60,10 @@ def until(test: Any, seconds: float = 60.0) -> bool:
 class Served(unittest.TestCase):
     """Tests over a server in a thread."""
 
+    desk: Desk
+    server: Server
+    port: int
+
     @classmethod
     def setUpClass(cls) -> None:
         cls.desk = Desk(Engine(shlex.split(PROGRAM), 2), TOP / "games")
