@@ -1,7 +1,7 @@
-"""Charts of how long rows take: against depth, and against the size of the board. `bench/ladder --plot` draws them.
+"""Charts of how long rows take: against depth, and against the size of the board.
 
-charts.py POINTS.json FILE draws points anew that were measured before. matplotlib is needed to draw, Debian's python3-matplotlib
-is enough, and points are kept without it."""
+`bench/ladder --plot` draws them. charts.py POINTS.json FILE draws points anew that were measured
+before. matplotlib is needed to draw (Debian's python3-matplotlib), and points are kept without."""
 from __future__ import annotations
 
 import json
@@ -48,9 +48,19 @@ def points_of(row: str, times: list[float]) -> list[Point]:
 
 def told_of_machine() -> str:
     """What the times were measured on."""
-    lines = Path("/proc/cpuinfo").read_text().splitlines() if Path("/proc/cpuinfo").exists() else []
-    kind = next((line.partition(":")[2].strip() for line in lines if line.startswith("model name")), "a machine")
-    return f"{os.cpu_count()} cores of {kind}, load {os.getloadavg()[0]:.1f} behind it"
+    file = Path("/proc/cpuinfo")
+    lines = file.read_text().splitlines() if file.exists() else []
+    kinds = [line.partition(":")[2].strip() for line in lines if line.startswith("model name")]
+    kind = kinds[0] if kinds else "a machine"
+    return f"{os.cpu_count()} cores of {kind}, load {os.getloadavg()[0]:.1f} at the end"
+
+
+def has_matplotlib(python: str) -> bool:
+    """Whether a Python is there and can draw."""
+    test = [python, "-c", "import matplotlib"]
+    if not Path(python).exists():
+        return False
+    return subprocess.run(test, capture_output=True, check=False).returncode == 0
 
 
 def write(points: list[Point], file: Path) -> None:
@@ -59,38 +69,47 @@ def write(points: list[Point], file: Path) -> None:
     told = {"machine": told_of_machine(), "points": [asdict(point) for point in points]}
     kept.write_text(json.dumps(told, indent=1) + "\n")
     for python in dict.fromkeys([sys.executable, DEBIANS]):
-        test = [python, "-c", "import matplotlib"]
-        if Path(python).exists() and subprocess.run(test, capture_output=True, check=False).returncode == 0:
-            subprocess.run([python, "-B", __file__, kept, file], stderr=subprocess.DEVNULL, check=True)
+        if has_matplotlib(python):
+            words = [python, "-B", __file__, str(kept), str(file)]
+            subprocess.run(words, stderr=subprocess.DEVNULL, check=True)
             return
-    print(f"no chart: there is no matplotlib (python3-matplotlib); the points are in {kept}", file=sys.stderr)
+    why = "no chart: there is no matplotlib (python3-matplotlib)"
+    print(f"{why}; the points are in {kept}", file=sys.stderr)
 
 
 def lines_by(points: list[Point], name: str) -> dict[str, list[tuple[int, float]]]:
-    """Lines of times: of each description against depth, or of each depth against the cells of its board."""
+    """Lines of times: of each description against depth, or of each depth against cells."""
     found: dict[str, list[tuple[int, float]]] = {}
     for point in points:
         cells = point.cells()
         if name == "depth":
-            found.setdefault(point.game.replace("_", " "), []).append((point.depth, point.seconds))
+            line = found.setdefault(point.game.replace("_", " "), [])
+            line.append((point.depth, point.seconds))
         elif cells is not None:
             found.setdefault(f"depth {point.depth}", []).append((cells, point.seconds))
     return {key: sorted(line) for key, line in found.items() if len({x for x, _ in line}) >= LEAST}
 
 
+def told_time(value: float, place: object) -> str:
+    """A number of milliseconds, as an axis tells it."""
+    return f"{value:g} ms" if value < 1000 else f"{value / 1000:g} s"
+
+
 def panel(axes: Any, lines: dict[str, list[tuple[int, float]]], across: str) -> None:
     """One part of the chart."""
     for place, (name, line) in enumerate(lines.items()):
-        across_it, up = [x for x, _ in line], [seconds * 1e3 for _, seconds in line]
-        axes.plot(across_it, up, "o-", color=COLOURS[place % len(COLOURS)], markersize=4, linewidth=1.6, label=name)
+        along, up = [x for x, _ in line], [seconds * 1e3 for _, seconds in line]
+        colour = COLOURS[place % len(COLOURS)]
+        axes.plot(along, up, "o-", color=colour, markersize=4, linewidth=1.6, label=name)
     handles, labels = axes.get_legend_handles_labels()
-    axes.legend(handles[::-1], labels[::-1], loc="upper left", bbox_to_anchor=(1.0, 1.0), frameon=False, fontsize=9)
+    place_of = {"loc": "upper left", "bbox_to_anchor": (1.0, 1.0)}
+    axes.legend(handles[::-1], labels[::-1], frameon=False, fontsize=9, **place_of)
     axes.set_yscale("log")
     axes.set_xlabel(across)
     axes.grid(True, which="major", color="#d3dae4", linewidth=0.7)
     axes.margins(x=0.03)
     axes.spines[["top", "right"]].set_visible(False)
-    axes.yaxis.set_major_formatter(lambda value, place: f"{value:g} ms" if value < 1000 else f"{value / 1000:g} s")
+    axes.yaxis.set_major_formatter(told_time)
 
 
 def draw(points: list[Point], file: Path) -> None:
@@ -98,7 +117,7 @@ def draw(points: list[Point], file: Path) -> None:
     import matplotlib  # type: ignore[import]
 
     matplotlib.use("Agg")
-    matplotlib.rcParams.update({"svg.fonttype": "none", "svg.hashsalt": "gdlsolve", "font.family": "sans-serif"})
+    matplotlib.rcParams.update({"svg.fonttype": "none", "svg.hashsalt": "gdlsolve"})
     from matplotlib import pyplot
 
     figure, (left, right) = pyplot.subplots(1, 2, figsize=(11, 4.6), sharey=True)
