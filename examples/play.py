@@ -18,7 +18,8 @@ from pathlib import Path
 import gdlsolve
 from gdlsolve import Position, State
 from gdlsolve.engine import Children, Engine, Turn
-from gdlsolve.thinking import Choice, Question, Thinking
+from gdlsolve.simulation import Question
+from gdlsolve.thinking import Choice, Thinking
 
 
 def options() -> argparse.Namespace:

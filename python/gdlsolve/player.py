@@ -24,7 +24,8 @@ from gdlsolve.calls import Misuse, Refusal, reply
 from gdlsolve.engine import Broken, Children, Engine, Late, Limit, Turn
 from gdlsolve.messages import MOST_BYTES, Malformed, Message, clock, parts_of, turn
 from gdlsolve.replies import Position, State
-from gdlsolve.thinking import MOST_DEPTH, Choice, Question, Thinking
+from gdlsolve.simulation import MOST_DEPTH, Node, Question
+from gdlsolve.thinking import Choice, Thinking
 
 # What the solver says or does when it gives no answer.
 NO_ANSWER = (Late, Broken, Misuse, MemoryError)
@@ -81,7 +82,8 @@ class Match:
         self.heard = time.monotonic()
         self.roles: tuple[str, ...] = ()
         self.turns: tuple[Turn, ...] = ()
-        self.known: dict[tuple[Turn, ...], Position] = {}
+        # The position behind the turns, with what random play found behind it.
+        self.tree: Node | None = None
         self.last_legal: list[tuple[str, ...]] = []
         # So long it takes to tell how play stands, in seconds.
         self.usual = 0.0
@@ -97,7 +99,7 @@ class Match:
         begun = time.monotonic()
         here = self.quick.moves((), Limit(until))
         self.usual = time.monotonic() - begun
-        self.known[()] = here
+        self.tree = Node(here)
         if here.state is State.OPEN and len(here.legal[self.start.role]) > 1:
             # The first turn may be asked for at the end of the start clock.
             self.thinking = self.think(here, until + self.start.play_clock)
@@ -106,7 +108,7 @@ class Match:
     def think(self, here: Position, until: float) -> Thinking:
         """Begins to look for a move."""
         asked = Question(self.start.role, self.turns, here, until, self.options.depth)
-        return Thinking(asked, self.deep, self.quick, random.Random())
+        return Thinking(asked, self.deep, self.quick, random.Random(), self.tree)
 
     def is_repeated(self, behind: Turn | None, arrived: float) -> bool:
         """Whether a message asks for what was answered, since no turn can have followed that."""
@@ -136,10 +138,8 @@ class Match:
             return move
 
     def position(self, turns: tuple[Turn, ...], until: float) -> Position | None:
-        """How play stands, where that is known or told in time. A solver that seems to hang is
-        ended at half the time, and another one is asked; one that is known as slow is not."""
-        if turns in self.known:
-            return self.known[turns]
+        """How play stands, where that is told in time. A solver that seems to hang is ended at half
+        the time, and another one is asked; one that is known as slow is not."""
         now = time.monotonic()
         half = until if 4 * self.usual > until - now else (now + until) / 2
         for limit in (half, until):
@@ -155,10 +155,15 @@ class Match:
         thinking, self.thinking = self.thinking, None
         if thinking is not None and behind is not None:
             thinking.stop.set()
-        here = self.position(turns, until)
+        node = self.tree
+        if node is not None and behind is not None:
+            node = node.next.get(behind)
+        here = self.position(turns, until) if node is None else node.here
         self.turns = turns
         if here is None:
+            self.tree = None
             return self.guess()
+        self.tree = node or Node(here)
         if here.state is not State.OPEN:
             return "nil"
         legal = here.legal[self.start.role]
@@ -169,7 +174,6 @@ class Match:
             thinking = self.think(here, until)
         thinking.wait(until)
         choice = thinking.choice()
-        self.known = dict(thinking.simulation.known)
         self.tell_choice(choice)
         return choice.move
 
@@ -207,7 +211,7 @@ class Player:
 
     def __init__(self, options: Options, command: Sequence[str] | None = None):
         self.options = options
-        self.children = Children(3 * options.matches, command, options.matches)
+        self.children = Children(2 * options.matches + 2, command)
         self.matches: dict[str, Match] = {}
         self.lock = threading.Lock()
 

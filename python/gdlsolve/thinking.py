@@ -8,8 +8,6 @@ that random play speaks for.
 
 from __future__ import annotations
 
-import itertools
-import math
 import random
 import threading
 import time
@@ -19,48 +17,12 @@ from dataclasses import dataclass, field, replace
 
 from gdlsolve.calls import Misuse, Refusal
 from gdlsolve.engine import Broken, Engine, Late, Limit, Turn
-from gdlsolve.replies import Position, Solution, State
+from gdlsolve.replies import Solution, State
+from gdlsolve.simulation import UNFINISHED, Node, Question, Simulation
 
-# What is unfinished is worth so much, half of all.
-UNFINISHED = 50
-# The greatest depth that the solver takes.
-MOST_DEPTH = 64
-# A random match is broken off after so many turns.
-MOST_TURNS = 200
 # So many moves are compared with the search's own at each depth, each over so many replies at most.
 COMPARED_MOVES = 3
 COMPARED_REPLIES = 16
-# How far random play goes after moves that it knows little of.
-CURIOSITY = 0.7
-# An answer on a position of random play that is under way may come so much later, in seconds.
-GRACE = 0.25
-# So many positions are kept for the next turn.
-MOST_KNOWN = 1_000
-
-
-@dataclass(frozen=True)
-class Question:
-    """The role that moves, the turns so far and how play stands behind them; when there has to be
-    an answer, and the greatest depth to search."""
-
-    role: str
-    turns: tuple[Turn, ...]
-    here: Position
-    until: float
-    most_depth: int = MOST_DEPTH
-
-    @property
-    def legal(self) -> tuple[str, ...]:
-        """The moves of the role."""
-        return self.here.legal[self.role]
-
-    def replies(self, move: str, most: int) -> list[Turn]:
-        """The turns with this move, or none where they are more than so many."""
-        legal: dict[str, Turn] = {**self.here.legal, self.role: (move,)}
-        lists = list(legal.values())
-        if math.prod(map(len, lists)) > most:
-            return []
-        return list(itertools.product(*lists))
 
 
 @dataclass(frozen=True)
@@ -73,79 +35,6 @@ class Choice:
     depth: int
     is_settled: bool
     tried: int
-
-
-class Simulation:
-    """Random play behind each move of the role, oftener behind those that did well."""
-
-    def __init__(self, question: Question, engine: Engine, dice: random.Random):
-        self.question = question
-        self.engine = engine
-        self.dice = dice
-        self.tried = dict.fromkeys(question.legal, 0)
-        self.gained = dict.fromkeys(question.legal, 0.0)
-        self.known: dict[tuple[Turn, ...], Position] = {}
-
-    def mean(self, move: str) -> float:
-        """How much a move brought on average."""
-        return self.gained[move] / max(self.tried[move], 1)
-
-    def ranking(self) -> list[str]:
-        """The moves that were tried, the best first."""
-        return sorted(filter(self.tried.__getitem__, self.tried), key=self.mean, reverse=True)
-
-    def next_move(self) -> str:
-        """The move to be tried next."""
-        for move, times in self.tried.items():
-            if not times:
-                return move
-        all_times = math.log(sum(self.tried.values()))
-
-        def promise(move: str) -> float:
-            return self.mean(move) / 100 + CURIOSITY * math.sqrt(all_times / self.tried[move])
-
-        return max(self.tried, key=promise)
-
-    def position(self, turns: list[Turn], stop: threading.Event) -> Position:
-        """How play stands after these turns. Those near to the question are kept."""
-        place = tuple(turns)
-        found = self.known.get(place)
-        if found is None:
-            until = self.question.until + GRACE
-            found = self.engine.moves(turns, Limit(until, stop, GRACE))
-            if len(turns) <= len(self.question.turns) + 2 and len(self.known) < MOST_KNOWN:
-                self.known[place] = found
-        return found
-
-    def turn(self, here: Position, own: str | None) -> Turn:
-        """A turn at random, but for the move of the role where that is given."""
-        role, choose = self.question.role, self.dice.choice
-        return tuple(
-            own if own is not None and each == role else choose(moves)
-            for each, moves in here.legal.items()
-        )
-
-    def match(self, first: str, stop: threading.Event) -> float | None:
-        """What a match with this first move and all else at random brings, where it is played."""
-        turns, here = list(self.question.turns), self.question.here
-        own: str | None = first
-        for _ in range(MOST_TURNS):
-            if stop.is_set():
-                return None
-            turns.append(self.turn(here, own))
-            here, own = self.position(turns, stop), None
-            if here.state is not State.OPEN:
-                return float(here.goals.get(self.question.role, 0))
-        return float(UNFINISHED)
-
-    def run(self, stop: threading.Event) -> None:
-        """Plays until it is stopped."""
-        while not stop.is_set():
-            move = self.next_move()
-            gain = self.match(move, stop)
-            if gain is not None:
-                self.gained[move] += gain
-                self.tried[move] += 1
 
 
 class Search:
@@ -248,7 +137,7 @@ class Search:
             move = self.confirmed[1]
         if move is None:
             return None
-        return Choice(move, found.value, depth, is_settled, self.simulation.tried.get(move, 0))
+        return Choice(move, found.value, depth, is_settled, self.simulation.tried(move))
 
 
 @contextmanager
@@ -262,16 +151,18 @@ def giving_up() -> Iterator[None]:
 
 @dataclass
 class Thinking:
-    """The work on a question, in two threads with an engine each, until it is stopped."""
+    """The work on a question, in two threads with an engine each, until it is stopped. Random play
+    may go on with a tree that it has grown before."""
 
     question: Question
     deep: Engine
     quick: Engine
     dice: random.Random
+    root: Node | None = None
     stop: threading.Event = field(default_factory=threading.Event)
 
     def __post_init__(self) -> None:
-        self.simulation = Simulation(self.question, self.quick, self.dice)
+        self.simulation = Simulation(self.question, self.quick, self.dice, self.root)
         self.search = Search(self.question, self.deep, self.simulation)
         for work in (self.search.run, self.simulation.run):
             threading.Thread(target=self.work, args=(work,), daemon=True).start()
@@ -292,4 +183,4 @@ class Thinking:
         if found is not None and found.move in self.question.legal:
             return found
         best = [*self.simulation.ranking(), *self.question.legal][0]
-        return Choice(best, None, 0, False, self.simulation.tried[best])
+        return Choice(best, None, 0, False, self.simulation.tried(best))

@@ -10,16 +10,37 @@ import time
 import urllib.error
 import urllib.request
 from collections.abc import Sequence
+from contextlib import suppress
 from pathlib import Path
 from typing import Any
 from unittest import TestCase
 
+from gdlsolve.engine import Broken, Children, Engine, Limit
 from gdlsolve.player import Options, Player, Server
 from tests import TOP
 
 HANGING = Path(__file__).with_name("hanging.py")
 # A machine may be busy: so long an answer is waited for that has to come.
 LONG = 60.0
+
+
+def pace() -> float:
+    """How many times slower than a machine that is not busy this one is now, from 1 to 6."""
+    begun = time.monotonic()
+    children = Children(1, spare=0)
+    Engine("(role a)", children).check(Limit(begun + LONG))
+    took = time.monotonic() - begun
+    children.close()
+    return min(max(took / 0.4, 1.0), 6.0)
+
+
+# Clocks of tests are so many times longer.
+PACE = pace()
+
+
+def clocks(start: float, play: float) -> str:
+    """The clocks of a match at the pace of this machine."""
+    return f"{start * PACE:.1f} {play * PACE:.1f}"
 
 
 def is_alive(process: int) -> bool:
@@ -65,6 +86,16 @@ class Served:
         thread = threading.Thread(target=self.server.serve_forever, args=(0.05,), daemon=True)
         thread.start()
         test.addCleanup(self.close)
+        self.warm()
+
+    def warm(self) -> None:
+        """Waits until two processes of the solver stand ready, where they answer at all."""
+        engines = [Engine("(role a)", self.player.children) for _ in range(2)]
+        for engine in engines:
+            with suppress(Broken):
+                engine.check(Limit(time.monotonic() + LONG))
+        for engine in engines:
+            engine.close()
 
     def close(self) -> None:
         """Ends the player."""

@@ -19,8 +19,10 @@ import gdlsolve
 from gdlsolve import State
 from gdlsolve.manager import Record, Referee, made, options, resumed
 from tests import TOP
-from tests.serving import Served
+from tests.serving import PACE, Served
 
+# Clocks at the pace of this machine.
+CLOCKS = ["--start", f"{20 * PACE:.1f}", "--play", f"{2 * PACE:.1f}", "--slack", f"{3 * PACE:.1f}"]
 # Games, and what roles are sure of from the start: nothing less is the goal of the match.
 MATCHES: list[tuple[str, dict[str, int]]] = [
     ("tic_tac_toe", {}),
@@ -102,8 +104,7 @@ class Matches(unittest.TestCase):
             roles = gdlsolve.check(Path(game(name)).read_bytes()).roles
             players = [each.url for each, _ in zip(served, roles)]
             words = [word for player in players for word in ("--player", player)]
-            clocks = ["--start", "20", "--play", "2", "--slack", "3"]
-            return played([game(name), *clocks, *words])
+            return played([game(name), *CLOCKS, *words])
 
         with ThreadPoolExecutor(4) as threads:
             records = list(threads.map(play, [name for name, _ in MATCHES]))
@@ -119,9 +120,8 @@ class Matches(unittest.TestCase):
     def test_against_moves_at_random(self) -> None:
         served = Served(self)
         for seed in range(3):
-            clocks = ["--start", "20", "--play", "2", "--slack", "3"]
             players = ["--player", "random", "--player", served.url]
-            record = played([game("hexapawn"), *clocks, *players], seed)
+            record = played([game("hexapawn"), *CLOCKS, *players], seed)
             self.judge(record)
             self.assertEqual(record.goalValues, [0, 100])
         alone = [played([game("draft")], 5).moves for _ in range(2)]
@@ -132,15 +132,15 @@ class Matches(unittest.TestCase):
             time.sleep(3)
             return "ready"
 
-        for says, error in [
-            (lambda text: "noop", "not legal: noop"),
-            (lambda text: "((", "not legal: (("),
-            (lambda text: "", "not legal: "),
-            (lambda text: None, "status 500"),
-            (slow, "late"),
+        for says, error, clock in [
+            (lambda text: "noop", "not legal: noop", "60"),
+            (lambda text: "((", "not legal: ((", "60"),
+            (lambda text: "", "not legal: ", "60"),
+            (lambda text: None, "status 500", "60"),
+            (slow, "late", "0.2"),
         ]:
             odd = Odd(self, says)
-            words = ["--start", "0.2", "--play", "0.2", "--slack", "0", "--player", odd.url]
+            words = ["--start", clock, "--play", clock, "--slack", "0", "--player", odd.url]
             record = played([game("matching_pennies"), *words])
             self.judge(record)
             self.assertEqual((len(record.errors), record.errors[0][1]), (1, ""))
@@ -175,12 +175,12 @@ class Records(unittest.TestCase):
 
     def test_a_match_goes_on(self) -> None:
         served = Served(self)
-        clocks = ["--start", "20", "--play", "2", "--slack", "3", "--id", "m"]
+        clocks = [*CLOCKS, "--id", "m"]
         players = ["--player", served.url, "--player", "random"]
         record = ["--record", str(self.file)]
         part = played([game("tic_tac_toe"), *clocks, *players, *record, "--turns", "3"])
         self.assertEqual((part.state, len(part.moves)), ("open", 3))
-        whole = played(["--resume", str(self.file), "--slack", "3"])
+        whole = played(["--resume", str(self.file), "--slack", f"{3 * PACE:.1f}"])
         self.assertEqual((whole.state, whole.matchId), ("ended", "m.3"))
         self.assertEqual(whole.moves[:3], part.moves)
         self.assertEqual({error for turn in whole.errors for error in turn}, {""})

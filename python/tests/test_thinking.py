@@ -6,9 +6,10 @@ import unittest
 
 import gdlsolve
 from gdlsolve.engine import Children, Engine, Limit, Turn
-from gdlsolve.thinking import Choice, Question, Thinking
+from gdlsolve.simulation import Question
+from gdlsolve.thinking import Choice, Thinking
 from tests import TOP
-from tests.serving import LONG
+from tests.serving import LONG, PACE
 
 # One role, which loses at once or one turn later.
 LOST = """
@@ -43,7 +44,7 @@ class Choices(unittest.TestCase):
     ) -> Choice:
         """What is chosen within so many seconds, or once it is settled."""
         deep, quick = self.engine(rules), self.engine(rules)
-        until = time.monotonic() + seconds
+        until = time.monotonic() + seconds * PACE
         question = Question(role, turns, gdlsolve.moves(rules, turns), until, depth)
         thinking = Thinking(question, deep, quick, random.Random(1))
         thinking.wait(until)
@@ -65,7 +66,7 @@ class Choices(unittest.TestCase):
                 rules = (TOP / f"games/{game}.kif").read_text()
                 begun = time.monotonic()
                 found = self.choice(rules, role, 60)
-                self.assertLess(time.monotonic() - begun, 50)
+                self.assertLess(time.monotonic() - begun, 50 * PACE)
                 self.assertEqual((found.value, found.is_settled), (value, True))
                 best = gdlsolve.solve(rules, role, found.depth).value
                 self.assertEqual(best, value)
@@ -93,7 +94,7 @@ class Choices(unittest.TestCase):
         none = Children(1, ["false"], spare=0)
         self.addCleanup(none.close)
         quick = self.engine(rules)
-        until = time.monotonic() + 2
+        until = time.monotonic() + 2 * PACE
         question = Question("xplayer", (), gdlsolve.moves(rules), until)
         thinking = Thinking(question, Engine(rules, none), quick, random.Random(1))
         thinking.wait(until)
