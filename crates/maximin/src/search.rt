@@ -18,7 +18,9 @@ use crate::cursor::{next_turn, start_turns, write_joint};
 use crate::end::{greatest_judged, judge_last, least_judged};
 use crate::history::Movers;
 use crate::level::Level;
+use crate::memory::{keep, recall};
 use crate::moves::gather;
+use crate::narrow::{bounds_by, narrowed, settled};
 use crate::order::order_of;
 use crate::run::LONGEST_RUN;
 use crate::told::{greatest_told, least_told, told_worth};
@@ -193,7 +195,34 @@ pub fn child_at<G: Game>(
         return i16::from(worth);
     }
     game.take(&children.many, place, &mut children.position);
-    value_at(game, &children.position, asked, window, tools, levels)
+    known_at(game, &children.position, asked, window, tools, levels)
+}
+
+/// The value of a state within a window, by what is kept of it, or else by a search in what that leaves of the window.
+#[cycle(search)]
+pub fn known_at<G: Game>(
+    game: &G,
+    from: &G::Pos,
+    asked: Question,
+    window: SearchWindow,
+    tools: &mut Tools<G::Wide>,
+    levels: &mut [Level<G::Pos, G::Many>],
+) -> i16
+    requires fits { G.fits game.now from.now }
+    requires fit { AreFit G.Game game.now asked.role asked.depth tools.old levels.old }
+    requires window { IsWindow window.low window.high }
+    ensures answers { Answers (value (G.rules game.now) asked.role asked.depth asked.at (G.state game.now from.now)) window.low window.high result }
+    ensures kept { AreKept G.Game game.now tools.old levels.old tools.new levels.new }
+{
+    let known = recall(game, from, asked, &mut tools.memory);
+    let left = narrowed(known, window);
+    if left.low >= left.high {
+        return settled(known, left.high);
+    }
+    let answer = value_at(game, from, asked, left, tools, levels);
+    let found = bounds_by(window, answer);
+    keep(game, from, asked, found, &mut tools.memory);
+    answer
 }
 
 /// The least value of the states after a run, within a window.

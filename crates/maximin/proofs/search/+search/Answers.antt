@@ -60,8 +60,11 @@ use Rattle.maximin.proofs.Orders.{place_within, all_places}
 use Rattle.maximin.proofs.Choices.{legal_some}
 use Rattle.maximin.proofs.OwnTurns.{alone_worst, own_worths, run_seen, run_most, run_end, greatest_worth_above, greatest_worth_reached, map_part}
 use Rattle.maximin.specs.Open.{IsOpen}
-use Rattle.maximin.proofs.Values.{turn_known, value_open, worst_le_value, value_reached, value_ended, value_stuck}
-use Rattle.maximin.proofs.Kept.{kept_at_first, kept_then, all_levels_kept, level_kept, moves_kept, same_states_then}
+use Rattle.maximin.proofs.Values.{turn_known, value_open, worst_le_value, value_reached, value_ended, value_stuck, value_at_bound}
+use Rattle.maximin.proofs.Bounds.{value_at_most}
+use Rattle.maximin.proofs.Kept.{kept_at_first, kept_then, memory_kept, all_levels_kept, level_kept, moves_kept, same_states_then}
+use Rattle.maximin.proofs.Packs.{some_is}
+use Rattle.maximin.proofs.LeftWindows.{settled_answers, narrow_answers, narrow_window}
 use Rattle.maximin.proofs.Runs.{
   known_each,
   steps_of,
@@ -336,6 +339,7 @@ worst_at-runs-init g t c =
       capacities = refl;
       kept = record {
         wide = c.requires.fit.wide;
+        memory = c.requires.fit.memory;
         levels = λ k d below. rw (c.split_at_mut-first.ensures.by_index.1 k d) (c.requires.fit.levels (1 + k) d (omega arith));
         of_tools = refl;
         of_levels = refl;
@@ -608,6 +612,7 @@ best_at-runs-init g t c =
       capacities = refl;
       kept = record {
         wide = c.requires.fit.wide;
+        memory = c.requires.fit.memory;
         levels = λ k d below. rw (c.split_at_mut-first.ensures.by_index.1 k d) (c.requires.fit.levels (1 + k) d (omega arith));
         of_tools = refl;
         of_levels = refl;
@@ -984,3 +989,105 @@ greatest_at-loop-place-init g t c =
       at_most = rw el (subst (λ (z : ℤ). lower ≤ℤ int_max (pos (greatest (map worth states))) z) ea c.greatest_told-lower.ensures.at_most);
       seen = λ k lt. absurd (omega arith);
     }
+
+pub child_at-returns-in-Some-clause-answers : goal.child_at-returns-in-Some-clause-answers
+child_at-returns-in-Some-clause-answers g t c =
+    let worth = value (g.G.Game.rules c.args.game.now) c.args.asked.role c.args.asked.depth c.args.asked.at
+    (get_or (g.G.Game.states c.args.game.now c.args.children.now.many) c.args.place []) in
+    let r = c.in-Some.worth in
+    let fits_r : SFits w16 r = search facts in
+    exact worth c.args.window.low c.args.window.high (to_z w16 (of_z w16 r)) (to_z-of_z w16 r fits_r ∙ c.in-Some.ensures)
+
+pub child_at-returns-in-Some-worths-clause-answers : goal.child_at-returns-in-Some-worths-clause-answers
+child_at-returns-in-Some-worths-clause-answers g t c =
+    let states = g.G.Game.states c.args.game.now c.args.children.now.many in
+    let worth = value (g.G.Game.rules c.args.game.now) c.args.asked.role c.args.asked.depth c.args.asked.at (get_or states c.args.place []) in
+    let r = c.from.result in
+    let fits_r : SFits w16 r = search facts in
+    let same : c.look_ahead.new.children.many ≡ c.args.children.now.many = c.look_ahead.ensures.same.many in
+    let known = rw same at c.look_ahead.ensures.children.ahead in
+    let found : c.in-Some-worths.worth ≡ worth = some_is (λ n. n ≡ worth) _ c.in-Some-worths.worth c.in-Some-worths.is (known.worths c.args.place c.requires.place) in
+    exact worth c.args.window.low c.args.window.high (to_z w16 (of_z w16 r)) (to_z-of_z w16 r fits_r ∙ c.from.ensures ∙ ap pos found)
+
+pub child_at-returns-clause-kept : goal.child_at-returns-clause-kept
+child_at-returns-clause-kept g t c = kept_then c.look_ahead.ensures.kept c.known_at.ensures.kept
+
+pub known_at-returns-then-left-clause-answers : goal.known_at-returns-then-left-clause-answers
+known_at-returns-then-left-clause-answers g t c =
+    let worth = value (g.G.Game.rules c.args.game.now) c.args.asked.role c.args.asked.depth c.args.asked.at (g.G.Game.state c.args.game.now c.args.from.now) in
+    let low = c.narrowed-left.result.low in
+    let high = c.narrowed-left.result.high in
+    let el : to_z w16 (of_z w16 low) ≡ low = to_z-of_z w16 low (search facts) in
+    let eh : to_z w16 (of_z w16 high) ≡ high = to_z-of_z w16 high (search facts) in
+    let r = c.settled.result in
+    let fits_r : SFits w16 r = search facts in
+    rw (to_z-of_z w16 r fits_r)
+    (settled_answers worth c.recall-known.result c.args.window.low c.args.window.high low high r c.recall-known.ensures.within c.requires.window.order
+    c.narrowed-left.ensures.low c.narrowed-left.ensures.high
+    (rw (eh, el) at (le_z_true (to_z w16 (of_z w16 high)) (to_z w16 (of_z w16 low)) c.if-left.true)) (rw eh at c.settled.ensures))
+
+pub known_at-value_at-answer-requires-clause-window : goal.known_at-value_at-answer-requires-clause-window
+known_at-value_at-answer-requires-clause-window g t c κs within =
+    let low = c.narrowed-left.result.low in
+    let high = c.narrowed-left.result.high in
+    let el : to_z w16 (of_z w16 low) ≡ low = to_z-of_z w16 low (search facts) in
+    let eh : to_z w16 (of_z w16 high) ≡ high = to_z-of_z w16 high (search facts) in
+    narrow_window c.recall-known.result c.args.window.low c.args.window.high low high c.requires.window c.narrowed-left.ensures.low
+    c.narrowed-left.ensures.high (rw (eh, el) at (le_z_false (to_z w16 (of_z w16 high)) (to_z w16 (of_z w16 low)) c.if-left.false))
+
+pub known_at-keep-requires-clause-found : goal.known_at-keep-requires-clause-found
+known_at-keep-requires-clause-found g t c κs within =
+    let worth = value (g.G.Game.rules c.args.game.now) c.args.asked.role c.args.asked.depth c.args.asked.at (g.G.Game.state c.args.game.now c.args.from.now) in
+    let low = c.narrowed-left.result.low in
+    let high = c.narrowed-left.result.high in
+    let law = g.met.G.Game g.world.𝓛 g.world.𝓜 g.world.𝓡 ((λ _ x. x), (λ x. x), (λ x. x), λ x. x) in
+    let few = value_at_most (g.G.Game.rules c.args.game.now) c.args.asked.role (λ s r. law.goal_within c.args.game.now s r) c.args.asked.depth c.args.asked.at
+    (g.G.Game.state c.args.game.now c.args.from.now) in
+    let r = c.value_at-answer.result in
+    let fits_r : SFits w16 r = search facts in
+    c.bounds_by-found.ensures worth few (rw (to_z-of_z w16 r fits_r)
+    (narrow_answers worth c.recall-known.result c.args.window.low c.args.window.high low high r c.recall-known.ensures.within c.narrowed-left.ensures.low
+    c.narrowed-left.ensures.high c.value_at-answer.ensures.answers))
+
+pub known_at-returns-clause-answers : goal.known_at-returns-clause-answers
+known_at-returns-clause-answers g t c =
+    let worth = value (g.G.Game.rules c.args.game.now) c.args.asked.role c.args.asked.depth c.args.asked.at (g.G.Game.state c.args.game.now c.args.from.now) in
+    let low = c.narrowed-left.result.low in
+    let high = c.narrowed-left.result.high in
+    let r = c.value_at-answer.result in
+    let fits_r : SFits w16 r = search facts in
+    rw (to_z-of_z w16 r fits_r)
+    (narrow_answers worth c.recall-known.result c.args.window.low c.args.window.high low high r c.recall-known.ensures.within c.narrowed-left.ensures.low
+    c.narrowed-left.ensures.high c.value_at-answer.ensures.answers)
+
+pub known_at-returns-clause-kept : goal.known_at-returns-clause-kept
+known_at-returns-clause-kept g t c = memory_kept c.args.tools.now c.value_at-answer.new.tools c.recall-known.new.memory c.keep.new.memory c.args.levels.now
+    c.value_at-answer.new.levels c.recall-known.ensures.capacities c.keep.ensures.capacities c.keep.ensures.memory c.value_at-answer.ensures.kept
+
+pub value_at-returns-then-asked-eq0-clause-answers : goal.value_at-returns-then-asked-eq0-clause-answers
+value_at-returns-then-asked-eq0-clause-answers g t c =
+    let rules = g.G.Game.rules c.args.game.now in
+    let state = g.G.Game.state c.args.game.now c.args.from.now in
+    let r = c.bound_at.result in
+    let fits_r : SFits w16 r = search facts in
+    exact (value rules c.args.asked.role c.args.asked.depth c.args.asked.at state) c.args.window.low c.args.window.high (to_z w16 (of_z w16 r))
+    (to_z-of_z w16 r fits_r ∙ c.bound_at.ensures
+    ∙ ap pos (sym (value_at_bound rules c.args.asked.role c.args.asked.depth c.args.asked.at state c.if-asked-eq0.true (sym c.ended.ensures ∙ c.if-ended.false))))
+
+pub value_at-loop-own-init : goal.value_at-loop-own-init
+value_at-loop-own-init g t c =
+    let worth = value (g.G.Game.rules c.args.game.now) c.args.asked.role c.args.asked.depth c.args.asked.at (g.G.Game.state c.args.game.now c.args.from.now) in
+    let a = c.args.window.low in
+    let ea : to_z w16 (of_z w16 a) ≡ a = to_z-of_z w16 a (search facts) in
+    record {
+      kept = kept_at_first c.requires.fit;
+      deep = refl;
+      in_list = omega arith;
+      above = rw ea (omega (arith, ints));
+      below = rw ea c.requires.window.order;
+      at_most = rw ea (omega (arith, ints, clamps));
+      seen = λ k lt. absurd (omega arith);
+    }
+
+pub value_at-returns-then-best-window-clause-kept : goal.value_at-returns-then-best-window-clause-kept
+value_at-returns-then-best-window-clause-kept g t c = kept_then c.loop-own.invariant.kept c.worst_at.ensures.kept
