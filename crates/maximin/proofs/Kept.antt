@@ -8,6 +8,7 @@ use Rattle.statement.specs.Rules.{Rules}
 use Rattle.game.specs.declared.game.Game.{Ghosts}
 use Rattle.maximin.specs.declared.children.Children.{Children}
 use Rattle.maximin.specs.declared.cursor.Cursor.{Cursor}
+use Rattle.maximin.specs.declared.history.History.{History}
 use Rattle.maximin.specs.declared.level.Level.{Level}
 use Rattle.maximin.specs.declared.memory.Memory.{Memory}
 use Rattle.maximin.specs.declared.moves.Moves.{Moves}
@@ -98,6 +99,18 @@ module _ {G P W M : Type 0} {of : Ghosts G P W M} {game : G} where
     levels = h.levels;
     of_tools = ap (λ (m : List ℕ). history_capacities new.history ++ m ++ of.wide_capacities game new.wide) after ∙ h.of_tools
         ∙ ap (λ (m : List ℕ). history_capacities old.history ++ m ++ of.wide_capacities game old.wide) before;
+    of_levels = h.of_levels;
+  }
+
+  -- what a search leaves that then noted a cut
+  pub history_kept : (old new : Tools W) (last : History) (xs ys : List (Level P M)) → history_capacities last ≡ history_capacities new.history
+      → AreKept of game old xs new ys
+      → AreKept of game old xs record { wide = new.wide; history = last; memory = new.memory; judges = new.judges } ys
+  history_kept old new last xs ys same h = record {
+    wide = h.wide;
+    memory = h.memory;
+    levels = h.levels;
+    of_tools = ap (λ (n : List ℕ). n ++ memory_capacities new.memory ++ of.wide_capacities game new.wide) same ∙ h.of_tools;
     of_levels = h.of_levels;
   }
 

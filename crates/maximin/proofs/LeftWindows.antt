@@ -1,5 +1,5 @@
 -- What bounds of a value say in a window.
-use Rattle.std.proofs.Common.{◌≡◌, ℕ, arith}
+use Rattle.std.proofs.Common.{◌≡◌, ℕ, ◌≤◌, arith}
 use Rattle.std.proofs.lemmas.Int.{ints, clamps}
 use Rattle.std.specs.Prelude.{ℤ, pos, ◌<ℤ◌, ◌≤ℤ◌}
 use Rattle.std.specs.Int.{int_min, int_max}
@@ -33,3 +33,17 @@ narrow_window known a b low high is l h less =
     let bottom = is.low in
     let top = is.high in
     record { low = omega (arith, ints, clamps); order = less; high = omega (arith, ints, clamps) }
+
+-- a bound of one of the values, of which `all` is the least or the greatest
+pub bound_low : (v all hi : ℕ) (b upper r : ℤ) → all ≤ v → v ≤ hi → r ≡ pos hi → int_min (pos all) b ≤ℤ upper → int_min (pos all) b ≤ℤ int_min upper r
+bound_low v all hi b upper r part within is low = omega (arith, ints, clamps)
+
+pub bound_high : (v all lo : ℕ) (a lower r : ℤ) → v ≤ all → lo ≤ v → r ≡ pos lo → lower ≤ℤ int_max (pos all) a → int_max lower r ≤ℤ int_max (pos all) a
+bound_high v all lo a lower r part within is high = omega (arith, ints, clamps)
+
+-- a bound of the least or the greatest, and then a narrower one
+pub lower_yet : (all : ℕ) (b upper low : ℤ) → int_min (pos all) b ≤ℤ upper → int_min (pos all) upper ≤ℤ low → int_min (pos all) b ≤ℤ low
+lower_yet all b upper low h k = omega (arith, ints, clamps)
+
+pub higher_yet : (all : ℕ) (a lower high : ℤ) → lower ≤ℤ int_max (pos all) a → high ≤ℤ int_max (pos all) lower → high ≤ℤ int_max (pos all) a
+higher_yet all a lower high h k = omega (arith, ints, clamps)

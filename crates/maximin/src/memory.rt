@@ -2,11 +2,13 @@
 //!
 //! A table of positions is of one role, and of one worth of a state at the bound. A question of another is not answered by it, and
 //! nothing that is found is kept in it.
-ghost use Rattle.std.specs.Prelude.{◌≡◌, true, IfOk, length};
+ghost use Rattle.std.specs.Prelude.{◌≡◌, ◌≤◌, ◌+◌, ◌*◌, true, IfOk, length};
+ghost use Rattle.game.specs.Keys.{key_at};
 ghost use Rattle.statement.specs.Value.{value};
 ghost use Rattle.table.specs.Worths.{IsWithin};
 ghost use Rattle.maximin.specs.Memory.{IsMemoryOf, memory_capacities};
 
+use crate::run::LONGEST_RUN;
 use game::{AtBound, Game, Question};
 use std::alloc::{AllocError, Global};
 use table::{Bounds, PositionTable};
@@ -17,23 +19,23 @@ const FEWEST_TURNS: u32 = 2;
 /// The fewest entries of a table.
 const FEWEST_ENTRIES: usize = 4;
 
-/// A table of positions, or none, and room for a key.
+/// A table of positions, or none, and room for the key of a state, and for those of a run of states.
 #[derive(Drop)]
 pub struct Memory {
     pub table: Option<PositionTable>,
     pub key: Vec<u64>,
+    pub keys: Vec<u64>,
 }
 
-/// Room for a key of a game.
-fn new_key<G: Game>(alloc: Global, game: &G) -> Result<Vec<u64>, AllocError>
-    ensures { IfOk result (λ key. length key.items ≡ G.key_length game.now) }
+/// So many words.
+fn new_words(alloc: Global, count: usize) -> Result<Vec<u64>, AllocError>
+    ensures { IfOk result (λ words. length words.items ≡ count) }
 {
-    let words = game.key_words();
-    let mut key = Vec::new(alloc);
-    for _ in 0..words {
-        key.push(0)?;
+    let mut words = Vec::new(alloc);
+    for _ in 0..count {
+        words.push(0)?;
     }
-    Ok(key)
+    Ok(words)
 }
 
 /// How many entries a table has that takes at most so many bytes, for keys of so many words. No more than a search of so many turns
@@ -53,17 +55,28 @@ pub fn new_memory<G: Game>(
 ) -> Result<Memory, AllocError>
     ensures { IfOk result (λ memory. IsMemoryOf G.Game game.now memory) }
 {
-    let key = new_key(alloc, game)?;
-    let entries = entries_within(bytes, key.len(), asked.depth);
+    let words = game.key_words();
+    let key = new_words(alloc, words)?;
+    let keys = new_words(alloc, LONGEST_RUN * words)?;
+    let entries = entries_within(bytes, words, asked.depth);
     if entries < FEWEST_ENTRIES {
-        return Ok(Memory { table: None, key });
+        return Ok(Memory {
+            table: None,
+            key,
+            keys,
+        });
     }
-    let Ok(table) = PositionTable::new(alloc, key.len(), asked.role, asked.at, entries) else {
-        return Ok(Memory { table: None, key });
+    let Ok(table) = PositionTable::new(alloc, words, asked.role, asked.at, entries) else {
+        return Ok(Memory {
+            table: None,
+            key,
+            keys,
+        });
     };
     Ok(Memory {
         table: Some(table),
         key,
+        keys,
     })
 }
 
@@ -87,13 +100,22 @@ fn is_same(a: AtBound, b: AtBound) -> bool
 }
 
 /// A table is of the role and the bound of a question, which looks far enough ahead.
-fn is_of(table: &PositionTable, asked: Question) -> bool
+pub fn is_of(table: &PositionTable, asked: Question) -> bool
     ensures { result ≡ true → (table.now.role ≡ asked.role) × (table.now.at ≡ asked.at) }
 {
     if asked.depth < FEWEST_TURNS || table.role != asked.role {
         return false;
     }
     is_same(table.at, asked.at)
+}
+
+/// The key at a place of a row of keys of so many words.
+pub fn key_in(keys: &[u64], words: usize, place: usize) -> &[u64]
+    requires { place * words + words ≤ length keys.now }
+    ensures { result.now ≡ key_at keys.now words place }
+{
+    let from = place * words;
+    &keys[from..from + words]
 }
 
 /// Bounds of what a state is worth, by what is kept of it.

@@ -1,4 +1,4 @@
-use Rattle.std.proofs.Common.{ℕ, List, sym, subst}
+use Rattle.std.proofs.Common.{ℕ, ◌*◌, ◌∙◌, ap, List, sym, subst}
 use Rattle.statement.specs.declared.at_bound.AtBound.{AtBound}
 use Rattle.statement.specs.Rules.{Rules, State}
 use Rattle.table.specs.declared.position_table.PositionTable.{PositionTable}
@@ -20,5 +20,6 @@ returns g c =
     record {
       table = own rules keyed role c.args.asked.at c.in-Ok.table
           (c.in-Ok.ensures rules keyed (λ s. law.goal_within c.args.game.now s role));
-      key = c.in_ok-key.ensures;
+      key = c.in_ok-key.ensures ∙ c.key_words-words.ensures.length;
+      keys = c.in_ok-keys.ensures ∙ ap (λ (n : ℕ). 64 * n) c.key_words-words.ensures.length;
     }
