@@ -19,6 +19,11 @@ module _ {G P W M : Type 0} (of : Ghosts G P W M) (game : G) where
   abbrev pub tools_capacities : Tools W → List ℕ
   tools_capacities tools = history_capacities tools.history ++ memory_capacities tools.memory ++ of.wide_capacities game tools.wide
 
+  -- what all levels share
+  pub record AreToolsOf (tools : Tools W) : Type 0 where
+    pub wide : of.fits_wide game tools.wide
+    pub memory : IsMemoryOf of game tools.memory
+
   -- what all levels share serves as before, and has grown nowhere
   pub record AreToolsKept (old new : Tools W) : Type 0 where
     pub wide : of.fits_wide game new.wide

@@ -11,10 +11,9 @@ ghost use Rattle.statement.specs.declared.at_bound.AtBound.TheVariants.{Zero};
 ghost use Rattle.maximin.specs.Ahead.{IsAheadOf, IsOfLastTurn};
 ghost use Rattle.maximin.specs.Children.{AreLookedAt, AreSameStates};
 ghost use Rattle.maximin.specs.Level.{IsLevelLeft, IsLevelOf, level_capacities};
-ghost use Rattle.maximin.specs.Memory.{IsMemoryOf};
 ghost use Rattle.maximin.specs.Pack.{picked, packed_after, ArePackable, IsPacked, IsPartOf, IsPackOf, IsPlacedRun};
 ghost use Rattle.maximin.specs.Run.{IsRunOf};
-ghost use Rattle.maximin.specs.Tools.{AreFit, AreKept, AreToolsKept};
+ghost use Rattle.maximin.specs.Tools.{AreFit, AreKept, AreToolsKept, AreToolsOf};
 ghost use Rattle.table.specs.Worths.{IsWithin};
 
 use crate::children::Children;
@@ -58,8 +57,7 @@ pub fn look_back<G: Game>(
     tools: &mut Tools<G::Wide>,
     children: &mut Children<G::Pos, G::Many>,
 )
-    requires wide { G.fits_wide game.now tools.old.wide }
-    requires memory { IsMemoryOf G.Game game.now tools.old.memory }
+    requires tools { AreToolsOf G.Game game.now tools.old }
     requires children { AreLookedAt G.Game game.now asked children.old }
     ensures tools { AreToolsKept G.Game game.now tools.old tools.new }
     ensures children { AreLookedAt G.Game game.now asked children.new }
@@ -201,8 +199,7 @@ fn note_worths<G: Game>(
     requires run { IsPlacedRun (G.rules game.now) (G.states game.now children.old.many) pack.now.places run.now }
     requires pack { IsPackOf (G.rules game.now) (G.states game.now children.old.many) (value (G.rules game.now) asked.role asked.depth asked.at)
         (value (G.rules game.now) asked.role (asked.depth - 1) asked.at) pack.now run.now }
-    requires wide { G.fits_wide game.now tools.old.wide }
-    requires memory { IsMemoryOf G.Game game.now tools.old.memory }
+    requires tools { AreToolsOf G.Game game.now tools.old }
     ensures tools { AreToolsKept G.Game game.now tools.old tools.new }
     ensures children { AreLookedAt G.Game game.now asked children.new }
     ensures same { AreSameStates G.Game game.now children.old children.new }
@@ -232,8 +229,7 @@ fn look_on<G: Game>(
 )
     requires last { IsOfLastTurn (G.rules game.now) asked }
     requires place { place < length (G.states game.now children.old.many) }
-    requires wide { G.fits_wide game.now tools.old.wide }
-    requires memory { IsMemoryOf G.Game game.now tools.old.memory }
+    requires tools { AreToolsOf G.Game game.now tools.old }
     requires children { AreLookedAt G.Game game.now asked children.old }
     requires level { IsLevelOf G.Game game.now level.old }
     ensures tools { AreToolsKept G.Game game.now tools.old tools.new }

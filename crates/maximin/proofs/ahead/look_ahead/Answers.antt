@@ -12,3 +12,6 @@ returns-in-1-Zero-clause-kept g c = record {
   of_levels = map_set_kept (level_capacities g.G.Game c.args.game.now) c.args.levels.now 0 c.look_on.new.level _
       c.look_on.ensures.level.capacities;
 }
+
+pub look_on-requires-clause-tools : goal.look_on-requires-clause-tools
+look_on-requires-clause-tools g c κs within = record { wide = c.requires.fit.wide; memory = c.requires.fit.memory }

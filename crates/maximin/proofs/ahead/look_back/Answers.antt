@@ -15,7 +15,7 @@ key_in-key-requires g c =
     let new = c.write_keys.new.keys in
     let long : length new ≡ length c.args.tools.now.memory.keys.items = search facts in
     let whole : c.deref.result.now ≡ new = c.deref.ensures.value ∙ with_items_is c.args.tools.now.memory.keys new (long ∙ sym c.args.tools.now.memory.keys.ok.0) in
-    let size : length c.deref.result.now ≡ 64 * words = ap length whole ∙ long ∙ c.requires.memory.keys ∙ ap (λ (n : ℕ). 64 * n) (sym c.key_words-words.ensures.length) in
+    let size : length c.deref.result.now ≡ 64 * words = ap length whole ∙ long ∙ c.requires.tools.memory.keys ∙ ap (λ (n : ℕ). 64 * n) (sym c.key_words-words.ensures.length) in
     row_fits c.loop-place.place 64 words (length c.deref.result.now) (omega (arith, c.requires.children.ahead.few, c.requires.children.ahead.count, c.loop-place-test.true)) (omega (arith, size))
 
 pub loop-place-preserved : goal.loop-place-preserved
@@ -39,7 +39,7 @@ loop-place-preserved g c =
     c.key_in-key.ensures ∙ ap (λ (ws : List ℕ). key_at ws words place) whole ∙ ap (λ (w : ℕ). key_at new w place) c.key_words-words.ensures.length in
     let state : keyed c.key_in-key.result.now ≡ get_or states place [] = ap keyed key ∙ c.write_keys.ensures.keyed place c.loop-place-test.true in
     let table = c.in-Some.table in
-    let own : IsTableOf rules keyed table.role table.at table = some_is (λ t. IsTableOf rules keyed t.role t.at t) c.args.tools.now.memory.table table c.in-Some.is c.requires.memory.table in
+    let own : IsTableOf rules keyed table.role table.at table = some_is (λ t. IsTableOf rules keyed t.role t.at t) c.args.tools.now.memory.table table c.in-Some.is c.requires.tools.memory.table in
     let of = c.is_of.ensures c.if-not-is_of.false in
     let found : IsWithin (worth (get_or states place [])) c.find.result = rw (of.0, of.1, state) at (c.find.ensures rules keyed table.role table.at own) in
     record {

@@ -1269,3 +1269,9 @@ greatest_at-child_at-requires-clause-window g t c κs within =
     let bottom = c.requires.window.low in
     let above = c.loop-place.invariant.above in
     rw eb record { low = omega (arith, ints); order = c.loop-place.invariant.below; high = c.requires.window.high }
+
+pub least_at-look_back-requires-clause-tools : goal.least_at-look_back-requires-clause-tools
+least_at-look_back-requires-clause-tools g t c κs within = record { wide = c.requires.fit.wide; memory = c.requires.fit.memory }
+
+pub greatest_at-look_back-requires-clause-tools : goal.greatest_at-look_back-requires-clause-tools
+greatest_at-look_back-requires-clause-tools g t c κs within = record { wide = c.requires.fit.wide; memory = c.requires.fit.memory }
