@@ -23,6 +23,7 @@ _gdlsolve() {
   case $before in
     --at-bound) words='zero goal' ;;
     --cut) words='1 2 4 8 16 2x2 4x2 4x4 8x2 2x2x2 4x2x2' ;;
+    --table) words='0 16 64 256 1024 4096' ;;
     --role | --depth | --unfinished | --after) return 0 ;;
     *)
       case $command in
@@ -32,7 +33,7 @@ _gdlsolve() {
           ;;
         show | check | lint | net) words='--help' ;;
         moves) words='--after --help' ;;
-        solve) words='--role --depth --at-bound --unfinished --cut --after --help' ;;
+        solve) words='--role --depth --at-bound --unfinished --cut --table --after --help' ;;
         help) words='show check lint net moves solve' ;;
       esac
       ;;

@@ -8,14 +8,18 @@ use Rattle.statement.specs.Rules.{Rules}
 use Rattle.game.specs.declared.game.Game.{Ghosts}
 use Rattle.maximin.specs.declared.children.Children.{Children}
 use Rattle.maximin.specs.declared.cursor.Cursor.{Cursor}
+use Rattle.maximin.specs.declared.history.History.{History}
 use Rattle.maximin.specs.declared.level.Level.{Level}
+use Rattle.maximin.specs.declared.memory.Memory.{Memory}
 use Rattle.maximin.specs.declared.moves.Moves.{Moves}
 use Rattle.maximin.specs.declared.run.Run.{Run}
 use Rattle.maximin.specs.declared.room.Room.{Room}
 use Rattle.maximin.specs.declared.tools.Tools.{Tools}
 use Rattle.maximin.specs.Children.{AreSameStates, children_capacities}
 use Rattle.maximin.specs.Cursor.{cursor_capacities}
+use Rattle.maximin.specs.History.{history_capacities}
 use Rattle.maximin.specs.Level.{IsLevelOf, level_capacities}
+use Rattle.maximin.specs.Memory.{IsMemoryOf, memory_capacities}
 use Rattle.maximin.specs.Moves.{AreLonger, HaveTurns, moves_capacities}
 use Rattle.maximin.specs.Run.{turns_in, run_capacities}
 use Rattle.maximin.specs.Room.{IsRoomKept}
@@ -73,14 +77,41 @@ module _ {G P W M : Type 0} {of : Ghosts G P W M} {game : G} where
 
   pub kept_at_first : {role depth : ℕ} {tools : Tools W} {levels : List (Level P M)} → AreFit of game role depth tools levels
       → AreKept of game tools levels tools levels
-  kept_at_first h = record { wide = h.wide; levels = h.levels; of_tools = refl; of_levels = refl }
+  kept_at_first h = record { wide = h.wide; memory = h.memory; levels = h.levels; of_tools = refl; of_levels = refl }
 
   pub kept_then : {a b c : Tools W} {xs ys zs : List (Level P M)} → AreKept of game a xs b ys → AreKept of game b ys c zs → AreKept of game a xs c zs
   kept_then h k = record {
     wide = k.wide;
+    memory = k.memory;
     levels = k.levels;
     of_tools = k.of_tools ∙ h.of_tools;
     of_levels = k.of_levels ∙ h.of_levels;
+  }
+
+  -- what a search leaves that began with another memory, and to whose memory something was added
+  pub memory_kept : (old new : Tools W) (first last : Memory) (xs ys : List (Level P M)) → memory_capacities first ≡ memory_capacities old.memory
+      → memory_capacities last ≡ memory_capacities new.memory → IsMemoryOf of game last
+      → AreKept of game record { wide = old.wide; history = old.history; memory = first; judges = old.judges } xs new ys
+      → AreKept of game old xs record { wide = new.wide; history = new.history; memory = last; judges = new.judges } ys
+  memory_kept old new first last xs ys before after is h = record {
+    wide = h.wide;
+    memory = is;
+    levels = h.levels;
+    of_tools = ap (λ (m : List ℕ). history_capacities new.history ++ m ++ of.wide_capacities game new.wide) after ∙ h.of_tools
+        ∙ ap (λ (m : List ℕ). history_capacities old.history ++ m ++ of.wide_capacities game old.wide) before;
+    of_levels = h.of_levels;
+  }
+
+  -- what a search leaves that then noted a cut
+  pub history_kept : (old new : Tools W) (last : History) (xs ys : List (Level P M)) → history_capacities last ≡ history_capacities new.history
+      → AreKept of game old xs new ys
+      → AreKept of game old xs record { wide = new.wide; history = last; memory = new.memory; judges = new.judges } ys
+  history_kept old new last xs ys same h = record {
+    wide = h.wide;
+    memory = h.memory;
+    levels = h.levels;
+    of_tools = ap (λ (n : List ℕ). n ++ memory_capacities new.memory ++ of.wide_capacities game new.wide) same ∙ h.of_tools;
+    of_levels = h.of_levels;
   }
 
   -- the first level and the rest, each of which is kept
@@ -89,6 +120,7 @@ module _ {G P W M : Type 0} {of : Ghosts G P W M} {game : G} where
       → AreKept of game a all b (set front 0 x ++ new_rest)
   all_levels_kept all front rest new_rest x d whole one level same h = record {
     wide = h.wide;
+    memory = h.memory;
     levels = All-first_and_rest (IsLevelOf of game) front new_rest x one level h.levels;
     of_tools = h.of_tools;
     of_levels = all_kept (level_capacities of game) all front rest new_rest x d whole one same h.of_levels;
@@ -104,7 +136,7 @@ module _ {G P W M : Type 0} {of : Ghosts G P W M} {game : G} where
       sym (length-map new_levels f) ∙ ap length h.of_levels ∙ length-map levels f ∙ ap length same in
       let whole : (with_items old.levels new_levels).items ≡ new_levels = with_items_is old.levels new_levels (size ∙ sym old.levels.ok.0) in
       record {
-        room = record { wide = h.wide; levels = subst (All (IsLevelOf of game)) (sym whole) h.levels };
+        room = record { wide = h.wide; memory = h.memory; levels = subst (All (IsLevelOf of game)) (sym whole) h.levels };
         depth = ap length whole ∙ size;
         capacities = rw whole (kept_joined (vec_capacity old.levels) (tools_capacities of game tools) (tools_capacities of game old.tools)
             (map f new_levels) (map f old.levels.items) h.of_tools (h.of_levels ∙ ap (map f) same));

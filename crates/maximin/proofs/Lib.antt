@@ -15,4 +15,5 @@ mod Runs
 mod Ends
 mod Orders
 mod Packs
+mod LeftWindows
 pub mod Facts

@@ -53,6 +53,8 @@ use Rattle.maximin.specs.declared.ahead.Ahead.{Ahead}
 use Rattle.maximin.specs.declared.pack.Pack.{Pack}
 use Rattle.maximin.specs.declared.pack.Part.{Part}
 use Rattle.maximin.specs.declared.run.Run.{Run}
+use Rattle.table.specs.declared.bounds.Bounds.{Bounds}
+use Rattle.table.specs.Worths.{IsWithin}
 use Rattle.maximin.specs.Ahead.{IsAheadOf}
 use Rattle.maximin.specs.Alone.{IsAlone}
 use Rattle.maximin.specs.Pack.{picked, packed_after, IsPartOf, IsPackOf}
@@ -285,22 +287,22 @@ packed_count g states roles places run h room =
     let named = length-take-le run.count places room in
     turns_after_count g states (take run.count places) (turns_in run) (omega arith) ∙ size
 
--- one more worth is noted
-pub note_more : (states : List State) (worth : State → ℕ) (old new : Ahead) (place : ℕ) (found : Option ℕ) → place < length old.worths
-    → new.count ≡ old.count → new.worths ≡ set old.worths place found → IfSome found (λ n. n ≡ worth (get_or states place []))
+-- bounds of one more worth are noted
+pub note_more : (states : List State) (worth : State → ℕ) (old new : Ahead) (place : ℕ) (found : Bounds) → place < length old.bounds
+    → new.count ≡ old.count → new.bounds ≡ set old.bounds place found → IsWithin (worth (get_or states place [])) found
     → IsAheadOf states worth old → IsAheadOf states worth new
-note_more states worth old new place found room count worths is h = record {
+note_more states worth old new place found room count bounds is h = record {
   count = count ∙ h.count;
   few = h.few;
-  worths = λ k below.
-      subst (λ (ns : List (Option ℕ)). IfSome (get_or ns k None) (λ n. n ≡ worth (get_or states k []))) (sym worths)
+  bounds = λ k d below.
+      subst (λ (bs : List Bounds). IsWithin (worth (get_or states k [])) (get_or bs k d)) (sym bounds)
       (elim (cases_eq k place) [
         | inl same ↦
-            subst (λ (i : ℕ). IfSome (get_or (set old.worths place found) i None) (λ n. n ≡ worth (get_or states i []))) (sym same)
-            (subst (λ (o : Option ℕ). IfSome o (λ n. n ≡ worth (get_or states place [])))
-            (sym (get_or-set_same old.worths place found None room)) is)
+            subst (λ (i : ℕ). IsWithin (worth (get_or states i [])) (get_or (set old.bounds place found) i d)) (sym same)
+            (subst (λ (b : Bounds). IsWithin (worth (get_or states place [])) b)
+            (sym (get_or-set_same old.bounds place found d room)) is)
         | inr other ↦
-            subst (λ (o : Option ℕ). IfSome o (λ n. n ≡ worth (get_or states k [])))
-            (sym (get_or-set_other old.worths place k found None other)) (h.worths k below)
+            subst (λ (b : Bounds). IsWithin (worth (get_or states k [])) b)
+            (sym (get_or-set_other old.bounds place k found d other)) (h.bounds k d below)
       ]);
 }

@@ -1,5 +1,6 @@
 use Rattle.std.proofs.Common.{◌≡◌, ℕ, ◌-◌, ◌<◌, ◌≤◌, true, false, List, [], length, zero, suc, refl, ◌∙◌, arith, get_or, inl, inr}
-use Rattle.std.specs.Prelude.{All, map}
+use Rattle.std.specs.Prelude.{All, map, if◌then◌else◌}
+use Rattle.statement.specs.AtBound.{bound_worth}
 use Rattle.std.proofs.lemmas.Grind.{common_steps}
 use Rattle.std.proofs.lemmas.List.{get_or-map}
 use Rattle.std.proofs.lemmas.Bool.{cases_eq}
@@ -29,6 +30,12 @@ value_ended g role (suc depth) at s h = rw h refl
 pub value_stuck : (g : Rules) (role depth : ℕ) (at : AtBound) (s : State) → g.ended s ≡ false → is_stuck g s ≡ true → value g role depth at s ≡ 0
 value_stuck g role zero at s going stuck = rw (going, stuck) refl
 value_stuck g role (suc depth) at s going stuck = rw (going, stuck) refl
+
+-- where no turn is left
+pub value_at_bound : (g : Rules) (role depth : ℕ) (at : AtBound) (s : State) → depth ≡ 0 → g.ended s ≡ false
+    → value g role depth at s ≡ (if is_stuck g s then 0 else bound_worth at (g.goal s role))
+value_at_bound g role zero at s none going = rw going refl
+value_at_bound g role (suc depth) at s none going = absurd (omega arith)
 
 length-map-all : (f : ℕ → ℕ) (xs : List ℕ) → length (map f xs) ≡ length xs
 length-map-all f xs = grind (arith, common_steps)

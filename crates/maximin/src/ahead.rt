@@ -1,25 +1,30 @@
-//! What is known of the states of a run before they are searched.
+//! What is known of the states of a run before they are searched: by what is kept of them, and of those with one turn left by judging
+//! the states after them.
 //!
-//! A state is taken for this once, or twice where it had no room. What is found is the value itself, so it answers any window.
+//! A state is taken for this once, or twice where it had no room. What is judged is the value itself, so it answers any window.
 //! The run of the level below serves, which the search does not use at that moment, so no memory is taken.
-ghost use Rattle.std.specs.Prelude.{◌≡◌, ◌+◌, ◌-◌, ◌<◌, ◌≤◌, ℕ, List, true, length, map, take, drop, slice_index_or, None, IfSome};
+ghost use Rattle.std.specs.Prelude.{◌≡◌, ◌+◌, ◌-◌, ◌<◌, ◌≤◌, ◌≤ℤ◌, ℕ, pos, List, [], true, length, map, take, drop, slice_index_or, None, IfSome};
+ghost use Rattle.std.specs.Int.{int_min, int_max};
 ghost use Rattle.statement.specs.Rules.{State};
-ghost use Rattle.statement.specs.Value.{value};
+ghost use Rattle.statement.specs.Value.{greatest, least, value};
 ghost use Rattle.statement.specs.declared.at_bound.AtBound.TheVariants.{Zero};
 ghost use Rattle.maximin.specs.Ahead.{IsAheadOf, IsOfLastTurn};
 ghost use Rattle.maximin.specs.Children.{AreLookedAt, AreSameStates};
 ghost use Rattle.maximin.specs.Level.{IsLevelLeft, IsLevelOf, level_capacities};
 ghost use Rattle.maximin.specs.Pack.{picked, packed_after, ArePackable, IsPacked, IsPartOf, IsPackOf, IsPlacedRun};
 ghost use Rattle.maximin.specs.Run.{IsRunOf};
-ghost use Rattle.maximin.specs.Tools.{AreFit, AreKept, AreToolsKept};
+ghost use Rattle.maximin.specs.Tools.{AreFit, AreKept, AreToolsKept, AreToolsOf};
+ghost use Rattle.table.specs.Worths.{IsWithin};
 
 use crate::children::Children;
 use crate::end::{greatest_of, least_of};
 use crate::level::Level;
+use crate::memory::{is_of, key_in};
 use crate::pack::{Pack, Part, Pick, pack_on};
 use crate::run::{LONGEST_RUN, Run};
 use crate::tools::Tools;
 use game::{AtBound, Game, Question};
+use table::Bounds;
 
 /// What is known of the states of a run before they are searched.
 #[derive(Drop)]
@@ -28,20 +33,58 @@ pub struct Ahead {
     pub count: usize,
     /// The place from which on none was looked at.
     pub next: usize,
-    /// By state what it is worth, where that is known.
-    pub worths: [Option<u8>; LONGEST_RUN],
+    /// By state bounds of what it is worth.
+    pub bounds: [Bounds; LONGEST_RUN],
 }
 
 /// Nothing is known of so many states.
 pub fn new_ahead(count: usize) -> Ahead
     requires { count ≤ 64 }
-    ensures { (states : List State) (worth : State → ℕ) → length states ≡ count → IsAheadOf states worth result }
+    ensures { (states : List State) (worth : State → ℕ) → length states ≡ count → ((s : State) → worth s ≤ 100)
+        → IsAheadOf states worth result }
 {
     Ahead {
         count,
         next: 0,
-        worths: [None; LONGEST_RUN],
+        bounds: [Bounds { lo: 0, hi: 100 }; LONGEST_RUN],
     }
+}
+
+/// Finds what is kept of the states of a run.
+pub fn look_back<G: Game>(
+    game: &G,
+    asked: Question,
+    tools: &mut Tools<G::Wide>,
+    children: &mut Children<G::Pos, G::Many>,
+)
+    requires tools { AreToolsOf G.Game game.now tools.old }
+    requires children { AreLookedAt G.Game game.now asked children.old }
+    ensures tools { AreToolsKept G.Game game.now tools.old tools.new }
+    ensures children { AreLookedAt G.Game game.now asked children.new }
+    ensures same { AreSameStates G.Game game.now children.old children.new }
+{
+    let Some(table) = &tools.memory.table else {
+        return;
+    };
+    if !is_of(table, asked) {
+        return;
+    }
+    let count = children.ahead.count;
+    let words = game.key_words();
+    game.write_keys(&children.many, count, tools.memory.keys.as_mut_slice());
+    for place in 0..count {
+        let key = key_in(&tools.memory.keys, words, place);
+        children.ahead.bounds[place] = table.find(key, asked.depth);
+    }
+}
+
+/// What is known of one of the states.
+pub fn bounds_of(ahead: &Ahead, place: usize) -> Bounds
+    requires { place < 64 }
+    ensures { (states : List State) (worth : State → ℕ) → IsAheadOf states worth ahead.now → place < length states
+        → IsWithin (worth (slice_index_or states place [])) result }
+{
+    ahead.bounds[place]
 }
 
 /// A pack of no joint moves.
@@ -119,9 +162,9 @@ fn noted<G: Game>(
     game: &G,
     wide: &G::Wide,
     part: Option<Part>,
-    known: Option<u8>,
+    known: Bounds,
     asked: Question,
-) -> Option<u8>
+) -> Bounds
     requires wide { G.fits_wide game.now wide.now }
     requires few { length (G.judged game.now wide.now) ≤ 64 }
     requires some { IfSome part (λ p. 0 < p.count) }
@@ -130,11 +173,15 @@ fn noted<G: Game>(
     requires depth { asked.depth ≡ 0 }
     requires bound { asked.at ≡ Zero }
     ensures { (worth : ℕ) → IfSome part (IsPartOf (value (G.rules game.now) asked.role asked.depth asked.at) (G.judged game.now wide.now) worth)
-        → IfSome known (λ found. found ≡ worth) → IfSome result (λ found. found ≡ worth) }
+        → IsWithin worth known → IsWithin worth result }
 {
-    match part {
-        Some(part) => Some(part_worth(game, wide, part, asked)),
-        None => known,
+    let Some(part) = part else {
+        return known;
+    };
+    let worth = part_worth(game, wide, part, asked);
+    Bounds {
+        lo: worth,
+        hi: worth,
     }
 }
 
@@ -152,7 +199,7 @@ fn note_worths<G: Game>(
     requires run { IsPlacedRun (G.rules game.now) (G.states game.now children.old.many) pack.now.places run.now }
     requires pack { IsPackOf (G.rules game.now) (G.states game.now children.old.many) (value (G.rules game.now) asked.role asked.depth asked.at)
         (value (G.rules game.now) asked.role (asked.depth - 1) asked.at) pack.now run.now }
-    requires wide { G.fits_wide game.now tools.old.wide }
+    requires tools { AreToolsOf G.Game game.now tools.old }
     ensures tools { AreToolsKept G.Game game.now tools.old tools.new }
     ensures children { AreLookedAt G.Game game.now asked children.new }
     ensures same { AreSameStates G.Game game.now children.old children.new }
@@ -166,8 +213,8 @@ fn note_worths<G: Game>(
         ..asked
     };
     for place in 0..children.ahead.count {
-        let known = children.ahead.worths[place];
-        children.ahead.worths[place] = noted(game, &tools.wide, pack.parts[place], known, last);
+        let known = children.ahead.bounds[place];
+        children.ahead.bounds[place] = noted(game, &tools.wide, pack.parts[place], known, last);
     }
 }
 
@@ -182,7 +229,7 @@ fn look_on<G: Game>(
 )
     requires last { IsOfLastTurn (G.rules game.now) asked }
     requires place { place < length (G.states game.now children.old.many) }
-    requires wide { G.fits_wide game.now tools.old.wide }
+    requires tools { AreToolsOf G.Game game.now tools.old }
     requires children { AreLookedAt G.Game game.now asked children.old }
     requires level { IsLevelOf G.Game game.now level.old }
     ensures tools { AreToolsKept G.Game game.now tools.old tools.new }
@@ -223,4 +270,32 @@ pub fn look_ahead<G: Game>(
         (1, AtBound::Zero) => look_on(game, place, asked, tools, children, &mut levels[0]),
         _ => (),
     }
+}
+
+/// The lesser of a bound and the least of the upper bounds of states.
+pub fn least_bound(ahead: &Ahead, b: i16) -> i16
+    ensures at_most { result ≤ℤ b }
+    ensures at_least { (states : List State) (worth : State → ℕ) → IsAheadOf states worth ahead.now
+        → int_min (pos (least (map worth states))) b ≤ℤ result }
+{
+    let mut upper = b;
+    for place in 0..ahead.count.min(LONGEST_RUN) {
+        let known = bounds_of(ahead, place);
+        upper = upper.min(i16::from(known.hi));
+    }
+    upper
+}
+
+/// The greater of a bound and the greatest of the lower bounds of states.
+pub fn greatest_bound(ahead: &Ahead, a: i16) -> i16
+    ensures at_least { a ≤ℤ result }
+    ensures at_most { (states : List State) (worth : State → ℕ) → IsAheadOf states worth ahead.now
+        → result ≤ℤ int_max (pos (greatest (map worth states))) a }
+{
+    let mut lower = a;
+    for place in 0..ahead.count.min(LONGEST_RUN) {
+        let known = bounds_of(ahead, place);
+        lower = lower.max(i16::from(known.lo));
+    }
+    lower
 }

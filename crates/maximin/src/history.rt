@@ -22,6 +22,9 @@ impl Movers {
     }
 }
 
+/// More turns to come count for a cut as so many do.
+const MOST_DOUBLINGS: u32 = 48;
+
 /// How much each move of each role cut off. It says in which order moves are searched, and no answer rests on it.
 #[derive(Drop)]
 pub struct History {
@@ -80,12 +83,11 @@ impl History {
     }
 
     /// Counts for the movers' moves that the search of a joint move, with so many turns behind it, cut off those that were left. A cut
-    /// counts by the square of the turns that were to come, as it saves more where more of them are.
+    /// counts twice as much with each turn that was to come, as it saves more where more of them are.
     pub fn note_cut(&mut self, joint: &Joint, movers: Movers, turns: u32)
         ensures { history_capacities self.new ≡ history_capacities self.old }
     {
-        let turns = u64::from(turns).saturating_add(1);
-        let weight = turns.saturating_mul(turns);
+        let weight = 1u64 << turns.min(MOST_DOUBLINGS);
         for (role, number) in joint.as_slice().iter().enumerate() {
             self.note(role, *number, movers, weight);
         }

@@ -13,7 +13,7 @@ use crate::level::{Level, new_level};
 use crate::search::{reply_at, value_within};
 use crate::tools::{Tools, new_tools};
 use crate::window::SearchWindow;
-use game::{Game, Joint, Question};
+use game::{AtBound, Game, Joint, Question};
 use std::alloc::{AllocError, Global};
 
 /// All the memory of a search: room to step many joint moves at once, what is remembered of moves, and for each turn that it looks
@@ -30,11 +30,30 @@ impl<G: Game> Room<G> {
         ensures room { IfOk result (λ room. IsRoomOf G.Game g.now room) }
         ensures depth { IfOk result (λ room. room_depth room ≡ depth) }
     {
+        let asked = Question {
+            role: 0,
+            depth,
+            at: AtBound::Zero,
+        };
+        Room::with_table(alloc, g, asked, 0)
+    }
+
+    /// The same, with a table of what states are worth, which takes at most so many bytes. It saves time where a search is for this role
+    /// and this worth at the bound. Where the memory for it is refused the room has none.
+    pub fn with_table(
+        alloc: Global,
+        g: &G,
+        asked: Question,
+        bytes: usize,
+    ) -> Result<Room<G>, AllocError>
+        ensures room { IfOk result (λ room. IsRoomOf G.Game g.now room) }
+        ensures depth { IfOk result (λ room. room_depth room ≡ asked.depth) }
+    {
         let mut levels = Vec::new(alloc);
-        for _ in 0..depth {
+        for _ in 0..asked.depth {
             levels.push(new_level(alloc, g)?)?;
         }
-        let tools = new_tools(alloc, g)?;
+        let tools = new_tools(alloc, g, asked, bytes)?;
         Ok(Room { tools, levels })
     }
 }

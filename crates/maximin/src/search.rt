@@ -11,14 +11,16 @@ ghost use Rattle.maximin.specs.Run.{turns_in};
 ghost use Rattle.maximin.specs.Replies.{IsWritten};
 ghost use Rattle.maximin.specs.Tools.{AreFit, AreKept, IsWindow};
 
-use crate::ahead::{look_ahead, new_ahead};
+use crate::ahead::{bounds_of, greatest_bound, least_bound, look_ahead, look_back, new_ahead};
 use crate::alone::{gather_own, is_alone};
 use crate::children::Children;
 use crate::cursor::{next_turn, start_turns, write_joint};
 use crate::end::{greatest_judged, judge_last, least_judged};
 use crate::history::Movers;
 use crate::level::Level;
+use crate::memory::{keep, recall};
 use crate::moves::gather;
+use crate::narrow::{bounds_by, narrowed, settled};
 use crate::order::order_of;
 use crate::run::LONGEST_RUN;
 use crate::told::{greatest_told, least_told, told_worth};
@@ -189,11 +191,40 @@ pub fn child_at<G: Game>(
         return worth;
     }
     look_ahead(game, place, asked, tools, children, levels);
-    if let Some(worth) = children.ahead.worths[place] {
-        return i16::from(worth);
+    let known = bounds_of(&children.ahead, place);
+    let left = narrowed(known, window);
+    if left.low >= left.high {
+        return settled(known, left.high);
     }
     game.take(&children.many, place, &mut children.position);
-    value_at(game, &children.position, asked, window, tools, levels)
+    known_at(game, &children.position, asked, left, tools, levels)
+}
+
+/// The value of a state within a window, by what is kept of it, or else by a search in what that leaves of the window.
+#[cycle(search)]
+pub fn known_at<G: Game>(
+    game: &G,
+    from: &G::Pos,
+    asked: Question,
+    window: SearchWindow,
+    tools: &mut Tools<G::Wide>,
+    levels: &mut [Level<G::Pos, G::Many>],
+) -> i16
+    requires fits { G.fits game.now from.now }
+    requires fit { AreFit G.Game game.now asked.role asked.depth tools.old levels.old }
+    requires window { IsWindow window.low window.high }
+    ensures answers { Answers (value (G.rules game.now) asked.role asked.depth asked.at (G.state game.now from.now)) window.low window.high result }
+    ensures kept { AreKept G.Game game.now tools.old levels.old tools.new levels.new }
+{
+    let known = recall(game, from, asked, &mut tools.memory);
+    let left = narrowed(known, window);
+    if left.low >= left.high {
+        return settled(known, left.high);
+    }
+    let answer = value_at(game, from, asked, left, tools, levels);
+    let found = bounds_by(window, answer);
+    keep(game, from, asked, found, &mut tools.memory);
+    answer
 }
 
 /// The least value of the states after a run, within a window.
@@ -222,6 +253,11 @@ fn least_at<G: Game>(
         return upper;
     }
     children.ahead = new_ahead(count);
+    look_back(game, asked, tools, children);
+    upper = least_bound(&children.ahead, upper);
+    if upper <= window.low {
+        return upper;
+    }
     let order = order_of(&tools.history, joints, asked.depth);
     for place in 0..count {
         let child = order[place];
@@ -355,6 +391,11 @@ fn greatest_at<G: Game>(
         return lower;
     }
     children.ahead = new_ahead(count);
+    look_back(game, asked, tools, children);
+    lower = greatest_bound(&children.ahead, lower);
+    if lower >= window.high {
+        return lower;
+    }
     let order = order_of(&tools.history, joints, asked.depth);
     for place in 0..count {
         let child = order[place];
@@ -397,7 +438,7 @@ pub fn value_within<G: Game>(
     if low >= high {
         return high;
     }
-    value_at(game, from, asked, SearchWindow { low, high }, tools, levels)
+    known_at(game, from, asked, SearchWindow { low, high }, tools, levels)
 }
 
 /// Writes the first joint move that leaves the least value where the role plays `own`.
@@ -429,7 +470,7 @@ pub fn reply_at<G: Game>(
             low: -1,
             high: upper,
         };
-        let worth = value_at(game, position, asked, below, tools, rest);
+        let worth = known_at(game, position, asked, below, tools, rest);
         if worth < upper {
             upper = worth;
             write_joint(&level.moves.cursor.joint, out);

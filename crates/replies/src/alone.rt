@@ -1,5 +1,6 @@
 //! The reply to a command, with all the work done by the calling thread.
 ghost use Rattle.std.specs.Prelude.{◌≡◌, ◌<◌, pos, IfOk};
+ghost use Rattle.maximin.specs.Room.{IsRoomFor, IsRoomKept};
 ghost use Rattle.statement.specs.Value.{value, choice_of};
 ghost use Rattle.statement.specs.Answers.{answer};
 ghost use Rattle.replies.specs.Histories.{named};
@@ -21,42 +22,43 @@ use std::alloc::{AllocError, AllocGlobal, Global};
 use words::{Command, Inquiry};
 
 /// The value and the first best move of a search, which one search of the state tells.
-fn found_alone<G: Game + Drop>(alloc: Global, search: &Search<G>) -> Result<Answer, AllocError>
+fn found_alone<G: Game + Drop>(search: &Search<G>, room: &mut Room<G>) -> Answer
     requires fits { G.fits search.now.game search.now.here }
-    requires role { search.now.asked.role < (G.rules search.now.game).roles }
-    ensures value { IfOk result (λ found. found.value
-        ≡ pos (value (G.rules search.now.game) search.now.asked.role search.now.asked.depth search.now.asked.at (G.state search.now.game search.now.here))) }
-    ensures choice { IfOk result (λ found. found.choice
-        ≡ choice_of (G.rules search.now.game) search.now.asked.role search.now.asked.depth search.now.asked.at (G.state search.now.game search.now.here)) }
+    requires room { IsRoomFor G.Game search.now.game search.now.asked.role search.now.asked.depth room.old }
+    ensures value { result.value
+        ≡ pos (value (G.rules search.now.game) search.now.asked.role search.now.asked.depth search.now.asked.at (G.state search.now.game search.now.here)) }
+    ensures choice { result.choice
+        ≡ choice_of (G.rules search.now.game) search.now.asked.role search.now.asked.depth search.now.asked.at (G.state search.now.game search.now.here) }
+    ensures room { IsRoomKept G.Game search.now.game room.old room.new }
 {
     let game = &search.game;
     let here = &search.here;
     let asked = search.asked;
-    let mut room = Room::new(alloc, game, asked.depth)?;
     if asked.depth == 0 || game.ended(here) || is_stuck(game, here) {
-        let value = value_in(game, here, asked, -1, 101, &mut room);
-        return Ok(Answer {
+        let value = value_in(game, here, asked, -1, 101, room);
+        return Answer {
             value,
             choice: None,
-        });
+        };
     }
-    let (value, place) = value_and_choice(game, here, asked, &mut room);
-    Ok(Answer {
+    let (value, place) = value_and_choice(game, here, asked, room);
+    Answer {
         value,
         choice: game.legal(here, asked.role, place),
-    })
+    }
 }
 
-/// The reply after a search, which the calling thread does.
-fn told_alone<G: Game + Drop>(alloc: Global, search: Search<G>) -> Result<Reply, AllocError>
+/// The reply after a search, which the calling thread does. It fails only for want of memory.
+pub fn told_alone<G: Game + Drop>(alloc: Global, search: Search<G>) -> Result<Reply, AllocError>
     requires fits { G.fits search.game search.here }
     requires role { search.asked.role < (G.rules search.game).roles }
     ensures { IfOk result (λ reply. reply_of reply ≡ answer (solve_lines
         (named (G.rules search.game) (G.role_name search.game) (G.move_name search.game))
         search.asked.role search.asked.depth search.asked.at (G.state search.game search.here))) }
 {
-    let found = found_alone(alloc, &search)?;
-    search.told(alloc, found)
+    let mut room = search.room(alloc)?;
+    let found = found_alone(&search, &mut room);
+    search.told_in(alloc, found, room)
 }
 
 /// The reply to an inquiry over the bytes of the input.

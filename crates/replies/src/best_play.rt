@@ -40,6 +40,7 @@ fn search_after<G: Game + Drop>(
                 at: sought.at_bound,
             },
             cut: sought.cut,
+            table: sought.table,
         })),
         Err(HistoryFault::NoMemory) => Err(AllocError),
         Err(fault) => Ok(Err(refused_history(alloc, &game, fault)?)),

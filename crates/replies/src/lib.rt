@@ -18,7 +18,7 @@ mod search;
 mod sizes;
 mod solving;
 
-pub use alone::reply_alone;
+pub use alone::{reply_alone, told_alone};
 pub use asking::{Asked, ask};
 pub use laws::each_input_has_one_reply;
 pub use reading::{Reading, check, read, show};

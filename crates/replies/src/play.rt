@@ -1,7 +1,7 @@
 //! The memory of a search, and of the line of play that it finds.
 ghost use Rattle.std.specs.Prelude.{◌≡◌, ◌<◌, ◌≤◌, ◌-◌, pos, IfOk, Some};
 ghost use Rattle.statement.specs.Value.{value, choice_of};
-ghost use Rattle.maximin.specs.Room.{room_depth};
+ghost use Rattle.maximin.specs.Room.{IsRoomOf, room_depth};
 ghost use Rattle.replies.specs.Play.{IsPlayOf, IsTurnOf};
 
 use game::{Game, Joint, Question, new_joint};
@@ -19,14 +19,19 @@ pub(crate) struct Play<G: Game> {
 }
 
 impl<G: Game> Play<G> {
-    /// Play that stands at a state, with memory for searches to this depth. Nothing else here takes memory.
-    pub(crate) fn new(alloc: Global, g: &G, depth: u32, here: G::Pos) -> Result<Play<G>, AllocError>
-        requires { G.fits g.now here }
+    /// Play that stands at a state, with a room for searches. Nothing else here takes memory.
+    pub(crate) fn new(
+        alloc: Global,
+        g: &G,
+        here: G::Pos,
+        room: Room<G>,
+    ) -> Result<Play<G>, AllocError>
+        requires fits { G.fits g.now here }
+        requires room { IsRoomOf G.Game g.now room }
         ensures here { IfOk result (λ play. play.here ≡ here) }
         ensures play { IfOk result (λ play. IsPlayOf G.Game g.now play) }
-        ensures deep { IfOk result (λ play. room_depth play.room ≡ depth) }
+        ensures deep { IfOk result (λ play. room_depth play.room ≡ room_depth room) }
     {
-        let room = Room::new(alloc, g, depth)?;
         let next = g.fresh()?;
         let joint = new_joint(alloc, g.roles())?;
         Ok(Play {

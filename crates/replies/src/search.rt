@@ -1,7 +1,8 @@
 //! A search that is left to do.
-ghost use Rattle.std.specs.Prelude.{◌≡◌, ◌<◌, pos, IfOk};
+ghost use Rattle.std.specs.Prelude.{◌≡◌, ◌<◌, ◌≤◌, pos, IfOk};
 ghost use Rattle.statement.specs.Value.{value, choice_of};
 ghost use Rattle.statement.specs.Answers.{answer};
+ghost use Rattle.maximin.specs.Room.{IsRoomOf, room_depth};
 ghost use Rattle.replies.specs.Histories.{named};
 ghost use Rattle.replies.specs.Replies.{reply_of};
 ghost use Rattle.statement.specs.Solving.{solve_lines};
@@ -10,8 +11,12 @@ use crate::reply::{Reply, answered};
 use crate::solving::value_lines;
 use cut::Cut;
 use game::{Game, Question};
+use maximin::Room;
 use share::Answer;
 use std::alloc::{AllocError, Global};
+
+/// How many bytes are one MiB.
+const MIB: usize = 1 << 20;
 
 /// A search for what a role can be sure of: from a state of a game, within so many turns. Who has found the value and the first best
 /// move has the reply by `told`.
@@ -25,9 +30,20 @@ pub struct Search<G: Game + Drop> {
     pub asked: Question,
     /// How many workers are to search, and the parts of what. The reply does not depend on it.
     pub cut: Cut,
+    /// How many MiB may keep what states are worth. The reply does not depend on it.
+    pub table: u32,
 }
 
 impl<G: Game + Drop> Search<G> {
+    /// The memory of the search, for one thread.
+    pub(crate) fn room(&self, alloc: Global) -> Result<Room<G>, AllocError>
+        ensures room { IfOk result (λ room. IsRoomOf G.Game self.now.game room) }
+        ensures depth { IfOk result (λ room. room_depth room ≡ self.now.asked.depth) }
+    {
+        let bytes = (self.table as usize).saturating_mul(MIB);
+        Room::with_table(alloc, &self.game, self.asked, bytes)
+    }
+
     /// The reply that tells the value, the first best move and the line of play behind it, from the first two. The line is found by the
     /// calling thread. It fails only for want of memory.
     pub fn told(self, alloc: Global, found: Answer) -> Result<Reply, AllocError>
@@ -39,12 +55,33 @@ impl<G: Game + Drop> Search<G> {
             (named (G.rules self.game) (G.role_name self.game) (G.move_name self.game))
             self.asked.role self.asked.depth self.asked.at (G.state self.game self.here))) }
     {
+        let room = self.room(alloc)?;
+        self.told_in(alloc, found, room)
+    }
+
+    /// The same, where there is a room for the search already. What the room keeps of states is of use to the line.
+    pub(crate) fn told_in(
+        self,
+        alloc: Global,
+        found: Answer,
+        room: Room<G>,
+    ) -> Result<Reply, AllocError>
+        requires fits { G.fits self.game self.here }
+        requires role { self.asked.role < (G.rules self.game).roles }
+        requires value { found.value ≡ pos (value (G.rules self.game) self.asked.role self.asked.depth self.asked.at (G.state self.game self.here)) }
+        requires choice { found.choice ≡ choice_of (G.rules self.game) self.asked.role self.asked.depth self.asked.at (G.state self.game self.here) }
+        requires room { IsRoomOf G.Game self.game room }
+        requires deep { self.asked.depth ≤ room_depth room }
+        ensures { IfOk result (λ reply. reply_of reply ≡ answer (solve_lines
+            (named (G.rules self.game) (G.role_name self.game) (G.move_name self.game))
+            self.asked.role self.asked.depth self.asked.at (G.state self.game self.here))) }
+    {
         let Search {
             game,
             here,
             asked,
-            cut: _,
+            ..
         } = self;
-        Ok(answered(value_lines(alloc, &game, asked, found, here)?))
+        Ok(answered(value_lines(alloc, &game, asked, found, here, room)?))
     }
 }

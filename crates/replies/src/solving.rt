@@ -2,7 +2,7 @@
 ghost use Rattle.std.specs.Prelude.{◌≡◌, ◌≤◌, ◌<◌, ◌++◌, nat_abs, pos, IfOk, IfSome, OnOk};
 ghost use Rattle.statement.specs.Rules.{IsTurn};
 ghost use Rattle.statement.specs.Value.{value, choice_of, line_of};
-ghost use Rattle.maximin.specs.Room.{room_depth};
+ghost use Rattle.maximin.specs.Room.{IsRoomOf, room_depth};
 ghost use Rattle.statement.specs.Checking.{spaced};
 ghost use Rattle.replies.specs.Histories.{named};
 ghost use Rattle.replies.specs.Play.{IsPlayOf};
@@ -11,7 +11,7 @@ ghost use Rattle.statement.specs.Solving.{move_line, choice_text, move_texts, tu
 use crate::play::Play;
 use crate::reply::add_count;
 use game::{Game, Joint, Question};
-use maximin::choice_by_value;
+use maximin::{Room, choice_by_value};
 use share::Answer;
 use std::alloc::{AllocError, Global};
 use std::io::Write;
@@ -114,22 +114,25 @@ fn unsigned(value: i16) -> usize
 }
 
 /// The value of a state for a role, the move that makes sure of it, and the line of play, as lines, from the value and the first best
-/// move.
+/// move, with the room of the search.
 pub(crate) fn value_lines<G: Game>(
     alloc: Global,
     g: &G,
     asked: Question,
     found: Answer,
     here: G::Pos,
+    room: Room<G>,
 ) -> Result<Vec<u8>, AllocError>
     requires fits { G.fits g.now here }
     requires role { asked.role < (G.rules g.now).roles }
+    requires room { IsRoomOf G.Game g.now room }
+    requires deep { asked.depth ≤ room_depth room }
     requires value { found.value ≡ pos (value (G.rules g.now) asked.role asked.depth asked.at (G.state g.now here)) }
     requires choice { found.choice ≡ choice_of (G.rules g.now) asked.role asked.depth asked.at (G.state g.now here) }
     ensures { IfOk result (λ output. output.items
         ≡ solve_lines (named (G.rules g.now) (G.role_name g.now) (G.move_name g.now)) asked.role asked.depth asked.at (G.state g.now here)) }
 {
-    let mut play = Play::new(alloc, g, asked.depth, here)?;
+    let mut play = Play::new(alloc, g, here, room)?;
     let mut output = Vec::new(alloc);
     add_count("value", unsigned(found.value), &mut output)?;
     add_choice(g, asked.role, found.choice, &mut output)?;

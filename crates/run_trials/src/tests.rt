@@ -12,6 +12,7 @@ mod lines;
 mod moves;
 mod nets;
 mod starved;
+mod tables;
 mod workers;
 
 use devices::{Full, Silent, Slow, Torn};

@@ -9,7 +9,7 @@ ghost use Rattle.statement.specs.Solving.{solve_lines};
 
 use game::Game;
 use ground::instantiate_flat;
-use replies::{Asked, Reading, Reply, Search, ask, check, read, show};
+use replies::{Asked, Reading, Reply, Search, ask, check, read, show, told_alone};
 use rulebook::GroundGame;
 use share::{Gate, solve};
 use std::alloc::AllocError;
@@ -35,6 +35,9 @@ pub fn told_by_workers<T: Threads + Sync + AllocGlobal, G: Game + Drop>(
         (named (G.rules search.game) (G.role_name search.game) (G.move_name search.game))
         search.asked.role search.asked.depth search.asked.at (G.state search.game search.here))) }
 {
+    if search.cut.workers() == 1 {
+        return told_alone(rt.alloc(), search);
+    }
     let found = solve(
         rt,
         &search.game,

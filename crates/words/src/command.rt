@@ -39,6 +39,8 @@ pub struct Sought<'a> {
     pub at_bound: AtBound,
     /// How many threads search, and the parts of what. The reply does not depend on it.
     pub cut: Cut,
+    /// How many MiB a search may take to keep what states are worth. The reply does not depend on it.
+    pub table: u32,
     /// The text of the history, as of `Moves`.
     pub after: &'a str,
 }

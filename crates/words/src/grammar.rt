@@ -11,6 +11,9 @@ const VERSION: &str = "0.1.0";
 /// How many turns may be looked ahead.
 const DEPTH_LIMIT: i64 = 64;
 
+/// How many MiB may be asked for to keep what states are worth.
+const TABLE_LIMIT: i64 = 65_536;
+
 /// What stands below the help of the program.
 const CLOSING: &str = "Exit status:
   0  an answer, or help
@@ -104,6 +107,16 @@ fn cut<'a>(alloc: Global) -> clap::Arg<'a> {
         .help("How many threads search, and those behind each of their moves, as 4 or 4x2")
 }
 
+/// The option for how much memory the table of positions has.
+fn table<'a>(alloc: Global) -> clap::Arg<'a> {
+    clap::Arg::new(alloc, "table")
+        .long("table")
+        .value_name("MIB")
+        .default_value("64")
+        .value_parser(clap::value_parser!(u32).range(0..=TABLE_LIMIT))
+        .help("How much memory may keep what positions are worth, from 0 to 65536")
+}
+
 /// The command `show`.
 fn show<'a>(alloc: Global) -> clap::Command<'a> {
     clap::Command::new(alloc, "show").about("Write the canonical text of each tree, one a line")
@@ -152,6 +165,7 @@ fn solve<'a>(alloc: Global) -> Result<clap::Command<'a>, AllocError> {
         .arg(at_bound(alloc))?
         .arg(unfinished(alloc)?)?
         .arg(cut(alloc))?
+        .arg(table(alloc))?
         .arg(history(alloc))
 }
 
@@ -193,6 +207,7 @@ fn solve_command<'a>(options: &clap::ArgMatches<'a>) -> Option<Result<Command<'a
         depth: options.get_one("depth")?,
         at_bound,
         cut,
+        table: options.get_one("table")?,
         after: options.get_str("after").unwrap_or(""),
     }))))
 }

@@ -156,6 +156,7 @@ fn first_unsolved<T: Threads + Sync + AllocGlobal>(
         depth: 1,
         at_bound: AtBound::Zero,
         cut,
+        table: 1,
         after: "",
     }));
     let words = ["solve", "--role", role, "--depth", "1"];

@@ -28,6 +28,7 @@ fn solves_at<T: Threads + Sync + AllocGlobal>(
         depth,
         at_bound,
         cut,
+        table: 1,
         after: "",
     }));
     let words = [

@@ -53,6 +53,7 @@ fn solves_by<G: GroundGame, T: AllocGlobal>(
         depth,
         at_bound: AtBound::Zero,
         cut,
+        table: 1,
         after,
     }));
     let reply = reply_alone::<G, T>(rt, &command, &rules)?;

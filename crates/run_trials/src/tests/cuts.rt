@@ -32,6 +32,7 @@ fn solves<T: Threads + Sync + AllocGlobal>(
         depth,
         at_bound,
         cut,
+        table: 1,
         after: "",
     }));
     let words = [

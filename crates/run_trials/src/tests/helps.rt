@@ -92,6 +92,7 @@ Options:
       --at-bound <WORTH>     What a state is worth where these turns are over and play goes on: zero, or its goal [default: zero]
       --unfinished <NUMBER>  A worth for all these states, from 0 to 100, in place of --at-bound
       --cut <LEVELS>         How many threads search, and those behind each of their moves, as 4 or 4x2 [default: 1]
+      --table <MIB>          How much memory may keep what positions are worth, from 0 to 65536 [default: 64]
       --after <TEXT>         The turns that were played, each a list of a move for each role
   -h, --help                 Print help
 

@@ -22,6 +22,7 @@ fn solves<T: Threads + Sync + AllocGlobal>(rt: &T, row: Row) -> Result<bool, All
         depth,
         at_bound: AtBound::Zero,
         cut,
+        table: 1,
         after,
     }));
     let words = [

@@ -1,11 +1,16 @@
-use Rattle.std.proofs.Common.{ℕ, Option, [], get_or, sym, subst, ◌≡◌, arith}
-use Rattle.std.specs.Prelude.{IfSome}
-use Rattle.maximin.proofs.Packs.{none_known}
+use Rattle.std.proofs.Common.{[], get_or, sym, subst, ◌<◌, arith}
+use Rattle.std.proofs.lemmas.List.{get_or-replicate}
+use Rattle.table.specs.declared.bounds.Bounds.{Bounds}
+use Rattle.table.specs.Worths.{IsWithin}
 use Rattle.maximin.proofs.ahead.new_ahead.Goals as goal
 
 pub returns : goal.returns
-returns c = λ states worth size. record {
+returns c = λ states worth size few. record {
   count = sym size;
   few = omega (arith, size, c.requires);
-  worths = λ k below. subst (λ (o : Option ℕ). IfSome o (λ found. found ≡ worth (get_or states k []))) (sym (none_known 64 k)) tt;
+  bounds = λ k d below.
+      let inside : k < 64 = omega (arith, size, c.requires) in
+      let free : Bounds = record { lo = 0; hi = 100 } in
+      subst (λ (b : Bounds). IsWithin (worth (get_or states k [])) b) (sym (get_or-replicate 64 k free d inside))
+      (omega arith, few (get_or states k []));
 }

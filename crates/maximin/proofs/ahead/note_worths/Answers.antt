@@ -31,7 +31,7 @@ loop-place-preserved g c =
     let same : children.many ≡ c.args.children.now.many = is.same.many in
     let known = rw same at is.known.ahead in
     let inside : place < length states = omega (arith, c.loop-place-test.true, c.requires.children.ahead.count) in
-    let room : place < length children.ahead.worths = search facts in
+    let room : place < length children.ahead.bounds = search facts in
     let part = subst
     (λ (ss : List State). IfSome (get_or pack.parts place None) (IsPartOf next ss (worth (get_or states place []))))
     (sym (c.judge_pack-tools.ensures.after c.if-not-tools.false)) (c.requires.pack.parts place inside) in
@@ -40,7 +40,7 @@ loop-place-preserved g c =
         many = is.known.many;
         position = is.known.position;
         ahead = rw same (note_more states worth children.ahead _ place c.noted.result room refl refl
-            (c.noted.ensures (worth (get_or states place [])) part (known.worths place inside)) known);
+            (c.noted.ensures (worth (get_or states place [])) part (known.bounds place _ inside)) known);
       };
       same = record { position = is.same.position; capacities = is.same.capacities; many = is.same.many };
       count = is.count;

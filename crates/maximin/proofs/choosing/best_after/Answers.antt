@@ -7,6 +7,7 @@ use Rattle.maximin.specs.Best.{own_worth}
 use Rattle.maximin.specs.Run.{turns_in}
 use Rattle.std.proofs.lemmas.List.{get_or-map}
 use Rattle.game.proofs.Facts.{legal_count}
+use Rattle.maximin.proofs.Bounds.{value_at_most}
 use Rattle.maximin.proofs.Kept.{level_kept}
 use Rattle.maximin.proofs.Packs.{turns_count, stepped_count}
 use Rattle.maximin.proofs.Parts.{both_joined}
@@ -25,10 +26,12 @@ best_among-requires-clause-children g c κs within =
     let states = g.G.Game.states c.args.game.now c.steps.new.out in
     let size : length states ≡ run.count = stepped_count rules.roles run _ (rules.after (g.G.Game.state c.args.game.now c.args.from.now)) states
     c.requires.level.level.moves.run c.deref.ensures.value c.steps.ensures.after in
+    let law = g.met.G.Game g.world.𝓛 g.world.𝓜 g.world.𝓡 ((λ _ x. x), (λ x. x), (λ x. x), λ x. x) in
     record {
       many = c.steps.ensures.many;
       position = c.requires.level.level.children.position;
-      ahead = c.new_ahead-level.ensures states (value rules c.args.asked.role c.args.asked.depth c.args.asked.at) size;
+      ahead = c.new_ahead-level.ensures states (value rules c.args.asked.role c.args.asked.depth c.args.asked.at) size
+          (λ s. value_at_most rules c.args.asked.role (λ q r. law.goal_within c.args.game.now q r) c.args.asked.depth c.args.asked.at s);
     }
 
 pub best_among-requires-clause-few : goal.best_among-requires-clause-few

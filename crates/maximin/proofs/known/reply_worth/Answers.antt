@@ -31,6 +31,7 @@ turns-init g c =
       capacities = refl;
       kept = record {
         wide = c.requires.fit.wide;
+        memory = c.requires.fit.memory;
         levels = λ k d below. rw (c.split_at_mut-first.ensures.by_index.1 k d) (c.requires.fit.levels (1 + k) d (omega arith));
         of_tools = refl;
         of_levels = refl;

@@ -60,8 +60,10 @@ use Rattle.maximin.proofs.Orders.{place_within, all_places}
 use Rattle.maximin.proofs.Choices.{legal_some}
 use Rattle.maximin.proofs.OwnTurns.{alone_worst, own_worths, run_seen, run_most, run_end, greatest_worth_above, greatest_worth_reached, map_part}
 use Rattle.maximin.specs.Open.{IsOpen}
-use Rattle.maximin.proofs.Values.{turn_known, value_open, worst_le_value, value_reached, value_ended, value_stuck}
-use Rattle.maximin.proofs.Kept.{kept_at_first, kept_then, all_levels_kept, level_kept, moves_kept, same_states_then}
+use Rattle.maximin.proofs.Values.{turn_known, value_open, worst_le_value, value_reached, value_ended, value_stuck, value_at_bound}
+use Rattle.maximin.proofs.Bounds.{value_at_most}
+use Rattle.maximin.proofs.Kept.{kept_at_first, kept_then, memory_kept, history_kept, all_levels_kept, level_kept, moves_kept, same_states_then}
+use Rattle.maximin.proofs.LeftWindows.{settled_answers, narrow_answers, narrow_window, lower_yet, higher_yet}
 use Rattle.maximin.proofs.Runs.{
   known_each,
   steps_of,
@@ -244,7 +246,7 @@ least_at-loop-place-preserved g t c =
       deep = omega arith;
       known = c.child_at.ensures.children;
       same = same_states_then c.loop-place.invariant.same c.child_at.ensures.same;
-      above = rw ea at (le_z_false (to_z w16 (of_z w16 c.min-upper.result)) (to_z w16 (of_z w16 a)) c.if-upper-window-2.false);
+      above = rw ea at (le_z_false (to_z w16 (of_z w16 c.min-upper.result)) (to_z w16 (of_z w16 a)) c.if-upper-window-3.false);
       below = rw lowered (lowered_below b upper r c.loop-place.invariant.below);
       at_least = rw lowered (lowered_least all here a b upper r part c.loop-place.invariant.at_least c.loop-place.invariant.below answers);
       seen = below_more _ _
@@ -267,8 +269,8 @@ least_at-returns-then-upper-window-clause-answers g t c =
     rw eu (cut_below (least (map worth states)) a b upper (rw (eu, ea) at (le_z_true (to_z w16 (of_z w16 upper)) (to_z w16 (of_z w16 a)) c.if-upper-window.true))
     (subst (λ (z : ℤ). int_min (pos (least (map worth states))) z ≤ℤ upper) eb c.least_told-upper.ensures.at_least))
 
-pub least_at-returns-then-upper-window-2-clause-answers : goal.least_at-returns-then-upper-window-2-clause-answers
-least_at-returns-then-upper-window-2-clause-answers g t c =
+pub least_at-returns-then-upper-window-3-clause-answers : goal.least_at-returns-then-upper-window-3-clause-answers
+least_at-returns-then-upper-window-3-clause-answers g t c =
     let rules = g.G.Game.rules c.args.game.now in
     let states = g.G.Game.states c.args.game.now c.args.children.now.many in
     let worth : List ℕ → ℕ = λ s. value rules c.args.asked.role c.args.asked.depth c.args.asked.at s in
@@ -293,7 +295,7 @@ least_at-returns-then-upper-window-2-clause-answers g t c =
     let part : all ≤ here = least_worth_below worth states child (omega (arith, c.requires.joints.count)) in
     let low : int_min (pos all) b ≤ℤ int_min upper r = lowered_least all here a b upper r part c.loop-place.invariant.at_least
     c.loop-place.invariant.below answers in
-    rw lowered (cut_below all a b (int_min upper r) (rw (lowered, ea) at (le_z_true (to_z w16 (of_z w16 c.min-upper.result)) (to_z w16 (of_z w16 a)) c.if-upper-window-2.true)) low)
+    rw lowered (cut_below all a b (int_min upper r) (rw (lowered, ea) at (le_z_true (to_z w16 (of_z w16 c.min-upper.result)) (to_z w16 (of_z w16 a)) c.if-upper-window-3.true)) low)
 
 pub least_at-returns-clause-answers : goal.least_at-returns-clause-answers
 least_at-returns-clause-answers g t c =
@@ -336,6 +338,7 @@ worst_at-runs-init g t c =
       capacities = refl;
       kept = record {
         wide = c.requires.fit.wide;
+        memory = c.requires.fit.memory;
         levels = λ k d below. rw (c.split_at_mut-first.ensures.by_index.1 k d) (c.requires.fit.levels (1 + k) d (omega arith));
         of_tools = refl;
         of_levels = refl;
@@ -514,7 +517,7 @@ greatest_at-loop-place-preserved g t c =
       known = c.child_at.ensures.children;
       same = same_states_then c.loop-place.invariant.same c.child_at.ensures.same;
       above = rw raised (raised_above a lower r c.loop-place.invariant.above);
-      below = rw eb at (le_z_false (to_z w16 (of_z w16 b)) (to_z w16 (of_z w16 c.max-lower.result)) c.if-lower-window-2.false);
+      below = rw eb at (le_z_false (to_z w16 (of_z w16 b)) (to_z w16 (of_z w16 c.max-lower.result)) c.if-lower-window-3.false);
       at_most = rw raised (raised_most all here a b lower r part c.loop-place.invariant.at_most answers);
       seen = below_more _ _
           (λ k lt. rw raised (raised_seen (worth (get_or states (get_or order k 0) [])) b lower r (c.loop-place.invariant.seen k lt)))
@@ -536,8 +539,8 @@ greatest_at-returns-then-lower-window-clause-answers g t c =
     rw el (cut_above (greatest (map worth states)) a b lower (rw (el, eb) at (le_z_true (to_z w16 (of_z w16 b)) (to_z w16 (of_z w16 lower)) c.if-lower-window.true))
     (subst (λ (z : ℤ). lower ≤ℤ int_max (pos (greatest (map worth states))) z) ea c.greatest_told-lower.ensures.at_most))
 
-pub greatest_at-returns-then-lower-window-2-clause-answers : goal.greatest_at-returns-then-lower-window-2-clause-answers
-greatest_at-returns-then-lower-window-2-clause-answers g t c =
+pub greatest_at-returns-then-lower-window-3-clause-answers : goal.greatest_at-returns-then-lower-window-3-clause-answers
+greatest_at-returns-then-lower-window-3-clause-answers g t c =
     let rules = g.G.Game.rules c.args.game.now in
     let states = g.G.Game.states c.args.game.now c.args.children.now.many in
     let worth : List ℕ → ℕ = λ s. value rules c.args.asked.role c.args.asked.depth c.args.asked.at s in
@@ -561,7 +564,7 @@ greatest_at-returns-then-lower-window-2-clause-answers g t c =
     let answers : Answers here lower b r = rw (same, eb) at c.child_at.ensures.answers in
     let part : here ≤ all = greatest_worth_above worth states child (omega (arith, c.requires.joints.count)) in
     let most : int_max lower r ≤ℤ int_max (pos all) a = raised_most all here a b lower r part c.loop-place.invariant.at_most answers in
-    rw raised (cut_above all a b (int_max lower r) (rw (raised, eb) at (le_z_true (to_z w16 (of_z w16 b)) (to_z w16 (of_z w16 c.max-lower.result)) c.if-lower-window-2.true)) most)
+    rw raised (cut_above all a b (int_max lower r) (rw (raised, eb) at (le_z_true (to_z w16 (of_z w16 b)) (to_z w16 (of_z w16 c.max-lower.result)) c.if-lower-window-3.true)) most)
 
 pub greatest_at-returns-clause-answers : goal.greatest_at-returns-clause-answers
 greatest_at-returns-clause-answers g t c =
@@ -608,6 +611,7 @@ best_at-runs-init g t c =
       capacities = refl;
       kept = record {
         wide = c.requires.fit.wide;
+        memory = c.requires.fit.memory;
         levels = λ k d below. rw (c.split_at_mut-first.ensures.by_index.1 k d) (c.requires.fit.levels (1 + k) d (omega arith));
         of_tools = refl;
         of_levels = refl;
@@ -936,26 +940,86 @@ least_at-loop-place-init g t c =
     let rules = g.G.Game.rules c.args.game.now in
     let states = g.G.Game.states c.args.game.now c.args.children.now.many in
     let worth : List ℕ → ℕ = λ s. value rules c.args.asked.role c.args.asked.depth c.args.asked.at s in
+    let all = least (map worth states) in
     let a = c.args.window.low in
     let ea : to_z w16 (of_z w16 a) ≡ a = to_z-of_z w16 a (search facts) in
     let b = c.args.window.high in
     let eb : to_z w16 (of_z w16 b) ≡ b = to_z-of_z w16 b (search facts) in
-    let upper = c.least_told-upper.result in
+    let first = c.least_told-upper.result in
+    let fits_first : SFits w16 first = search facts in
+    let ef : to_z w16 (of_z w16 first) ≡ first = to_z-of_z w16 first fits_first in
+    let upper = c.least_bound-upper.result in
     let fits : SFits w16 upper = search facts in
     let eu : to_z w16 (of_z w16 upper) ≡ upper = to_z-of_z w16 upper fits in
+    let same : c.look_back.new.children.many ≡ c.args.children.now.many = c.look_back.ensures.same.many in
+    let known = rw same at c.look_back.ensures.children.ahead in
+    let told : int_min (pos all) b ≤ℤ first = subst (λ (z : ℤ). int_min (pos all) z ≤ℤ first) eb c.least_told-upper.ensures.at_least in
+    let found : int_min (pos all) first ≤ℤ upper = subst (λ (z : ℤ). int_min (pos all) z ≤ℤ upper) ef (c.least_bound-upper.ensures.at_least states worth known) in
+    let least_known : int_min (pos all) b ≤ℤ upper = lower_yet all b first upper told found in
+    let most_told : first ≤ℤ b = subst (λ (z : ℤ). first ≤ℤ z) eb c.least_told-upper.ensures.at_most in
+    let most_known : upper ≤ℤ first = subst (λ (z : ℤ). upper ≤ℤ z) ef c.least_bound-upper.ensures.at_most in
     record {
-      kept = kept_at_first c.requires.fit;
-      deep = refl;
-      known = record {
-        many = c.requires.children.many;
-        position = c.requires.children.position;
-        ahead = c.new_ahead-children.ensures states worth (sym c.requires.joints.count);
+      kept = record {
+        wide = c.look_back.ensures.tools.wide;
+        memory = c.look_back.ensures.tools.memory;
+        levels = c.requires.fit.levels;
+        of_tools = c.look_back.ensures.tools.capacities;
+        of_levels = refl;
       };
-      same = record { position = c.requires.children.position; capacities = refl; many = refl };
-      above = rw ea at (le_z_false (to_z w16 (of_z w16 upper)) (to_z w16 (of_z w16 a)) c.if-upper-window.false);
-      below = rw eu (subst (λ (z : ℤ). upper ≤ℤ z) eb c.least_told-upper.ensures.at_most);
-      at_least = rw eu (subst (λ (z : ℤ). int_min (pos (least (map worth states))) z ≤ℤ upper) eb c.least_told-upper.ensures.at_least);
+      deep = refl;
+      known = c.look_back.ensures.children;
+      same = record { position = c.look_back.ensures.same.position; capacities = c.look_back.ensures.same.capacities; many = same };
+      above = rw ea at (le_z_false (to_z w16 (of_z w16 upper)) (to_z w16 (of_z w16 a)) c.if-upper-window-2.false);
+      below = rw eu (omega (arith, ints));
+      at_least = rw eu least_known;
       seen = λ k lt. absurd (omega arith);
+    }
+
+pub least_at-returns-then-upper-window-2-clause-answers : goal.least_at-returns-then-upper-window-2-clause-answers
+least_at-returns-then-upper-window-2-clause-answers g t c =
+    let rules = g.G.Game.rules c.args.game.now in
+    let states = g.G.Game.states c.args.game.now c.args.children.now.many in
+    let worth : List ℕ → ℕ = λ s. value rules c.args.asked.role c.args.asked.depth c.args.asked.at s in
+    let all = least (map worth states) in
+    let a = c.args.window.low in
+    let ea : to_z w16 (of_z w16 a) ≡ a = to_z-of_z w16 a (search facts) in
+    let b = c.args.window.high in
+    let eb : to_z w16 (of_z w16 b) ≡ b = to_z-of_z w16 b (search facts) in
+    let first = c.least_told-upper.result in
+    let fits_first : SFits w16 first = search facts in
+    let ef : to_z w16 (of_z w16 first) ≡ first = to_z-of_z w16 first fits_first in
+    let upper = c.least_bound-upper.result in
+    let fits : SFits w16 upper = search facts in
+    let eu : to_z w16 (of_z w16 upper) ≡ upper = to_z-of_z w16 upper fits in
+    let same : c.look_back.new.children.many ≡ c.args.children.now.many = c.look_back.ensures.same.many in
+    let known = rw same at c.look_back.ensures.children.ahead in
+    let told : int_min (pos all) b ≤ℤ first = subst (λ (z : ℤ). int_min (pos all) z ≤ℤ first) eb c.least_told-upper.ensures.at_least in
+    let found : int_min (pos all) first ≤ℤ upper = subst (λ (z : ℤ). int_min (pos all) z ≤ℤ upper) ef (c.least_bound-upper.ensures.at_least states worth known) in
+    let least_known : int_min (pos all) b ≤ℤ upper = lower_yet all b first upper told found in
+    let most_told : first ≤ℤ b = subst (λ (z : ℤ). first ≤ℤ z) eb c.least_told-upper.ensures.at_most in
+    let most_known : upper ≤ℤ first = subst (λ (z : ℤ). upper ≤ℤ z) ef c.least_bound-upper.ensures.at_most in
+    rw eu (cut_below all a b upper (rw (eu, ea) at (le_z_true (to_z w16 (of_z w16 upper)) (to_z w16 (of_z w16 a)) c.if-upper-window-2.true)) least_known)
+
+pub least_at-returns-then-upper-window-2-clause-kept : goal.least_at-returns-then-upper-window-2-clause-kept
+least_at-returns-then-upper-window-2-clause-kept g t c = record {
+  wide = c.look_back.ensures.tools.wide;
+  memory = c.look_back.ensures.tools.memory;
+  levels = c.requires.fit.levels;
+  of_tools = c.look_back.ensures.tools.capacities;
+  of_levels = refl;
+}
+
+pub least_at-look_back-requires-clause-children : goal.least_at-look_back-requires-clause-children
+least_at-look_back-requires-clause-children g t c κs within =
+    let rules = g.G.Game.rules c.args.game.now in
+    let states = g.G.Game.states c.args.game.now c.args.children.now.many in
+    let worth : List ℕ → ℕ = λ s. value rules c.args.asked.role c.args.asked.depth c.args.asked.at s in
+    let law = g.met.G.Game g.world.𝓛 g.world.𝓜 g.world.𝓡 ((λ _ x. x), (λ x. x), (λ x. x), λ x. x) in
+    record {
+      many = c.requires.children.many;
+      position = c.requires.children.position;
+      ahead = c.new_ahead-children.ensures states worth (sym c.requires.joints.count)
+          (λ s. value_at_most rules c.args.asked.role (λ q r. law.goal_within c.args.game.now q r) c.args.asked.depth c.args.asked.at s);
     }
 
 pub greatest_at-loop-place-init : goal.greatest_at-loop-place-init
@@ -963,24 +1027,251 @@ greatest_at-loop-place-init g t c =
     let rules = g.G.Game.rules c.args.game.now in
     let states = g.G.Game.states c.args.game.now c.args.children.now.many in
     let worth : List ℕ → ℕ = λ s. value rules c.args.asked.role c.args.asked.depth c.args.asked.at s in
+    let all = greatest (map worth states) in
     let a = c.args.window.low in
     let ea : to_z w16 (of_z w16 a) ≡ a = to_z-of_z w16 a (search facts) in
     let b = c.args.window.high in
     let eb : to_z w16 (of_z w16 b) ≡ b = to_z-of_z w16 b (search facts) in
-    let lower = c.greatest_told-lower.result in
+    let first = c.greatest_told-lower.result in
+    let fits_first : SFits w16 first = search facts in
+    let ef : to_z w16 (of_z w16 first) ≡ first = to_z-of_z w16 first fits_first in
+    let lower = c.greatest_bound-lower.result in
     let fits : SFits w16 lower = search facts in
-    let el : to_z w16 (of_z w16 lower) ≡ lower = to_z-of_z w16 lower fits in
+    let eu : to_z w16 (of_z w16 lower) ≡ lower = to_z-of_z w16 lower fits in
+    let same : c.look_back.new.children.many ≡ c.args.children.now.many = c.look_back.ensures.same.many in
+    let known = rw same at c.look_back.ensures.children.ahead in
+    let told : first ≤ℤ int_max (pos all) a = subst (λ (z : ℤ). first ≤ℤ int_max (pos all) z) ea c.greatest_told-lower.ensures.at_most in
+    let found : lower ≤ℤ int_max (pos all) first = subst (λ (z : ℤ). lower ≤ℤ int_max (pos all) z) ef (c.greatest_bound-lower.ensures.at_most states worth known) in
+    let most_known : lower ≤ℤ int_max (pos all) a = higher_yet all a first lower told found in
+    let least_told : a ≤ℤ first = subst (λ (z : ℤ). z ≤ℤ first) ea c.greatest_told-lower.ensures.at_least in
+    let least_known : first ≤ℤ lower = subst (λ (z : ℤ). z ≤ℤ lower) ef c.greatest_bound-lower.ensures.at_least in
+    record {
+      kept = record {
+        wide = c.look_back.ensures.tools.wide;
+        memory = c.look_back.ensures.tools.memory;
+        levels = c.requires.fit.levels;
+        of_tools = c.look_back.ensures.tools.capacities;
+        of_levels = refl;
+      };
+      deep = refl;
+      known = c.look_back.ensures.children;
+      same = record { position = c.look_back.ensures.same.position; capacities = c.look_back.ensures.same.capacities; many = same };
+      above = rw eu (omega (arith, ints));
+      below = rw eb at (le_z_false (to_z w16 (of_z w16 b)) (to_z w16 (of_z w16 lower)) c.if-lower-window-2.false);
+      at_most = rw eu most_known;
+      seen = λ k lt. absurd (omega arith);
+    }
+
+pub greatest_at-returns-then-lower-window-2-clause-answers : goal.greatest_at-returns-then-lower-window-2-clause-answers
+greatest_at-returns-then-lower-window-2-clause-answers g t c =
+    let rules = g.G.Game.rules c.args.game.now in
+    let states = g.G.Game.states c.args.game.now c.args.children.now.many in
+    let worth : List ℕ → ℕ = λ s. value rules c.args.asked.role c.args.asked.depth c.args.asked.at s in
+    let all = greatest (map worth states) in
+    let a = c.args.window.low in
+    let ea : to_z w16 (of_z w16 a) ≡ a = to_z-of_z w16 a (search facts) in
+    let b = c.args.window.high in
+    let eb : to_z w16 (of_z w16 b) ≡ b = to_z-of_z w16 b (search facts) in
+    let first = c.greatest_told-lower.result in
+    let fits_first : SFits w16 first = search facts in
+    let ef : to_z w16 (of_z w16 first) ≡ first = to_z-of_z w16 first fits_first in
+    let lower = c.greatest_bound-lower.result in
+    let fits : SFits w16 lower = search facts in
+    let eu : to_z w16 (of_z w16 lower) ≡ lower = to_z-of_z w16 lower fits in
+    let same : c.look_back.new.children.many ≡ c.args.children.now.many = c.look_back.ensures.same.many in
+    let known = rw same at c.look_back.ensures.children.ahead in
+    let told : first ≤ℤ int_max (pos all) a = subst (λ (z : ℤ). first ≤ℤ int_max (pos all) z) ea c.greatest_told-lower.ensures.at_most in
+    let found : lower ≤ℤ int_max (pos all) first = subst (λ (z : ℤ). lower ≤ℤ int_max (pos all) z) ef (c.greatest_bound-lower.ensures.at_most states worth known) in
+    let most_known : lower ≤ℤ int_max (pos all) a = higher_yet all a first lower told found in
+    let least_told : a ≤ℤ first = subst (λ (z : ℤ). z ≤ℤ first) ea c.greatest_told-lower.ensures.at_least in
+    let least_known : first ≤ℤ lower = subst (λ (z : ℤ). z ≤ℤ lower) ef c.greatest_bound-lower.ensures.at_least in
+    rw eu (cut_above all a b lower (rw (eb, eu) at (le_z_true (to_z w16 (of_z w16 b)) (to_z w16 (of_z w16 lower)) c.if-lower-window-2.true)) most_known)
+
+pub greatest_at-returns-then-lower-window-2-clause-kept : goal.greatest_at-returns-then-lower-window-2-clause-kept
+greatest_at-returns-then-lower-window-2-clause-kept g t c = record {
+  wide = c.look_back.ensures.tools.wide;
+  memory = c.look_back.ensures.tools.memory;
+  levels = c.requires.fit.levels;
+  of_tools = c.look_back.ensures.tools.capacities;
+  of_levels = refl;
+}
+
+pub greatest_at-look_back-requires-clause-children : goal.greatest_at-look_back-requires-clause-children
+greatest_at-look_back-requires-clause-children g t c κs within =
+    let rules = g.G.Game.rules c.args.game.now in
+    let states = g.G.Game.states c.args.game.now c.args.children.now.many in
+    let worth : List ℕ → ℕ = λ s. value rules c.args.asked.role c.args.asked.depth c.args.asked.at s in
+    let law = g.met.G.Game g.world.𝓛 g.world.𝓜 g.world.𝓡 ((λ _ x. x), (λ x. x), (λ x. x), λ x. x) in
+    record {
+      many = c.requires.children.many;
+      position = c.requires.children.position;
+      ahead = c.new_ahead-children.ensures states worth (sym c.requires.joints.count)
+          (λ s. value_at_most rules c.args.asked.role (λ q r. law.goal_within c.args.game.now q r) c.args.asked.depth c.args.asked.at s);
+    }
+
+pub child_at-returns-in-Some-clause-answers : goal.child_at-returns-in-Some-clause-answers
+child_at-returns-in-Some-clause-answers g t c =
+    let worth = value (g.G.Game.rules c.args.game.now) c.args.asked.role c.args.asked.depth c.args.asked.at
+    (get_or (g.G.Game.states c.args.game.now c.args.children.now.many) c.args.place []) in
+    let r = c.in-Some.worth in
+    let fits_r : SFits w16 r = search facts in
+    exact worth c.args.window.low c.args.window.high (to_z w16 (of_z w16 r)) (to_z-of_z w16 r fits_r ∙ c.in-Some.ensures)
+
+pub child_at-returns-then-left-clause-answers : goal.child_at-returns-then-left-clause-answers
+child_at-returns-then-left-clause-answers g t c =
+    let states = g.G.Game.states c.args.game.now c.args.children.now.many in
+    let worth = value (g.G.Game.rules c.args.game.now) c.args.asked.role c.args.asked.depth c.args.asked.at (get_or states c.args.place []) in
+    let same : c.look_ahead.new.children.many ≡ c.args.children.now.many = c.look_ahead.ensures.same.many in
+    let known = c.bounds_of-known.result in
+    let inside = c.bounds_of-known.ensures states (λ s. value (g.G.Game.rules c.args.game.now) c.args.asked.role c.args.asked.depth c.args.asked.at s)
+    (rw same at c.look_ahead.ensures.children.ahead) c.requires.place in
+    let low = c.narrowed-left.result.low in
+    let high = c.narrowed-left.result.high in
+    let el : to_z w16 (of_z w16 low) ≡ low = to_z-of_z w16 low (search facts) in
+    let eh : to_z w16 (of_z w16 high) ≡ high = to_z-of_z w16 high (search facts) in
+    let r = c.settled.result in
+    let fits_r : SFits w16 r = search facts in
+    rw (to_z-of_z w16 r fits_r)
+    (settled_answers worth known c.args.window.low c.args.window.high low high r inside c.requires.window.order
+    c.narrowed-left.ensures.low c.narrowed-left.ensures.high
+    (rw (eh, el) at (le_z_true (to_z w16 (of_z w16 high)) (to_z w16 (of_z w16 low)) c.if-left.true)) (rw eh at c.settled.ensures))
+
+pub child_at-known_at-requires-clause-window : goal.child_at-known_at-requires-clause-window
+child_at-known_at-requires-clause-window g t c κs within =
+    let low = c.narrowed-left.result.low in
+    let high = c.narrowed-left.result.high in
+    let el : to_z w16 (of_z w16 low) ≡ low = to_z-of_z w16 low (search facts) in
+    let eh : to_z w16 (of_z w16 high) ≡ high = to_z-of_z w16 high (search facts) in
+    narrow_window c.bounds_of-known.result c.args.window.low c.args.window.high low high c.requires.window c.narrowed-left.ensures.low
+    c.narrowed-left.ensures.high (rw (eh, el) at (le_z_false (to_z w16 (of_z w16 high)) (to_z w16 (of_z w16 low)) c.if-left.false))
+
+pub child_at-returns-clause-answers : goal.child_at-returns-clause-answers
+child_at-returns-clause-answers g t c =
+    let states = g.G.Game.states c.args.game.now c.args.children.now.many in
+    let worth = value (g.G.Game.rules c.args.game.now) c.args.asked.role c.args.asked.depth c.args.asked.at (get_or states c.args.place []) in
+    let same : c.look_ahead.new.children.many ≡ c.args.children.now.many = c.look_ahead.ensures.same.many in
+    let known = c.bounds_of-known.result in
+    let inside = c.bounds_of-known.ensures states (λ s. value (g.G.Game.rules c.args.game.now) c.args.asked.role c.args.asked.depth c.args.asked.at s)
+    (rw same at c.look_ahead.ensures.children.ahead) c.requires.place in
+    let low = c.narrowed-left.result.low in
+    let high = c.narrowed-left.result.high in
+    let taken : g.G.Game.state c.args.game.now c.take.new.q ≡ get_or states c.args.place [] = c.take.ensures.taken
+    ∙ ap (λ m. get_or (g.G.Game.states c.args.game.now m) c.args.place []) same in
+    let r = c.known_at.result in
+    let fits_r : SFits w16 r = search facts in
+    rw (to_z-of_z w16 r fits_r)
+    (narrow_answers worth known c.args.window.low c.args.window.high low high r inside c.narrowed-left.ensures.low c.narrowed-left.ensures.high
+    (rw taken at c.known_at.ensures.answers))
+
+pub child_at-returns-clause-kept : goal.child_at-returns-clause-kept
+child_at-returns-clause-kept g t c = kept_then c.look_ahead.ensures.kept c.known_at.ensures.kept
+
+pub known_at-returns-then-left-clause-answers : goal.known_at-returns-then-left-clause-answers
+known_at-returns-then-left-clause-answers g t c =
+    let worth = value (g.G.Game.rules c.args.game.now) c.args.asked.role c.args.asked.depth c.args.asked.at (g.G.Game.state c.args.game.now c.args.from.now) in
+    let low = c.narrowed-left.result.low in
+    let high = c.narrowed-left.result.high in
+    let el : to_z w16 (of_z w16 low) ≡ low = to_z-of_z w16 low (search facts) in
+    let eh : to_z w16 (of_z w16 high) ≡ high = to_z-of_z w16 high (search facts) in
+    let r = c.settled.result in
+    let fits_r : SFits w16 r = search facts in
+    rw (to_z-of_z w16 r fits_r)
+    (settled_answers worth c.recall-known.result c.args.window.low c.args.window.high low high r c.recall-known.ensures.within c.requires.window.order
+    c.narrowed-left.ensures.low c.narrowed-left.ensures.high
+    (rw (eh, el) at (le_z_true (to_z w16 (of_z w16 high)) (to_z w16 (of_z w16 low)) c.if-left.true)) (rw eh at c.settled.ensures))
+
+pub known_at-value_at-answer-requires-clause-window : goal.known_at-value_at-answer-requires-clause-window
+known_at-value_at-answer-requires-clause-window g t c κs within =
+    let low = c.narrowed-left.result.low in
+    let high = c.narrowed-left.result.high in
+    let el : to_z w16 (of_z w16 low) ≡ low = to_z-of_z w16 low (search facts) in
+    let eh : to_z w16 (of_z w16 high) ≡ high = to_z-of_z w16 high (search facts) in
+    narrow_window c.recall-known.result c.args.window.low c.args.window.high low high c.requires.window c.narrowed-left.ensures.low
+    c.narrowed-left.ensures.high (rw (eh, el) at (le_z_false (to_z w16 (of_z w16 high)) (to_z w16 (of_z w16 low)) c.if-left.false))
+
+pub known_at-keep-requires-clause-found : goal.known_at-keep-requires-clause-found
+known_at-keep-requires-clause-found g t c κs within =
+    let worth = value (g.G.Game.rules c.args.game.now) c.args.asked.role c.args.asked.depth c.args.asked.at (g.G.Game.state c.args.game.now c.args.from.now) in
+    let low = c.narrowed-left.result.low in
+    let high = c.narrowed-left.result.high in
+    let law = g.met.G.Game g.world.𝓛 g.world.𝓜 g.world.𝓡 ((λ _ x. x), (λ x. x), (λ x. x), λ x. x) in
+    let few = value_at_most (g.G.Game.rules c.args.game.now) c.args.asked.role (λ s r. law.goal_within c.args.game.now s r) c.args.asked.depth c.args.asked.at
+    (g.G.Game.state c.args.game.now c.args.from.now) in
+    let r = c.value_at-answer.result in
+    let fits_r : SFits w16 r = search facts in
+    c.bounds_by-found.ensures worth few (rw (to_z-of_z w16 r fits_r)
+    (narrow_answers worth c.recall-known.result c.args.window.low c.args.window.high low high r c.recall-known.ensures.within c.narrowed-left.ensures.low
+    c.narrowed-left.ensures.high c.value_at-answer.ensures.answers))
+
+pub known_at-returns-clause-answers : goal.known_at-returns-clause-answers
+known_at-returns-clause-answers g t c =
+    let worth = value (g.G.Game.rules c.args.game.now) c.args.asked.role c.args.asked.depth c.args.asked.at (g.G.Game.state c.args.game.now c.args.from.now) in
+    let low = c.narrowed-left.result.low in
+    let high = c.narrowed-left.result.high in
+    let r = c.value_at-answer.result in
+    let fits_r : SFits w16 r = search facts in
+    rw (to_z-of_z w16 r fits_r)
+    (narrow_answers worth c.recall-known.result c.args.window.low c.args.window.high low high r c.recall-known.ensures.within c.narrowed-left.ensures.low
+    c.narrowed-left.ensures.high c.value_at-answer.ensures.answers)
+
+pub known_at-returns-clause-kept : goal.known_at-returns-clause-kept
+known_at-returns-clause-kept g t c = memory_kept c.args.tools.now c.value_at-answer.new.tools c.recall-known.new.memory c.keep.new.memory c.args.levels.now
+    c.value_at-answer.new.levels c.recall-known.ensures.capacities c.keep.ensures.capacities c.keep.ensures.memory c.value_at-answer.ensures.kept
+
+pub value_at-returns-then-asked-eq0-clause-answers : goal.value_at-returns-then-asked-eq0-clause-answers
+value_at-returns-then-asked-eq0-clause-answers g t c =
+    let rules = g.G.Game.rules c.args.game.now in
+    let state = g.G.Game.state c.args.game.now c.args.from.now in
+    let r = c.bound_at.result in
+    let fits_r : SFits w16 r = search facts in
+    exact (value rules c.args.asked.role c.args.asked.depth c.args.asked.at state) c.args.window.low c.args.window.high (to_z w16 (of_z w16 r))
+    (to_z-of_z w16 r fits_r ∙ c.bound_at.ensures
+    ∙ ap pos (sym (value_at_bound rules c.args.asked.role c.args.asked.depth c.args.asked.at state c.if-asked-eq0.true (sym c.ended.ensures ∙ c.if-ended.false))))
+
+pub value_at-loop-own-init : goal.value_at-loop-own-init
+value_at-loop-own-init g t c =
+    let worth = value (g.G.Game.rules c.args.game.now) c.args.asked.role c.args.asked.depth c.args.asked.at (g.G.Game.state c.args.game.now c.args.from.now) in
+    let a = c.args.window.low in
+    let ea : to_z w16 (of_z w16 a) ≡ a = to_z-of_z w16 a (search facts) in
     record {
       kept = kept_at_first c.requires.fit;
       deep = refl;
-      known = record {
-        many = c.requires.children.many;
-        position = c.requires.children.position;
-        ahead = c.new_ahead-children.ensures states worth (sym c.requires.joints.count);
-      };
-      same = record { position = c.requires.children.position; capacities = refl; many = refl };
-      above = rw el (subst (λ (z : ℤ). z ≤ℤ lower) ea c.greatest_told-lower.ensures.at_least);
-      below = rw eb at (le_z_false (to_z w16 (of_z w16 b)) (to_z w16 (of_z w16 lower)) c.if-lower-window.false);
-      at_most = rw el (subst (λ (z : ℤ). lower ≤ℤ int_max (pos (greatest (map worth states))) z) ea c.greatest_told-lower.ensures.at_most);
+      in_list = omega arith;
+      above = rw ea (omega (arith, ints));
+      below = rw ea c.requires.window.order;
+      at_most = rw ea (omega (arith, ints, clamps));
       seen = λ k lt. absurd (omega arith);
     }
+
+pub value_at-returns-then-best-window-clause-kept : goal.value_at-returns-then-best-window-clause-kept
+value_at-returns-then-best-window-clause-kept g t c = kept_then c.loop-own.invariant.kept c.worst_at.ensures.kept
+
+pub least_at-returns-then-upper-window-3-clause-kept : goal.least_at-returns-then-upper-window-3-clause-kept
+least_at-returns-then-upper-window-3-clause-kept g t c = history_kept c.args.tools.now c.child_at.new.tools c.note_cut.new.self c.args.levels.now
+    c.child_at.new.levels c.note_cut.ensures (kept_then c.loop-place.invariant.kept c.child_at.ensures.kept)
+
+pub least_at-child_at-requires-clause-window : goal.least_at-child_at-requires-clause-window
+least_at-child_at-requires-clause-window g t c κs within =
+    let a = c.args.window.low in
+    let ea : to_z w16 (of_z w16 a) ≡ a = to_z-of_z w16 a (search facts) in
+    let top = c.requires.window.high in
+    let below = c.loop-place.invariant.below in
+    rw ea record { low = c.requires.window.low; order = c.loop-place.invariant.above; high = omega (arith, ints) }
+
+pub greatest_at-returns-then-lower-window-3-clause-kept : goal.greatest_at-returns-then-lower-window-3-clause-kept
+greatest_at-returns-then-lower-window-3-clause-kept g t c = history_kept c.args.tools.now c.child_at.new.tools c.note_cut.new.self c.args.levels.now
+    c.child_at.new.levels c.note_cut.ensures (kept_then c.loop-place.invariant.kept c.child_at.ensures.kept)
+
+pub greatest_at-child_at-requires-clause-window : goal.greatest_at-child_at-requires-clause-window
+greatest_at-child_at-requires-clause-window g t c κs within =
+    let b = c.args.window.high in
+    let eb : to_z w16 (of_z w16 b) ≡ b = to_z-of_z w16 b (search facts) in
+    let bottom = c.requires.window.low in
+    let above = c.loop-place.invariant.above in
+    rw eb record { low = omega (arith, ints); order = c.loop-place.invariant.below; high = c.requires.window.high }
+
+pub least_at-look_back-requires-clause-tools : goal.least_at-look_back-requires-clause-tools
+least_at-look_back-requires-clause-tools g t c κs within = record { wide = c.requires.fit.wide; memory = c.requires.fit.memory }
+
+pub greatest_at-look_back-requires-clause-tools : goal.greatest_at-look_back-requires-clause-tools
+greatest_at-look_back-requires-clause-tools g t c κs within = record { wide = c.requires.fit.wide; memory = c.requires.fit.memory }

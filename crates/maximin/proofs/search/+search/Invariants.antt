@@ -10,19 +10,22 @@ use Rattle.maximin.specs.Level.{IsLevelOf, level_capacities}
 use Rattle.maximin.proofs.search.+search.Given as goal
 
 abbrev pub decreases-value_at : goal.decreases-value_at
-decreases-value_at g l = 5 * l.asked.depth
+decreases-value_at g l = 6 * l.asked.depth
 
 abbrev pub decreases-child_at : goal.decreases-child_at
-decreases-child_at g l = 5 * l.asked.depth + 1
+decreases-child_at g l = 6 * l.asked.depth + 2
+
+abbrev pub decreases-known_at : goal.decreases-known_at
+decreases-known_at g l = 6 * l.asked.depth + 1
 
 abbrev pub decreases-worst_at : goal.decreases-worst_at
-decreases-worst_at g l = 5 * l.asked.depth + 4
+decreases-worst_at g l = 6 * l.asked.depth + 5
 
 abbrev pub decreases-least_at : goal.decreases-least_at
-decreases-least_at g l = 5 * l.asked.depth + 2
+decreases-least_at g l = 6 * l.asked.depth + 3
 
 abbrev pub decreases-least_after : goal.decreases-least_after
-decreases-least_after g l = 5 * l.asked.depth + 3
+decreases-least_after g l = 6 * l.asked.depth + 4
 
 -- best is a lower bound of the answer that every move so far keeps to, and it is no more than the value or a
 abbrev pub invariant-value_at-loop-own : goal.invariant-value_at-loop-own
@@ -94,13 +97,13 @@ invariant-least_at-loop-place g l =
     }
 
 abbrev pub decreases-best_at : goal.decreases-best_at
-decreases-best_at g l = 5 * l.asked.depth + 4
+decreases-best_at g l = 6 * l.asked.depth + 5
 
 abbrev pub decreases-greatest_at : goal.decreases-greatest_at
-decreases-greatest_at g l = 5 * l.asked.depth + 2
+decreases-greatest_at g l = 6 * l.asked.depth + 3
 
 abbrev pub decreases-greatest_after : goal.decreases-greatest_after
-decreases-greatest_after g l = 5 * l.asked.depth + 3
+decreases-greatest_after g l = 6 * l.asked.depth + 4
 
 -- best is a lower bound of the answer that every move so far keeps to, and it is no more than the value or a
 abbrev pub invariant-best_at-runs : goal.invariant-best_at-runs

@@ -35,6 +35,7 @@ loop-upper-init g c =
       capacities = refl;
       kept = record {
         wide = c.requires.fit.wide;
+        memory = c.requires.fit.memory;
         levels = λ k d below. rw (c.split_at_mut-first.ensures.by_index.1 k d) (c.requires.fit.levels (1 + k) d (omega arith));
         of_tools = refl;
         of_levels = refl;
@@ -67,10 +68,10 @@ returns-then-not-next_turn-clause-reply g c =
     let joint = c.loop-upper.level.moves.cursor.joint.items in
     let behind = later lists c.loop-upper.level.moves.cursor.places.items in
     let upper = to_z w16 c.loop-upper.upper-bits in
-    let r = c.value_at-worth.result in
+    let r = c.known_at-worth.result in
     let fits : SFits w16 r = search facts in
     let same = to_z-of_z w16 r fits in
-    let answers : Answers (worth joint) (negsuc 0) upper r = rw c.step.ensures.after at c.value_at-worth.ensures.answers in
+    let answers : Answers (worth joint) (negsuc 0) upper r = rw c.step.ensures.after at c.known_at-worth.ensures.answers in
     let at : IsFirstAt worth turns all joint behind (to_z w16 c.if-worth-upper.upper-bits) c.if-worth-upper.out.items =
     elim c.if-worth-upper.branch [
       | then-worth-upper w ↦
@@ -101,10 +102,10 @@ loop-upper-preserved g c =
     let joint = c.loop-upper.level.moves.cursor.joint.items in
     let behind = later lists c.loop-upper.level.moves.cursor.places.items in
     let upper = to_z w16 c.loop-upper.upper-bits in
-    let r = c.value_at-worth.result in
+    let r = c.known_at-worth.result in
     let fits : SFits w16 r = search facts in
     let same = to_z-of_z w16 r fits in
-    let answers : Answers (worth joint) (negsuc 0) upper r = rw c.step.ensures.after at c.value_at-worth.ensures.answers in
+    let answers : Answers (worth joint) (negsuc 0) upper r = rw c.step.ensures.after at c.known_at-worth.ensures.answers in
     let at : IsFirstAt worth turns all joint behind (to_z w16 c.if-worth-upper.upper-bits) c.if-worth-upper.out.items =
     elim c.if-worth-upper.branch [
       | then-worth-upper w ↦
@@ -128,7 +129,7 @@ loop-upper-preserved g c =
           (children_kept g.G.Game c.args.game.now c.step.new.q now.children.position now.children.many now.children.many
           c.step.ensures.capacities refl)
           ∙ c.loop-upper.invariant.capacities;
-      kept = kept_then c.loop-upper.invariant.kept c.value_at-worth.ensures.kept;
+      kept = kept_then c.loop-upper.invariant.kept c.known_at-worth.ensures.kept;
       deep = omega arith;
       capacity = elim c.if-worth-upper.branch [
         | then-worth-upper w ↦ rw w.out-is (w.write_joint.ensures.capacity ∙ c.loop-upper.invariant.capacity)
@@ -159,9 +160,9 @@ returns-then-not-next_turn-clause-kept g c =
     c.step.ensures.capacities refl) in
     let is = c.loop-upper.invariant.level in
     all_levels_kept c.args.levels.now c.split_at_mut-first.result.0.now c.split_at_mut-first.result.1.now
-    c.value_at-worth.new.levels level c.index-first-0.result split.value split.front_len
+    c.known_at-worth.new.levels level c.index-first-0.result split.value split.front_len
     record {
       moves = record { cursor = c.next_turn.ensures.cursor; run = is.moves.run };
       children = record { many = is.children.many; position = c.step.ensures.fits };
     }
-    (turned ∙ begun) (kept_then c.loop-upper.invariant.kept c.value_at-worth.ensures.kept)
+    (turned ∙ begun) (kept_then c.loop-upper.invariant.kept c.known_at-worth.ensures.kept)

@@ -37,16 +37,16 @@ returns-clause-answers g c =
     let high = to_z w16 (of_z w16 c.min-high.result) in
     let fits_low : SFits w16 c.max-low.result = search facts in
     let fits_high : SFits w16 c.min-high.result = search facts in
-    let fits_r : SFits w16 c.value_at.result = search facts in
+    let fits_r : SFits w16 c.known_at.result = search facts in
     let low_is : low ≡ int_max c.args.window.low (pos 0) =
     to_z-of_z w16 c.max-low.result fits_low ∙ c.max-low.ensures.value ∙ ap (λ z. int_max z (pos 0)) (to_z-of_z w16 c.args.window.low (search facts)) in
     let high_is : high ≡ int_min c.args.window.high (pos 100) =
     to_z-of_z w16 c.min-high.result fits_high ∙ c.min-high.ensures.value ∙ ap (λ z. int_min z (pos 100)) (to_z-of_z w16 c.args.window.high (search facts)) in
-    rw (to_z-of_z w16 c.value_at.result fits_r)
-    (within_goals worth c.args.window.low c.args.window.high low high c.value_at.result few low_is high_is c.value_at.ensures.answers)
+    rw (to_z-of_z w16 c.known_at.result fits_r)
+    (within_goals worth c.args.window.low c.args.window.high low high c.known_at.result few low_is high_is c.known_at.ensures.answers)
 
-pub value_at-requires-clause-window : goal.value_at-requires-clause-window
-value_at-requires-clause-window g c κs within =
+pub known_at-requires-clause-window : goal.known_at-requires-clause-window
+known_at-requires-clause-window g c κs within =
     let fits_low : SFits w16 c.max-low.result = search facts in
     let fits_high : SFits w16 c.min-high.result = search facts in
     let same_low = to_z-of_z w16 c.max-low.result fits_low in
