@@ -40,8 +40,12 @@ impl<G: Game + Drop> Search<G> {
         ensures room { IfOk result (λ room. IsRoomOf G.Game self.now.game room) }
         ensures depth { IfOk result (λ room. room_depth room ≡ self.now.asked.depth) }
     {
-        let bytes = (self.table as usize).saturating_mul(MIB);
-        Room::with_table(alloc, &self.game, self.asked, bytes)
+        Room::with_table(alloc, &self.game, self.asked, self.bytes())
+    }
+
+    /// How many bytes may keep what states are worth. The reply does not depend on it.
+    pub fn bytes(&self) -> usize {
+        (self.table as usize).saturating_mul(MIB)
     }
 
     /// The reply that tells the value, the first best move and the line of play behind it, from the first two. The line is found by the

@@ -11,7 +11,7 @@ use game::Game;
 use ground::instantiate_flat;
 use replies::{Asked, Reading, Reply, Search, ask, check, read, show, told_alone};
 use rulebook::GroundGame;
-use share::{Gate, solve};
+use share::{Gate, solve_with};
 use std::alloc::AllocError;
 use std::thread::Threads;
 use words::{Command, Inquiry};
@@ -38,13 +38,14 @@ pub fn told_by_workers<T: Threads + Sync + AllocGlobal, G: Game + Drop>(
     if search.cut.workers() == 1 {
         return told_alone(rt.alloc(), search);
     }
-    let found = solve(
+    let found = solve_with(
         rt,
         &search.game,
         &search.here,
         search.asked,
         &search.cut,
         &Ungated,
+        search.bytes(),
     )?;
     search.told(rt.alloc(), found)
 }
