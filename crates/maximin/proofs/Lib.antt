@@ -15,4 +15,5 @@ mod Runs
 mod Ends
 mod Orders
 mod Packs
+mod Reaching
 pub mod Facts
