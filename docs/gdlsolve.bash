@@ -23,17 +23,18 @@ _gdlsolve() {
   case $before in
     --at-bound) words='zero goal' ;;
     --cut) words='1 2 4 8 16 2x2 4x2 4x4 8x2 2x2x2 4x2x2' ;;
-    --role | --depth | --unfinished | --after) return 0 ;;
+    --role | --depth | --unfinished | --window | --after) return 0 ;;
     *)
       case $command in
         '')
-          words='show check net moves solve help --help --version'
+          words='show check net moves state solve values help --help --version'
           [ "${COMP_WORDS[0]}" = ./gdlsolve ] && words+=' --prove --proved'
           ;;
         show | check | net) words='--help' ;;
-        moves) words='--after --help' ;;
-        solve) words='--role --depth --at-bound --unfinished --cut --after --help' ;;
-        help) words='show check net moves solve' ;;
+        moves | state) words='--after --help' ;;
+        solve) words='--role --depth --at-bound --unfinished --window --cut --after --help' ;;
+        values) words='--role --depth --at-bound --unfinished --cut --after --help' ;;
+        help) words='show check net moves state solve values' ;;
       esac
       ;;
   esac

@@ -12,6 +12,8 @@ mod lines;
 mod moves;
 mod nets;
 mod starved;
+mod states;
+mod windows;
 mod workers;
 
 use devices::{Full, Silent, Slow, Torn};
