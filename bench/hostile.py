@@ -35,7 +35,9 @@ LAYERS = {
     "check": ["text", "rules"],
     "net": ["text", "rules", "limits"],
     "moves": ["text", "rules", "limits", "history"],
+    "state": ["text", "rules", "limits", "history"],
     "solve": ["text", "rules", "limits", "role", "history"],
+    "values": ["text", "rules", "limits", "role", "history"],
 }
 COUNTS = {"net": [b"base", b"inputs", b"instances", b"dropped", b"nodes"]}
 
@@ -167,12 +169,39 @@ def is_solved(lines):
     return re.fullmatch(rb"move " + TREE, lines[1]) is not None and 1 <= len(numbers) <= 64 and counted
 
 
+def is_standing(lines):
+    """Whether lines tell a state by what holds in it, in printed order."""
+    held = [re.fullmatch(rb"true (" + TREE + rb")", line) for line in lines[1:]]
+    texts = [match[1] for match in held if match]
+    return lines[0] in (b"state open", b"state ended", b"state stuck") and all(held) and texts == sorted(set(texts))
+
+
+def are_values(lines):
+    """Whether lines tell what each move makes sure of, or the value where there is no turn to come."""
+    if len(lines) == 2 and lines[1] == b"move none":
+        return is_solved(lines)
+    told = [re.fullmatch(rb"value (?:0|[1-9][0-9]?|100) (" + TREE + rb")", line) for line in lines]
+    texts = [match[1] for match in told if match]
+    return len(lines) > 0 and all(told) and texts == sorted(set(texts))
+
+
+def is_found(lines):
+    """Whether lines tell a value, or which bound of a window it does not pass."""
+    if len(lines) == 1:
+        return re.fullmatch(rb"at-most (?:0|[1-9][0-9]?|100)|at-least (?:0|[1-9][0-9]?|100|101)", lines[0]) is not None
+    if len(lines) == 2 and lines[0].startswith(b"at-least "):
+        return is_found(lines[:1]) and re.fullmatch(rb"move " + TREE, lines[1]) is not None
+    return is_solved(lines)
+
+
 ANSWERS = {
     "show": lambda lines: all(map(is_tree, lines)),
     "check": is_checked,
     "net": is_counted,
     "moves": is_moved,
-    "solve": is_solved,
+    "state": is_standing,
+    "solve": is_found,
+    "values": are_values,
 }
 
 

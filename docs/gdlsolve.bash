@@ -24,17 +24,18 @@ _gdlsolve() {
     --at-bound) words='zero goal' ;;
     --cut) words='1 2 4 8 16 2x2 4x2 4x4 8x2 2x2x2 4x2x2' ;;
     --table) words='0 16 64 256 1024 4096' ;;
-    --role | --depth | --unfinished | --after) return 0 ;;
+    --role | --depth | --unfinished | --window | --after) return 0 ;;
     *)
       case $command in
         '')
-          words='show check lint net moves solve help --help --version'
+          words='show check lint net moves state solve values help --help --version'
           [ "${COMP_WORDS[0]}" = ./gdlsolve ] && words+=' --prove --proved'
           ;;
         show | check | lint | net) words='--help' ;;
-        moves) words='--after --help' ;;
-        solve) words='--role --depth --at-bound --unfinished --cut --table --after --help' ;;
-        help) words='show check lint net moves solve' ;;
+        moves | state) words='--after --help' ;;
+        solve) words='--role --depth --at-bound --unfinished --window --cut --table --after --help' ;;
+        values) words='--role --depth --at-bound --unfinished --cut --table --after --help' ;;
+        help) words='show check lint net moves state solve values' ;;
       esac
       ;;
   esac

@@ -11,8 +11,8 @@ as `MemoryError`.
 {'a': 0, 'b': 100}
 """
 from gdlsolve.calls import Misuse, Refusal, Reply, Status, reply
-from gdlsolve.commands import Bound, History, check, moves, net, show, solve
-from gdlsolve.replies import Description, Network, Position, Solution, State
+from gdlsolve.commands import Bound, History, check, moves, net, show, solve, solve_within, state, values
+from gdlsolve.replies import Description, Network, Outside, Position, Solution, Standing, State, Values
 
 __version__ = "0.1.0"
 
@@ -22,16 +22,22 @@ __all__ = [
     "History",
     "Misuse",
     "Network",
+    "Outside",
     "Position",
     "Refusal",
     "Reply",
     "Solution",
+    "Standing",
     "State",
     "Status",
+    "Values",
     "check",
     "moves",
     "net",
     "reply",
     "show",
     "solve",
+    "solve_within",
+    "state",
+    "values",
 ]

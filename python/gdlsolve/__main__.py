@@ -18,7 +18,7 @@ from typing import Any
 
 from gdlsolve.calls import Misuse, Refusal, Reply, Status, lines_of, reply
 from gdlsolve.deepening import Deepest, deepen
-from gdlsolve.replies import Description, Network, Position, Solution
+from gdlsolve.replies import Description, Network, Outside, Position, Standing, Values
 
 USAGE = """
 With this package a file of rules may stand among the words, else they are read on standard input. Further options:
@@ -82,7 +82,9 @@ def told(command: str, output: bytes) -> Any:
         "check": Description.of,
         "net": Network.of,
         "moves": Position.of,
-        "solve": Solution.of,
+        "state": Standing.of,
+        "solve": Outside.of,
+        "values": Values.of,
     }
     return asdict(readers[command](lines)) if command in readers else {"trees": lines}
 

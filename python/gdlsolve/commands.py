@@ -3,7 +3,7 @@ from collections.abc import Sequence
 from typing import Literal
 
 from gdlsolve.calls import answer
-from gdlsolve.replies import Description, Network, Position, Solution
+from gdlsolve.replies import Description, Network, Outside, Position, Solution, Standing, Values
 
 History = str | Sequence[Sequence[str]]
 Bound = Literal["zero", "goal"]
@@ -34,11 +34,43 @@ def moves(rules: bytes | str, after: History = "") -> Position:
     return Position.of(answer(["moves", "--after", _text(after)], rules))
 
 
+def state(rules: bytes | str, after: History = "") -> Standing:
+    """How play stands after a history, and which base propositions hold."""
+    return Standing.of(answer(["state", "--after", _text(after)], rules))
+
+
+def _question(role: str, depth: int, at_bound: Bound, unfinished: int | None, after: History) -> list[str]:
+    """The options of a question for a role."""
+    worth = ["--at-bound", at_bound] if unfinished is None else ["--unfinished", str(unfinished)]
+    return ["--role", role, "--depth", str(depth), *worth, "--after", _text(after)]
+
+
 def solve(
     rules: bytes | str, role: str, depth: int, *, at_bound: Bound = "zero", unfinished: int | None = None, after: History = ""
 ) -> Solution:
     """What a role can be sure of within so many turns behind a history, from 0 to 64. A state in which play goes on there is worth 0,
     or with `at_bound="goal"` its goal value, or with `unfinished` that number, from 0 to 100, whatever `at_bound` says."""
-    worth = ["--at-bound", at_bound] if unfinished is None else ["--unfinished", str(unfinished)]
-    words = ["solve", "--role", role, "--depth", str(depth), *worth, "--after", _text(after)]
-    return Solution.of(answer(words, rules))
+    return Solution.of(answer(["solve", *_question(role, depth, at_bound, unfinished, after)], rules))
+
+
+def solve_within(
+    rules: bytes | str,
+    role: str,
+    depth: int,
+    low: int,
+    high: int,
+    *,
+    at_bound: Bound = "zero",
+    unfinished: int | None = None,
+    after: History = "",
+) -> Solution | Outside:
+    """The same where the value is more than `low`, from -1, and less than `high`, up to 101; else which of the two it does not pass."""
+    words = ["solve", "--window", f"{low}:{high}", *_question(role, depth, at_bound, unfinished, after)]
+    return Outside.of(answer(words, rules))
+
+
+def values(
+    rules: bytes | str, role: str, depth: int, *, at_bound: Bound = "zero", unfinished: int | None = None, after: History = ""
+) -> Values:
+    """What each legal move of a role makes sure of, by the same options as `solve`."""
+    return Values.of(answer(["values", *_question(role, depth, at_bound, unfinished, after)], rules))

@@ -67,6 +67,36 @@ class Position:
 
 
 @dataclass(frozen=True)
+class Standing:
+    """How play stands after a history, and the base propositions that hold, in printed order."""
+
+    state: State
+    holds: tuple[str, ...]
+
+    @classmethod
+    def of(cls, lines: list[str]) -> "Standing":
+        """What the lines of `state` tell."""
+        (_, state), *rest = map(terms, lines)
+        return cls(State(state), tuple(proposition for _, proposition in rest))
+
+
+@dataclass(frozen=True)
+class Values:
+    """What each legal move of a role makes sure of, in printed order of the moves; and what the role can be sure of: the greatest of these,
+    or, where there is no turn to come, what play comes to."""
+
+    value: int
+    moves: dict[str, int]
+
+    @classmethod
+    def of(cls, lines: list[str]) -> "Values":
+        """What the lines of `values` tell. Where there is no turn to come they are those of `solve`."""
+        told = [words for words in map(terms, lines) if words[0] == "value"]
+        moves = {words[2]: int(words[1]) for words in told if len(words) == 3}
+        return cls(max(int(words[1]) for words in told), moves)
+
+
+@dataclass(frozen=True)
 class Solution:
     """What a role can be sure of, from 0 to 100; the first move in printed order that makes sure of it, or `None` where play is over,
     stuck or not looked at; and the turns of best play, each with a move of each role."""
@@ -80,3 +110,22 @@ class Solution:
         """The solution that the lines of `solve` tell. A move may have the name `none`: there is none where there is no turn."""
         (_, value), (_, move), *turns = map(terms, lines)
         return cls(int(value), move if turns else None, tuple(tuple(moves) for _, _, *moves in turns))
+
+
+@dataclass(frozen=True)
+class Outside:
+    """A value that is not between the bounds that it was asked for between: it is at most the low one, or at least the high one, and then the
+    first move in printed order that makes sure of that, or `None` where there is no turn to come."""
+
+    at_most: int | None
+    at_least: int | None
+    move: str | None
+
+    @classmethod
+    def of(cls, lines: list[str]) -> "Solution | Outside":
+        """What the lines of `solve` within a window tell."""
+        (word, bound), *rest = map(terms, lines)
+        if word == "value":
+            return Solution.of(lines)
+        move = rest[0][1] if rest else None
+        return cls(int(bound), None, None) if word == "at-most" else cls(None, int(bound), move)

@@ -37,6 +37,7 @@ MISUSED = [
     ["solve", "--role", "a", "--depth", "1", "--cut", "17"],
     ["solve", "--role", "a", "--depth", "1", "--at-bound", "one"],
     ["solve", "--role", "a", "--depth", "1", "--unfinished", "101"],
+    ["solve", "--role", "a", "--depth", "1", "--window", "5:5"],
     ["solve", "--role", "a", "--depth", "1", "--unfinished", "0", "--at-bound", "zero"],
 ]
 
@@ -62,6 +63,20 @@ class Values(unittest.TestCase):
         self.assertEqual(gdlsolve.solve(PENNIES, "a", 1), gdlsolve.Solution(0, "h", (("h", "t"),)))
         self.assertEqual(gdlsolve.solve(PENNIES, "b", 0, at_bound="goal"), gdlsolve.Solution(100, None, ()))
         self.assertEqual(gdlsolve.solve(PENNIES, "b", 0, unfinished=37), gdlsolve.Solution(37, None, ()))
+
+    def test_solve_within(self):
+        self.assertEqual(gdlsolve.solve_within(PENNIES, "a", 1, -1, 101), gdlsolve.solve(PENNIES, "a", 1))
+        self.assertEqual(gdlsolve.solve_within(PENNIES, "a", 1, 0, 1), gdlsolve.Outside(0, None, None))
+        self.assertEqual(gdlsolve.solve_within(PENNIES, "a", 1, -1, 0), gdlsolve.Outside(None, 0, "h"))
+        self.assertEqual(gdlsolve.solve_within(PENNIES, "b", 1, 0, 100, after="(h t)"), gdlsolve.Outside(None, 100, None))
+
+    def test_values(self):
+        self.assertEqual(gdlsolve.values(PENNIES, "a", 1), gdlsolve.Values(0, {"h": 0, "t": 0}))
+        self.assertEqual(gdlsolve.values(PENNIES, "b", 1, after="(h t)"), gdlsolve.Values(100, {}))
+
+    def test_state(self):
+        self.assertEqual(gdlsolve.state(PENNIES), gdlsolve.Standing(State.OPEN, ()))
+        self.assertEqual(gdlsolve.state(PENNIES, "(h h)"), gdlsolve.Standing(State.ENDED, ("done", "same")))
 
     def test_a_move_may_be_named_none(self):
         rules = "(role a)(base on)(input a none)(legal a none)(<= (next on) (does a none))(<= terminal (true on))(<= (goal a 70) (true on))"

@@ -12,8 +12,8 @@ pub use Rattle.game.proofs.ManyStates.{get_or_any, set_all, set_more, joint_read
 pub use Rattle.game.proofs.PlayRange.{role_named, choice_within, line_within, reply_within}
 -- Ranges of roles: a test that some or none of them passes.
 pub use Rattle.game.proofs.Roles.{list_any_range, list_any_range_none}
--- Two games of the same rules have the same values, choices and lines.
-pub use Rattle.game.proofs.SamePlays.{played_alike, value_alike, choice_alike, line_alike}
+-- Two games of the same rules are stuck alike, and have the same values, choices and lines.
+pub use Rattle.game.proofs.SamePlays.{played_alike, stuck_alike, value_alike, worst_alike, choice_alike, line_alike}
 -- Turns that each begin at one of many states.
 pub use Rattle.game.proofs.TurnsTogether.{turns_after_count, turns_after_each, turns_after_more}
 -- Keys in rows, and bits of keys.

@@ -16,4 +16,5 @@ mod Ends
 mod Orders
 mod Packs
 mod LeftWindows
+mod Reaching
 pub mod Facts

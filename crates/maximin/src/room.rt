@@ -2,15 +2,17 @@
 ghost use Rattle.std.specs.Prelude.{◌≡◌, ◌-◌, ◌<◌, ◌≤◌, pos, length, slice_get, IfOk, Contains};
 ghost use Rattle.game.specs.Value.{Answers};
 ghost use Rattle.statement.specs.Value.{value, worst, choice_of, reply_of};
+ghost use Rattle.statement.specs.Within as within;
 ghost use Rattle.maximin.specs.Open.{IsOpen};
 ghost use Rattle.maximin.specs.Replies.{IsWritten};
 ghost use Rattle.maximin.specs.Room.{IsRoomOf, IsRoomFor, IsRoomKept, room_depth};
 ghost use Rattle.maximin.specs.Tools.{IsWindow};
 
+use crate::bounded::first_reaching;
 use crate::choosing::{best_move, choice_at};
 use crate::known::{KnownMove, choice_worth, reply_worth};
 use crate::level::{Level, new_level};
-use crate::search::{reply_at, value_within};
+use crate::search::{reply_at, value_within, worst_at};
 use crate::tools::{Tools, new_tools};
 use crate::window::SearchWindow;
 use game::{AtBound, Game, Joint, Question};
@@ -187,4 +189,41 @@ pub fn reply_by_value<G: Game>(
     let levels = room.levels.as_mut_slice();
     let known = KnownMove { own, worth };
     reply_worth(g, p, next, known, &mut room.tools, levels, out)
+}
+
+/// The first legal move of the role, in printed order, that makes sure of `bound` or more, if one does. There is none where the game has
+/// ended, where some role has no legal move, and at depth 0.
+pub fn first_at_least<G: Game>(
+    g: &G,
+    p: &G::Pos,
+    asked: Question,
+    bound: u8,
+    room: &mut Room<G>,
+) -> Option<u32>
+    requires fits { G.fits g.now p.now }
+    requires room { IsRoomFor G.Game g.now asked.role asked.depth room.old }
+    requires bound { bound ≤ 101 }
+    ensures first { result ≡ within.first_at_least (G.rules g.now) asked.role asked.depth asked.at bound (G.state g.now p.now) }
+    ensures room { IsRoomKept G.Game g.now room.old room.new }
+{
+    let levels = room.levels.as_mut_slice();
+    first_reaching(g, p, asked, bound, &mut room.tools, levels)
+}
+
+/// What a move makes sure of: the least value of a state that can follow where the role plays `own`.
+pub fn move_worth<G: Game>(g: &G, p: &G::Pos, asked: Question, own: u32, room: &mut Room<G>) -> i16
+    requires fits { G.fits g.now p.now }
+    requires own { Contains ((G.rules g.now).legal (G.state g.now p.now) asked.role) own }
+    requires turn { IsOpen (G.rules g.now) asked.depth (G.state g.now p.now) }
+    requires room { IsRoomFor G.Game g.now asked.role asked.depth room.old }
+    ensures worth { result ≡ pos (worst (G.rules g.now) asked.role (asked.depth - 1) asked.at (G.state g.now p.now) own) }
+    ensures room { IsRoomKept G.Game g.now room.old room.new }
+{
+    let next = Question {
+        depth: asked.depth - 1,
+        ..asked
+    };
+    let whole = SearchWindow { low: -1, high: 101 };
+    let levels = room.levels.as_mut_slice();
+    worst_at(g, p, next, own, whole, &mut room.tools, levels)
 }

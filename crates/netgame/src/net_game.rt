@@ -216,6 +216,10 @@ impl Game for NetGame {
 }
 
 impl GroundGame for NetGame {
+    ghost use Rattle.std.specs.Prelude.{refl};
+
+    ghost source = { λ g. g.played };
+
     fn over(alloc: Global, ground: FlatGround) -> Result<NetGame, AllocError> {
         let Ok(net) = Net::of_flat(alloc, &ground) else {
             return Err(AllocError);
@@ -223,4 +227,10 @@ impl GroundGame for NetGame {
         let game = NetGame::of_flat(alloc, ground, net)?;
         Ok(game)
     }
+
+    fn instantiation(&self) -> &FlatGround {
+        &self.played
+    }
+
+    ghost keyed_by_bits = { λ _ _. refl };
 }

@@ -1,8 +1,9 @@
 -- The game of a description, and the limit that it passes.
-use Rattle.std.proofs.Common.{◌≡◌, ◌≢◌, inl, inr, List, refl, subst}
+use Rattle.std.proofs.Common.{◌≡◌, ◌≢◌, inl, inr, List, refl, sym, subst}
 use Rattle.std.specs.Prelude.{Result, Ok, Err, IfOk}
 use Rattle.statement.specs.Tree.{Tree, Trees, list_of}
 use Rattle.statement.specs.TextFaults.{refusal_line}
+use Rattle.statement.specs.Clause.{Alternative}
 use Rattle.statement.specs.Items.{alternatives}
 use Rattle.statement.specs.Profile.{HasNoFault}
 use Rattle.statement.specs.declared.ground_fault.GroundFault.{GroundFault}
@@ -21,7 +22,7 @@ use Rattle.ground.specs.GroundView.{IsGround}
 use Rattle.rulebook.specs.RuleState.{named_rules_of}
 use Rattle.rulebook.proofs.Facts.{game_of_ground}
 use Rattle.words.specs.declared.command.Inquiry.{Inquiry}
-use Rattle.words.specs.declared.command.Inquiry.TheVariants.{Net, Moves, Solve}
+use Rattle.words.specs.declared.command.Inquiry.TheVariants.{Net, Moves, State, Solve, SolveWithin, Values}
 use Rattle.words.specs.Asked.{query_about}
 use Rattle.replies.specs.declared.reply.Reply as made
 use Rattle.replies.specs.Games.{IsItsGround}
@@ -45,11 +46,28 @@ pub tells_game : {E : Type 0} (g : FlatGround) (game : NamedRules) (told : Named
 tells_game g game told (Ok reply) same is = tells g game told same (reply_of reply) is
 tells_game g game told (Err e) same is = tt
 
+-- the same where what is told rests on the rules too
+pub tells_rules : {E : Type 0} (g source : FlatGround) (game : NamedRules) (told : List Alternative → NamedRules → Reply → Type 0)
+    (r : Result made.Reply E) → game ≡ named_rules_of g → source ≡ g
+    → IfOk r (λ reply. (rules : List Alternative) → IsGround rules source → told rules game (reply_of reply))
+    → IfOk r (λ reply. (items : List Tree) → IsItsGround items g → IsPlayReply items (told (alternatives items)) (reply_of reply))
+tells_rules g source game told (Ok reply) same kept is = λ items its.
+    inr (
+      named_rules_of g,
+      its_game items g its,
+      subst (λ (h : NamedRules). told (alternatives items) h (reply_of reply)) same
+          (is (alternatives items) (subst (IsGround (alternatives items)) (sym kept) its.ground)),
+    )
+tells_rules g source game told (Err e) same kept is = tt
+
 -- where there is no game, that is the reply to each inquiry
 no_game : (inquiry : Inquiry) (ts : Trees) (reply : Reply) → HasNoGame (list_of ts) reply → IsReplyTo (query_about inquiry) ts reply
 no_game Net ts reply h = inl h
 no_game (Moves after) ts reply h = inl h
+no_game (State after) ts reply h = inl h
 no_game (Solve sought) ts reply h = inl h
+no_game (SolveWithin sought window) ts reply h = inl h
+no_game (Values sought) ts reply h = inl h
 
 -- a fault of the instantiation names the limit that the items pass
 passes_limit : (items : List Tree) (fault : GroundFault) (reply : made.Reply) → HasNoFault items

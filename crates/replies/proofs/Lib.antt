@@ -20,4 +20,11 @@ mod Measuring
 mod Searches
 mod ReadAndAsked
 mod Exact
+mod OneRole
+mod OneWithin
+mod OneValues
+mod OneState
+mod Placing
+mod MoveWorths
+mod Standings
 pub mod Facts

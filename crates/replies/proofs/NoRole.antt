@@ -13,6 +13,7 @@ use Rattle.replies.specs.Replies.{reply_of}
 use Rattle.statement.specs.Histories.{IsHistoryOf}
 use Rattle.statement.specs.Moving.{history_reply}
 use Rattle.statement.specs.Solving.{IsRoleNamed, IsSolveReply, solve_lines}
+use Rattle.statement.specs.ForRole.{IsRoleReply}
 
 pub no_role : {E : Type 0} (g : NamedRules) (role : List ℕ) (depth : ℕ) (at : AtBound) (after : List ℕ) (r : Result shown.Reply E)
     → IsRoleNamed g role None
@@ -27,3 +28,20 @@ pub some_role : (g : NamedRules) (role : List ℕ) (depth : ℕ) (at : AtBound) 
     → ((ended : Result State HistoryFault) × IsHistoryOf g after ended × (reply ≡ history_reply g (solve_lines g r depth at) ended))
     → IsSolveReply g role depth at after reply
 some_role g role depth at after r named reply h = inr (r, (named, h.0, h.1, h.2))
+
+-- the same of all that is asked for a role
+pub no_role_told : {E : Type 0} (g : NamedRules) (role : List ℕ) (lines : ℕ → State → List ℕ) (after : List ℕ) (r : Result shown.Reply E)
+    → IsRoleNamed g role None
+    → IfOk r (λ reply. reply.output.items ≡ refusal_line (codes "S1 NoSuchRole")) → IfOk r (λ reply. reply.status ≡ Refused)
+    → IfOk r (λ reply. IsRoleReply g role lines after (reply_of reply))
+no_role_told g role lines after (Ok reply) none line status =
+    let same : reply_of reply ≡ refusal (codes "S1 NoSuchRole") = cc (line, status) in
+    inl (none, same)
+no_role_told g role lines after (Err e) none line status = tt
+
+pub role_told : {E : Type 0} (g : NamedRules) (role : List ℕ) (lines : ℕ → State → List ℕ) (after : List ℕ) (r : ℕ) (x : Result shown.Reply E)
+    → IsRoleNamed g role (Some r)
+    → IfOk x (λ reply. (ended : Result State HistoryFault) × IsHistoryOf g after ended × (reply_of reply ≡ history_reply g (lines r) ended))
+    → IfOk x (λ reply. IsRoleReply g role lines after (reply_of reply))
+role_told g role lines after r (Ok reply) named h = inr (r, (named, h.0, h.1, h.2))
+role_told g role lines after r (Err e) named h = tt

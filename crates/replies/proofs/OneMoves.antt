@@ -13,7 +13,7 @@ use Rattle.statement.specs.Answers.{Reply}
 use Rattle.statement.specs.Moving.{goal_line, legal_line, goal_lines, legal_lines, moves_lines, history_reply, IsMovesReply}
 
 -- what is made of a list by two functions that agree on its elements
-flat_maps_alike : (f e : ℕ → List ℕ) (xs : List ℕ) → All (λ x. f x ≡ e x) xs → flat_map f xs ≡ flat_map e xs
+pub flat_maps_alike : (f e : ℕ → List ℕ) (xs : List ℕ) → All (λ x. f x ≡ e x) xs → flat_map f xs ≡ flat_map e xs
 flat_maps_alike f e [] h = refl
 flat_maps_alike f e (x ∷ xs) h =
     let P = λ (y : ℕ). f y ≡ e y in

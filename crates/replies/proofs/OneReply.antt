@@ -2,17 +2,25 @@
 use Rattle.std.proofs.Common.{ℕ, ◌≡◌, inl, inr, List, refl, sym, ◌∙◌, ap, subst}
 use Rattle.kif.proofs.Facts.{reads_once}
 use Rattle.statement.specs.Tree.{Trees, list_of}
+use Rattle.statement.specs.Items.{alternatives}
 use Rattle.statement.specs.TextFaults.{text_fault_words}
 use Rattle.replies.proofs.OneCheck.{some_check, one_check}
 use Rattle.replies.proofs.OneNet.{some_net, one_net}
 use Rattle.replies.proofs.OneMoves.{some_moves, one_moves}
 use Rattle.replies.proofs.OnePlay.{some_play, one_play}
 use Rattle.replies.proofs.OneSolve.{some_solve, one_solve}
+use Rattle.replies.proofs.OneRole.{some_for_role, one_for_role}
+use Rattle.replies.proofs.OneWithin.{window_alike}
+use Rattle.replies.proofs.OneValues.{values_alike}
+use Rattle.replies.proofs.OneState.{some_state, one_state}
 use Rattle.replies.proofs.OneText.{fault_or_trees, one_text_fault, not_fault_and_trees}
-use Rattle.statement.specs.Queries.{Query, show, check, net, moves, solve}
+use Rattle.statement.specs.Queries.{Query, show, check, net, moves, state, solve, solve_within, values}
 use Rattle.statement.specs.Answers.{Reply, answer, refusal}
 use Rattle.statement.specs.Moving.{IsMovesReply}
 use Rattle.statement.specs.Solving.{IsSolveReply}
+use Rattle.statement.specs.Within.{window_lines, IsWindowReply}
+use Rattle.statement.specs.MoveValues.{values_lines, IsValuesReply}
+use Rattle.statement.specs.Holding.{IsStateReply}
 use Rattle.statement.specs.Replies.{lines_of, IsReplyTo, IsReply}
 
 some_reply_to : (query : Query) (ts : Trees) → (reply : Reply) × IsReplyTo query ts reply
@@ -20,6 +28,13 @@ some_reply_to show ts = (answer (lines_of ts), refl)
 some_reply_to check ts = some_check (list_of ts)
 some_reply_to net ts = some_net (list_of ts)
 some_reply_to (moves after) ts = some_play (list_of ts) (λ g. IsMovesReply g after) (λ g. some_moves g after)
+some_reply_to (state after) ts =
+    let rules = alternatives (list_of ts) in
+    some_play (list_of ts) (λ g. IsStateReply rules g after) (λ g. some_state rules g after)
+some_reply_to (solve_within role depth at w after) ts =
+    some_play (list_of ts) (λ g. IsWindowReply g role depth at w after) (λ g. some_for_role g role (λ r. window_lines g w r depth at) after)
+some_reply_to (values role depth at after) ts =
+    some_play (list_of ts) (λ g. IsValuesReply g role depth at after) (λ g. some_for_role g role (λ r. values_lines g r depth at) after)
 some_reply_to (solve role depth at after) ts =
     some_play (list_of ts) (λ g. IsSolveReply g role depth at after) (λ g. some_solve g role depth at after)
 
@@ -29,6 +44,17 @@ one_reply_to check ts reply other p q = one_check (list_of ts) reply other p q
 one_reply_to net ts reply other p q = one_net (list_of ts) reply other p q
 one_reply_to (moves after) ts reply other p q =
     one_play (list_of ts) (λ g. IsMovesReply g after) (λ g h same. one_moves g h same after) reply other p q
+one_reply_to (state after) ts reply other p q =
+    let rules = alternatives (list_of ts) in
+    one_play (list_of ts) (λ g. IsStateReply rules g after) (λ g h same. one_state rules g h same after) reply other p q
+one_reply_to (solve_within role depth at w after) ts reply other p q =
+    one_play (list_of ts) (λ g. IsWindowReply g role depth at w after)
+    (λ g h same. one_for_role g h same role (λ r. window_lines g w r depth at) (λ r. window_lines h w r depth at)
+    (λ r lt s. window_alike g h same r lt depth at w s) after) reply other p q
+one_reply_to (values role depth at after) ts reply other p q =
+    one_play (list_of ts) (λ g. IsValuesReply g role depth at after)
+    (λ g h same. one_for_role g h same role (λ r. values_lines g r depth at) (λ r. values_lines h r depth at)
+    (λ r lt s. values_alike g h same r lt depth at s) after) reply other p q
 one_reply_to (solve role depth at after) ts reply other p q =
     one_play (list_of ts) (λ g. IsSolveReply g role depth at after) (λ g h same. one_solve g h same role depth at after) reply other p
     q

@@ -21,7 +21,7 @@ use Rattle.statement.specs.Solving.{role_named_in, IsRoleNamed, choice_text, mov
 
 -- Roles.
 
-some_role : (g : NamedRules) (bytes : List ℕ) → (found : Option ℕ) × IsRoleNamed g bytes found
+pub some_role : (g : NamedRules) (bytes : List ℕ) → (found : Option ℕ) × IsRoleNamed g bytes found
 some_role g bytes =
     elim (fault_or_trees bytes) [
       | inl fault ↦ (None, inl (fault.0, fault.1, fault.2, refl))
@@ -37,7 +37,7 @@ role_alike g h same (tree t no_trees) =
     ∙ ap (λ (n : ℕ). find (λ r. name_eq (text t) (h.role_name r)) (range_with_len 0 n)) same.roles
 role_alike g h same (tree t (tree u us)) = refl
 
-one_role : (g h : NamedRules) → SamePlay g h → (bytes : List ℕ) (found other : Option ℕ) → IsRoleNamed g bytes found → IsRoleNamed h bytes other
+pub one_role : (g h : NamedRules) → SamePlay g h → (bytes : List ℕ) (found other : Option ℕ) → IsRoleNamed g bytes found → IsRoleNamed h bytes other
     → found ≡ other
 one_role g h same bytes found other (inl p) (inl q) = p.3 ∙ sym q.3
 one_role g h same bytes found other (inl p) (inr q) = absurd (not_fault_and_trees bytes p.0 q.0 p.1 p.2 q.1)
@@ -51,7 +51,7 @@ role_within g (tree t no_trees) =
     (all_below (λ r. r < g.rules.roles) g.rules.roles (λ r lt. lt))
 role_within g (tree t (tree u us)) = tt
 
-role_known : (g : NamedRules) (bytes : List ℕ) (found : Option ℕ) → IsRoleNamed g bytes found → IfSome found (λ r. r < g.rules.roles)
+pub role_known : (g : NamedRules) (bytes : List ℕ) (found : Option ℕ) → IsRoleNamed g bytes found → IfSome found (λ r. r < g.rules.roles)
 role_known g bytes found (inl p) = subst (λ (o : Option ℕ). IfSome o (λ r. r < g.rules.roles)) (sym p.3) tt
 role_known g bytes found (inr p) = subst (λ (o : Option ℕ). IfSome o (λ r. r < g.rules.roles)) (sym p.2) (role_within g p.0)
 
@@ -77,7 +77,7 @@ chosen_alike : (g h : NamedRules) → SamePlay g h → (role : ℕ) → role < g
 chosen_alike g h same role lt None within = refl
 chosen_alike g h same role lt (Some own) within = same.move_names role own lt within
 
-lines_alike : (g h : NamedRules) → SamePlay g h → (role : ℕ) → role < g.rules.roles → (depth : ℕ) (at : AtBound) (s : State)
+pub lines_alike : (g h : NamedRules) → SamePlay g h → (role : ℕ) → role < g.rules.roles → (depth : ℕ) (at : AtBound) (s : State)
     → solve_lines g role depth at s ≡ solve_lines h role depth at s
 lines_alike g h same role lt depth at s =
     ap (λ (v : ℕ). count_line (codes "value") v ++ move_line (choice_text g role (choice_of g.rules role depth at s))

@@ -4,3 +4,5 @@ pub mod Games
 pub mod Replies
 pub mod Asking
 pub mod Readings
+pub mod Windows
+pub mod Standing

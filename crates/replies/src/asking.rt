@@ -4,7 +4,8 @@ ghost use Rattle.replies.specs.Asking.{IsAsked};
 ghost use Rattle.replies.specs.Readings.{IsReplyOver};
 ghost use Rattle.words.specs.Asked.{query_about};
 
-use crate::games::{ask_solve, reply_to_moves};
+use crate::asked_alone::Wanted;
+use crate::games::{ask_solve, reply_for_role, reply_to_moves, reply_to_state};
 use crate::reply::{Reply, refused};
 use crate::search::Search;
 use crate::sizes::reply_to_net;
@@ -34,7 +35,20 @@ fn ask_ground<G: GroundGame>(
     match inquiry {
         Inquiry::Net => Ok(Asked::Told(reply_to_net(alloc, &ground)?)),
         Inquiry::Moves { after } => { Ok(Asked::Told(reply_to_moves::<G>(alloc, ground, after)?)) }
+        Inquiry::State { after } => Ok(Asked::Told(reply_to_state::<G>(alloc, ground, after)?)),
         Inquiry::Solve(sought) => ask_solve(alloc, ground, sought),
+        Inquiry::SolveWithin(sought, window) => Ok(Asked::Told(reply_for_role::<G>(
+            alloc,
+            ground,
+            sought,
+            Wanted::Within(*window),
+        )?)),
+        Inquiry::Values(sought) => Ok(Asked::Told(reply_for_role::<G>(
+            alloc,
+            ground,
+            sought,
+            Wanted::OfEachMove,
+        )?)),
     }
 }
 

@@ -2,16 +2,22 @@
 ghost use Rattle.std.specs.Prelude.{IfOk, List};
 ghost use Rattle.statement.specs.Tree.{Tree};
 ghost use Rattle.statement.specs.Moving.{IsMovesReply};
+ghost use Rattle.statement.specs.Items.{alternatives};
 ghost use Rattle.statement.specs.Solving.{IsSolveReply};
+ghost use Rattle.statement.specs.ForRole.{IsRoleReply};
+ghost use Rattle.statement.specs.Holding.{IsStateReply};
 ghost use Rattle.statement.specs.Games.{IsPlayReply};
 ghost use Rattle.replies.specs.Asking.{IsAsked};
 ghost use Rattle.replies.specs.Games.{IsItsGround};
 ghost use Rattle.replies.specs.Replies.{reply_of};
+ghost use Rattle.replies.specs.Windows.{wanted_lines};
 
+use crate::asked_alone::{Wanted, role_reply};
 use crate::asking::Asked;
 use crate::best_play::search_for;
 use crate::moving::moves_reply;
 use crate::reply::Reply;
+use crate::standing::state_reply;
 use ground::FlatGround;
 use rulebook::GroundGame;
 use std::alloc::{AllocError, Global};
@@ -28,6 +34,34 @@ pub(crate) fn reply_to_moves<G: GroundGame>(
 {
     let game = G::over(alloc, ground)?;
     moves_reply(alloc, &game, after)
+}
+
+/// The reply to `state` over the ground of items, after the history of a text.
+pub(crate) fn reply_to_state<G: GroundGame>(
+    alloc: Global,
+    ground: FlatGround,
+    after: &str,
+) -> Result<Reply, AllocError>
+    ensures { IfOk result (λ reply. (items : List Tree) → IsItsGround items ground
+        → IsPlayReply items (λ g. IsStateReply (alternatives items) g after.now) (reply_of reply)) }
+{
+    let game = G::over(alloc, ground)?;
+    state_reply(alloc, &game, after)
+}
+
+/// The reply to what is asked for a role over the ground of items and is found by the calling thread alone.
+pub(crate) fn reply_for_role<G: GroundGame>(
+    alloc: Global,
+    ground: FlatGround,
+    sought: &Sought,
+    wanted: Wanted,
+) -> Result<Reply, AllocError>
+    ensures { IfOk result (λ reply. (items : List Tree) → IsItsGround items ground → IsPlayReply items
+        (λ g. IsRoleReply g sought.now.role.now (λ r. wanted_lines wanted g r sought.now.depth sought.now.at_bound) sought.now.after.now)
+        (reply_of reply)) }
+{
+    let game = G::over(alloc, ground)?;
+    role_reply(alloc, &game, sought, wanted)
 }
 
 /// What `solve` over the ground of items comes to, for the best play that is sought.

@@ -4,6 +4,7 @@
 #![tactic(auto)]
 
 mod alone;
+mod asked_alone;
 mod asking;
 mod best_play;
 mod games;
@@ -17,6 +18,9 @@ mod roles;
 mod search;
 mod sizes;
 mod solving;
+mod standing;
+mod windowed;
+mod worths;
 
 pub use alone::{reply_alone, told_alone};
 pub use asking::{Asked, ask};

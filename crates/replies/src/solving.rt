@@ -47,7 +47,7 @@ fn add_turn<G: Game>(
 }
 
 /// Adds the line of the move that a role should play. After an error the output may have a beginning of it.
-fn add_choice<G: Game>(
+pub(crate) fn add_choice<G: Game>(
     g: &G,
     role: usize,
     chosen: Option<u32>,
@@ -107,7 +107,7 @@ fn add_turns<G: Game>(
 }
 
 /// A value without its sign.
-fn unsigned(value: i16) -> usize
+pub(crate) fn unsigned(value: i16) -> usize
     ensures { result ≡ nat_abs value }
 {
     value.unsigned_abs() as usize

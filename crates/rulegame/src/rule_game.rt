@@ -207,8 +207,18 @@ impl Game for RuleGame {
 }
 
 impl GroundGame for RuleGame {
+    ghost use Rattle.std.specs.Prelude.{refl};
+
+    ghost source = { λ g. g.played };
+
     fn over(alloc: Global, ground: FlatGround) -> Result<RuleGame, AllocError> {
         let game = RuleGame::of_flat(alloc, ground)?;
         Ok(game)
     }
+
+    fn instantiation(&self) -> &FlatGround {
+        &self.played
+    }
+
+    ghost keyed_by_bits = { λ _ _. refl };
 }

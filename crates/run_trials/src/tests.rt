@@ -12,7 +12,9 @@ mod lines;
 mod moves;
 mod nets;
 mod starved;
+mod states;
 mod tables;
+mod windows;
 mod workers;
 
 use devices::{Full, Silent, Slow, Torn};

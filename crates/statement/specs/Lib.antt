@@ -36,6 +36,7 @@ pub mod GameNumbers
 pub mod GameOfRules
 -- Value, choice and line (minimax with several opponents)
 pub mod AtBound
+pub mod Windows
 pub mod Value
 -- Replies
 pub mod Queries
@@ -46,6 +47,10 @@ pub mod Histories
 pub mod Moving
 pub mod Networks
 pub mod Solving
+pub mod ForRole
+pub mod Within
+pub mod MoveValues
+pub mod Holding
 pub mod Replies
 pub mod Input
 -- Beside the statement: kinds of atoms, and what and gates read, of which several crates speak

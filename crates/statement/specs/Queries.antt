@@ -1,12 +1,16 @@
 -- What is asked of the rules. How many workers search is no part of it.
 use Rattle.std.specs.Prelude.{ℕ, List}
 use Rattle.statement.specs.declared.at_bound.AtBound.{AtBound}
+use Rattle.statement.specs.declared.window.Window.{Window}
 
--- the five commands: `moves` has the text of a history, and `solve` the text of a role, how many turns are looked ahead, what a
--- state is worth behind them, and the text of a history
+-- the commands: `moves` and `state` have the text of a history; `solve`, also within a window, and `values` the text of a role, how many
+-- turns are looked ahead, what a state is worth behind them, and the text of a history
 pub data Query : Type 0 where
   show : Query
   check : Query
   net : Query
   moves : List ℕ → Query
+  state : List ℕ → Query
   solve : List ℕ → ℕ → AtBound → List ℕ → Query
+  solve_within : List ℕ → ℕ → AtBound → Window → List ℕ → Query
+  values : List ℕ → ℕ → AtBound → List ℕ → Query

@@ -2,15 +2,19 @@
 use Rattle.std.specs.Prelude.{ℕ, ◌≡◌, ◌≢◌, ◌⊎◌, List, [], ◌∷◌, ◌++◌}
 use Rattle.statement.specs.Tree.{Trees, no_trees, tree, text, list_of}
 use Rattle.statement.specs.Reading.{Reads}
+use Rattle.statement.specs.Items.{alternatives}
 use Rattle.statement.specs.TextFaults.{IsTextFault, text_fault_words}
 use Rattle.statement.specs.declared.text_fault.KifFault.{KifFault}
-use Rattle.statement.specs.Queries.{Query, show, check, net, moves, solve}
+use Rattle.statement.specs.Queries.{Query, show, check, net, moves, state, solve, solve_within, values}
 use Rattle.statement.specs.Answers.{Reply, answer, refusal}
 use Rattle.statement.specs.Checking.{IsCheckReply}
 use Rattle.statement.specs.Moving.{IsMovesReply}
 use Rattle.statement.specs.Games.{IsPlayReply}
 use Rattle.statement.specs.Networks.{IsNetReply}
 use Rattle.statement.specs.Solving.{IsSolveReply}
+use Rattle.statement.specs.Within.{IsWindowReply}
+use Rattle.statement.specs.MoveValues.{IsValuesReply}
+use Rattle.statement.specs.Holding.{IsStateReply}
 use Rattle.statement.specs.declared.text_fault.KifFault.TheVariants as faults
 
 -- the canonical text of each tree, with a line end behind it
@@ -24,7 +28,10 @@ IsReplyTo show ts reply = reply ≡ answer (lines_of ts)
 IsReplyTo check ts reply = IsCheckReply (list_of ts) reply
 IsReplyTo net ts reply = IsNetReply (list_of ts) reply
 IsReplyTo (moves after) ts reply = IsPlayReply (list_of ts) (λ g. IsMovesReply g after) reply
+IsReplyTo (state after) ts reply = IsPlayReply (list_of ts) (λ g. IsStateReply (alternatives (list_of ts)) g after) reply
 IsReplyTo (solve role depth at after) ts reply = IsPlayReply (list_of ts) (λ g. IsSolveReply g role depth at after) reply
+IsReplyTo (solve_within role depth at w after) ts reply = IsPlayReply (list_of ts) (λ g. IsWindowReply g role depth at w after) reply
+IsReplyTo (values role depth at after) ts reply = IsPlayReply (list_of ts) (λ g. IsValuesReply g role depth at after) reply
 
 -- the bytes have a fault in their text, and the reply names it
 abbrev pub RefusesText : List ℕ → Reply → Type 0

@@ -12,6 +12,7 @@ mod node_name;
 mod rule_fault;
 mod status;
 mod text_fault;
+mod window;
 
 pub use at_bound::{AtBound, Worth};
 pub use excess::Excess;
@@ -22,3 +23,4 @@ pub use node_name::Name;
 pub use rule_fault::{RuleExcess, RuleFault};
 pub use status::Status;
 pub use text_fault::KifFault;
+pub use window::Window;

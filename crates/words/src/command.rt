@@ -1,6 +1,6 @@
 //! What is asked of rules.
 use cut::Cut;
-use statement::AtBound;
+use statement::{AtBound, Window};
 
 /// What the program does with the rules that it reads.
 #[derive(Clone, Copy, Debug, PartialEq, Eq)]
@@ -24,8 +24,17 @@ pub enum Inquiry<'a> {
         /// The text of the history, whose trees are its turns. It is empty for the start of the game.
         after: &'a str,
     },
+    /// Tells how play stands after a history, and which base propositions hold.
+    State {
+        /// The text of the history, as of `Moves`.
+        after: &'a str,
+    },
     /// Tells what a role can be sure of after a history, the move that makes sure of it, and the line of play.
     Solve(Sought<'a>),
+    /// Tells the same where that is between two bounds, and else which of the bounds it does not pass. The cut is of no account.
+    SolveWithin(Sought<'a>, Window),
+    /// Tells of each legal move of a role after a history what it makes sure of. The cut is of no account.
+    Values(Sought<'a>),
 }
 
 /// The best play that is sought.

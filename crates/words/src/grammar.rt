@@ -2,7 +2,7 @@
 use crate::command::{Command, Inquiry, Sought};
 use clap::error::ErrorKind;
 use cut::Cut;
-use statement::{AtBound, Worth};
+use statement::{AtBound, Window, Worth};
 use std::alloc::{AllocError, Global};
 
 /// The version that `--version` tells.
@@ -30,6 +30,14 @@ Examples:
 /// What stands below the help of `moves`.
 const MOVES_EXAMPLE: &str = "Example:
   gdlsolve moves --after \"((mark 1 1) noop)\" < game.kif";
+
+/// What stands below the help of `state`.
+const STATE_EXAMPLE: &str = "Example:
+  gdlsolve state --after \"((mark 1 1) noop)\" < game.kif";
+
+/// What stands below the help of `values`.
+const VALUES_EXAMPLE: &str = "Example:
+  gdlsolve values --role oplayer --depth 8 --after \"((mark 1 1) noop)\" < game.kif";
 
 /// What stands below the help of `solve`.
 const SOLVE_EXAMPLE: &str = "Example:
@@ -97,6 +105,17 @@ fn unfinished<'a>(alloc: Global) -> Result<clap::Arg<'a>, AllocError> {
         .conflicts_with("at-bound")
 }
 
+/// The option for the bounds between which a value is asked for.
+fn window<'a>(alloc: Global) -> clap::Arg<'a> {
+    clap::Arg::new(alloc, "window")
+        .long("window")
+        .value_name("LOW:HIGH")
+        .allow_hyphen_values(true)
+        .help(
+            "Tell the value only where it is between these numbers, from -1 to 101, else which it does not pass",
+        )
+}
+
 /// The option for how many threads search.
 fn cut<'a>(alloc: Global) -> clap::Arg<'a> {
     clap::Arg::new(alloc, "cut")
@@ -153,6 +172,27 @@ fn moves<'a>(alloc: Global) -> Result<clap::Command<'a>, AllocError> {
         .arg(history(alloc))
 }
 
+/// The command `state` with its options.
+fn state<'a>(alloc: Global) -> Result<clap::Command<'a>, AllocError> {
+    clap::Command::new(alloc, "state")
+        .about("Tell how play stands after a history, and which base propositions hold")
+        .after_help(STATE_EXAMPLE)
+        .arg(history(alloc))
+}
+
+/// The command `values` with its options.
+fn values<'a>(alloc: Global) -> Result<clap::Command<'a>, AllocError> {
+    clap::Command::new(alloc, "values")
+        .about("Tell of each legal move of a role after a history what it makes sure of")
+        .after_help(VALUES_EXAMPLE)
+        .arg(role(alloc))?
+        .arg(depth(alloc))?
+        .arg(at_bound(alloc))?
+        .arg(unfinished(alloc)?)?
+        .arg(cut(alloc))?
+        .arg(history(alloc))
+}
+
 /// The command `solve` with its options.
 fn solve<'a>(alloc: Global) -> Result<clap::Command<'a>, AllocError> {
     clap::Command::new(alloc, "solve")
@@ -164,6 +204,7 @@ fn solve<'a>(alloc: Global) -> Result<clap::Command<'a>, AllocError> {
         .arg(depth(alloc))?
         .arg(at_bound(alloc))?
         .arg(unfinished(alloc)?)?
+        .arg(window(alloc))?
         .arg(cut(alloc))?
         .arg(table(alloc))?
         .arg(history(alloc))
@@ -183,7 +224,9 @@ fn grammar<'a>(alloc: Global) -> Result<clap::Command<'a>, AllocError> {
         .subcommand(lint(alloc))?
         .subcommand(net(alloc))?
         .subcommand(moves(alloc)?)?
-        .subcommand(solve(alloc)?)
+        .subcommand(state(alloc)?)?
+        .subcommand(solve(alloc)?)?
+        .subcommand(values(alloc)?)
 }
 
 /// What the options say that a state is worth where no turn is left and play goes on, or none where that is no text for it.
@@ -194,22 +237,45 @@ fn worth_at_bound(options: &clap::ArgMatches) -> Option<AtBound> {
     }
 }
 
-/// The command that the options of `solve` make, or which of them has a text that it does not take.
-fn solve_command<'a>(options: &clap::ArgMatches<'a>) -> Option<Result<Command<'a>, &'static str>> {
+/// The window that a text names: two whole numbers joined by a colon, the low one from -1, the high one up to 101 and the greater.
+fn window_of(text: &str) -> Option<Window> {
+    let (low, high) = text.split_once(':')?;
+    let high = high.parse::<u8>().ok()?;
+    if low == "-1" {
+        return Window::of(None, high);
+    }
+    Window::of(Some(low.parse::<u8>().ok()?), high)
+}
+
+/// The command of this name, `solve` or `values`, that the options make, or which of them has a text that it does not take.
+fn search_command<'a>(
+    name: &str,
+    options: &clap::ArgMatches<'a>,
+) -> Option<Result<Command<'a>, &'static str>> {
     let Some(cut) = Cut::parse(options.get_str("cut")?.as_bytes()) else {
         return Some(Err("bad cut"));
     };
     let Some(at_bound) = worth_at_bound(options) else {
         return Some(Err("bad bound"));
     };
-    Some(Ok(Command::Ask(Inquiry::Solve(Sought {
+    let sought = Sought {
         role: options.get_str("role")?,
         depth: options.get_one("depth")?,
         at_bound,
         cut,
         table: options.get_one("table")?,
         after: options.get_str("after").unwrap_or(""),
-    }))))
+    };
+    if name == "values" {
+        return Some(Ok(Command::Ask(Inquiry::Values(sought))));
+    }
+    let Some(text) = options.get_str("window") else {
+        return Some(Ok(Command::Ask(Inquiry::Solve(sought))));
+    };
+    let Some(window) = window_of(text) else {
+        return Some(Err("bad window"));
+    };
+    Some(Ok(Command::Ask(Inquiry::SolveWithin(sought, window))))
 }
 
 /// The command that was matched, or why there is none.
@@ -221,7 +287,11 @@ fn matched<'a>(matches: &clap::ArgMatches<'a>) -> Option<Result<Command<'a>, &'s
         ("moves", options) => Some(Ok(Command::Ask(Inquiry::Moves {
             after: options.get_str("after").unwrap_or(""),
         }))),
-        ("solve", options) => solve_command(options),
+        ("state", options) => Some(Ok(Command::Ask(Inquiry::State {
+            after: options.get_str("after").unwrap_or(""),
+        }))),
+        ("solve", options) => search_command("solve", options),
+        ("values", options) => search_command("values", options),
         _ => None,
     }
 }

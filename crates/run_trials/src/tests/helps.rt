@@ -9,13 +9,15 @@ const PROGRAM: &str = "Read the rules of a game on standard input, and answer on
 Usage: gdlsolve <COMMAND>
 
 Commands:
-  show   Write the canonical text of each tree, one a line
-  check  Name the first fault of the rules, or count what they have
-  lint   Find what is lawful in the rules and most likely wrong, and write a line for each finding
-  net    Count what the rules come to: propositions, inputs, instances, and nodes of their network
-  moves  Tell how play stands after a history, with the goals of an ended game or the legal moves
-  solve  Tell what a role can be sure of after a history, the move that makes sure of it, and the line of play
-  help   Print this message or the help of the given subcommand(s)
+  show    Write the canonical text of each tree, one a line
+  check   Name the first fault of the rules, or count what they have
+  lint    Find what is lawful in the rules and most likely wrong, and write a line for each finding
+  net     Count what the rules come to: propositions, inputs, instances, and nodes of their network
+  moves   Tell how play stands after a history, with the goals of an ended game or the legal moves
+  state   Tell how play stands after a history, and which base propositions hold
+  solve   Tell what a role can be sure of after a history, the move that makes sure of it, and the line of play
+  values  Tell of each legal move of a role after a history what it makes sure of
+  help    Print this message or the help of the given subcommand(s)
 
 Options:
   -h, --help     Print help
@@ -81,10 +83,21 @@ Example:
   gdlsolve moves --after \"((mark 1 1) noop)\" < game.kif
 ";
 
-const SOLVE: &str =
-    "Tell what a role can be sure of after a history, the move that makes sure of it, and the line of play
+const STATE: &str = "Tell how play stands after a history, and which base propositions hold
 
-Usage: gdlsolve solve [OPTIONS] --role <ROLE> --depth <TURNS>
+Usage: gdlsolve state [OPTIONS]
+
+Options:
+      --after <TEXT>  The turns that were played, each a list of a move for each role
+  -h, --help          Print help
+
+Example:
+  gdlsolve state --after \"((mark 1 1) noop)\" < game.kif
+";
+
+const VALUES: &str = "Tell of each legal move of a role after a history what it makes sure of
+
+Usage: gdlsolve values [OPTIONS] --role <ROLE> --depth <TURNS>
 
 Options:
       --role <ROLE>          The role to find a move for
@@ -97,12 +110,31 @@ Options:
   -h, --help                 Print help
 
 Example:
+  gdlsolve values --role oplayer --depth 8 --after \"((mark 1 1) noop)\" < game.kif
+";
+
+const SOLVE: &str =
+    "Tell what a role can be sure of after a history, the move that makes sure of it, and the line of play
+
+Usage: gdlsolve solve [OPTIONS] --role <ROLE> --depth <TURNS>
+
+Options:
+      --role <ROLE>          The role to find a move for
+      --depth <TURNS>        How many turns to look ahead, from 0 to 64
+      --at-bound <WORTH>     What a state is worth where these turns are over and play goes on: zero, or its goal [default: zero]
+      --unfinished <NUMBER>  A worth for all these states, from 0 to 100, in place of --at-bound
+      --window <LOW:HIGH>    Tell the value only where it is between these numbers, from -1 to 101, else which it does not pass
+      --cut <LEVELS>         How many threads search, and those behind each of their moves, as 4 or 4x2 [default: 1]
+      --after <TEXT>         The turns that were played, each a list of a move for each role
+  -h, --help                 Print help
+
+Example:
   gdlsolve solve --role oplayer --depth 8 --after \"((mark 1 1) noop)\" < game.kif
 ";
 
 #[test]
 fn help_is_an_answer(rt: HostRuntime) {
-    let rows: [Row; 10] = [
+    let rows: [Row; 12] = [
         (&["--help"], PROGRAM),
         (&["-h"], PROGRAM),
         (&["help"], PROGRAM),
@@ -111,6 +143,8 @@ fn help_is_an_answer(rt: HostRuntime) {
         (&["lint", "--help"], LINT),
         (&["net", "--help"], NET),
         (&["moves", "--help"], MOVES),
+        (&["state", "--help"], STATE),
+        (&["values", "--help"], VALUES),
         (&["solve", "--help"], SOLVE),
         (&["help", "solve"], SOLVE),
         (&["--version"], "gdlsolve 0.1.0\n"),

@@ -2,9 +2,14 @@ use Rattle.std.specs.Prelude.{Ok}
 use Rattle.statement.specs.Networks.{IsNetReply}
 use Rattle.statement.specs.Games.{IsPlayReply}
 use Rattle.statement.specs.Moving.{IsMovesReply}
+use Rattle.statement.specs.Items.{alternatives}
 use Rattle.statement.specs.Solving.{IsSolveReply}
+use Rattle.statement.specs.ForRole.{IsRoleReply}
+use Rattle.statement.specs.Holding.{IsStateReply}
 use Rattle.words.specs.Asked.{query_about}
+use Rattle.replies.specs.declared.asked_alone.Wanted.TheVariants.{Within, OfEachMove}
 use Rattle.replies.specs.Replies.{reply_of}
+use Rattle.replies.specs.Windows.{wanted_lines}
 use Rattle.replies.specs.Readings.{IsReplyOver}
 use Rattle.replies.proofs.Describing.{over_ground}
 use Rattle.replies.proofs.Searches.{lift_asking}
@@ -20,6 +25,30 @@ returns-in_ok-reply_to_moves-in-Moves g c =
     over_ground (query_about c.args.inquiry.now) c.args.ground
     (λ items reply. IsPlayReply items (λ game. IsMovesReply game c.in-Moves.after.now) reply) (λ ts reply h. rw c.in-Moves.is h)
     (reply_of c.in_ok-reply_to_moves-in-Moves.field-0) c.in_ok-reply_to_moves-in-Moves.ensures
+
+pub returns-in_ok-reply_to_state-in-State : goal.returns-in_ok-reply_to_state-in-State
+returns-in_ok-reply_to_state-in-State g c =
+    over_ground (query_about c.args.inquiry.now) c.args.ground
+    (λ items reply. IsPlayReply items (λ game. IsStateReply (alternatives items) game c.in-State.after.now) reply) (λ ts reply h. rw c.in-State.is h)
+    (reply_of c.in_ok-reply_to_state-in-State.field-0) c.in_ok-reply_to_state-in-State.ensures
+
+pub returns-in_ok-reply_for_role-in-SolveWithin : goal.returns-in_ok-reply_for_role-in-SolveWithin
+returns-in_ok-reply_for_role-in-SolveWithin g c =
+    let sought = c.in-SolveWithin.sought in
+    over_ground (query_about c.args.inquiry.now) c.args.ground
+    (λ items reply. IsPlayReply items (λ game. IsRoleReply game sought.role.now
+    (λ r. wanted_lines (Within c.in-SolveWithin.window) game r sought.depth sought.at_bound) sought.after.now) reply)
+    (λ ts reply h. rw c.in-SolveWithin.is h)
+    (reply_of c.in_ok-reply_for_role-in-SolveWithin.field-0) c.in_ok-reply_for_role-in-SolveWithin.ensures
+
+pub returns-in_ok-reply_for_role-in-Values : goal.returns-in_ok-reply_for_role-in-Values
+returns-in_ok-reply_for_role-in-Values g c =
+    let sought = c.in-Values.sought in
+    over_ground (query_about c.args.inquiry.now) c.args.ground
+    (λ items reply. IsPlayReply items (λ game. IsRoleReply game sought.role.now
+    (λ r. wanted_lines OfEachMove game r sought.depth sought.at_bound) sought.after.now) reply)
+    (λ ts reply h. rw c.in-Values.is h)
+    (reply_of c.in_ok-reply_for_role-in-Values.field-0) c.in_ok-reply_for_role-in-Values.ensures
 
 pub returns-in-Solve : goal.returns-in-Solve
 returns-in-Solve g c =

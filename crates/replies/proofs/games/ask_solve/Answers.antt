@@ -11,7 +11,7 @@ returns-in-Ok g c =
     let sought = c.args.sought.now in
     let told = λ (game : NamedRules) (reply : Reply). IsSolveReply game sought.role.now sought.depth sought.at_bound sought.after.now reply in
     let played = named_by g.G.Game c.in_ok-game.game in
-    still_search g.G.Game (told played) _ (tells c.args.ground played told c.in_ok-game.ensures) c.in_ok-search.field-0 c.in-Ok.search
+    still_search g.G.Game (told played) _ (tells c.args.ground played told c.in_ok-game.ensures.plays) c.in_ok-search.field-0 c.in-Ok.search
     c.in_ok-search.ensures c.in-Ok.is
 
 pub returns-in-Err : goal.returns-in-Err
@@ -19,5 +19,5 @@ returns-in-Err g c =
     let sought = c.args.sought.now in
     let told = λ (game : NamedRules) (reply : Reply). IsSolveReply game sought.role.now sought.depth sought.at_bound sought.after.now reply in
     let played = named_by g.G.Game c.in_ok-game.game in
-    still_reply g.G.Game (told played) _ (tells c.args.ground played told c.in_ok-game.ensures) c.in_ok-search.field-0 c.in-Err.reply
+    still_reply g.G.Game (told played) _ (tells c.args.ground played told c.in_ok-game.ensures.plays) c.in_ok-search.field-0 c.in-Err.reply
     c.in_ok-search.ensures c.in-Err.is

@@ -7,4 +7,4 @@ pub returns : goal.returns
 returns g c =
     let played = c.in_ok-game.game in
     tells_game c.args.ground (named (g.G.Game.rules played) (g.G.Game.role_name played) (g.G.Game.move_name played))
-    (λ told. IsMovesReply told c.args.after.now) c.moves_reply.result c.in_ok-game.ensures c.moves_reply.ensures
+    (λ told. IsMovesReply told c.args.after.now) c.moves_reply.result c.in_ok-game.ensures.plays c.moves_reply.ensures

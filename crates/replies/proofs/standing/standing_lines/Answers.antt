@@ -1,0 +1,21 @@
+use Rattle.std.proofs.Common.{ℕ, List, ◌≡◌, length, sym, subst, ◌∙◌}
+use Rattle.game.specs.Keys.{state_of_bits}
+use Rattle.ground.specs.declared.flat_ground.FlatGround.{FlatGround}
+use Rattle.ground.specs.GroundView.{IsGround}
+use Rattle.replies.specs.Histories.{named}
+use Rattle.replies.proofs.Standings.{standing_told}
+use Rattle.replies.proofs.standing.standing_lines.Goals as goal
+
+pub returns : goal.returns
+returns g c = λ rules is.
+    let game = named (g.G.Game.rules c.args.g.now) (g.G.Game.role_name c.args.g.now) (g.G.Game.move_name c.args.g.now) in
+    let state = g.G.Game.state c.args.g.now c.args.here.now in
+    let key = c.write_key.new.key in
+    let law = g.met.G.GroundGame g.world.𝓛 g.world.𝓜 g.world.𝓡 ((λ _ x. x), (λ x. x), (λ x. x), λ x. x) in
+    let source = c.instantiation.ensures in
+    standing_told rules c.instantiation.result.now game state key c.new-output.result.items c.add_standing.new.output.items
+    c.add_holding.new.output.items
+    (subst (IsGround rules) (sym source) is)
+    (subst (λ (f : FlatGround). state ≡ state_of_bits (length f.starts.items) key) (sym source)
+    (sym c.write_key.ensures.keyed ∙ law.keyed_by_bits c.args.g.now key))
+    c.new-output.ensures.items c.in_ok-add_standing.ensures c.in_ok-add_holding.ensures

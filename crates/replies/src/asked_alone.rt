@@ -1,0 +1,93 @@
+//! The replies to what is asked for a role and is found by the calling thread alone.
+ghost use Rattle.std.specs.Prelude.{◌≡◌, ◌<◌, IfOk, Result};
+ghost use Rattle.statement.specs.Rules.{State};
+ghost use Rattle.statement.specs.declared.history_fault.HistoryFault.{HistoryFault};
+ghost use Rattle.statement.specs.Histories.{IsHistoryOf};
+ghost use Rattle.statement.specs.Moving.{history_reply};
+ghost use Rattle.statement.specs.ForRole.{IsRoleReply};
+ghost use Rattle.replies.specs.Histories.{named};
+ghost use Rattle.replies.specs.Replies.{reply_of};
+ghost use Rattle.replies.specs.Windows.{wanted_lines};
+
+use crate::history::{position_after, refused_history};
+use crate::reply::{Reply, answered, refused};
+use crate::roles::role_named;
+use crate::windowed::lines_within;
+use crate::worths::lines_of_moves;
+use game::{Game, HistoryFault, Question};
+use statement::Window;
+use std::alloc::{AllocError, Global};
+use words::Sought;
+
+/// What is wanted of a state for a role.
+#[derive(Clone, Copy)]
+pub(crate) enum Wanted {
+    /// Its value within a window.
+    Within(Window),
+    /// What each legal move makes sure of.
+    OfEachMove,
+}
+
+/// What is wanted of a state, as lines.
+fn lines_of<G: Game>(
+    alloc: Global,
+    g: &G,
+    asked: Question,
+    wanted: Wanted,
+    here: &G::Pos,
+) -> Result<Vec<u8>, AllocError>
+    requires fits { G.fits g.now here.now }
+    requires role { asked.role < (G.rules g.now).roles }
+    ensures { IfOk result (λ output. output.items ≡ wanted_lines wanted (named (G.rules g.now) (G.role_name g.now) (G.move_name g.now))
+        asked.role asked.depth asked.at (G.state g.now here.now)) }
+{
+    match wanted {
+        Wanted::Within(window) => lines_within(alloc, g, asked, window, here),
+        Wanted::OfEachMove => lines_of_moves(alloc, g, asked, here),
+    }
+}
+
+/// The reply for a role after a history: the line that names the fault of the history, or what is wanted of the state.
+fn reply_after<G: Game>(
+    alloc: Global,
+    g: &G,
+    asked: Question,
+    wanted: Wanted,
+    after: &str,
+) -> Result<Reply, AllocError>
+    requires { asked.role < (G.rules g.now).roles }
+    ensures { IfOk result (λ reply. (ended : Result State HistoryFault)
+        × IsHistoryOf (named (G.rules g.now) (G.role_name g.now) (G.move_name g.now)) after.now ended
+        × (reply_of reply ≡ history_reply (named (G.rules g.now) (G.role_name g.now) (G.move_name g.now))
+        (wanted_lines wanted (named (G.rules g.now) (G.role_name g.now) (G.move_name g.now)) asked.role asked.depth asked.at) ended)) }
+{
+    match position_after(alloc, g, after) {
+        Ok(here) => Ok(answered(lines_of(alloc, g, asked, wanted, &here)?)),
+        Err(HistoryFault::NoMemory) => Err(AllocError),
+        Err(fault) => refused_history(alloc, g, fault),
+    }
+}
+
+/// The reply to what is asked for a role: the line that names the fault of the role or else of the history, or what is wanted.
+pub(crate) fn role_reply<G: Game>(
+    alloc: Global,
+    g: &G,
+    sought: &Sought,
+    wanted: Wanted,
+) -> Result<Reply, AllocError>
+    ensures { IfOk result (λ reply. IsRoleReply (named (G.rules g.now) (G.role_name g.now) (G.move_name g.now)) sought.now.role.now
+        (λ r. wanted_lines wanted (named (G.rules g.now) (G.role_name g.now) (G.move_name g.now)) r sought.now.depth sought.now.at_bound)
+        sought.now.after.now (reply_of reply)) }
+{
+    match role_named(alloc, g, sought.role)? {
+        Some(role) => {
+            let asked = Question {
+                role,
+                depth: sought.depth,
+                at: sought.at_bound,
+            };
+            reply_after(alloc, g, asked, wanted, sought.after)
+        }
+        None => refused(alloc, &"S1 NoSuchRole"),
+    }
+}

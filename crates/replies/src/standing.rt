@@ -1,0 +1,108 @@
+//! The reply to `state`.
+ghost use Rattle.std.specs.Prelude.{◌≡◌, ◌<◌, ◌++◌, List, [], length, slice_index, IfOk, OnOk, if◌then◌else◌};
+ghost use Rattle.game.specs.Keys.{has_bit, state_of_bits};
+ghost use Rattle.ground.specs.GroundView.{base_of, IsGround};
+ghost use Rattle.statement.specs.Clause.{Alternative};
+ghost use Rattle.statement.specs.Holding.{state_lines, IsStateReply};
+ghost use Rattle.replies.specs.Histories.{named};
+ghost use Rattle.replies.specs.Replies.{reply_of};
+ghost use Rattle.replies.specs.Standing.{standing_line, numbered_line, numbered_lines};
+
+use crate::history::{position_after, refused_history};
+use crate::reply::{Reply, answered};
+use game::{Game, HistoryFault, is_stuck};
+use ground::FlatGround;
+use rulebook::GroundGame;
+use std::alloc::{AllocError, Global};
+
+/// The word of a key at a place, and 0 past its end.
+fn word_at(key: &[u64], place: usize) -> u64
+    ensures { result ≡ slice_index key.now place }
+{
+    if place < key.len() { key[place] } else { 0 }
+}
+
+/// Whether the key of a state says that a base proposition holds in it.
+fn holds(key: &[u64], proposition: usize) -> bool
+    ensures { result ≡ has_bit key.now proposition }
+{
+    let word = word_at(key, proposition / 64);
+    (word >> (proposition % 64)) & 1 == 1
+}
+
+/// Adds the line of a base proposition if it holds. After an error the output may have a beginning of it.
+fn add_if(
+    on: bool,
+    ground: &FlatGround,
+    proposition: usize,
+    output: &mut Vec<u8>,
+) -> Result<(), AllocError>
+    requires { proposition < length (base_of ground.now) }
+    ensures { OnOk result (output.new.items ≡ output.old.items ++ (if on then numbered_line (base_of ground.now) proposition else [])) }
+{
+    if !on {
+        return Ok(());
+    }
+    output.extend_from_slice(b"true ")?;
+    output.extend_from_slice(ground.base_text(proposition))?;
+    output.push(b'\n')?;
+    Ok(())
+}
+
+/// Adds the lines of the base propositions that hold in the state of a key. After an error the output may have a beginning of them.
+fn add_holding(ground: &FlatGround, key: &[u64], output: &mut Vec<u8>) -> Result<(), AllocError>
+    ensures { OnOk result (output.new.items ≡ output.old.items
+        ++ numbered_lines (base_of ground.now) (state_of_bits (length (base_of ground.now)) key.now)) }
+{
+    for proposition in 0..ground.base() {
+        add_if(holds(key, proposition), ground, proposition, output)?;
+    }
+    Ok(())
+}
+
+/// Adds the line that tells how play stands. After an error the output may have a beginning of it.
+fn add_standing<G: Game>(g: &G, here: &G::Pos, output: &mut Vec<u8>) -> Result<(), AllocError>
+    requires { G.fits g.now here.now }
+    ensures { OnOk result (output.new.items ≡ output.old.items ++ standing_line (G.rules g.now) (G.state g.now here.now)) }
+{
+    if g.ended(here) {
+        output.extend_from_slice(b"state ended\n")?;
+        return Ok(());
+    }
+    if is_stuck(g, here) {
+        output.extend_from_slice(b"state stuck\n")?;
+        return Ok(());
+    }
+    output.extend_from_slice(b"state open\n")?;
+    Ok(())
+}
+
+/// How play stands, and what holds.
+fn standing_lines<G: GroundGame>(alloc: Global, g: &G, here: &G::Pos) -> Result<Vec<u8>, AllocError>
+    requires { G.fits g.now here.now }
+    ensures { IfOk result (λ output. (rules : List Alternative) → IsGround rules (G.source g.now) → output.items
+        ≡ state_lines rules (named (G.rules g.now) (G.role_name g.now) (G.move_name g.now)) (G.state g.now here.now)) }
+{
+    let mut key = vec![in alloc; 0u64; g.key_words()]?;
+    g.write_key(here, &mut key);
+    let mut output = Vec::new(alloc);
+    add_standing(g, here, &mut output)?;
+    add_holding(g.instantiation(), &key, &mut output)?;
+    Ok(output)
+}
+
+/// The reply to `state` after the history of a text: the line that names its fault, or how play stands after it and what holds.
+pub(crate) fn state_reply<G: GroundGame>(
+    alloc: Global,
+    g: &G,
+    after: &str,
+) -> Result<Reply, AllocError>
+    ensures { IfOk result (λ reply. (rules : List Alternative) → IsGround rules (G.source g.now)
+        → IsStateReply rules (named (G.rules g.now) (G.role_name g.now) (G.move_name g.now)) after.now (reply_of reply)) }
+{
+    match position_after(alloc, g, after) {
+        Ok(here) => Ok(answered(standing_lines(alloc, g, &here)?)),
+        Err(HistoryFault::NoMemory) => Err(AllocError),
+        Err(fault) => refused_history(alloc, g, fault),
+    }
+}

@@ -1,0 +1,155 @@
+//! The value of a state within a window, as lines.
+ghost use Rattle.std.specs.Prelude.{◌≡◌, codes, ◌-ℤ◌, ◌≤◌, ◌<◌, ◌++◌, pos, IfOk, IfSome, OnOk};
+ghost use Rattle.statement.specs.Value.{value};
+ghost use Rattle.statement.specs.Checking.{count_line};
+ghost use Rattle.statement.specs.Solving.{solve_lines};
+ghost use Rattle.statement.specs.Within.{own_line, at_least_lines, window_lines};
+ghost use Rattle.maximin.specs.Room.{IsRoomFor, IsRoomKept};
+ghost use Rattle.replies.specs.Histories.{named};
+ghost use Rattle.replies.specs.Windows.{IsPlaced};
+
+use crate::reply::add_count;
+use crate::solving::{add_choice, value_lines};
+use game::{Game, Question};
+use maximin::{Room, choice_by_value, first_at_least, value_in};
+use share::Answer;
+use statement::Window;
+use std::alloc::{AllocError, Global};
+
+/// Where a value lies in a window.
+#[derive(Clone, Copy)]
+pub(crate) enum Placed {
+    /// It is the low bound or less.
+    Below,
+    /// It is between the bounds, and this.
+    Between(i16),
+    /// It is the high bound or more.
+    Above,
+}
+
+/// The bounds of a window as those of a search.
+fn bounds_of(window: Window) -> (i16, i16)
+    ensures low { result.0 ≡ pos window.from -ℤ pos 1 }
+    ensures high { result.1 ≡ pos window.to }
+{
+    (i16::from(window.from) - 1, i16::from(window.to))
+}
+
+/// Where the value of a state lies in a window.
+fn place_value<G: Game>(
+    g: &G,
+    here: &G::Pos,
+    asked: Question,
+    window: Window,
+    room: &mut Room<G>,
+) -> Placed
+    requires fits { G.fits g.now here.now }
+    requires room { IsRoomFor G.Game g.now asked.role asked.depth room.old }
+    ensures placed { IsPlaced window (value (G.rules g.now) asked.role asked.depth asked.at (G.state g.now here.now)) result }
+    ensures room { IsRoomKept G.Game g.now room.old room.new }
+{
+    let (low, high) = bounds_of(window);
+    let found = value_in(g, here, asked, low, high, room);
+    if found <= low {
+        return Placed::Below;
+    }
+    if found >= high {
+        return Placed::Above;
+    }
+    Placed::Between(found)
+}
+
+/// The value of a state, the first best move and the line of play, as lines, where the value is known to be `worth`.
+pub(crate) fn lines_of_value<G: Game>(
+    alloc: Global,
+    g: &G,
+    asked: Question,
+    worth: i16,
+    here: &G::Pos,
+    room: &mut Room<G>,
+) -> Result<Vec<u8>, AllocError>
+    requires fits { G.fits g.now here.now }
+    requires room { IsRoomFor G.Game g.now asked.role asked.depth room.old }
+    requires worth { worth ≡ pos (value (G.rules g.now) asked.role asked.depth asked.at (G.state g.now here.now)) }
+    ensures { IfOk result (λ output. output.items
+        ≡ solve_lines (named (G.rules g.now) (G.role_name g.now) (G.move_name g.now)) asked.role asked.depth asked.at (G.state g.now here.now)) }
+{
+    let choice = choice_by_value(g, here, asked, worth, room);
+    let found = Answer {
+        value: worth,
+        choice,
+    };
+    let mut from = g.fresh()?;
+    g.copy(here, &mut from);
+    value_lines(alloc, g, asked, found, from)
+}
+
+/// Adds the line of a move, if there is one. After an error the output may have a beginning of it.
+fn add_own<G: Game>(
+    g: &G,
+    role: usize,
+    own: Option<u32>,
+    output: &mut Vec<u8>,
+) -> Result<(), AllocError>
+    requires role { role < (G.rules g.now).roles }
+    requires own { IfSome own (λ m. m < (G.rules g.now).moves role) }
+    ensures { OnOk result (output.new.items
+        ≡ output.old.items ++ own_line (named (G.rules g.now) (G.role_name g.now) (G.move_name g.now)) role own) }
+{
+    let Some(chosen) = own else {
+        return Ok(());
+    };
+    add_choice(g, role, Some(chosen), output)
+}
+
+/// The line that a value is so low or lower.
+fn below_lines(alloc: Global, bound: u8) -> Result<Vec<u8>, AllocError>
+    ensures { IfOk result (λ output. output.items ≡ count_line (codes "at-most") bound) }
+{
+    let mut output = Vec::new(alloc);
+    add_count("at-most", bound as usize, &mut output)?;
+    Ok(output)
+}
+
+/// The line that a value is so high or higher, and that of the first move that makes sure of it.
+fn above_lines<G: Game>(
+    alloc: Global,
+    g: &G,
+    asked: Question,
+    bound: u8,
+    here: &G::Pos,
+    room: &mut Room<G>,
+) -> Result<Vec<u8>, AllocError>
+    requires fits { G.fits g.now here.now }
+    requires room { IsRoomFor G.Game g.now asked.role asked.depth room.old }
+    requires bound { bound ≤ 101 }
+    ensures { IfOk result (λ output. output.items
+        ≡ at_least_lines (named (G.rules g.now) (G.role_name g.now) (G.move_name g.now)) asked.role asked.depth asked.at bound (G.state g.now here.now)) }
+{
+    let own = first_at_least(g, here, asked, bound, room);
+    let mut output = Vec::new(alloc);
+    add_count("at-least", bound as usize, &mut output)?;
+    add_own(g, asked.role, own, &mut output)?;
+    Ok(output)
+}
+
+/// What is told of the value of a state within a window.
+pub(crate) fn lines_within<G: Game>(
+    alloc: Global,
+    g: &G,
+    asked: Question,
+    window: Window,
+    here: &G::Pos,
+) -> Result<Vec<u8>, AllocError>
+    requires fits { G.fits g.now here.now }
+    requires role { asked.role < (G.rules g.now).roles }
+    ensures { IfOk result (λ output. output.items
+        ≡ window_lines (named (G.rules g.now) (G.role_name g.now) (G.move_name g.now)) window asked.role asked.depth asked.at (G.state g.now here.now)) }
+{
+    let mut room = Room::new(alloc, g, asked.depth)?;
+    match place_value(g, here, asked, window, &mut room) {
+        Placed::Below => below_lines(alloc, window.from.saturating_sub(1)),
+        Placed::Between(worth) => lines_of_value(alloc, g, asked, worth, here, &mut room),
+        Placed::Above => above_lines(alloc, g, asked, window.to, here, &mut room),
+    }
+}
