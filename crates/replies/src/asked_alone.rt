@@ -12,9 +12,11 @@ ghost use Rattle.replies.specs.Windows.{wanted_lines};
 use crate::history::{position_after, refused_history};
 use crate::reply::{Reply, answered, refused};
 use crate::roles::role_named;
+use crate::search::bytes_in;
 use crate::windowed::lines_within;
 use crate::worths::lines_of_moves;
 use game::{Game, HistoryFault, Question};
+use maximin::Room;
 use statement::Window;
 use std::alloc::{AllocError, Global};
 use words::Sought;
@@ -28,22 +30,24 @@ pub(crate) enum Wanted {
     OfEachMove,
 }
 
-/// What is wanted of a state, as lines.
+/// What is wanted of a state, as lines. What is kept of states takes at most so many bytes.
 fn lines_of<G: Game>(
     alloc: Global,
     g: &G,
     asked: Question,
     wanted: Wanted,
     here: &G::Pos,
+    bytes: usize,
 ) -> Result<Vec<u8>, AllocError>
     requires fits { G.fits g.now here.now }
     requires role { asked.role < (G.rules g.now).roles }
     ensures { IfOk result (λ output. output.items ≡ wanted_lines wanted (named (G.rules g.now) (G.role_name g.now) (G.move_name g.now))
         asked.role asked.depth asked.at (G.state g.now here.now)) }
 {
+    let room = Room::with_table(alloc, g, asked, bytes)?;
     match wanted {
-        Wanted::Within(window) => lines_within(alloc, g, asked, window, here),
-        Wanted::OfEachMove => lines_of_moves(alloc, g, asked, here),
+        Wanted::Within(window) => lines_within(alloc, g, asked, window, here, room),
+        Wanted::OfEachMove => lines_of_moves(alloc, g, asked, here, room),
     }
 }
 
@@ -54,6 +58,7 @@ fn reply_after<G: Game>(
     asked: Question,
     wanted: Wanted,
     after: &str,
+    bytes: usize,
 ) -> Result<Reply, AllocError>
     requires { asked.role < (G.rules g.now).roles }
     ensures { IfOk result (λ reply. (ended : Result State HistoryFault)
@@ -62,7 +67,7 @@ fn reply_after<G: Game>(
         (wanted_lines wanted (named (G.rules g.now) (G.role_name g.now) (G.move_name g.now)) asked.role asked.depth asked.at) ended)) }
 {
     match position_after(alloc, g, after) {
-        Ok(here) => Ok(answered(lines_of(alloc, g, asked, wanted, &here)?)),
+        Ok(here) => Ok(answered(lines_of(alloc, g, asked, wanted, &here, bytes)?)),
         Err(HistoryFault::NoMemory) => Err(AllocError),
         Err(fault) => refused_history(alloc, g, fault),
     }
@@ -86,7 +91,7 @@ pub(crate) fn role_reply<G: Game>(
                 depth: sought.depth,
                 at: sought.at_bound,
             };
-            reply_after(alloc, g, asked, wanted, sought.after)
+            reply_after(alloc, g, asked, wanted, sought.after, bytes_in(sought.table))
         }
         None => refused(alloc, &"S1 NoSuchRole"),
     }

@@ -18,6 +18,11 @@ use std::alloc::{AllocError, Global};
 /// How many bytes are one MiB.
 const MIB: usize = 1 << 20;
 
+/// How many bytes so many MiB are.
+pub(crate) fn bytes_in(mib: u32) -> usize {
+    (mib as usize).saturating_mul(MIB)
+}
+
 /// A search for what a role can be sure of: from a state of a game, within so many turns. Who has found the value and the first best
 /// move has the reply by `told`.
 #[derive(Drop)]
@@ -45,7 +50,7 @@ impl<G: Game + Drop> Search<G> {
 
     /// How many bytes may keep what states are worth. The reply does not depend on it.
     pub fn bytes(&self) -> usize {
-        (self.table as usize).saturating_mul(MIB)
+        bytes_in(self.table)
     }
 
     /// The reply that tells the value, the first best move and the line of play behind it, from the first two. The line is found by the

@@ -66,22 +66,23 @@ pub(crate) fn lines_of_value<G: Game>(
     asked: Question,
     worth: i16,
     here: &G::Pos,
-    room: &mut Room<G>,
+    room: Room<G>,
 ) -> Result<Vec<u8>, AllocError>
     requires fits { G.fits g.now here.now }
-    requires room { IsRoomFor G.Game g.now asked.role asked.depth room.old }
+    requires room { IsRoomFor G.Game g.now asked.role asked.depth room }
     requires worth { worth ≡ pos (value (G.rules g.now) asked.role asked.depth asked.at (G.state g.now here.now)) }
     ensures { IfOk result (λ output. output.items
         ≡ solve_lines (named (G.rules g.now) (G.role_name g.now) (G.move_name g.now)) asked.role asked.depth asked.at (G.state g.now here.now)) }
 {
-    let choice = choice_by_value(g, here, asked, worth, room);
+    let mut room = room;
+    let choice = choice_by_value(g, here, asked, worth, &mut room);
     let found = Answer {
         value: worth,
         choice,
     };
     let mut from = g.fresh()?;
     g.copy(here, &mut from);
-    value_lines(alloc, g, asked, found, from)
+    value_lines(alloc, g, asked, found, from, room)
 }
 
 /// Adds the line of a move, if there is one. After an error the output may have a beginning of it.
@@ -140,16 +141,17 @@ pub(crate) fn lines_within<G: Game>(
     asked: Question,
     window: Window,
     here: &G::Pos,
+    room: Room<G>,
 ) -> Result<Vec<u8>, AllocError>
     requires fits { G.fits g.now here.now }
-    requires role { asked.role < (G.rules g.now).roles }
+    requires room { IsRoomFor G.Game g.now asked.role asked.depth room }
     ensures { IfOk result (λ output. output.items
         ≡ window_lines (named (G.rules g.now) (G.role_name g.now) (G.move_name g.now)) window asked.role asked.depth asked.at (G.state g.now here.now)) }
 {
-    let mut room = Room::new(alloc, g, asked.depth)?;
+    let mut room = room;
     match place_value(g, here, asked, window, &mut room) {
         Placed::Below => below_lines(alloc, window.from.saturating_sub(1)),
-        Placed::Between(worth) => lines_of_value(alloc, g, asked, worth, here, &mut room),
+        Placed::Between(worth) => lines_of_value(alloc, g, asked, worth, here, room),
         Placed::Above => above_lines(alloc, g, asked, window.to, here, &mut room),
     }
 }

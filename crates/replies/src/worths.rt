@@ -83,14 +83,15 @@ fn whole_lines<G: Game>(
     g: &G,
     asked: Question,
     here: &G::Pos,
-    room: &mut Room<G>,
+    room: Room<G>,
 ) -> Result<Vec<u8>, AllocError>
     requires fits { G.fits g.now here.now }
-    requires room { IsRoomFor G.Game g.now asked.role asked.depth room.old }
+    requires room { IsRoomFor G.Game g.now asked.role asked.depth room }
     ensures { IfOk result (λ output. output.items
         ≡ solve_lines (named (G.rules g.now) (G.role_name g.now) (G.move_name g.now)) asked.role asked.depth asked.at (G.state g.now here.now)) }
 {
-    let worth = value_in(g, here, asked, -1, 101, room);
+    let mut room = room;
+    let worth = value_in(g, here, asked, -1, 101, &mut room);
     lines_of_value(alloc, g, asked, worth, here, room)
 }
 
@@ -100,15 +101,16 @@ pub(crate) fn lines_of_moves<G: Game>(
     g: &G,
     asked: Question,
     here: &G::Pos,
+    room: Room<G>,
 ) -> Result<Vec<u8>, AllocError>
     requires fits { G.fits g.now here.now }
-    requires role { asked.role < (G.rules g.now).roles }
+    requires room { IsRoomFor G.Game g.now asked.role asked.depth room }
     ensures { IfOk result (λ output. output.items
         ≡ values_lines (named (G.rules g.now) (G.role_name g.now) (G.move_name g.now)) asked.role asked.depth asked.at (G.state g.now here.now)) }
 {
-    let mut room = Room::new(alloc, g, asked.depth)?;
+    let mut room = room;
     if !is_open(g, here, asked.depth) {
-        return whole_lines(alloc, g, asked, here, &mut room);
+        return whole_lines(alloc, g, asked, here, room);
     }
     let mut output = Vec::new(alloc);
     add_worths(g, asked, here, &mut room, &mut output)?;

@@ -190,6 +190,7 @@ fn values<'a>(alloc: Global) -> Result<clap::Command<'a>, AllocError> {
         .arg(at_bound(alloc))?
         .arg(unfinished(alloc)?)?
         .arg(cut(alloc))?
+        .arg(table(alloc))?
         .arg(history(alloc))
 }
 

@@ -125,6 +125,7 @@ Options:
       --unfinished <NUMBER>  A worth for all these states, from 0 to 100, in place of --at-bound
       --window <LOW:HIGH>    Tell the value only where it is between these numbers, from -1 to 101, else which it does not pass
       --cut <LEVELS>         How many threads search, and those behind each of their moves, as 4 or 4x2 [default: 1]
+      --table <MIB>          How much memory may keep what positions are worth, from 0 to 65536 [default: 64]
       --after <TEXT>         The turns that were played, each a list of a move for each role
   -h, --help                 Print help
 
