@@ -1,5 +1,5 @@
 -- Games that tell the same are told the same of within a window.
-use Rattle.std.proofs.Common.{ℕ, zero, suc, ◌-◌, ◌<◌, ◌≡◌, ◌++◌, Bool, cond, List, Option, Some, None, codes, refl, ◌∙◌, ap}
+use Rattle.std.proofs.Common.{ℕ, zero, suc, ◌-◌, ◌<◌, ◌≡◌, ◌++◌, Bool, true, false, cond, List, Option, Some, None, codes, refl, ◌∙◌, ap}
 use Rattle.std.specs.Prelude.{IfSome, find, nat_le, nat_lt, ◌||◌}
 use Rattle.statement.specs.declared.at_bound.AtBound.{AtBound}
 use Rattle.statement.specs.declared.window.Window.{Window}

@@ -1,5 +1,6 @@
 //! The reply to `state`.
 ghost use Rattle.std.specs.Prelude.{◌≡◌, ◌<◌, ◌++◌, List, [], length, slice_index, IfOk, OnOk, if◌then◌else◌};
+ghost use Rattle.std.specs.Int.{bit_at};
 ghost use Rattle.game.specs.Keys.{has_bit, state_of_bits};
 ghost use Rattle.ground.specs.GroundView.{base_of, IsGround};
 ghost use Rattle.statement.specs.Clause.{Alternative};
@@ -22,12 +23,20 @@ fn word_at(key: &[u64], place: usize) -> u64
     if place < key.len() { key[place] } else { 0 }
 }
 
+/// The bit of a word at a place.
+fn bit_of(word: u64, place: usize) -> u64
+    requires { place < 64 }
+    ensures { result ≡ bit_at word place }
+{
+    (word >> place) & 1
+}
+
 /// Whether the key of a state says that a base proposition holds in it.
 fn holds(key: &[u64], proposition: usize) -> bool
     ensures { result ≡ has_bit key.now proposition }
 {
     let word = word_at(key, proposition / 64);
-    (word >> (proposition % 64)) & 1 == 1
+    bit_of(word, proposition % 64) == 1
 }
 
 /// Adds the line of a base proposition if it holds. After an error the output may have a beginning of it.

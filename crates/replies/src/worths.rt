@@ -16,22 +16,22 @@ use maximin::{Room, move_worth, value_in};
 use std::alloc::{AllocError, Global};
 use std::io::Write;
 
-/// Whether there is a turn to come.
-fn is_open<G: Game>(g: &G, here: &G::Pos, depth: u32) -> bool
+/// Whether there is no turn to come.
+fn is_closed<G: Game>(g: &G, here: &G::Pos, depth: u32) -> bool
     requires { G.fits g.now here.now }
-    ensures yes { result ≡ true → IsOpen (G.rules g.now) depth (G.state g.now here.now) }
-    ensures no { result ≡ false → IsClosed (G.rules g.now) depth (G.state g.now here.now) }
+    ensures yes { result ≡ true → IsClosed (G.rules g.now) depth (G.state g.now here.now) }
+    ensures no { result ≡ false → IsOpen (G.rules g.now) depth (G.state g.now here.now) }
 {
     if depth == 0 {
-        return false;
+        return true;
     }
     if g.ended(here) {
-        return false;
+        return true;
     }
     if is_stuck(g, here) {
-        return false;
+        return true;
     }
-    true
+    false
 }
 
 /// Adds the line of a move and what it makes sure of. After an error the output may have a beginning of it.
@@ -109,7 +109,7 @@ pub(crate) fn lines_of_moves<G: Game>(
         ≡ values_lines (named (G.rules g.now) (G.role_name g.now) (G.move_name g.now)) asked.role asked.depth asked.at (G.state g.now here.now)) }
 {
     let mut room = room;
-    if !is_open(g, here, asked.depth) {
+    if is_closed(g, here, asked.depth) {
         return whole_lines(alloc, g, asked, here, room);
     }
     let mut output = Vec::new(alloc);
