@@ -1,0 +1,88 @@
+"""`solve` shared by many machines, over any executor of `concurrent.futures`.
+
+The answer is that of one machine, byte for byte, or an exception is raised. Each worker asks the
+program on its own machine; what is put together here is not proved.
+
+>>> with ProcessPoolExecutor(4) as pool:
+...     solve(rules, "red", 16, executor=pool, width=4)
+"""
+
+from __future__ import annotations
+
+from collections.abc import Callable, Sequence
+from concurrent.futures import Executor
+from pathlib import Path
+
+from gdlsolve.calls import Misuse, Refusal, Status, lines_of
+from gdlsolve.cluster.driver import Driver, Engine, Manner, Sought
+from gdlsolve.cluster.faults import ClusterFault, Contradiction, Failed, Lost, OtherProgram
+from gdlsolve.commands import Bound, History
+from gdlsolve.replies import Solution
+
+__all__ = [
+    "ClusterFault",
+    "Contradiction",
+    "Driver",
+    "Engine",
+    "Failed",
+    "Lost",
+    "Manner",
+    "OtherProgram",
+    "Sought",
+    "solve",
+]
+
+MOST_TURNS = 64
+
+
+def _text(after: History) -> str:
+    """The text of a history."""
+    if isinstance(after, str):
+        return after
+    return " ".join("(" + " ".join(turn) + ")" for turn in after)
+
+
+def _room(width: int | Callable[[], int]) -> Callable[[], int]:
+    """A width as a function."""
+    if not isinstance(width, int):
+        return width
+    number = width
+    return lambda: number
+
+
+def sought(
+    rules: bytes | str, role: str, depth: int, worth: Sequence[str], after: History
+) -> Sought:
+    """What is sought, where the depth is one."""
+    if not 0 <= depth <= MOST_TURNS:
+        raise Misuse(f"the depth is a whole number from 0 to {MOST_TURNS}, and not {depth}")
+    text = rules.encode() if isinstance(rules, str) else bytes(rules)
+    return Sought(text, role, depth, tuple(worth), _text(after))
+
+
+def solve(
+    rules: bytes | str,
+    role: str,
+    depth: int,
+    *,
+    executor: Executor,
+    width: int | Callable[[], int],
+    after: History = "",
+    at_bound: Bound = "zero",
+    unfinished: int | None = None,
+    split: float = 2.0,
+    journal: Path | None = None,
+    patience: float = 120.0,
+) -> Solution:
+    """What `gdlsolve.solve` gives, found by up to `width` tasks of an executor at a time. A task
+    that has run for `split` seconds is split where the executor could do more. Answers are kept in
+    the file `journal`, and what stands there is not asked for again. An engine may be gone for
+    `patience` seconds."""
+    worth = ["--at-bound", at_bound] if unfinished is None else ["--unfinished", str(unfinished)]
+    manner = Manner(split, journal, patience)
+    engine = Engine(executor, _room(width))
+    found = Driver(sought(rules, role, depth, worth, after), engine, manner).reply()
+    lines = lines_of(found.output)
+    if found.status is Status.REFUSED:
+        raise Refusal(lines[0])
+    return Solution.of(lines)

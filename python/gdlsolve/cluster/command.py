@@ -1,0 +1,140 @@
+"""The command line: the options of `solve`, and who shares the work.
+
+    python -m gdlsolve.cluster [ENGINE] --role ROLE --depth TURNS [OPTIONS] [GAME.kif]
+
+Where no file is named the rules come on standard input. The exit statuses are those of the program,
+and 69 where the cluster gave no answer.
+"""
+
+from __future__ import annotations
+
+import argparse
+import os
+import signal
+import sys
+from collections.abc import Sequence
+from contextlib import AbstractContextManager
+from dataclasses import asdict
+from pathlib import Path
+from typing import NoReturn
+
+from gdlsolve.calls import Misuse, Refusal, Status
+from gdlsolve.cluster import engines, sought
+from gdlsolve.cluster.driver import Driver, Engine, Manner
+from gdlsolve.cluster.faults import ClusterFault
+
+INPUT_FAILED = 4
+NO_ANSWER = 69
+DESCRIPTION = "Solves a game on many machines. The answer is that of one, or there is none."
+
+
+class _Parser(argparse.ArgumentParser):
+    """A parser whose misuse is that of the program."""
+
+    def error(self, message: str) -> NoReturn:
+        """Raises what is wrong with the words."""
+        raise Misuse(f"{self.format_usage()}{message}")
+
+
+def _number(text: str) -> int:
+    """A number of workers."""
+    found = int(text)
+    if found < 1:
+        raise ValueError
+    return found
+
+
+def _add_engines(parser: argparse.ArgumentParser) -> None:
+    """The options of which one says who shares the work."""
+    which = parser.add_mutually_exclusive_group()
+    add = which.add_argument
+    add("--processes", type=_number, metavar="N", help="N programs here (as many as processors)")
+    add("--scheduler", metavar="ADDRESS", help="the workers of a Dask scheduler")
+    add("--scheduler-file", metavar="FILE", help="the same, by the file that the scheduler writes")
+    add("--local", type=_number, metavar="N", help="a Dask scheduler and N workers here")
+    add("--mpi", type=_number, metavar="N", help="N processes of MPI")
+
+
+def _parser() -> argparse.ArgumentParser:
+    """The options of the command."""
+    parser = _Parser(prog="python -m gdlsolve.cluster", description=DESCRIPTION, allow_abbrev=False)
+    _add_engines(parser)
+    add = parser.add_argument
+    add("--role", required=True, help="whose play it is")
+    add("--depth", required=True, type=int, metavar="TURNS", help="how many turns to look ahead")
+    worth = parser.add_mutually_exclusive_group()
+    worth.add_argument("--at-bound", metavar="BOUND", help="zero or goal, as with solve")
+    worth.add_argument("--unfinished", metavar="N", help="what unfinished play is worth")
+    add("--after", default="", metavar="TEXT", help="a history")
+    add("--split", type=float, default=2.0, metavar="SECONDS", help="when a question may be split")
+    add("--journal", type=Path, metavar="FILE", help="keeps answers, and asks for none again")
+    add("--patience", type=float, default=120.0, metavar="SECONDS", help="how long it may be gone")
+    add("--verbose", action="store_true", help="tells on standard error what happens")
+    add("game", type=Path, nargs="?", metavar="GAME.kif", help="the rules")
+    return parser
+
+
+def engine_of(words: argparse.Namespace) -> AbstractContextManager[Engine]:
+    """The engine that the words name."""
+    if words.scheduler is not None:
+        return engines.dask(words.scheduler, words.patience)
+    if words.scheduler_file is not None:
+        return engines.dask_by_file(words.scheduler_file, words.patience)
+    if words.local is not None:
+        return engines.dask_here(words.local, words.patience)
+    if words.mpi is not None:
+        return engines.mpi(words.mpi)
+    return engines.processes(words.processes or os.cpu_count() or 1)
+
+
+def _say(line: str) -> None:
+    """Tells people something."""
+    print(line, file=sys.stderr, flush=True)
+
+
+def run(words: Sequence[str]) -> int:
+    """Does what the words ask for, and gives the exit status."""
+    asked = _parser().parse_args(words)
+    worth = [] if asked.at_bound is None else ["--at-bound", asked.at_bound]
+    worth += [] if asked.unfinished is None else ["--unfinished", asked.unfinished]
+    rules = sys.stdin.buffer.read() if asked.game is None else asked.game.read_bytes()
+    what = sought(rules, asked.role, asked.depth, worth, asked.after)
+    log = _say if asked.verbose else lambda line: None
+    manner = Manner(asked.split, asked.journal, asked.patience, log)
+    with engine_of(asked) as engine:
+        driver = Driver(what, engine, manner)
+        found = driver.reply()
+        log(" ".join(f"{name} {round(count, 3)}" for name, count in asdict(driver.counts).items()))
+    sys.stdout.buffer.write(found.output)
+    sys.stdout.buffer.flush()
+    return int(found.status)
+
+
+def _end(number: int, frame: object) -> None:
+    """Ends this process in order: what is out is stopped."""
+    sys.exit(128 + number)
+
+
+def main() -> int:
+    """The command."""
+    signal.signal(signal.SIGTERM, _end)
+    try:
+        return run(sys.argv[1:])
+    except Misuse as misuse:
+        _say(str(misuse))
+        return int(Status.MISUSE)
+    except Refusal as refusal:
+        print(refusal)
+        return int(Status.REFUSED)
+    except MemoryError:
+        _say("no memory")
+        return int(Status.NO_MEMORY)
+    except ClusterFault as fault:
+        _say(f"no answer: {type(fault).__name__}: {fault}")
+        return NO_ANSWER
+    except ImportError as fault:
+        _say(f"this engine is not here: {fault}")
+        return NO_ANSWER
+    except OSError as fault:
+        _say(f"{fault.filename}: {fault.strerror}" if fault.filename else f"fault: {fault}")
+        return INPUT_FAILED

@@ -1,0 +1,111 @@
+"""Engines by name. What they need is imported where they are asked for, and not before."""
+
+from __future__ import annotations
+
+import logging
+import time
+from collections.abc import Iterator
+from concurrent.futures import ThreadPoolExecutor
+from contextlib import contextmanager
+from importlib import import_module
+from typing import Any
+
+from gdlsolve.cluster.driver import Engine
+from gdlsolve.cluster.faults import Lost
+
+# So often the workers of a Dask cluster are counted, in seconds.
+COUNT_EVERY = 2.0
+# So often Dask itself runs what it lost with a worker again.
+RETRIES = 2
+
+
+@contextmanager
+def processes(number: int) -> Iterator[Engine]:
+    """So many programs on this machine, each waited for by a thread."""
+    with ThreadPoolExecutor(number) as pool:
+        yield Engine(pool, lambda: number)
+
+
+class _Workers:
+    """How many threads the workers of a Dask cluster have together; 0 where it is gone."""
+
+    def __init__(self, client: Any):
+        self._client = client
+        self._counted = 0
+        self._when = float("-inf")
+
+    def __call__(self) -> int:
+        if self._client.status != "running":
+            return 0
+        if time.monotonic() - self._when >= COUNT_EVERY:
+            try:
+                self._counted = sum(self._client.nthreads().values())
+            except OSError:
+                self._counted = 0
+            self._when = time.monotonic()
+        return self._counted
+
+
+@contextmanager
+def _dask(client: Any, patience: float) -> Iterator[Engine]:
+    """The workers of a Dask cluster, of which one at least is waited for."""
+    workers = _Workers(client)
+    until = time.monotonic() + patience
+    while not workers():
+        if time.monotonic() > until:
+            raise Lost("the scheduler has no workers")
+        time.sleep(0.1)
+    executor = client.get_executor(pure=False, retries=RETRIES)
+    yield Engine(executor, workers, lambda: workers() > 0)
+
+
+def _client(patience: float, **where: Any) -> Any:
+    """A client of a Dask scheduler."""
+    distributed: Any = import_module("distributed")
+    # A future that was cancelled and answers all the same is told there as an error.
+    logging.getLogger("tornado.application").setLevel(logging.CRITICAL)
+    try:
+        return distributed.Client(timeout=patience, set_as_default=False, **where)
+    except OSError as fault:
+        raise Lost(f"no scheduler: {fault}") from None
+
+
+@contextmanager
+def dask(address: str, patience: float) -> Iterator[Engine]:
+    """The workers of the Dask scheduler at an address."""
+    with _client(patience, address=address) as client, _dask(client, patience) as engine:
+        yield engine
+
+
+@contextmanager
+def dask_by_file(path: str, patience: float) -> Iterator[Engine]:
+    """The workers of the Dask scheduler that a file tells of."""
+    with _client(patience, scheduler_file=path) as client, _dask(client, patience) as engine:
+        yield engine
+
+
+@contextmanager
+def dask_here(number: int, patience: float) -> Iterator[Engine]:
+    """A Dask scheduler and so many workers on this machine, for this run alone."""
+    distributed: Any = import_module("distributed")
+    with (
+        distributed.LocalCluster(
+            n_workers=number,
+            threads_per_worker=1,
+            dashboard_address=None,
+            silence_logs=logging.CRITICAL,
+        ) as cluster,
+        _client(patience, address=cluster) as client,
+        _dask(client, patience) as engine,
+    ):
+        yield engine
+
+
+@contextmanager
+def mpi(number: int) -> Iterator[Engine]:
+    """So many processes of MPI."""
+    futures: Any = import_module("mpi4py.futures")
+    with futures.MPIPoolExecutor(number) as pool:
+        yield Engine(pool, lambda: number)
+
+

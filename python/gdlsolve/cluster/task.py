@@ -1,0 +1,119 @@
+"""What a worker does: it asks the program for the value of one state in a window.
+
+Questions and outcomes are data. So they go over any engine, and a failure of the program is told
+apart from one of the engine.
+"""
+
+from __future__ import annotations
+
+import os
+import sys
+import time
+from collections.abc import Callable
+from dataclasses import dataclass
+from enum import Enum
+
+from gdlsolve.calls import Status, lines_of
+from gdlsolve.cluster import program
+
+# No value is outside.
+OPEN = (-1, 101)
+
+
+@dataclass(frozen=True)
+class Question:
+    """The value of the state after a history, asked for between two bounds. `options` are those of
+    `solve` but for history and window, `digest` is the sum of the program that has to answer, and
+    `stop` the file that is there once the answer is not wanted any more."""
+
+    rules: bytes
+    options: tuple[str, ...]
+    after: str
+    low: int
+    high: int
+    digest: str
+    stop: str | None
+
+    def words(self) -> list[str]:
+        """The words of the program."""
+        window = [] if (self.low, self.high) == OPEN else ["--window", f"{self.low}:{self.high}"]
+        return ["solve", *self.options, *window, "--after", self.after]
+
+
+class End(Enum):
+    """How a question ended."""
+
+    ANSWERED = "answered"
+    REFUSED = "refused"
+    MISUSED = "misused"
+    FAILED = "failed"
+    STOPPED = "stopped"
+    OTHER_PROGRAM = "other program"
+
+
+@dataclass(frozen=True)
+class Outcome:
+    """How a question ended, the lines that tell it, and the seconds that it took."""
+
+    end: End
+    lines: tuple[str, ...]
+    seconds: float = 0.0
+
+
+def _by_dask() -> Callable[[], bool] | None:
+    """Inside of a task of Dask: tells whether it was cancelled, which Dask itself only notes."""
+    distributed = sys.modules.get("distributed")
+    if distributed is None:
+        return None
+    try:
+        worker = distributed.get_worker()
+        key = worker.get_current_task()
+        tasks = worker.state.tasks
+    except (AttributeError, ValueError):
+        return None
+
+    def stopped() -> bool:
+        task = tasks.get(key)
+        return task is None or task.state == "cancelled"
+
+    return stopped
+
+
+def _by_file(path: str | None) -> Callable[[], bool] | None:
+    """Tells whether a file is there, or its folder is gone. On another machine there is neither."""
+    if path is None:
+        return None
+    file, folder = path, os.path.dirname(path)
+    if not os.path.isdir(folder):
+        return None
+    return lambda: os.path.exists(file) or not os.path.isdir(folder)
+
+
+def _stopped(path: str | None) -> Callable[[], bool] | None:
+    """Tells whether the answer is not wanted any more, in each way that there is."""
+    ways = [way for way in (_by_dask(), _by_file(path)) if way is not None]
+    return (lambda: any(way() for way in ways)) if ways else None
+
+
+def _end(ran: program.Ran) -> End:
+    """What an exit status says."""
+    known = {Status.ANSWER: End.ANSWERED, Status.REFUSED: End.REFUSED, Status.MISUSE: End.MISUSED}
+    return known.get(Status(ran.status), End.FAILED) if ran.status in set(Status) else End.FAILED
+
+
+def answer(question: Question) -> Outcome:
+    """Asks the program."""
+    found = program.digest()
+    if found != question.digest:
+        return Outcome(End.OTHER_PROGRAM, (found,))
+    begun = time.monotonic()
+    try:
+        ran = program.run(question.words(), question.rules, _stopped(question.stop))
+    except program.Stopped:
+        return Outcome(End.STOPPED, (), time.monotonic() - begun)
+    end = _end(ran)
+    if end in (End.ANSWERED, End.REFUSED):
+        lines = tuple(lines_of(ran.output))
+    else:
+        lines = (f"status {ran.status}", *ran.errors.decode(errors="replace").splitlines())
+    return Outcome(end, lines, time.monotonic() - begun)

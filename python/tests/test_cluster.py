@@ -1,0 +1,251 @@
+"""`python -m gdlsolve.cluster` with the program itself: a process pool, and a Dask cluster on the
+loopback in which things are killed.
+
+`GDLSOLVE_PROGRAM` names another program than that of the package. With `GDLSOLVE_LONG_TESTS=1` all
+stored games are solved over Dask, and not the short ones alone.
+"""
+import contextlib
+import os
+import shlex
+import signal
+import socket
+import subprocess
+import sys
+import tempfile
+import time
+import unittest
+from concurrent.futures import ProcessPoolExecutor
+from pathlib import Path
+
+from gdlsolve import cluster
+from gdlsolve.calls import _library_file
+from gdlsolve.cluster import program
+from tests import GAMES, TOP
+
+MARKS = TOP / "games/tic_tac_toe.kif"
+LONG = os.environ.get("GDLSOLVE_LONG_TESTS") == "1"
+# Games whose stored solve takes long, or is of very many questions.
+LENGTHY = {"connect_four_4x4", "connect_four_5x4", "blotto"}
+WORKERS = 3
+# So long a test waits for what has to happen at some time, in seconds.
+PATIENCE = 180.0
+# Starts a command again whenever it ends, as what looks after a cluster does.
+AGAIN = 'trap \'kill $child; exit\' TERM; while :; do "$@" & child=$!; wait $child; sleep 0.2; done'
+# The program, slow enough that something can be killed while it runs, as long as a file is there.
+SLOWLY = """#!/bin/sh
+case "$*" in *"--depth 0 "*) ;; solve*) [ ! -e '{slow}' ] || sleep 0.7 ;; esac
+exec {command} "$@"
+"""
+
+
+def setUpModule():
+    words = ["solve", "--role", "xplayer", "--depth", "0", "--window", "0:100", "--after", ""]
+    try:
+        ran = program.run(words, MARKS.read_bytes())
+    except (OSError, ImportError) as fault:
+        raise unittest.SkipTest(f"there is no program: {fault}") from None
+    if (ran.status, ran.output) != (0, b"at-most 0\n"):
+        raise unittest.SkipTest(f"the program has no windows: {ran.errors.decode().strip()}")
+
+
+def stored(game):
+    """The options of the stored solve of a game, and its answer."""
+    first, answer = game.with_suffix(".solve").read_bytes().split(b"\n", 1)
+    return shlex.split(first.decode())[1:], answer
+
+
+def with_dask():
+    """A Python that has Dask, where there is one."""
+    seek = "import importlib.util as u, sys; sys.exit(u.find_spec('distributed') is None)"
+    for python in dict.fromkeys([sys.executable, "/usr/bin/python3"]):
+        there = Path(python).exists()
+        if there and not subprocess.run([python, "-c", seek], check=False).returncode:
+            return python
+    return None
+
+
+def environment(**more):
+    """The environment of a process that is started here."""
+    known = {**os.environ, "PYTHONPATH": str(TOP / "python"), "PYTHONDONTWRITEBYTECODE": "1"}
+    if program.VARIABLE not in os.environ:
+        known["GDLSOLVE_LIBRARY"] = str(_library_file())
+    return {**known, **more}
+
+
+def until(true, what):
+    """Waits until something is so."""
+    end = time.monotonic() + PATIENCE
+    while not true():
+        if time.monotonic() > end:
+            raise AssertionError(f"not within {PATIENCE} s: {what}")
+        time.sleep(0.05)
+
+
+def children(pid):
+    """The processes that the threads of a process have started."""
+    found = []
+    for thread in Path(f"/proc/{pid}/task").glob("*"):
+        with contextlib.suppress(OSError):
+            found += map(int, (thread / "children").read_text().split())
+    return found
+
+
+def marked(mark):
+    """The processes in whose environment a text stands."""
+    found = set()
+    for room in Path("/proc").glob("[0-9]*"):
+        with contextlib.suppress(OSError):
+            alive = "Z" not in (room / "stat").read_text().rsplit(")", 1)[1].split()[0]
+            if alive and mark.encode() in (room / "environ").read_bytes():
+                found.add(int(room.name))
+    return found - {os.getpid()}
+
+
+class Here(unittest.TestCase):
+    def test_a_process_pool(self):
+        options, answer = stored(MARKS)
+        with ProcessPoolExecutor(2) as pool:
+            found = cluster.solve(MARKS.read_text(), "XPLAYER", 9, executor=pool, width=2)
+        self.assertEqual(found.value, 50)
+        self.assertIn(f"line 9 {' '.join(found.line[8])}", answer.decode())
+
+    def test_the_command(self):
+        options, answer = stored(MARKS)
+        for words, want in (
+            (["--processes", "2", *options, MARKS], (0, answer, b"")),
+            (["--role", "no one", "--depth", "3", MARKS], (2, b"refused S1 NoSuchRole\n", b"")),
+            (["--role", "xplayer", "--depth", "0", MARKS], (0, b"value 0\nmove none\n", b"")),
+        ):
+            with self.subTest(words=words):
+                command = [sys.executable, "-m", "gdlsolve.cluster", *map(str, words)]
+                done = subprocess.run(command, capture_output=True, env=environment(), check=False)
+                self.assertEqual((done.returncode, done.stdout, done.stderr), want)
+
+    def test_other_words_are_misuse(self):
+        for words in ([], ["--role", "a", "--depth", "65", MARKS], ["--processes", "0"]):
+            command = [sys.executable, "-m", "gdlsolve.cluster", *map(str, words)]
+            done = subprocess.run(command, capture_output=True, env=environment(), check=False)
+            self.assertEqual((done.returncode, done.stdout), (1, b""))
+            self.assertTrue(done.stderr)
+
+
+class OverDask(unittest.TestCase):
+    """One scheduler and three workers, each started again whenever it ends."""
+
+    @classmethod
+    def setUpClass(cls):
+        cls.python = with_dask()
+        if cls.python is None:
+            raise unittest.SkipTest("there is no Dask: Debian has it as python3-distributed")
+        room = tempfile.TemporaryDirectory()
+        cls.addClassCleanup(room.cleanup)
+        cls.room = Path(room.name)
+        named = os.environ.get(program.VARIABLE)
+        command = f"'{named}'" if named else f"'{sys.executable}' -m gdlsolve"
+        cls.slow = cls.room / "slow"
+        slowly = cls.room / "slowly"
+        slowly.write_text(SLOWLY.format(command=command, slow=cls.slow))
+        slowly.chmod(0o755)
+        cls.known = environment(**{program.VARIABLE: str(slowly)})
+        cls.addClassCleanup(until, lambda: not marked(str(cls.room)), "no process is left behind")
+        with socket.socket() as free:
+            free.bind(("127.0.0.1", 0))
+            port = str(free.getsockname()[1])
+        cls.address = f"tcp://127.0.0.1:{port}"
+        at = ["--host", "127.0.0.1", "--port", port, "--no-dashboard"]
+        cls.scheduler = cls.keep("distributed.cli.dask_scheduler", *at)
+        worker = [cls.address, "--nthreads", "1", "--no-nanny", "--no-dashboard"]
+        worker += ["--local-directory", str(cls.room), "--death-timeout", "60"]
+        cls.workers = [cls.keep("distributed.cli.dask_worker", *worker) for _ in range(WORKERS)]
+
+    @classmethod
+    def keep(cls, module, *words):
+        """Starts a part of the cluster, again whenever it ends."""
+        log = (cls.room / "log").open("ab")
+        command = ["bash", "-c", AGAIN, "again", cls.python, "-m", module, *words]
+        kept = subprocess.Popen(command, env=cls.known, stdout=log, stderr=log, cwd=cls.room)
+        log.close()
+        cls.addClassCleanup(kept.wait)
+        cls.addClassCleanup(kept.terminate)
+        return kept
+
+    def command(self, *more):
+        """Starts the command for tic-tac-toe, and what it has told of."""
+        options, _ = stored(MARKS)
+        words = ["-m", "gdlsolve.cluster", "--scheduler", self.address, "--verbose", *options]
+        told = tempfile.TemporaryFile("w+b")
+        self.addCleanup(told.close)
+        command = [self.python, *map(str, [*words, *more, MARKS])]
+        started = subprocess.Popen(command, env=self.known, stdout=subprocess.PIPE, stderr=told)
+        self.addCleanup(started.stdout.close)
+        self.addCleanup(started.wait)
+        self.addCleanup(started.kill)
+        return started, told
+
+    def said(self, told):
+        return os.pread(told.fileno(), 1 << 20, 0).decode()
+
+    def solvers(self):
+        """The programs that the workers run, each with the process that has started it."""
+        workers = [each for kept in self.workers for each in children(kept.pid)]
+        return [(each, worker) for worker in workers for each in children(worker)]
+
+    def killed_in(self, kill):
+        """Kills something once answers are there and programs run, and gives what was told."""
+        self.be_slow()
+        started, told = self.command()
+        until(lambda: ": value " in self.said(told) and self.solvers(), "first answers")
+        kill()
+        output, _ = started.communicate(timeout=2 * PATIENCE)
+        said = self.said(told)
+        self.assertEqual((started.returncode, output), (0, stored(MARKS)[1]), said)
+        self.assert_nothing_runs()
+        return said
+
+    def be_slow(self):
+        self.slow.touch()
+        self.addCleanup(self.slow.unlink)
+
+    def assert_nothing_runs(self):
+        until(lambda: not self.solvers(), "no program is left behind")
+
+    def test_stored_games(self):
+        games = [game for game in GAMES if LONG or game.stem not in LENGTHY]
+        script = TOP / "python/tests/over_dask.py"
+        command = [self.python, str(script), self.address, *map(str, games)]
+        done = subprocess.run(command, capture_output=True, text=True, env=self.known, check=False)
+        self.assertEqual(done.stdout, f"same {len(games)}\n", done.stderr)
+        self.assert_nothing_runs()
+
+    def test_a_worker_is_killed(self):
+        self.killed_in(lambda: os.kill(self.solvers()[0][1], signal.SIGKILL))
+
+    def test_a_program_is_killed(self):
+        said = self.killed_in(lambda: os.kill(self.solvers()[0][0], signal.SIGKILL))
+        self.assertIn("failed: ", said)
+
+    def test_the_scheduler_is_killed(self):
+        said = self.killed_in(lambda: os.kill(children(self.scheduler.pid)[0], signal.SIGKILL))
+        self.assertIn("lost", said)
+
+    def test_the_one_who_asks_is_killed(self):
+        book = self.room / "journal"
+        self.be_slow()
+        started, told = self.command("--journal", book)
+        until(lambda: ": value " in self.said(told) and self.solvers(), "first answers")
+        started.kill()
+        started.wait()
+        self.assert_nothing_runs()
+        self.assertTrue(book.stat().st_size)
+        sent = []
+        for _ in range(2):
+            started, told = self.command("--journal", book)
+            output, _ = started.communicate(timeout=2 * PATIENCE)
+            self.assertEqual((started.returncode, output), (0, stored(MARKS)[1]), self.said(told))
+            sent.append(int(self.said(told).split("\nsent ")[1].split()[0]))
+        self.assertGreater(sent[0], 0)
+        self.assertEqual(sent[1], 0)
+
+
+if __name__ == "__main__":
+    unittest.main()
