@@ -1,4 +1,4 @@
-use Rattle.std.proofs.Common.{ℕ, List, ◌≡◌, length, sym, subst, ◌∙◌, rules as facts}
+use Rattle.std.proofs.Common.{ℕ, List, ◌≡◌, length, sym, subst, ◌∙◌}
 use Rattle.game.specs.Keys.{state_of_bits}
 use Rattle.ground.specs.declared.flat_ground.FlatGround.{FlatGround}
 use Rattle.ground.specs.GroundView.{IsGround}
@@ -13,7 +13,7 @@ returns g c = λ rules is.
     let key = c.write_key.new.key in
     let law = g.met.G.GroundGame g.world.𝓛 g.world.𝓜 g.world.𝓡 ((λ _ x. x), (λ x. x), (λ x. x), λ x. x) in
     let source = c.instantiation.ensures in
-    let same : c.deref.result.now ≡ c.write_key.new.key = search facts in
+    let same : c.deref.result.now ≡ c.write_key.new.key = c.deref.ensures.value in
     standing_told rules c.instantiation.result.now game state key c.new-output.result.items c.add_standing.new.output.items
     c.add_holding.new.output.items
     (subst (IsGround rules) (sym source) is)
