@@ -1,5 +1,5 @@
 -- What is told of a state by the numbers and texts of its base propositions is what is told by their trees.
-use Rattle.std.proofs.Common.{ℕ, ◌<◌, ◌≡◌, ◌++◌, ◌∷◌, [], Bool, true, false, cond, List, length, map, refl, sym, ◌∙◌, ap, subst, append_assoc, codes}
+use Rattle.std.proofs.Common.{ℕ, ◌<◌, ◌≡◌, ◌++◌, ◌∷◌, [], Bool, true, false, cond, List, length, map, refl, sym, ◌∙◌, ap, subst, append_assoc, codes, take, drop}
 use Rattle.std.specs.Prelude.{All, if◌then◌else◌, filter, Result, Ok, Err, IfOk}
 use Rattle.std.specs.List.{flat_map, range_with_len}
 use Rattle.std.proofs.lemmas.List.{length-map, get_or-map}
@@ -90,3 +90,11 @@ fault_told g after f fault (Ok reply) history line status = λ rules is.
     let same : reply_of reply ≡ refusal (history_fault_words fault ++ role_part g.role_name fault) = cc (line, status) in
     (Err fault, history, same)
 fault_told g after f fault (Err e) history line status = tt
+
+-- words written over all of a list
+take_front : (xs ys : List ℕ) → take (length xs) (xs ++ ys) ≡ xs
+take_front [] ys = refl
+take_front (x ∷ xs) ys = ap (λ (zs : List ℕ). x ∷ zs) (take_front xs ys)
+
+pub all_written : (ws items : List ℕ) (n : ℕ) → n ≡ length items → length ws ≡ length items → take n (ws ++ drop (length ws) items) ≡ ws
+all_written ws items n e f = ap (λ (k : ℕ). take k (ws ++ drop (length ws) items)) (e ∙ sym f) ∙ take_front ws (drop (length ws) items)

@@ -1,9 +1,9 @@
-use Rattle.std.proofs.Common.{ℕ, List, ◌≡◌, length, sym, subst, ◌∙◌}
+use Rattle.std.proofs.Common.{ℕ, List, ◌≡◌, length, sym, subst, ◌∙◌, rules as facts}
 use Rattle.game.specs.Keys.{state_of_bits}
 use Rattle.ground.specs.declared.flat_ground.FlatGround.{FlatGround}
 use Rattle.ground.specs.GroundView.{IsGround}
 use Rattle.replies.specs.Histories.{named}
-use Rattle.replies.proofs.Standings.{standing_told}
+use Rattle.replies.proofs.Standings.{standing_told, all_written}
 use Rattle.replies.proofs.standing.standing_lines.Goals as goal
 
 pub returns : goal.returns
@@ -13,7 +13,8 @@ returns g c = λ rules is.
     let key = c.write_key.new.key in
     let law = g.met.G.GroundGame g.world.𝓛 g.world.𝓜 g.world.𝓡 ((λ _ x. x), (λ x. x), (λ x. x), λ x. x) in
     let source = c.instantiation.ensures in
-    let same : c.deref.result.now ≡ c.write_key.new.key = c.deref.ensures.value in
+    let same : c.deref.result.now ≡ c.write_key.new.key =
+    c.deref.ensures.value ∙ all_written c.write_key.new.key c.in_ok-key.key.items c.in_ok-key.key.len c.in_ok-key.key.ok.0 (search facts) in
     standing_told rules c.instantiation.result.now game state key c.new-output.result.items c.add_standing.new.output.items
     c.add_holding.new.output.items
     (subst (IsGround rules) (sym source) is)
