@@ -30,8 +30,10 @@ fn role_names(alloc: Global, rules: &RuleSet) -> Result<Vec<u8>, AllocError> {
 fn history_of<'a>(inquiry: &Inquiry<'a>) -> &'a str {
     match inquiry {
         Inquiry::Net => "",
-        Inquiry::Moves { after } => after,
-        Inquiry::Solve(sought) => sought.after,
+        Inquiry::Moves { after } | Inquiry::State { after } => after,
+        Inquiry::Solve(sought) | Inquiry::SolveWithin(sought, _) | Inquiry::Values(sought) => {
+            sought.after
+        }
     }
 }
 
