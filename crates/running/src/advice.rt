@@ -8,6 +8,9 @@ fn about_option(text: &str) -> &'static str {
             "  --cut takes one to three numbers joined by x, as 4x2: each from 1 to 16, and their product at most 64\n"
         }
         "bad bound\n" => "  --at-bound takes zero or goal\n",
+        "bad window\n" => {
+            "  --window takes two whole numbers joined by a colon, as 49:51: the low one from -1, the high one up to 101 and greater\n"
+        }
         _ => "",
     }
 }
