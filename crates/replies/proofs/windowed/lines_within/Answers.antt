@@ -30,11 +30,3 @@ returns-in-Between g c =
     let asked = c.args.asked in
     rw (told_between game c.args.window asked.role asked.depth asked.at state c.place_value.result c.place_value.ensures.placed c.in-Between.worth
     c.in-Between.is) c.lines_of_value.ensures
-
-pub returns : goal.returns
-returns g c =
-    let game = named (g.G.Game.rules c.args.g.now) (g.G.Game.role_name c.args.g.now) (g.G.Game.move_name c.args.g.now) in
-    let state = g.G.Game.state c.args.g.now c.args.here.now in
-    let asked = c.args.asked in
-    rw (told_above game c.args.window asked.role asked.depth asked.at state c.place_value.result c.place_value.ensures.placed c.in-Above.is)
-    c.above_lines.ensures
