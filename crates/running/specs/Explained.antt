@@ -11,6 +11,10 @@ use Rattle.running.specs.Fulfilling.{Streams, streams, IsCommandRun, IsFulfilled
 abbrev pub TellsMore : Type 0 → Option (List ℕ) → Option (List ℕ) → Type 0
 TellsMore may before after = Keeps before after ⊎ (may × (text : List ℕ) × AppendsFront before after text)
 
+-- more may be told in any case
+abbrev pub Always : Type 0
+Always = Unit {0}
+
 -- an explanation stands behind a refusal, and advice behind words that are no command
 abbrev pub IsExplicable : ℕ → Type 0
 IsExplicable status = (status ≡ 2) ⊎ (status ≡ 1)

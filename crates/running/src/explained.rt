@@ -4,7 +4,7 @@ ghost use Rattle.std.specs.Io.KnownBytes.{Keeps};
 ghost use Rattle.running.specs.Exits.{Replied};
 ghost use Rattle.running.specs.Fulfilling.{streams};
 ghost use Rattle.running.specs.Ran.{ended_of};
-ghost use Rattle.running.specs.Explained.{IsExplained, IsFulfilledExplained, IsRunExplained, TellsMore};
+ghost use Rattle.running.specs.Explained.{IsExplained, IsFulfilledExplained, IsRunExplained, Always, TellsMore};
 
 use crate::advice::advice;
 use crate::commands::{fulfil, status_of, tell};
@@ -59,7 +59,7 @@ fn run_explained<T: Threads + Sync + AllocGlobal, R: Read, W: Write, E: Write>(
 
 /// Tells the errors what helps with words that are no command, if there is memory for it.
 fn advise<E: Write>(alloc: Global, words: &[&str], text: &str, errors: &mut E)
-    ensures { TellsMore (0 ≡ 0) (E.contents errors.old) (E.contents errors.new) }
+    ensures { TellsMore Always (E.contents errors.old) (E.contents errors.new) }
 {
     let Ok(text) = advice(alloc, words, text) else {
         return;

@@ -16,7 +16,7 @@ use crate::input::read_input;
 use crate::runs::{Ran, ended, write_out};
 use bumpalo::Bump;
 use lint::finding_lines;
-use replies::{Reply, check};
+use replies::check;
 use statement::Status;
 use std::alloc::{AllocError, Global};
 use std::io::{Read, Write};
@@ -34,7 +34,7 @@ fn status_of_lines(lines: &[u8]) -> Status
 }
 
 /// The findings in bytes that are a description without a fault.
-fn found(alloc: Global, bytes: &[u8]) -> Result<Reply, AllocError>
+fn found(alloc: Global, bytes: &[u8]) -> Result<replies::Reply, AllocError>
     ensures { IfOk result (λ reply. reply.status ≡ status_of_lines reply.output.items) }
 {
     let arena = Bump::new(alloc);
@@ -43,11 +43,11 @@ fn found(alloc: Global, bytes: &[u8]) -> Result<Reply, AllocError>
     };
     let output = finding_lines(alloc, bytes, &items)?;
     let status = status_of_lines(&output);
-    Ok(Reply { output, status })
+    Ok(replies::Reply { output, status })
 }
 
 /// The reply to `lint` over the bytes of the input: the refusal that `check` writes, or the lines of findings.
-fn lint_reply(alloc: Global, bytes: &[u8]) -> Result<Reply, AllocError>
+fn lint_reply(alloc: Global, bytes: &[u8]) -> Result<replies::Reply, AllocError>
     ensures { IfOk result (λ reply. IsLintReply bytes.now (reply_of reply)) }
 {
     let checked = check(alloc, bytes)?;

@@ -13,7 +13,6 @@ use crate::input::read_input;
 use crate::working::reply_by_workers;
 use kif::write_bytes;
 use netgame::NetGame;
-use replies::Reply;
 use rulebook::GroundGame;
 use statement::Status;
 use std::io::{Read, Write};
@@ -36,7 +35,7 @@ pub(crate) fn write_out<W: Write>(output: &mut W, bytes: &[u8]) -> Result<(), Ru
 #[derive(Drop)]
 pub(crate) struct Ran {
     pub(crate) bytes: Vec<u8>,
-    pub(crate) reply: Reply,
+    pub(crate) reply: replies::Reply,
 }
 
 /// Reads the rules, writes the reply to the command and nothing else, and keeps both. The type `G` says who plays their game.
