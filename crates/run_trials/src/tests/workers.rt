@@ -80,6 +80,7 @@ fn step_at_once<T: Threads + Sync + AllocGlobal>(
         here: _,
         asked,
         cut,
+        table,
     } = search;
     let game = Watched {
         inner: game,
@@ -94,6 +95,7 @@ fn step_at_once<T: Threads + Sync + AllocGlobal>(
         here,
         asked,
         cut,
+        table,
     };
     let reply = told_by_workers(rt, search)?;
     let is_right = reply.output.as_slice() == b"value 70\nmove y\nline 1 y\n".as_slice();
