@@ -22,6 +22,7 @@ fn sought<'a>(row: &Row<'a>) -> Option<Sought<'a>> {
         depth: row.2,
         at_bound: AtBound::Zero,
         cut: Cut::parse(b"1")?,
+        table: 1,
         after: row.3,
     })
 }
