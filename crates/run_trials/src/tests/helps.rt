@@ -135,7 +135,7 @@ Example:
 
 #[test]
 fn help_is_an_answer(rt: HostRuntime) {
-    let rows: [Row; 12] = [
+    let rows: [Row; 13] = [
         (&["--help"], PROGRAM),
         (&["-h"], PROGRAM),
         (&["help"], PROGRAM),
