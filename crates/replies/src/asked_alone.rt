@@ -91,7 +91,14 @@ pub(crate) fn role_reply<G: Game>(
                 depth: sought.depth,
                 at: sought.at_bound,
             };
-            reply_after(alloc, g, asked, wanted, sought.after, bytes_in(sought.table))
+            reply_after(
+                alloc,
+                g,
+                asked,
+                wanted,
+                sought.after,
+                bytes_in(sought.table),
+            )
         }
         None => refused(alloc, &"S1 NoSuchRole"),
     }
