@@ -21,7 +21,7 @@ from tests import TOP
 # Where this is set, the page asks this program in place of the library.
 PROGRAM = os.environ.get("GDLSOLVE_PROGRAM", "")
 MARKS = (TOP / "games/tic_tac_toe.kif").read_bytes()
-UNSAFE = "(role a) ; one\n(base p)\n  (<= (next p)\n (not (true ?x)))\n"
+UNSAFE = "(role a) ; one\n(base p)\n  (<= (next p) (not (true ?x)))\n"
 
 
 def children(parent: int) -> set[int]:
