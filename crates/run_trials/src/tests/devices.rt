@@ -10,7 +10,7 @@ pub struct Torn<'a> {
 }
 
 impl<'a> Torn<'a> {
-    pub fn new(left: &'a [u8], reads: usize) -> Torn<'a> {
+    pub(crate) fn new(left: &'a [u8], reads: usize) -> Torn<'a> {
         Torn { left, reads }
     }
 }
@@ -46,7 +46,7 @@ pub struct Full {
 }
 
 impl Full {
-    pub fn new(alloc: Global, room: usize, breaks: bool) -> Full {
+    pub(crate) fn new(alloc: Global, room: usize, breaks: bool) -> Full {
         let taken = Vec::new(alloc);
         Full {
             taken,
@@ -55,7 +55,7 @@ impl Full {
         }
     }
 
-    pub fn taken(&self) -> &[u8] {
+    pub(crate) fn taken(&self) -> &[u8] {
         self.taken.as_slice()
     }
 }
