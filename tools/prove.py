@@ -7,6 +7,7 @@
     --check WORDS..           proves what NAME stands on, and then checks NAME over what an earlier check of it kept, with these words of rattle
     --tests                   proves NAME with its tests, and builds out/tests/NAME with its object out/tests/NAME.o
     --fresh                   only says by the status whether that has been done for the sources as they stand
+    --sum                     only prints the sum of all that NAME is made of
     --weigh                   writes the processor seconds of each crate that was proved to tools/weights.txt
 
 Each crate is proved once all crates that it stands on are, so those that do not stand on each other go side by side. The crate
@@ -363,6 +364,7 @@ def main() -> int:
     parser = argparse.ArgumentParser(description="Proves crates from nothing and builds what is made of them.")
     parser.add_argument("what", help="program, library, or the name of a crate")
     parser.add_argument("--fresh", action="store_true", help="only say whether it is built from these sources")
+    parser.add_argument("--sum", action="store_true", help="only print the sum of all that it is made of")
     parser.add_argument("--weigh", action="store_true", help="note the processor seconds of each crate")
     parser.add_argument("--tests", action="store_true", help="prove the crate with its tests, and build them")
     parser.add_argument("--check", nargs=argparse.REMAINDER, metavar="WORD", help="check the crate over its last check, with these words of rattle")
@@ -374,6 +376,9 @@ def main() -> int:
         parser.error(f"crates.txt has no line for {name}")
     crate = crates()[name]
     try:
+        if asked.sum:
+            print(sum_of(name))
+            return 0
         if asked.fresh:
             return 0 if crate.is_fresh() else UNPROVED
         if asked.check is not None:

@@ -16,8 +16,9 @@ from enum import Enum
 from pathlib import Path
 from typing import Any
 
-from gdlsolve.calls import Misuse, Refusal, Reply, Status, lines_of, reply
+from gdlsolve.calls import ASKS_FOR_HELP, Ended, Misuse, Refusal, Reply, Status, lines_of, reply
 from gdlsolve.deepening import Deepest, deepen
+from gdlsolve.engine import Broken
 from gdlsolve.replies import Description, Network, Outside, Position, Standing, Values
 
 USAGE = """
@@ -26,8 +27,9 @@ With this package a file of rules may stand among the words, else they are read 
       --time <SECONDS>  With solve: deeper and deeper for so long, in place of --depth
 """
 # Words that ask for a text, to which no rules are read.
-ASKS_FOR_HELP = {"--help", "-h", "help", "--version", "-V"}
+ASKS = {*ASKS_FOR_HELP, "help"}
 INPUT_FAILED = 4
+NO_PROGRAM = 70
 
 
 @dataclass(frozen=True)
@@ -66,7 +68,7 @@ def parse(words: Sequence[str]) -> Line:
             seconds = _seconds(value if has_value else next(rest, ""))
         elif word.startswith("-"):
             left.append(word)
-            if word.startswith("--") and not has_value and word not in ASKS_FOR_HELP:
+            if word.startswith("--") and not has_value and word not in ASKS:
                 left.extend([further for further in [next(rest, None)] if further is not None])
         elif left and left[0] != "help" and game is None:
             game = Path(word)
@@ -103,12 +105,13 @@ def write_json(value: Any) -> None:
 def write(line: Line, found: Reply) -> int:
     """Writes a reply as the words ask for, and gives the exit status."""
     if found.status == Status.MISUSE:
-        asked = bool(ASKS_FOR_HELP & set(line.words)) and b"error:" not in found.output
+        asked = bool(ASKS & set(line.words)) and b"error:" not in found.output
         stream = sys.stdout if asked else sys.stderr
         stream.write(found.output.decode())
         if asked and "-V" not in line.words and "--version" not in line.words:
             stream.write(USAGE)
         return 0 if asked else int(Status.MISUSE)
+    sys.stderr.write(found.errors.decode(errors="replace"))
     if not line.as_json:
         sys.stdout.buffer.write(found.output)
         sys.stdout.buffer.flush()
@@ -133,7 +136,7 @@ def write_deepest(line: Line, found: Deepest) -> int:
 
 def rules_of(line: Line) -> bytes:
     """The bytes of the rules."""
-    if ASKS_FOR_HELP & set(line.words) or not line.words:
+    if ASKS & set(line.words) or not line.words:
         return b""
     return sys.stdin.buffer.read() if line.game is None else line.game.read_bytes()
 
@@ -159,6 +162,9 @@ def main() -> int:
     except MemoryError:
         print("no memory", file=sys.stderr)
         return int(Status.NO_MEMORY)
+    except (Ended, Broken, ImportError) as fault:
+        print(str(fault) or "the solver gave no reply", file=sys.stderr)
+        return NO_PROGRAM
     except OSError as fault:
         print(f"{fault.filename}: {fault.strerror}" if fault.filename else "read fault", file=sys.stderr)
         return INPUT_FAILED

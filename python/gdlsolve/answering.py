@@ -1,8 +1,12 @@
 """The child process of an engine: it answers questions on its standard input, which is a socket.
 
+    python -m gdlsolve.answering [PROGRAM WORDS..]
+
 A request is a line `rules N` and then N bytes of rules, or a line `words N` and then N bytes, which
 are the words of a command with a byte 0 behind each. The reply to words, over the last rules, is a
-line `STATUS SIZE` and then so many bytes. The end of input ends the process, whatever it does.
+line `STATUS SIZE SIZE` and then the bytes of the reply and of what is said to people. Where there is
+none, the status is 70, and what is said tells why. The words of the command line start a program
+that answers; without any, the package does. The end of input ends the process, whatever it does.
 """
 
 from __future__ import annotations
@@ -12,7 +16,9 @@ import select
 import sys
 import threading
 
-from gdlsolve.calls import Reply, Status, reply
+from gdlsolve.calls import Ended, Reply, Status, by_program, reply
+
+NO_REPLY = 70
 
 
 def watch(socket: int) -> None:
@@ -24,11 +30,21 @@ def watch(socket: int) -> None:
 
 
 def answered(words: bytes, rules: bytes) -> Reply:
-    """The reply of the library."""
+    """The reply of the program that the command line names, or of the package."""
+    program, listed = sys.argv[1:], words.decode().split("\0")[:-1]
     try:
-        return reply(words.decode().split("\0")[:-1], rules)
+        return by_program(program, listed, rules) if program else reply(listed, rules)
     except MemoryError:
         return Reply(Status.NO_MEMORY, b"")
+
+
+def told(words: bytes, rules: bytes) -> tuple[int, bytes, bytes]:
+    """The status, the reply, and what is said to people."""
+    try:
+        found = answered(words, rules)
+    except (Ended, ImportError, OSError) as fault:
+        return NO_REPLY, b"", str(fault).encode()
+    return int(found.status), found.output, found.errors
 
 
 def serve() -> None:
@@ -40,8 +56,9 @@ def serve() -> None:
         if kind == b"rules":
             rules = text
             continue
-        found = answered(text, rules)
-        sys.stdout.buffer.write(b"%d %d\n" % (found.status, len(found.output)) + found.output)
+        status, output, errors = told(text, rules)
+        head = b"%d %d %d\n" % (status, len(output), len(errors))
+        sys.stdout.buffer.write(head + output + errors)
         sys.stdout.buffer.flush()
 
 

@@ -1,4 +1,4 @@
-"""Questions to the solver that end in time.
+"""Questions to the solver that end in time, for the player, the page and searches by time.
 
 Each question goes to a child process, which is ended where the answer is late, where the question
 is given up, and where the process that asks ends. A child that answered takes further questions, so
@@ -9,6 +9,7 @@ from __future__ import annotations
 
 import os
 import select
+import signal
 import socket
 import subprocess
 import sys
@@ -16,9 +17,10 @@ import threading
 import time
 from collections.abc import Iterator, Sequence
 from contextlib import contextmanager
-from pathlib import Path
 
-from gdlsolve.calls import Misuse, Refusal, Reply, Status, lines_of
+from gdlsolve.answering import NO_REPLY
+from gdlsolve.calls import Misuse, Reply, Status
+from gdlsolve.program import environment
 from gdlsolve.replies import Description, Position, Solution
 
 Turn = tuple[str, ...]
@@ -28,6 +30,8 @@ OWN_COMMAND = (sys.executable, "-m", "gdlsolve.answering")
 BEAT = 0.02
 # No reply is longer: a line for each of 4,096 moves of at most 4,096 bytes.
 MOST_BYTES = 1 << 25
+# A request that is not taken within so many seconds is not taken at all.
+LONGEST_SEND = 60.0
 
 
 class Late(Exception):
@@ -43,6 +47,8 @@ def readable() -> Iterator[None]:
     """What cannot be read as an answer is told as such."""
     try:
         yield
+    except Misuse:
+        raise
     except (ValueError, LookupError, TypeError) as fault:
         raise Broken(f"no answer: {fault!r}") from None
 
@@ -68,13 +74,6 @@ def history(turns: Sequence[Turn]) -> str:
     return " ".join("(" + " ".join(turn) + ")" for turn in turns)
 
 
-def _environment() -> dict[str, str]:
-    """The environment, in which this package is found."""
-    package = str(Path(__file__).resolve().parent.parent)
-    path = os.pathsep.join(filter(None, [package, os.environ.get("PYTHONPATH")]))
-    return {**os.environ, "PYTHONPATH": path}
-
-
 class Child:
     """A process that answers, at the other end of a socket."""
 
@@ -87,7 +86,7 @@ class Child:
                 command,
                 stdin=theirs.fileno(),
                 stdout=theirs.fileno(),
-                env=_environment(),
+                env=environment(),
                 process_group=0,
             )
         except BaseException:
@@ -97,15 +96,23 @@ class Child:
             theirs.close()
         self.socket = ours
 
+    def lives(self) -> bool:
+        """Whether the process is there."""
+        return self.process.poll() is None
+
     def end(self) -> None:
-        """Ends the process."""
-        self.process.kill()
+        """Ends the process, and the program that it may have started."""
+        if self.lives():
+            try:
+                os.killpg(self.process.pid, signal.SIGKILL)
+            except OSError:
+                self.process.kill()
         self.process.wait()
         self.socket.close()
 
     def send(self, kind: str, text: bytes, limit: Limit) -> None:
         """Writes a request."""
-        self.socket.settimeout(max(limit.left(), 0.001))
+        self.socket.settimeout(min(max(limit.left(), 0.001), LONGEST_SEND))
         try:
             self.socket.sendall(b"%s %d\n" % (kind.encode(), len(text)) + text)
         except TimeoutError:
@@ -133,20 +140,31 @@ class Child:
             found += self.receive(limit)
             if len(found) > MOST_BYTES:
                 raise Broken("a line without an end")
-        line, output = found.split(b"\n", 1)
+        line, rest = found.split(b"\n", 1)
         words = line.split()
-        if len(words) != 2 or not all(word.isdigit() for word in words):
+        if len(words) != 3 or not all(word.isdigit() for word in words):
             raise Broken(f"no reply: {line[:80]!r}")
-        status, size = map(int, words)
-        if status not in list(Status) or size > MOST_BYTES:
+        status, size, more = map(int, words)
+        if status not in {*Status, NO_REPLY} or size + more > MOST_BYTES:
             raise Broken(f"no reply: {line[:80]!r}")
-        parts, have = [output], len(output)
-        while have < size:
+        parts, have = [rest], len(rest)
+        while have < size + more:
             parts.append(self.receive(limit))
             have += len(parts[-1])
-        if have > size:
+        if have > size + more:
             raise Broken("more than a reply")
-        return Reply(Status(status), b"".join(parts))
+        whole = b"".join(parts)
+        if status == NO_REPLY:
+            raise Broken(whole.decode(errors="replace"))
+        return Reply(Status(status), whole[:size], whole[size:])
+
+    def ask(self, words: Sequence[str], rules: bytes, limit: Limit) -> Reply:
+        """The reply to a command over rules, which are sent where they are not those of before."""
+        if self.rules is not rules:
+            self.send("rules", rules, limit)
+            self.rules = rules
+        self.send("words", b"".join(word.encode() + b"\0" for word in words), limit)
+        return self.reply(limit)
 
 
 class Children:
@@ -178,7 +196,7 @@ class Children:
             while self.idle:
                 child = self.idle.pop(0)
                 self.change.notify()
-                if child.process.poll() is None:
+                if child.lives():
                     return child
                 child.end()
         try:
@@ -194,6 +212,22 @@ class Children:
                 return
         child.end()
 
+    def ask(
+        self, child: Child | None, words: Sequence[str], rules: bytes, limit: Limit
+    ) -> tuple[Child, Reply]:
+        """The reply of a child, and that child. One that is late is ended; one that ended by itself
+        is replaced once."""
+        for is_last in (False, True):
+            asked = child or self.take()
+            try:
+                return asked, asked.ask(words, rules, limit)
+            except BaseException as fault:
+                child = None
+                asked.end()
+                if is_last or not isinstance(fault, Broken):
+                    raise
+        raise Broken("no child was asked")
+
     def close(self) -> None:
         """Ends all that are idle, and later those that come back."""
         with self.change:
@@ -204,8 +238,35 @@ class Children:
             child.end()
 
 
+class Pool:
+    """Answers over any rules, so many questions at once at most; the others wait."""
+
+    def __init__(self, most: int, command: Sequence[str] | None = None, spare: int = 0):
+        self.most = most
+        self.children = Children(most, command, spare)
+        self.places = threading.Semaphore(most)
+
+    def ask(self, words: Sequence[str], rules: bytes, limit: Limit) -> Reply:
+        """The reply to a command over rules."""
+        while not self.places.acquire(timeout=BEAT):
+            if limit.left() <= 0:
+                raise Late
+        try:
+            if limit.left() <= 0:
+                raise Late
+            child, found = self.children.ask(None, words, rules, limit)
+        finally:
+            self.places.release()
+        self.children.give_back(child)
+        return found
+
+    def close(self) -> None:
+        """Asks no more. Questions that are under way end first."""
+        self.children.close()
+
+
 class Engine:
-    """Answers over one text of rules, one question at a time."""
+    """Answers over one text of rules, one question at a time, by a child that it keeps."""
 
     def __init__(self, rules: str, children: Children):
         self.rules = rules.encode()
@@ -214,47 +275,21 @@ class Engine:
         self.lock = threading.Lock()
         self.is_closed = False
 
-    def _attempt(self, words: bytes, limit: Limit) -> Reply:
-        """The reply of the present child. One that is late is ended, and another stands ready."""
-        if self.child is None:
-            self.child = self.children.take()
-        child = self.child
-        try:
-            if child.rules is not self.rules:
-                child.send("rules", self.rules, limit)
-                child.rules = self.rules
-            child.send("words", words, limit)
-            return child.reply(limit)
-        except BaseException:
-            self.child = None
-            child.end()
-            raise
-
     def ask(self, words: Sequence[str], limit: Limit) -> list[str]:
-        """The lines of the answer. A child that ended by itself is replaced once."""
-        text = b"".join(word.encode() + b"\0" for word in words)
+        """The lines of the answer."""
         if not self.lock.acquire(timeout=max(limit.left(), 0.001)):
             raise Late
         try:
             if self.is_closed:
                 raise Late
-            try:
-                found = self._attempt(text, limit)
-            except Broken:
-                found = self._attempt(text, limit)
+            child, self.child = self.child, None
+            self.child, found = self.children.ask(child, words, self.rules, limit)
         finally:
             self.lock.release()
             if self.is_closed:
                 self.close()
-        if found.status == Status.MISUSE:
-            raise Misuse(found.output.decode(errors="replace").rstrip("\n"))
-        if found.status == Status.NO_MEMORY:
-            raise MemoryError
         with readable():
-            lines = lines_of(found.output)
-            if found.status == Status.REFUSED:
-                raise Refusal(lines[0])
-        return lines
+            return found.lines()
 
     def check(self, limit: Limit) -> Description:
         """What the rules have."""

@@ -44,7 +44,8 @@ class Boards(unittest.TestCase):
         coins = [f"(coins {role} {number})" for role in ("east", "west") for number in range(4)]
         thin = [f"(step {number} {number + 1})" for number in range(9)]
         lists = ["(on (f 1) 2)", "(on (f 2) 1)"]
-        for base in (coins, thin, lists, ["(p 1 1)"], ["p", "(q 1)"], []):
+        none: list[str] = []
+        for base in (coins, thin, lists, ["(p 1 1)"], ["p", "(q 1)"], none):
             with self.subTest(base=base):
                 self.assertEqual(board.frames(base, Style()), [])
         self.assertEqual(drawn(["(coins east 3)"], coins), [["(coins east 3)"]])

@@ -8,7 +8,6 @@ from __future__ import annotations
 import importlib.util
 import io
 import os
-import shlex
 import shutil
 import sys
 import threading
@@ -18,11 +17,10 @@ from collections.abc import Callable
 from pathlib import Path
 from typing import Any
 
-from gdlsolve.page.engine import Engine
+from gdlsolve.engine import Pool
 from gdlsolve.page.server import Desk, Server
 from tests import TOP
 
-PROGRAM = os.environ.get("GDLSOLVE_PROGRAM", "")
 PICTURES = os.environ.get("GDLSOLVE_PICTURES", "")
 # Where Debian puts the driver's package, for a Python that is not Debian's.
 PACKAGES = "/usr/lib/python3/dist-packages"
@@ -97,19 +95,19 @@ class Browser(unittest.TestCase):
         from selenium.webdriver.chrome.options import Options
         from selenium.webdriver.chrome.service import Service
 
-        options = Options()
+        options: Any = Options()
         options.binary_location = CHROMIUM
         options.set_capability("goog:loggingPrefs", {"browser": "ALL"})
         for word in ("headless=new", "no-sandbox", "disable-gpu", "disable-dev-shm-usage"):
             options.add_argument(f"--{word}")
         options.add_argument("--window-size=1200,1000")
-        cls.desk = Desk(Engine(shlex.split(PROGRAM), 3), TOP / "games")
+        cls.desk = Desk(Pool(3), TOP / "games")
         cls.addClassCleanup(cls.desk.close)
         cls.server = Server(cls.desk, 0)
         threading.Thread(target=cls.server.serve_forever, daemon=True).start()
         cls.addClassCleanup(cls.server.server_close)
         cls.addClassCleanup(cls.server.shutdown)
-        cls.browser = webdriver.Chrome(service=Service(DRIVER), options=options)
+        cls.browser = webdriver.Chrome(service=Service(str(DRIVER)), options=options)
         cls.addClassCleanup(cls.browser.quit)
 
     def setUp(self) -> None:

@@ -14,16 +14,16 @@ import sys
 import tempfile
 import time
 import unittest
+from collections.abc import Callable
 from concurrent.futures import ProcessPoolExecutor
 from pathlib import Path
+from typing import IO
 
 from gdlsolve import cluster
-from gdlsolve.calls import _library_file
 from gdlsolve.cluster import program
-from tests import GAMES, TOP
+from tests import GAMES, LONG_TESTS, PROGRAM, TOP, known, package
 
 MARKS = TOP / "games/tic_tac_toe.kif"
-LONG = os.environ.get("GDLSOLVE_LONG_TESTS") == "1"
 # Games whose stored solve takes long, or is of very many questions.
 LENGTHY = {"connect_four_4x4", "connect_four_5x4", "blotto"}
 WORKERS = 3
@@ -38,7 +38,7 @@ exec {command} "$@"
 """
 
 
-def setUpModule():
+def setUpModule() -> None:
     words = ["solve", "--role", "xplayer", "--depth", "0", "--window", "0:100", "--after", ""]
     try:
         ran = program.run(words, MARKS.read_bytes())
@@ -48,13 +48,13 @@ def setUpModule():
         raise unittest.SkipTest(f"the program has no windows: {ran.errors.decode().strip()}")
 
 
-def stored(game):
+def stored(game: Path) -> tuple[list[str], bytes]:
     """The options of the stored solve of a game, and its answer."""
     first, answer = game.with_suffix(".solve").read_bytes().split(b"\n", 1)
     return shlex.split(first.decode())[1:], answer
 
 
-def with_dask():
+def with_dask() -> str | None:
     """A Python that has Dask, where there is one."""
     seek = "import importlib.util as u, sys; sys.exit(u.find_spec('distributed') is None)"
     for python in dict.fromkeys([sys.executable, "/usr/bin/python3"]):
@@ -64,15 +64,12 @@ def with_dask():
     return None
 
 
-def environment(**more):
-    """The environment of a process that is started here."""
-    known = {**os.environ, "PYTHONPATH": str(TOP / "python"), "PYTHONDONTWRITEBYTECODE": "1"}
-    if program.VARIABLE not in os.environ:
-        known["GDLSOLVE_LIBRARY"] = str(_library_file())
-    return {**known, **more}
+def environment(**more: str) -> dict[str, str]:
+    """The environment of a process that is started here. A program is quicker than the package."""
+    return known(**({program.VARIABLE: " ".join(PROGRAM)} if PROGRAM else {}), **more)
 
 
-def until(true, what):
+def until(true: Callable[[], object], what: str) -> None:
     """Waits until something is so."""
     end = time.monotonic() + PATIENCE
     while not true():
@@ -81,16 +78,16 @@ def until(true, what):
         time.sleep(0.05)
 
 
-def children(pid):
+def children(pid: int) -> list[int]:
     """The processes that the threads of a process have started."""
-    found = []
+    found: list[int] = []
     for thread in Path(f"/proc/{pid}/task").glob("*"):
         with contextlib.suppress(OSError):
             found += map(int, (thread / "children").read_text().split())
     return found
 
 
-def marked(mark):
+def marked(mark: str) -> set[int]:
     """The processes in whose environment a text stands."""
     found = set()
     for room in Path("/proc").glob("[0-9]*"):
@@ -102,28 +99,32 @@ def marked(mark):
 
 
 class Here(unittest.TestCase):
-    def test_a_process_pool(self):
+    def test_a_process_pool(self) -> None:
         options, answer = stored(MARKS)
         with ProcessPoolExecutor(2) as pool:
             found = cluster.solve(MARKS.read_text(), "XPLAYER", 9, executor=pool, width=2)
         self.assertEqual(found.value, 50)
         self.assertIn(f"line 9 {' '.join(found.line[8])}", answer.decode())
 
-    def test_the_command(self):
+    def test_the_command(self) -> None:
         options, answer = stored(MARKS)
-        for words, want in (
-            (["--processes", "2", *options, MARKS], (0, answer, b"")),
-            (["--role", "no one", "--depth", "3", MARKS], (2, b"refused S1 NoSuchRole\n", b"")),
-            (["--role", "xplayer", "--depth", "0", MARKS], (0, b"value 0\nmove none\n", b"")),
-        ):
+        no_one = ["--role", "no one", "--depth", "3"]
+        no_turns = ["--role", "xplayer", "--depth", "0"]
+        runs: list[tuple[list[str], tuple[int, bytes, bytes]]] = [
+            (["--processes", "2", *options, str(MARKS)], (0, answer, b"")),
+            ([*no_one, str(MARKS)], (2, b"refused S1 NoSuchRole\n", b"")),
+            ([*no_turns, str(MARKS)], (0, b"value 0\nmove none\n", b"")),
+        ]
+        for words, want in runs:
             with self.subTest(words=words):
-                command = [sys.executable, "-m", "gdlsolve.cluster", *map(str, words)]
+                command = package("gdlsolve.cluster", *words)
                 done = subprocess.run(command, capture_output=True, env=environment(), check=False)
                 self.assertEqual((done.returncode, done.stdout, done.stderr), want)
 
-    def test_other_words_are_misuse(self):
-        for words in ([], ["--role", "a", "--depth", "65", MARKS], ["--processes", "0"]):
-            command = [sys.executable, "-m", "gdlsolve.cluster", *map(str, words)]
+    def test_other_words_are_misuse(self) -> None:
+        none: list[str] = []
+        for words in (none, ["--role", "a", "--depth", "65", str(MARKS)], ["--processes", "0"]):
+            command = package("gdlsolve.cluster", *words)
             done = subprocess.run(command, capture_output=True, env=environment(), check=False)
             self.assertEqual((done.returncode, done.stdout), (1, b""))
             self.assertTrue(done.stderr)
@@ -132,16 +133,24 @@ class Here(unittest.TestCase):
 class OverDask(unittest.TestCase):
     """One scheduler and three workers, each started again whenever it ends."""
 
+    python: str
+    room: Path
+    slow: Path
+    known: dict[str, str]
+    address: str
+    scheduler: subprocess.Popen[bytes]
+    workers: list[subprocess.Popen[bytes]]
+
     @classmethod
-    def setUpClass(cls):
-        cls.python = with_dask()
-        if cls.python is None:
+    def setUpClass(cls) -> None:
+        python = with_dask()
+        if python is None:
             raise unittest.SkipTest("there is no Dask: Debian has it as python3-distributed")
+        cls.python = python
         room = tempfile.TemporaryDirectory()
         cls.addClassCleanup(room.cleanup)
         cls.room = Path(room.name)
-        named = os.environ.get(program.VARIABLE)
-        command = f"'{named}'" if named else f"'{sys.executable}' -m gdlsolve"
+        command = shlex.join(PROGRAM or [sys.executable, "-m", "gdlsolve"])
         cls.slow = cls.room / "slow"
         slowly = cls.room / "slowly"
         slowly.write_text(SLOWLY.format(command=command, slow=cls.slow))
@@ -159,7 +168,7 @@ class OverDask(unittest.TestCase):
         cls.workers = [cls.keep("distributed.cli.dask_worker", *worker) for _ in range(WORKERS)]
 
     @classmethod
-    def keep(cls, module, *words):
+    def keep(cls, module: str, *words: str) -> subprocess.Popen[bytes]:
         """Starts a part of the cluster, again whenever it ends."""
         log = (cls.room / "log").open("ab")
         command = ["bash", "-c", AGAIN, "again", cls.python, "-m", module, *words]
@@ -169,7 +178,7 @@ class OverDask(unittest.TestCase):
         cls.addClassCleanup(kept.terminate)
         return kept
 
-    def command(self, *more):
+    def command(self, *more: object) -> tuple[subprocess.Popen[bytes], IO[bytes]]:
         """Starts the command for tic-tac-toe, and what it has told of."""
         options, _ = stored(MARKS)
         words = ["-m", "gdlsolve.cluster", "--scheduler", self.address, "--verbose", *options]
@@ -177,20 +186,21 @@ class OverDask(unittest.TestCase):
         self.addCleanup(told.close)
         command = [self.python, *map(str, [*words, *more, MARKS])]
         started = subprocess.Popen(command, env=self.known, stdout=subprocess.PIPE, stderr=told)
+        assert started.stdout is not None
         self.addCleanup(started.stdout.close)
         self.addCleanup(started.wait)
         self.addCleanup(started.kill)
         return started, told
 
-    def said(self, told):
+    def said(self, told: IO[bytes]) -> str:
         return os.pread(told.fileno(), 1 << 20, 0).decode()
 
-    def solvers(self):
+    def solvers(self) -> list[tuple[int, int]]:
         """The programs that the workers run, each with the process that has started it."""
         workers = [each for kept in self.workers for each in children(kept.pid)]
         return [(each, worker) for worker in workers for each in children(worker)]
 
-    def killed_in(self, kill):
+    def killed_in(self, kill: Callable[[], None]) -> str:
         """Kills something once answers are there and programs run, and gives what was told."""
         self.be_slow()
         started, told = self.command()
@@ -202,33 +212,33 @@ class OverDask(unittest.TestCase):
         self.assert_nothing_runs()
         return said
 
-    def be_slow(self):
+    def be_slow(self) -> None:
         self.slow.touch()
         self.addCleanup(self.slow.unlink)
 
-    def assert_nothing_runs(self):
+    def assert_nothing_runs(self) -> None:
         until(lambda: not self.solvers(), "no program is left behind")
 
-    def test_stored_games(self):
-        games = [game for game in GAMES if LONG or game.stem not in LENGTHY]
+    def test_stored_games(self) -> None:
+        games = [game for game in GAMES if LONG_TESTS or game.stem not in LENGTHY]
         script = TOP / "python/tests/over_dask.py"
         command = [self.python, str(script), self.address, *map(str, games)]
         done = subprocess.run(command, capture_output=True, text=True, env=self.known, check=False)
         self.assertEqual(done.stdout, f"same {len(games)}\n", done.stderr)
         self.assert_nothing_runs()
 
-    def test_a_worker_is_killed(self):
+    def test_a_worker_is_killed(self) -> None:
         self.killed_in(lambda: os.kill(self.solvers()[0][1], signal.SIGKILL))
 
-    def test_a_program_is_killed(self):
+    def test_a_program_is_killed(self) -> None:
         said = self.killed_in(lambda: os.kill(self.solvers()[0][0], signal.SIGKILL))
         self.assertIn("failed: ", said)
 
-    def test_the_scheduler_is_killed(self):
+    def test_the_scheduler_is_killed(self) -> None:
         said = self.killed_in(lambda: os.kill(children(self.scheduler.pid)[0], signal.SIGKILL))
         self.assertIn("lost", said)
 
-    def test_the_one_who_asks_is_killed(self):
+    def test_the_one_who_asks_is_killed(self) -> None:
         book = self.room / "journal"
         self.be_slow()
         started, told = self.command("--journal", book)

@@ -4,56 +4,59 @@ import tempfile
 import threading
 import unittest
 from collections import Counter
+from collections.abc import Callable
 from concurrent.futures import Future, ThreadPoolExecutor
 from pathlib import Path
+from typing import Any
 from unittest.mock import patch
 
 from gdlsolve.calls import Misuse, Refusal
-from gdlsolve.cluster import Contradiction, Failed, Lost, OtherProgram, driver, sought
-from gdlsolve.cluster.driver import Driver, Engine, Manner, reading
+from gdlsolve.cluster import Contradiction, Failed, Lost, OtherProgram, driver, sought, task
+from gdlsolve.cluster.driver import Driver, Engine, Manner, Sought, Submits, reading
 from gdlsolve.cluster.journal import Journal, Known
 from gdlsolve.cluster.program import Ran
-from gdlsolve.cluster.task import End, Outcome
-from gdlsolve.cluster.tree import goals, widest
+from gdlsolve.cluster.task import End, Outcome, Question
+from gdlsolve.cluster.tree import Node, goals, widest
 from tests import toy
 
 SEEDS = range(60)
+Call = Callable[[Question], Outcome]
 
 
 class Wild:
     """An executor that works at what was sent in any order, twice at times, loses some of it, has
     faults of its own, and answers also what is not wanted any more."""
 
-    def __init__(self, seed, faults=True):
+    def __init__(self, seed: int, faults: bool = True):
         self.chance = random.Random(seed)
         self.faults = faults
-        self.waiting = []
-        self.bad = Counter()
+        self.waiting: list[tuple[Future[Outcome], Call, Question]] = []
+        self.bad: Counter[str] = Counter()
         self.sent = 0
         self.more = threading.Condition()
         self.ended = False
         self.thread = threading.Thread(target=self.work, daemon=True)
         self.thread.start()
 
-    def submit(self, call, question):
-        future = Future()
+    def submit(self, call: Call, question: Question, /) -> Future[Outcome]:
+        future: Future[Outcome] = Future()
         with self.more:
             self.sent += 1
             self.waiting.append((future, call, question))
             self.more.notify()
         return future
 
-    def work(self):
+    def work(self) -> None:
         while True:
             with self.more:
-                self.more.wait_for(lambda: self.waiting or self.ended)
+                self.more.wait_for(lambda: bool(self.waiting) or self.ended)
                 if self.ended:
                     return
                 place = self.chance.randrange(len(self.waiting))
                 future, call, question = self.waiting.pop(place)
             self.answer(future, call, question)
 
-    def answer(self, future, call, question):
+    def answer(self, future: Future[Outcome], call: Call, question: Question) -> None:
         """Gives an answer, or what stands in its place: at most twice for one question."""
         outcome = call(question)
         if self.chance.random() < 0.3:
@@ -71,7 +74,7 @@ class Wild:
         else:
             future.set_result(outcome)
 
-    def close(self):
+    def close(self) -> None:
         with self.more:
             self.ended = True
             self.more.notify()
@@ -81,7 +84,7 @@ class Wild:
 class Toys(unittest.TestCase):
     """Games of tests.toy in place of the program."""
 
-    def setUp(self):
+    def setUp(self) -> None:
         for name, stand_in in (("run", toy.run), ("digest", lambda: "toy")):
             patched = patch(f"gdlsolve.cluster.program.{name}", stand_in)
             patched.start()
@@ -90,20 +93,22 @@ class Toys(unittest.TestCase):
         waits.start()
         self.addCleanup(waits.stop)
 
-    def asked(self, seed, depth=4):
+    def asked(self, seed: int, depth: int = 4) -> Sought:
         return sought(toy.rules_of(seed), "x", depth, ("--unfinished", str(seed % 4 * 25)), "")
 
-    def want(self, seed, depth=4):
+    def want(self, seed: int, depth: int = 4) -> bytes:
         words = ["solve", "--role", "x", "--depth", str(depth), "--unfinished", str(seed % 4 * 25)]
         return toy.run(words, toy.rules_of(seed)).output
 
-    def found(self, seed, executor, width=4, **manner):
+    def found(
+        self, seed: int, executor: Submits, width: int = 4, **manner: Any
+    ) -> tuple[Driver, bytes]:
         asked = Driver(self.asked(seed), Engine(executor, lambda: width), Manner(**manner))
         return asked, asked.reply().output
 
 
 class Answers(Toys):
-    def test_any_order_and_any_loss_give_the_same_bytes(self):
+    def test_any_order_and_any_loss_give_the_same_bytes(self) -> None:
         for seed in SEEDS:
             with self.subTest(seed=seed):
                 executor = Wild(seed)
@@ -112,7 +117,7 @@ class Answers(Toys):
                 executor.close()
                 self.assertEqual(output, self.want(seed))
 
-    def test_splits_happen(self):
+    def test_splits_happen(self) -> None:
         splits = 0
         for seed in range(20):
             executor = Wild(seed, faults=False)
@@ -122,7 +127,7 @@ class Answers(Toys):
             splits += asked.counts.split > 1
         self.assertGreater(splits, 5)
 
-    def test_a_journal_that_is_complete_asks_for_nothing(self):
+    def test_a_journal_that_is_complete_asks_for_nothing(self) -> None:
         for seed in range(12):
             with self.subTest(seed=seed), tempfile.TemporaryDirectory() as room:
                 book = Path(room) / "journal"
@@ -133,7 +138,7 @@ class Answers(Toys):
                 self.assertEqual(executor.sent, before)
                 executor.close()
 
-    def test_a_journal_that_was_cut_off_is_of_use(self):
+    def test_a_journal_that_was_cut_off_is_of_use(self) -> None:
         for seed in range(12):
             with self.subTest(seed=seed), tempfile.TemporaryDirectory() as room:
                 book = Path(room) / "journal"
@@ -148,35 +153,35 @@ class Answers(Toys):
 class Always:
     """An executor that answers each question in the same way, at once."""
 
-    def __init__(self, answer):
+    def __init__(self, answer: Callable[[Future[Outcome], Call, Question], object]):
         self.answer, self.sent = answer, 0
 
-    def submit(self, call, question):
+    def submit(self, call: Call, question: Question, /) -> Future[Outcome]:
         self.sent += 1
-        future = Future()
+        future: Future[Outcome] = Future()
         self.answer(future, call, question)
         return future
 
 
-def gives(outcome):
+def gives(outcome: Outcome) -> Always:
     return Always(lambda future, call, question: future.set_result(outcome))
 
 
 class Faults(Toys):
-    def test_what_fails_is_tried_three_times(self):
+    def test_what_fails_is_tried_three_times(self) -> None:
         executor = gives(Outcome(End.FAILED, ("status -9",)))
         with self.assertRaises(Failed):
             self.found(1, executor, 1)
         self.assertEqual(executor.sent, 3)
 
-    def test_an_engine_that_breaks_is_tried_three_times(self):
+    def test_an_engine_that_breaks_is_tried_three_times(self) -> None:
         fault = RuntimeError("broken")
         executor = Always(lambda future, call, question: future.set_exception(fault))
         with self.assertRaises(Failed):
             self.found(1, executor, 1)
         self.assertEqual(executor.sent, 3)
 
-    def test_refusals_and_misuse_are_raised_at_once(self):
+    def test_refusals_and_misuse_are_raised_at_once(self) -> None:
         for outcome, fault in (
             (Outcome(End.REFUSED, ("refused N1 TooMany base",)), Refusal),
             (Outcome(End.MISUSED, ("status 1", "no such option")), Misuse),
@@ -191,14 +196,14 @@ class Faults(Toys):
                     self.found(1, executor, 1)
                 self.assertEqual(executor.sent, 1)
 
-    def test_what_is_lost_is_sent_again_within_the_patience(self):
+    def test_what_is_lost_is_sent_again_within_the_patience(self) -> None:
         executor = Always(lambda future, call, question: future.cancel())
         with self.assertRaises(Lost):
             self.found(1, executor, 1, patience=0.2)
         self.assertGreater(executor.sent, 1)
 
-    def test_an_engine_that_is_gone_is_waited_for_within_the_patience(self):
-        def gone(future, call, question):
+    def test_an_engine_that_is_gone_is_waited_for_within_the_patience(self) -> None:
+        def gone(future: Future[Outcome], call: Call, question: Question) -> None:
             raise OSError("no connection")
 
         with self.assertRaises(Lost):
@@ -207,24 +212,24 @@ class Faults(Toys):
         with self.assertRaises(Lost):
             Driver(self.asked(1), silent, Manner(patience=0.2)).reply()
 
-    def test_another_program_is_refused(self):
-        def other(question):
+    def test_another_program_is_refused(self) -> None:
+        def other(question: Question) -> Outcome:
             with patch("gdlsolve.cluster.program.digest", lambda: "other"):
-                return driver.task.answer(question)
+                return task.answer(question)
 
         executor = Always(lambda future, call, question: future.set_result(other(question)))
         with self.assertRaises(OtherProgram):
             self.found(1, executor, 1)
 
-    def test_two_answers_that_cannot_both_be_true(self):
-        found = Driver(self.asked(1), Engine(gives(None), lambda: 1), Manner())
-        root = driver.Node((), 2)
+    def test_two_answers_that_cannot_both_be_true(self) -> None:
+        found = Driver(self.asked(1), Engine(gives(Outcome(End.STOPPED, ())), lambda: 1), Manner())
+        root = Node((), 2)
         found._look_at(root)
         root.moves[0].replies[0].narrow(50, 100)
         with self.assertRaises(Contradiction):
             root.moves[0].replies[0].narrow(0, 49)
 
-    def test_no_room_is_left_behind(self):
+    def test_no_room_is_left_behind(self) -> None:
         with tempfile.TemporaryDirectory() as room, patch.object(tempfile, "tempdir", room):
             with ThreadPoolExecutor(2) as pool:
                 self.found(3, pool)
@@ -232,24 +237,24 @@ class Faults(Toys):
                 self.found(1, gives(Outcome(End.FAILED, ())), 1)
             self.assertEqual(list(Path(room).iterdir()), [])
 
-    def test_the_depth_is_one(self):
+    def test_the_depth_is_one(self) -> None:
         for depth in (-1, 65):
             with self.assertRaises(Misuse):
                 sought(b"", "x", depth, (), "")
 
 
 class Parts(unittest.TestCase):
-    def test_goals_are_the_numbers_that_stand_as_names(self):
+    def test_goals_are_the_numbers_that_stand_as_names(self) -> None:
         rules = b"(goal x 70)(goal y 5;30\n)(p 101 007 a40 40a 4)(q 100)"
         self.assertEqual(goals(rules), [0, 4, 5, 70, 100])
 
-    def test_windows_are_made_as_wide_as_may_be(self):
+    def test_windows_are_made_as_wide_as_may_be(self) -> None:
         self.assertEqual(widest(49, 50, [0, 50, 100]), (0, 50))
         self.assertEqual(widest(50, 51, [0, 50, 100]), (50, 100))
         self.assertEqual(widest(-1, 1, [0, 50]), (-1, 50))
         self.assertEqual(widest(50, 60, [0, 50]), (50, 101))
 
-    def test_answers_are_read(self):
+    def test_answers_are_read(self) -> None:
         self.assertEqual(reading(("value 50", "move a"), 0, 100), Known(50, 50, ("move a",)))
         self.assertEqual(reading(("at-most 0",), 0, 100), Known(0, 0))
         self.assertEqual(reading(("at-least 50", "move a"), 0, 50), Known(50, 100))
@@ -257,7 +262,7 @@ class Parts(unittest.TestCase):
             with self.assertRaises(Contradiction):
                 reading(lines, 0, 100)
 
-    def test_a_journal_takes_no_line_that_was_changed(self):
+    def test_a_journal_takes_no_line_that_was_changed(self) -> None:
         with tempfile.TemporaryDirectory() as room:
             book = Path(room) / "journal"
             Journal(book).note("a", Known(10, 90))
@@ -268,10 +273,10 @@ class Parts(unittest.TestCase):
             self.assertIsNone(Journal(book).known("b"))
         self.assertIsNone(Journal(None).known("a"))
 
-    def test_statuses_say_how_a_question_ended(self):
+    def test_statuses_say_how_a_question_ended(self) -> None:
         known = {0: End.ANSWERED, 1: End.MISUSED, 2: End.REFUSED}
         for status, end in {**known, 3: End.FAILED, 4: End.FAILED, -9: End.FAILED}.items():
-            self.assertIs(driver.task._end(Ran(status, b"", b"")), end)
+            self.assertIs(task._end(Ran(status, b"", b"")), end)
 
 
 if __name__ == "__main__":

@@ -1,14 +1,12 @@
 """The command line of the package: files among the words, JSON, search by time, statuses."""
 import json
-import os
 import subprocess
-import sys
 import tomllib
 import unittest
 from collections.abc import Sequence
 
 import gdlsolve
-from tests import TOP
+from tests import SAYS_NOTHING, TOP, known, package
 
 PENNIES = TOP / "games/matching_pennies.kif"
 MARKS = TOP / "games/tic_tac_toe.kif"
@@ -16,9 +14,10 @@ MARKS = TOP / "games/tic_tac_toe.kif"
 
 def command(words: Sequence[object], rules: bytes = b"") -> tuple[int, str, str]:
     """What the command does: its exit status, its output, and what it says to people."""
-    known = {**os.environ, "PYTHONPATH": str(TOP / "python")}
-    done = subprocess.run([sys.executable, "-B", "-m", "gdlsolve", *map(str, words)], input=rules, capture_output=True, env=known, check=False)
-    return done.returncode, done.stdout.decode(), done.stderr.decode()
+    done = subprocess.run(package("gdlsolve", *words), input=rules, capture_output=True, env=known(), check=False)
+    # A program says more beside a refusal than the library does.
+    errors = done.stderr.decode() if SAYS_NOTHING or done.returncode != 2 else ""
+    return done.returncode, done.stdout.decode(), errors
 
 
 class Words(unittest.TestCase):
@@ -32,7 +31,9 @@ class Words(unittest.TestCase):
     def test_statuses_are_those_of_the_program(self) -> None:
         self.assertEqual(command(["check"], b"(role a"), (2, "refused K4 Unclosed 0\n", ""))
         self.assertEqual(command(["check", "no such file"])[0], 4)
-        for words in ([], ["list"], ["solve", PENNIES], ["solve", "--role", "a", "--depth", "65", PENNIES]):
+        far = ["solve", "--role", "a", "--depth", "65", PENNIES]
+        wrong: list[Sequence[object]] = [[], ["list"], ["solve", PENNIES], far]
+        for words in wrong:
             status, output, errors = command(words)
             self.assertEqual((status, output), (1, ""))
             self.assertTrue(errors)

@@ -13,7 +13,7 @@ from pathlib import Path
 import gdlsolve
 from gdlsolve import Misuse, Refusal
 from gdlsolve.engine import Broken, Child, Children, Engine, Late, Limit
-from tests import GAMES, TOP
+from tests import GAMES, TOP, known
 from tests.serving import HANGING, LONG, is_alive, wait_for_end
 
 MARKS = (TOP / "games/tic_tac_toe.kif").read_text()
@@ -145,7 +145,7 @@ class Limits(unittest.TestCase):
             self.engine.moves([], soon())
 
     def test_a_command_that_is_none_or_talks_otherwise_is_told(self) -> None:
-        for command in (["/no/such/program"], ["false"], ["echo", "hello"], ["yes", "9 9"]):
+        for command in (["/no/such/program"], ["false"], ["echo", "hello"], ["yes", "9 9 9"]):
             with self.subTest(command=command):
                 children = Children(1, command, spare=0)
                 with self.assertRaises(Broken):
@@ -177,10 +177,9 @@ class Processes(unittest.TestCase):
             "open(sys.argv[2], 'w').write('moves')\n"
             "engine.moves([], Limit(time.monotonic() + 600))\n"
         )
-        known = {**os.environ, "PYTHONPATH": str(TOP / "python")}
         with tempfile.NamedTemporaryFile() as held:
             words = [sys.executable, "-c", text, str(HANGING), held.name]
-            with subprocess.Popen(words, stdout=subprocess.PIPE, env=known) as asker:
+            with subprocess.Popen(words, stdout=subprocess.PIPE, env=known()) as asker:
                 assert asker.stdout is not None
                 child = int(asker.stdout.readline())
                 time.sleep(0.3)

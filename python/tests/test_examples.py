@@ -1,19 +1,17 @@
 """The examples at the terminal, with what is typed on their standard input."""
 
-import os
 import subprocess
 import sys
 import unittest
 
-from tests import TOP
+from tests import TOP, known
 
 
 def ran(example: str, words: list[str], typed: str) -> tuple[int, list[str], str]:
     """The exit status of an example, the lines that it writes, and what it says of faults."""
-    known = {**os.environ, "PYTHONPATH": str(TOP / "python")}
     command = [sys.executable, "-B", str(TOP / "examples" / example), *words]
     done = subprocess.run(
-        command, input=typed, capture_output=True, env=known, check=False, text=True
+        command, input=typed, capture_output=True, env=known(), check=False, text=True
     )
     return done.returncode, done.stdout.splitlines(), done.stderr
 

@@ -1,10 +1,8 @@
 """Matches over HTTP: player against player, players that fail, records, and matches that go on."""
 
 import json
-import os
 import random
 import subprocess
-import sys
 import tempfile
 import threading
 import time
@@ -18,7 +16,7 @@ from typing import Any
 import gdlsolve
 from gdlsolve import State
 from gdlsolve.manager import Record, Referee, made, options, resumed
-from tests import TOP
+from tests import TOP, known, package
 from tests.serving import PACE, Served
 
 # Clocks at the pace of this machine.
@@ -202,9 +200,8 @@ class Records(unittest.TestCase):
 
 class Program(unittest.TestCase):
     def ran(self, *words: str) -> tuple[int, str, str]:
-        known = {**os.environ, "PYTHONPATH": str(TOP / "python")}
-        command = [sys.executable, "-B", "-m", "gdlsolve.manager", *words]
-        done = subprocess.run(command, capture_output=True, env=known, check=False, text=True)
+        command = package("gdlsolve.manager", *words)
+        done = subprocess.run(command, capture_output=True, env=known(), check=False, text=True)
         return done.returncode, done.stdout, done.stderr
 
     def test_it_is_started_by_one_command(self) -> None:

@@ -3,23 +3,20 @@
 import http.client
 import json
 import os
-import shlex
 import signal
 import subprocess
-import sys
 import threading
 import time
 import unittest
 from pathlib import Path
 from typing import Any
 
+from gdlsolve.calls import Refusal
+from gdlsolve.engine import Limit, Pool
 from gdlsolve.page import looks, places, records, state
-from gdlsolve.page.engine import Engine, Refused
 from gdlsolve.page.server import Desk, Server
-from tests import TOP
+from tests import TOP, known, package
 
-# Where this is set, the page asks this program in place of the library.
-PROGRAM = os.environ.get("GDLSOLVE_PROGRAM", "")
 MARKS = (TOP / "games/tic_tac_toe.kif").read_bytes()
 UNSAFE = "(role a) ; one\n(base p)\n  (<= (next p) (not (true ?x)))\n"
 
@@ -66,7 +63,7 @@ class Served(unittest.TestCase):
 
     @classmethod
     def setUpClass(cls) -> None:
-        cls.desk = Desk(Engine(shlex.split(PROGRAM), 2), TOP / "games")
+        cls.desk = Desk(Pool(2), TOP / "games")
         cls.server = Server(cls.desk, 0)
         cls.port = cls.server.server_address[1]
         threading.Thread(target=cls.server.serve_forever, daemon=True).start()
@@ -98,7 +95,7 @@ class Served(unittest.TestCase):
         return json.loads(body)
 
     def opened(self, name: str) -> str:
-        return self.ask("open", name=name)["id"]
+        return str(self.ask("open", name=name)["id"])
 
     def ended(self, look: int) -> Any:
         """What a look has found at its end."""
@@ -110,7 +107,8 @@ class Served(unittest.TestCase):
     def looked(
         self, what: str, name: str, role: str, after: list[list[str]], seconds: float = 60
     ) -> Any:
-        about = {"game": self.opened(name), "role": role, "after": after, "seconds": seconds}
+        about: dict[str, Any] = {"game": self.opened(name), "role": role, "after": after}
+        about["seconds"] = seconds
         return self.ended(self.ask(what, **about)["look"])
 
 
@@ -182,14 +180,14 @@ class Positions(Served):
             b"(role a)(base see)(base (see_0 legal_0))(input a go)(legal a go)(init see)"
             b"(<= terminal (true (see_0 legal_0)))"
         )
-        engine = self.desk.engine
+        pool = self.desk.pool
 
         def ask(words: Any, text: bytes) -> list[str]:
             if words[0] == "state":
                 words = ["no such command"]
-            return engine.ask_within(words, text, 30).lines()
+            return pool.ask(words, text, Limit(time.monotonic() + 30)).lines()
 
-        self.assertEqual(state.facts(rules, "a", "", ask), ["see"])
+        self.assertEqual(state.facts(rules, "a", (), ask), ["see"])
         self.assertEqual(sorted(state.base(rules, "a", ask)), ["(see_0 legal_0)", "see"])
 
 
@@ -239,7 +237,7 @@ class Looks(Served):
 
     def test_bad_questions_about_looks_are_told(self) -> None:
         game = self.opened("nim")
-        about = {"game": game, "role": "first", "after": []}
+        about: dict[str, Any] = {"game": game, "role": "first", "after": []}
         told = self.ask("values", 400, **{**about, "role": "third"}, seconds=1)
         self.assertIn("no role", told["error"])
         for seconds in (0, -1, "1", 1e9):
@@ -247,8 +245,9 @@ class Looks(Served):
             self.assertIn("time", told["error"])
         for look in (0, None, "1"):
             self.assertIn("over", self.ask("news", 400, look=look)["error"])
-        look = self.ask("values", **{**about, "after": [["noop", "noop"]]}, seconds=9)["look"]
-        told = self.ended(look)
+        about["after"] = [["noop", "noop"]]
+        number = self.ask("values", **about, seconds=9)["look"]
+        told = self.ended(number)
         self.assertEqual((told["ended"], told["why"]), ("failed", "refused H2 NotLegal 1 first"))
 
 
@@ -274,22 +273,21 @@ class Guards(Served):
 
 class Ends(unittest.TestCase):
     def test_a_server_without_an_engine_says_so(self) -> None:
-        known = {**os.environ, "PYTHONPATH": str(TOP / "python"), "GDLSOLVE_PROGRAM": ""}
-        for more, want in (["--program", "/no/program"], "/no/program"), ([], "/no/library"):
-            words = [sys.executable, "-B", "-m", "gdlsolve.page", "--port", "0", *more]
-            known["GDLSOLVE_LIBRARY"] = "/no/library"
-            done = subprocess.run(words, env=known, capture_output=True, text=True, timeout=120)
+        nothing = known(GDLSOLVE_PROGRAM="", GDLSOLVE_LIBRARY="/no/library")
+        ways = [(["--program", "/no/program"], "/no/program"), (list[str](), "/no/library")]
+        for more, want in ways:
+            words = package("gdlsolve.page", "--port", 0, *more)
+            done = subprocess.run(words, env=nothing, capture_output=True, text=True, timeout=120)
             self.assertEqual((done.returncode, done.stdout), (1, ""))
             self.assertIn(want, done.stderr)
 
     def test_a_killed_server_leaves_no_process(self) -> None:
-        known = {**os.environ, "PYTHONPATH": str(TOP / "python")}
-        words = [sys.executable, "-B", "-m", "gdlsolve.page", "--port", "0", "--workers", "2"]
+        words = package("gdlsolve.page", "--port", 0, "--workers", 2)
         for number, status in (signal.SIGTERM, 0), (signal.SIGKILL, -signal.SIGKILL):
             pipe = subprocess.PIPE
             with (
                 self.subTest(signal=number),
-                subprocess.Popen(words, env=known, stdout=pipe, text=True) as server,
+                subprocess.Popen(words, env=known(), stdout=pipe, text=True) as server,
             ):
                 assert server.stdout is not None
                 port = int(server.stdout.readline().rsplit(":", 1)[1].strip("/\n"))
@@ -316,7 +314,7 @@ class Ends(unittest.TestCase):
 
 class Places(unittest.TestCase):
     def place(self, line: str, text: str, explanation: str = "") -> tuple[int, int] | None:
-        found = places.where(Refused(line, explanation), text.encode())
+        found = places.where(Refusal(line, explanation), text.encode())
         return (found.line, found.column) if found else None
 
     def test_offsets_and_items(self) -> None:

@@ -15,7 +15,7 @@ from concurrent.futures import ThreadPoolExecutor
 from pathlib import Path
 
 import gdlsolve
-from tests import TOP
+from tests import LONG_TESTS, TOP, known, package
 from tests.serving import PACE, Held, Served, clocks, post, rules_of, wait_for_end
 
 BOARD = rules_of("hexapawn")
@@ -25,7 +25,6 @@ FOUR = (TOP / "games/connect_four_5x4.kif").read_text()
 # A game that is not settled within some seconds, and the role that begins.
 RED = ("connect_four_5x4", "red")
 OPENINGS = gdlsolve.moves(HEXAPAWN).legal["white"]
-LONG_TEST = bool(os.environ.get("GDLSOLVE_LONG_TESTS"))
 
 
 def legal(rules: str, role: str, turns: Sequence[Sequence[str]]) -> tuple[str, ...]:
@@ -269,10 +268,9 @@ class Clocks(unittest.TestCase):
 
 class Program(unittest.TestCase):
     def test_it_is_started_by_one_command_and_leaves_nothing(self) -> None:
-        known = {**os.environ, "PYTHONPATH": str(TOP / "python")}
         words = [sys.executable, "-B", "-m", "gdlsolve.player", "--port", "0", "--name", "me"]
         with subprocess.Popen(
-            words, stdout=subprocess.PIPE, stderr=subprocess.PIPE, env=known, text=True
+            words, stdout=subprocess.PIPE, stderr=subprocess.PIPE, env=known(), text=True
         ) as player:
             try:
                 assert player.stdout is not None
@@ -291,10 +289,9 @@ class Program(unittest.TestCase):
         self.assertTrue(all(wait_for_end(int(child)) for child in left))
 
     def test_words_that_are_none(self) -> None:
-        known = {**os.environ, "PYTHONPATH": str(TOP / "python")}
         for words in (["--depth", "0"], ["--depth", "65"], ["--matches", "0"], ["--margin", "-1"]):
-            command = [sys.executable, "-B", "-m", "gdlsolve.player", *words]
-            done = subprocess.run(command, capture_output=True, env=known, check=False)
+            command = package("gdlsolve.player", *words)
+            done = subprocess.run(command, capture_output=True, env=known(), check=False)
             self.assertEqual(done.returncode, 2)
 
 
@@ -324,7 +321,7 @@ class Leaks(unittest.TestCase):
         for number in range(50):
             self.play(served, number, dice)
         size, threads, files = self.used()
-        for number in range(50, 1000 if LONG_TEST else 200):
+        for number in range(50, 1000 if LONG_TESTS else 200):
             self.play(served, number, dice)
         time.sleep(0.5)
         now_size, now_threads, now_files = self.used()

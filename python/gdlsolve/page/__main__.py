@@ -10,7 +10,7 @@ import sys
 import webbrowser
 from pathlib import Path
 
-from gdlsolve.page.engine import Engine
+from gdlsolve.engine import OWN_COMMAND, Broken, Late, Pool
 from gdlsolve.page.server import Desk, Server
 
 PORT = 9160
@@ -23,8 +23,8 @@ def options() -> argparse.Namespace:
     words.add_argument("folder", type=Path, nargs="?", metavar="FOLDER",
                        help="the games to choose from, files NAME.kif; else those of the clone")
     words.add_argument("--port", type=int, default=PORT, help=f"{PORT} if not given; 0: a free one")
-    words.add_argument("--program", default=os.environ.get("GDLSOLVE_PROGRAM", ""),
-                       help="the command of the program; if not given, the library answers")
+    words.add_argument("--program", default="",
+                       help="the command of the program; if not given, the package answers")
     words.add_argument("--workers", type=int, default=max(1, min(4, os.cpu_count() or 1)),
                        help="how many questions are looked at, at once")
     words.add_argument("--open", action="store_true", help="open the page in a browser")
@@ -45,10 +45,13 @@ def main() -> int:
     """Serves the page until it is ended."""
     given = options()
     folder = given.folder or (CLONE if CLONE.is_dir() else None)
-    desk = Desk(Engine(shlex.split(given.program), given.workers), folder)
-    told = desk.engine.ask_within(["--version"], b"", 60)
-    if told.status not in (0, 1):
-        print(told.errors.decode(errors="replace"), file=sys.stderr)
+    command = [*OWN_COMMAND, *shlex.split(given.program)]
+    desk = Desk(Pool(given.workers, command, spare=1), folder)
+    try:
+        desk.reply(["--version"], b"")
+    except (Broken, Late) as fault:
+        print(str(fault) or "the engine does not answer", file=sys.stderr)
+        desk.close()
         return 1
     try:
         server = Server(desk, given.port)

@@ -10,6 +10,7 @@ hope for another, where it is worth all. Where both are the same, no further tur
 from __future__ import annotations
 
 import itertools
+import math
 import threading
 import time
 from collections.abc import Callable, Sequence
@@ -19,14 +20,23 @@ from typing import Any
 
 from gdlsolve.calls import Misuse, Refusal
 from gdlsolve.deepening import MOST_TURNS
-from gdlsolve.page.engine import Engine, Failed, Stopped, Task
-from gdlsolve.page.state import history
+from gdlsolve.engine import Broken, Late, Limit, Pool, Turn, history
 from gdlsolve.replies import Position, Solution
 
-Turn = tuple[str, ...]
 HALF = 50
 # So long nobody may ask for a look before it is given up, in seconds.
 FORGOTTEN = 30.0
+
+
+def said(fault: BaseException) -> str:
+    """What people are told where there is no answer."""
+    if isinstance(fault, MemoryError):
+        return "The engine wants more memory than there is."
+    if isinstance(fault, Late):
+        return "The engine gave no answer in time."
+    if isinstance(fault, Broken):
+        return f"The engine ended in the middle of a question. {fault}".rstrip()
+    return str(fault)
 
 
 @dataclass
@@ -83,8 +93,8 @@ class Look:
     """A look that goes on in a thread, with what is known so far."""
 
     asked: Asked
-    engine: Engine
-    task: Task = field(default_factory=Task)
+    pool: Pool
+    given_up: threading.Event = field(default_factory=threading.Event)
     changed: threading.Condition = field(default_factory=threading.Condition)
     version: int = 0
     depth: int = 0
@@ -106,12 +116,12 @@ class Look:
         clock.start()
         try:
             ended, why = work(self), ""
-        except Stopped:
+        except Late:
             ended, why = "stopped", ""
-        except (Failed, Refusal, Misuse, OSError) as fault:
-            ended, why = "failed", str(fault)
+        except (Broken, Refusal, Misuse, MemoryError, OSError) as fault:
+            ended, why = "failed", said(fault)
         clock.cancel()
-        self.task.stop()
+        self.given_up.set()
         with self.changed:
             self.ended, self.why = self.ended or ended, why
             self.version += 1
@@ -121,7 +131,7 @@ class Look:
         """Gives the look up."""
         with self.changed:
             self.ended = self.ended or ended
-        self.task.stop()
+        self.given_up.set()
         self.note()
 
     def note(self) -> None:
@@ -152,16 +162,19 @@ class Look:
         """Whether nobody has asked for it for long."""
         return time.monotonic() - self.seen > FORGOTTEN
 
+    def ask(self, *words: str) -> list[str]:
+        """The lines of an answer, unless the look is given up."""
+        limit = Limit(math.inf, self.given_up)
+        return self.pool.ask(words, self.asked.rules, limit).lines()
+
     def solve(self, after: Sequence[Turn], depth: int, worth: int) -> Solution:
         """What the role can be sure of behind a history, where unfinished play has a worth."""
         words = ["solve", "--role", self.asked.role, "--depth", str(depth)]
-        words += ["--unfinished", str(worth), "--after", history(after)]
-        return Solution.of(self.engine.ask(words, self.asked.rules, self.task).lines())
+        return Solution.of(self.ask(*words, "--unfinished", str(worth), "--after", history(after)))
 
     def position(self) -> Position:
         """How play stands where the look begins."""
-        words = ["moves", "--after", history(self.asked.after)]
-        return Position.of(self.engine.ask(words, self.asked.rules, self.task).lines())
+        return Position.of(self.ask("moves", "--after", history(self.asked.after)))
 
 
 def turns_of(position: Position, role: str, move: str) -> list[Turn]:
@@ -184,7 +197,7 @@ def _look_at(look: Look, choice: Choice, depth: int) -> None:
 
 def _deepen(look: Look) -> str:
     """Looks at all choices, turn by turn deeper."""
-    with ThreadPoolExecutor(look.engine.most) as threads:
+    with ThreadPoolExecutor(look.pool.most) as threads:
         for depth in range(1, look.asked.deepest + 1):
             left = [each for each in look.choices if each.bounds()[0] != each.bounds()[1]]
             if not left:

@@ -11,7 +11,7 @@ from collections.abc import Iterator
 from dataclasses import dataclass
 from typing import Any
 
-from gdlsolve.page.engine import Refused
+from gdlsolve.calls import Refusal
 
 EXPLAINED = re.compile(r"^[^\n]*?:(\d+):(\d+): ", re.MULTILINE)
 TOKEN = re.compile(rb";[^\n\r]*|[()]|[^\s();]+")
@@ -79,7 +79,7 @@ def _item_place(text: bytes, item: int) -> Place | None:
     return None
 
 
-def where(refused: Refused, text: bytes) -> Place | None:
+def where(refused: Refusal, text: bytes) -> Place | None:
     """The place of a fault of the rules: as the engine explains it, or by what its line says."""
     told = EXPLAINED.search(refused.explanation)
     if told:
@@ -92,7 +92,7 @@ def where(refused: Refused, text: bytes) -> Place | None:
     return _item_place(text, number) if refused.code.startswith("G") else None
 
 
-def refusal(refused: Refused, text: bytes) -> dict[str, Any]:
+def refusal(refused: Refusal, text: bytes) -> dict[str, Any]:
     """A refusal as what JSON can tell: its line, its place, and what it means."""
     place = where(refused, text)
     return {

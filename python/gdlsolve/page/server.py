@@ -7,6 +7,7 @@ import itertools
 import json
 import sys
 import threading
+import time
 from collections.abc import Callable, Sequence
 from dataclasses import dataclass
 from http.server import BaseHTTPRequestHandler, ThreadingHTTPServer
@@ -16,9 +17,9 @@ from typing import Any, cast
 
 import gdlsolve
 from gdlsolve import board
-from gdlsolve.calls import Misuse
+from gdlsolve.calls import Misuse, Refusal, Reply
+from gdlsolve.engine import Broken, Late, Limit, Pool, history
 from gdlsolve.page import looks, places, records, state
-from gdlsolve.page.engine import Engine, Failed, Refused
 from gdlsolve.replies import Description, Position
 
 MOST_BYTES = 4 << 20
@@ -27,6 +28,7 @@ MOST_LOOKS = 8
 # So long a short question may take, and so long a page waits for news of a look, in seconds.
 PATIENCE = 30.0
 NEWS = 10.0
+NO_ANSWER = (Late, Broken, MemoryError)
 
 FILES = {
     "/": ("page.html", "text/html"),
@@ -74,16 +76,20 @@ def about(text: str) -> str:
 class Desk:
     """All that the server keeps: an engine, the games, and the looks that go on."""
 
-    def __init__(self, engine: Engine, folder: Path | None) -> None:
-        self.engine, self.folder = engine, folder
+    def __init__(self, pool: Pool, folder: Path | None) -> None:
+        self.pool, self.folder = pool, folder
         self._lock = threading.Lock()
         self._opened: dict[str, Opened] = {}
         self._looks: dict[int, looks.Look] = {}
         self._numbers = itertools.count(1)
 
+    def reply(self, words: Sequence[str], rules: bytes) -> Reply:
+        """The reply to a question that is given up after some seconds."""
+        return self.pool.ask(words, rules, Limit(time.monotonic() + PATIENCE))
+
     def _ask(self, words: Sequence[str], rules: bytes) -> list[str]:
         """The lines of a short answer."""
-        return self.engine.ask_within(words, rules, PATIENCE).lines()
+        return self.reply(words, rules).lines()
 
     def games(self) -> dict[str, Any]:
         """The games of the folder."""
@@ -115,9 +121,9 @@ class Desk:
         text = rules.decode(errors="replace")
         try:
             roles = Description.of(self._ask(["check"], rules)).roles
-            warning = self.engine.ask_within(["moves"], rules, PATIENCE)
+            warning = self.reply(["moves"], rules)
             warning.lines()
-        except Refused as refused:
+        except Refusal as refused:
             return {"text": text, "refused": places.refusal(refused, rules)}
         style, note = self._style(path)
         base = state.base(rules, roles[0], self._ask) if style.draw else []
@@ -145,8 +151,8 @@ class Desk:
         """How play stands behind a history, with what can be drawn of it."""
         game, after = self._game(told), _turns(told.get("after"))
         try:
-            lines = self._ask(["moves", "--after", state.history(after)], game.rules)
-        except Refused as refused:
+            lines = self._ask(["moves", "--after", history(after)], game.rules)
+        except Refusal as refused:
             return {"refused": places.refusal(refused, game.rules)}
         here = Position.of(lines)
         facts = state.facts(game.rules, game.roles[0], after, self._ask)
@@ -172,7 +178,7 @@ class Desk:
             raise BadQuestion(f"There is no role {role}.")
         if seconds is not None and not (isinstance(seconds, (int, float)) and 0 < seconds < 1e6):
             raise BadQuestion("The time is a number of seconds above 0.")
-        look = looks.Look(looks.Asked(game.rules, role, after, seconds), self.engine)
+        look = looks.Look(looks.Asked(game.rules, role, after, seconds), self.pool)
         with self._lock:
             self._drop_old()
             number = next(self._numbers)
@@ -237,7 +243,7 @@ class Desk:
             going, self._looks = list(self._looks.values()), {}
         for look in going:
             look.stop()
-        self.engine.close()
+        self.pool.close()
 
 
 QUESTIONS: dict[str, Callable[[Desk, dict[str, Any]], dict[str, Any]]] = {
@@ -336,8 +342,8 @@ class Handler(BaseHTTPRequestHandler):
             if not isinstance(told, dict):
                 raise BadQuestion("A question is a JSON object.")
             answer = question(cast(Server, self.server).desk, told)
-        except (ValueError, KeyError, Misuse, Refused, Failed, OSError) as fault:
-            return self._json(400, {"error": str(fault)})
+        except (ValueError, KeyError, Misuse, Refusal, OSError, *NO_ANSWER) as fault:
+            return self._json(400, {"error": looks.said(fault)})
         return self._json(200, answer)
 
     def log_message(self, *words: Any) -> None:

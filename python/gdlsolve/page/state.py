@@ -10,18 +10,11 @@ import re
 from collections.abc import Callable, Sequence
 
 from gdlsolve.calls import Misuse, Refusal
-from gdlsolve.commands import History
+from gdlsolve.engine import Turn, history
 from gdlsolve.terms import terms
 
 Ask = Callable[[Sequence[str], bytes], list[str]]
 TOKEN = re.compile(r"[()]|[^\s();]+")
-
-
-def history(after: History) -> str:
-    """The text of a history."""
-    if isinstance(after, str):
-        return after
-    return " ".join("(" + " ".join(turn) + ")" for turn in after)
 
 
 def tokens(rules: bytes) -> list[str]:
@@ -51,7 +44,7 @@ def watching(rules: bytes, role: str, asked: str) -> tuple[bytes, str]:
     return text.encode("latin-1"), see
 
 
-def _seen(rules: bytes, role: str, asked: str, after: History, ask: Ask) -> list[str] | None:
+def _seen(rules: bytes, role: str, asked: str, after: Sequence[Turn], ask: Ask) -> list[str] | None:
     """The terms for which a role has a move in rules that watch."""
     text, see = watching(rules, role, asked)
     start = f"({see} "
@@ -66,10 +59,10 @@ def _seen(rules: bytes, role: str, asked: str, after: History, ask: Ask) -> list
 
 def base(rules: bytes, role: str, ask: Ask) -> list[str]:
     """All that can ever hold, as far as the engine can tell it."""
-    return _seen(rules, role, "base", "", ask) or []
+    return _seen(rules, role, "base", (), ask) or []
 
 
-def facts(rules: bytes, role: str, after: History, ask: Ask) -> list[str] | None:
+def facts(rules: bytes, role: str, after: Sequence[Turn], ask: Ask) -> list[str] | None:
     """What holds behind a history, or nothing where the engine cannot tell."""
     try:
         told = ask(["state", "--after", history(after)], rules)

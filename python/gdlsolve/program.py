@@ -1,0 +1,106 @@
+"""Runs of the program, as a child process that ends with this one.
+
+`GDLSOLVE_PROGRAM` names a program that answers in place of the library: its file, or a command.
+"""
+
+from __future__ import annotations
+
+import ctypes
+import os
+import shlex
+import signal
+import subprocess
+from collections.abc import Callable, Mapping, Sequence
+from dataclasses import dataclass
+from pathlib import Path
+
+VARIABLE = "GDLSOLVE_PROGRAM"
+# How long a child is waited for before it is asked again whether its answer is still wanted: at
+# first, and at most, in seconds.
+FIRST_BEAT = 0.01
+LAST_BEAT = 0.1
+PR_SET_PDEATHSIG = 1
+ORPHANED = 70
+
+_prctl = getattr(ctypes.CDLL(None), "prctl", None)
+
+
+@dataclass(frozen=True)
+class Ran:
+    """What a run gave: the exit status, or below 0 the signal that ended it; both outputs."""
+
+    status: int
+    output: bytes
+    errors: bytes
+
+
+class Stopped(Exception):
+    """The answer is not wanted any more, so the program was killed."""
+
+
+def named() -> list[str]:
+    """The words that start the program that is named, or none where none is."""
+    text = os.environ.get(VARIABLE) or ""
+    return [text] if Path(text).is_file() else shlex.split(text)
+
+
+def environment() -> dict[str, str]:
+    """The environment, in which this package is found."""
+    package = str(Path(__file__).resolve().parent.parent)
+    path = os.pathsep.join(filter(None, [package, os.environ.get("PYTHONPATH")]))
+    return {**os.environ, "PYTHONPATH": path}
+
+
+def _dies_with(parent: int) -> Callable[[], None]:
+    """What a child does first: it asks to be killed when the one who started it ends."""
+
+    def begin() -> None:
+        if _prctl is not None:
+            _prctl(PR_SET_PDEATHSIG, int(signal.SIGKILL), 0, 0, 0)
+            if os.getppid() != parent:
+                os._exit(ORPHANED)
+
+    return begin
+
+
+def _outputs(
+    child: subprocess.Popen[bytes], rules: bytes, stopped: Callable[[], bool] | None
+) -> tuple[bytes, bytes]:
+    """The outputs of a child, to which the rules are given."""
+    if stopped is None:
+        return child.communicate(rules)
+    pending: bytes | None = rules
+    beat = FIRST_BEAT
+    while True:
+        try:
+            return child.communicate(pending, timeout=beat)
+        except subprocess.TimeoutExpired:
+            pending, beat = None, min(2 * beat, LAST_BEAT)
+            if stopped():
+                raise Stopped from None
+
+
+def run(
+    command: Sequence[str],
+    words: Sequence[str],
+    rules: bytes,
+    stopped: Callable[[], bool] | None = None,
+    known: Mapping[str, str] | None = None,
+) -> Ran:
+    """A run of a command with these words, in an environment, which ends with this process, or
+    where it is stopped."""
+    with subprocess.Popen(
+        [*command, *words],
+        stdin=subprocess.PIPE,
+        stdout=subprocess.PIPE,
+        stderr=subprocess.PIPE,
+        env=known,
+        preexec_fn=_dies_with(os.getpid()),
+    ) as child:
+        try:
+            output, errors = _outputs(child, rules, stopped)
+        except BaseException:
+            child.kill()
+            child.communicate()
+            raise
+    return Ran(child.returncode, output, errors)
