@@ -7,6 +7,7 @@ import resource
 import subprocess
 import sys
 import tempfile
+from collections.abc import Callable
 from dataclasses import dataclass
 from pathlib import Path
 
@@ -42,7 +43,7 @@ LAYERS = {
 COUNTS = {"net": [b"base", b"inputs", b"instances", b"dropped", b"nodes"]}
 
 
-def description(name):
+def description(name: str) -> bytes:
     """The text of a game of games/, without the comments at its head."""
     lines = (TOP / "games" / f"{name}.kif").read_bytes().split(b"\n")
     return b"\n".join(line for line in lines if not line.startswith(b";")).rstrip(b"\n")
@@ -62,11 +63,11 @@ class Told:
     errors: bytes
     seconds: float
 
-    def __str__(self):
+    def __str__(self) -> str:
         return f"status {self.status}, output {self.output[:200]!r}, errors {self.errors[:200]!r}"
 
 
-def options(about):
+def options(about: str | None) -> argparse.ArgumentParser:
     """The options that each script has; a script adds its own."""
     words = argparse.ArgumentParser(description=about)
     words.add_argument("--program", metavar="COMMAND", help="the program to run, in place of the proved one")
@@ -76,16 +77,18 @@ def options(about):
     return words
 
 
-def run(command, words, text, limit=60, memory=None, env=None):
+def run(
+    command: list[str], words: list[str], text: bytes, limit: float = 60, memory: int | None = None, env: dict[str, str] | None = None
+) -> Told:
     """One run over a text, with at most so many bytes of address space: what it told, and its processor time."""
-    within = (lambda: resource.setrlimit(resource.RLIMIT_AS, (memory, memory))) if memory else None
+    within = (lambda most: lambda: resource.setrlimit(resource.RLIMIT_AS, (most, most)))(memory) if memory else None
     with tempfile.TemporaryFile() as rules:
         rules.write(text)
         rules.seek(0)
         before = resource.getrusage(resource.RUSAGE_CHILDREN)
-        how = {"stdin": rules, "stdout": subprocess.PIPE, "stderr": subprocess.PIPE, "env": {**os.environ, **(env or {})}}
+        known, pipe = {**os.environ, **(env or {})}, subprocess.PIPE
         try:
-            done = subprocess.run(command + words, timeout=limit, preexec_fn=within, **how)
+            done = subprocess.run(command + words, timeout=limit, preexec_fn=within, stdin=rules, stdout=pipe, stderr=pipe, env=known)
         except subprocess.TimeoutExpired:
             return Told(None, b"", b"", limit)
         after = resource.getrusage(resource.RUSAGE_CHILDREN)
@@ -93,18 +96,18 @@ def run(command, words, text, limit=60, memory=None, env=None):
     return Told(done.returncode, done.stdout, done.stderr, seconds)
 
 
-def linked(objects, folder):
+def linked(objects: Path, folder: Path) -> Path:
     """The program of these objects over the heap that counts and refuses, in a folder."""
     kit = Path(subprocess.run(["rt", "doc"], stdout=subprocess.PIPE, text=True, check=True).stdout.strip()).parent
     made = folder / "program"
     heap = TOP / "bench" / "refusing_heap.c"
     wraps = "-Wl,--wrap=pthread_create,--wrap=_exit"
-    words = ["cc", "-O1", wraps, "-o", made, objects, heap, kit / "c" / "libos_c.a", "-lpthread"]
+    words = ["cc", "-O1", wraps, "-o", str(made), str(objects), str(heap), f"{kit}/c/libos_c.a", "-lpthread"]
     subprocess.run(words, check=True)
     return made
 
 
-def run_counted(made, words, text, limit, refused):
+def run_counted(made: Path, words: list[str], text: bytes, limit: float, refused: dict[str, str]) -> tuple[Told, dict[str, int]]:
     """One run over the heap that counts, with what it is to refuse: what it told, and the counts."""
     told_in = made.parent / "told"
     told_in.unlink(missing_ok=True)
@@ -115,7 +118,7 @@ def run_counted(made, words, text, limit, refused):
     return told, dict(zip(("growths", "threads", "refused", "left"), counts or [0] * 4))
 
 
-def is_tree(line):
+def is_tree(line: bytes) -> bool:
     """Whether a line is the canonical text of one tree."""
     if not re.fullmatch(rb"(?:" + NAME + rb"|[() ])+", line) or re.search(rb"\( | \)|  |\)\(|[^ (]\(|\)[^ )]", line):
         return False
@@ -127,27 +130,27 @@ def is_tree(line):
     return depth == 0
 
 
-def is_refusal(command, line):
+def is_refusal(command: str, line: bytes) -> bool:
     """Whether a line is a refusal that the command can meet."""
     forms = b"|".join(REFUSALS[layer] for layer in LAYERS[command])
     forms = forms.replace(b"@", COUNT).replace(b"#", PLACE).replace(b"&", TREE)
     return re.fullmatch(rb"refused (?:" + forms + rb")", line) is not None
 
 
-def fits(lines, forms):
+def fits(lines: list[bytes], forms: list[bytes]) -> bool:
     return len(lines) == len(forms) and all(re.fullmatch(form, line) for form, line in zip(forms, lines))
 
 
-def is_checked(lines):
+def is_checked(lines: list[bytes]) -> bool:
     counts = [word + b" " + PLACE for word in (b"items", b"alternatives", b"relations")]
     return fits(lines, counts + [rb"roles(?: " + NAME + rb"|(?: " + TREE + rb"))+"])
 
 
-def is_counted(lines):
+def is_counted(lines: list[bytes]) -> bool:
     return fits(lines, [word + b" " + COUNT for word in COUNTS["net"]])
 
 
-def is_moved(lines):
+def is_moved(lines: list[bytes]) -> bool:
     """Whether lines tell a state: its goals, or its legal moves in printed order for one role after the other."""
     if not lines or lines[0] not in (b"state open", b"state ended", b"state stuck"):
         return False
@@ -159,7 +162,7 @@ def is_moved(lines):
     return all(legal) and len(rests) == len(set(rests)) and (lines[0] == b"state stuck" or len(rests) > 0)
 
 
-def is_solved(lines):
+def is_solved(lines: list[bytes]) -> bool:
     if len(lines) < 2 or not re.fullmatch(rb"value (?:0|[1-9][0-9]?|100)", lines[0]):
         return False
     if lines[1] == b"move none":
@@ -169,14 +172,14 @@ def is_solved(lines):
     return re.fullmatch(rb"move " + TREE, lines[1]) is not None and 1 <= len(numbers) <= 64 and counted
 
 
-def is_standing(lines):
+def is_standing(lines: list[bytes]) -> bool:
     """Whether lines tell a state by what holds in it, in printed order."""
     held = [re.fullmatch(rb"true (" + TREE + rb")", line) for line in lines[1:]]
     texts = [match[1] for match in held if match]
     return lines[0] in (b"state open", b"state ended", b"state stuck") and all(held) and texts == sorted(set(texts))
 
 
-def are_values(lines):
+def are_values(lines: list[bytes]) -> bool:
     """Whether lines tell what each move makes sure of, or the value where there is no turn to come."""
     if len(lines) == 2 and lines[1] == b"move none":
         return is_solved(lines)
@@ -185,7 +188,7 @@ def are_values(lines):
     return len(lines) > 0 and all(told) and texts == sorted(set(texts))
 
 
-def is_found(lines):
+def is_found(lines: list[bytes]) -> bool:
     """Whether lines tell a value, or which bound of a window it does not pass."""
     if len(lines) == 1:
         return re.fullmatch(rb"at-most (?:0|[1-9][0-9]?|100)|at-least (?:0|[1-9][0-9]?|100|101)", lines[0]) is not None
@@ -194,7 +197,7 @@ def is_found(lines):
     return is_solved(lines)
 
 
-ANSWERS = {
+ANSWERS: dict[str, Callable[[list[bytes]], bool]] = {
     "show": lambda lines: all(map(is_tree, lines)),
     "check": is_checked,
     "net": is_counted,
@@ -205,13 +208,13 @@ ANSWERS = {
 }
 
 
-def explains(refusal, errors):
+def explains(refusal: bytes, errors: bytes) -> bool:
     """Whether the errors begin as an explanation of a refusal does: with a place, and the number and name of the fault."""
     name = b" ".join(refusal.split()[:3])
     return re.match(rb"(<input>|--after|--role)(:" + PLACE + rb":" + PLACE + rb")?: " + re.escape(name) + rb": ", errors) is not None
 
 
-def unlawful(command, told):
+def unlawful(command: str, told: Told) -> str | None:
     """Why a reply to a command is none of the lawful ones, or None."""
     if told.status is None:
         return "given up"
@@ -233,10 +236,12 @@ def unlawful(command, told):
     return None if told.errors in (b"read fault\n", b"write fault\n") else "other words for a device's fault"
 
 
-def trees_of(text):
+def trees_of(text: bytes) -> tuple[int, bytes]:
     """What `show` tells of a text without a stray byte, a long name, an unopened or a deep list: the canonical text of
     each tree, one a line, or the first bracket that nothing closes."""
-    opened, lines, tree = [], [], b""
+    opened: list[int] = []
+    lines: list[bytes] = []
+    tree = b""
     for token in re.finditer(rb";[^\n]*|[()]|[^\s();]+", text):
         word = token[0].lower()
         if word.startswith(b";"):

@@ -45,7 +45,7 @@ needs_program = unittest.skipUnless(PROGRAM, "there is no program beside the lib
 if PROGRAM and (NO_LIBRARY or program.named()):
     os.environ[program.VARIABLE] = " ".join(PROGRAM)
 if NO_LIBRARY and not PROGRAM:
-    raise unittest.SkipTest(f"there is nothing to test: no program, and {NO_LIBRARY}")
+    raise RuntimeError(f"there is nothing to test: no program, and {NO_LIBRARY}")
 # Where the library answers, nothing is said beside a reply to people.
 SAYS_NOTHING = not program.named()
 

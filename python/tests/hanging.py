@@ -14,11 +14,13 @@ from gdlsolve import answering
 from gdlsolve.calls import Reply
 
 OWN = answering.answered
+# What is left of the command line is the answering module's own.
+HELD = Path(sys.argv.pop(1))
 
 
 def answered(words: bytes, rules: bytes) -> Reply:
     """The reply, where the file does not say otherwise."""
-    held = Path(sys.argv[1]).read_text().split()
+    held = HELD.read_text().split()
     if "end" in held:
         raise SystemExit(1)
     if words.decode().split("\0")[0] in held:
