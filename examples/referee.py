@@ -11,8 +11,10 @@ from pathlib import Path
 import gdlsolve
 from gdlsolve import Position, State
 
+Turn = tuple[str, ...]
 
-def options():
+
+def options() -> argparse.Namespace:
     words = argparse.ArgumentParser(description=__doc__, formatter_class=argparse.RawDescriptionHelpFormatter)
     words.add_argument("rules", type=Path, help="the rules of the game")
     words.add_argument("--role", help="the role of the solver; without it, the first one")
@@ -23,7 +25,9 @@ def options():
     return words.parse_args()
 
 
-def chosen(rules: bytes, role: str, position: Position, played: list, given, dice: random.Random) -> str:
+def chosen(
+    rules: bytes, role: str, position: Position, played: list[Turn], given: argparse.Namespace, dice: random.Random
+) -> str:
     """The move of a role."""
     if role != given.role:
         return dice.choice(position.legal[role])
@@ -31,9 +35,10 @@ def chosen(rules: bytes, role: str, position: Position, played: list, given, dic
     return found.move or position.legal[role][0]
 
 
-def play(rules: bytes, given) -> tuple[list, Position]:
+def play(rules: bytes, given: argparse.Namespace) -> tuple[list[Turn], Position]:
     """The turns of a match, and how it stands behind them."""
-    dice, played = random.Random(given.seed), []
+    dice = random.Random(given.seed)
+    played: list[Turn] = []
     position = gdlsolve.moves(rules)
     while position.state is State.OPEN and len(played) < given.turns:
         played.append(tuple(chosen(rules, role, position, played, given, dice) for role in position.legal))
@@ -41,7 +46,7 @@ def play(rules: bytes, given) -> tuple[list, Position]:
     return played, position
 
 
-def print_table(rows: list) -> None:
+def print_table(rows: list[list[str]]) -> None:
     """Prints rows of texts, each column as wide as its longest one."""
     widths = [max(map(len, column)) for column in zip(*rows)]
     for row in rows:
