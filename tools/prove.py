@@ -6,6 +6,7 @@
     tools/prove.py NAME       proves the crate NAME and all below it
     --check WORDS..           proves what NAME stands on, and then checks NAME over what an earlier check of it kept, with these words of rattle
     --tests                   proves NAME with its tests, and builds out/tests/NAME with its object out/tests/NAME.o
+    --over-gate               proves and builds the library alone, over the crates below it that `rt ci` has proved and left in their out/
     --fresh                   only says by the status whether that has been done for the sources as they stand
     --sum                     only prints the sum of all that NAME is made of
     --weigh                   writes the processor seconds of each crate that was proved to tools/weights.txt
@@ -27,6 +28,7 @@ import signal
 import subprocess
 import sys
 import time
+from collections.abc import Callable
 from dataclasses import dataclass, field
 from functools import cache
 from pathlib import Path
@@ -147,14 +149,24 @@ def sum_of(name: str) -> str:
     return made.hexdigest()
 
 
-def words_over(crate: Crate, jobs: int) -> list[str]:
+def proved_here(crate: Crate) -> Path:
+    """The folder of a crate's proved library."""
+    return PROVED
+
+
+def left_by_gate(crate: Crate) -> Path:
+    """The folder in which `rt ci` leaves a crate's proved library."""
+    return crate.folder / "out" / "rlib"
+
+
+def words_over(crate: Crate, jobs: int, place_of: Callable[[Crate], Path] = proved_here) -> list[str]:
     """What rattle is told of a crate, whatever it does with it: its root, and what stands below it."""
     words = ["--crate-name", crate.name, "src/main.rt" if crate.is_program else "src/lib.rt"]
-    own = {each.name for each in crate.below}
+    own = {each.name: place_of(each) for each in crate.below}
     for name in ["std", *crate.uses]:
-        place = PROVED if name in own else kit() / "rlibs"
-        words += ["--extern", f"{name}={place}/{name}.rlib"]
-    words += ["-L", f"dependency={kit()}/rlibs", "-L", f"dependency={PROVED}"]
+        words += ["--extern", f"{name}={own.get(name, kit() / 'rlibs')}/{name}.rlib"]
+    for place in dict.fromkeys([kit() / "rlibs", *map(place_of, crate.all_below())]):
+        words += ["-L", f"dependency={place}"]
     words += ["--antt-project", f"{kit()}/rattle/logic/antt-project.json", "--logic-built", f"{kit()}/logic_built"]
     return [*words, "--links", f"{crate.name}=", "--jobs", str(jobs)]
 
@@ -360,10 +372,22 @@ def prove_tests(crate: Crate) -> int:
     return status
 
 
+def prove_over_gate(crate: Crate) -> int:
+    """Proves a static library over what `rt ci` left, and builds it. Tells the status of the build."""
+    missing = [each.name for each in crate.all_below() if not (left_by_gate(each) / f"{each.name}.rlib").is_dir()]
+    if not crate.is_static or missing:
+        raise Failure(f"rt ci has left no library of {', '.join(missing)}" if missing else f"{crate.name} is no static library")
+    OUT.mkdir(exist_ok=True)
+    words = [str(kit() / "bin" / "rattle"), "build", *words_over(crate, cores(), left_by_gate), "--crate-type", "staticlib"]
+    words += [*WITH_LLVM, "--toolchain", f"{kit()}/toolchain", "-o", str(crate.product)]
+    return subprocess.run(words, cwd=crate.folder, stdin=subprocess.DEVNULL, stdout=sys.stderr, check=False).returncode
+
+
 def main() -> int:
     parser = argparse.ArgumentParser(description="Proves crates from nothing and builds what is made of them.")
     parser.add_argument("what", help="program, library, or the name of a crate")
     parser.add_argument("--fresh", action="store_true", help="only say whether it is built from these sources")
+    parser.add_argument("--over-gate", action="store_true", help="prove and build the library over what rt ci left")
     parser.add_argument("--sum", action="store_true", help="only print the sum of all that it is made of")
     parser.add_argument("--weigh", action="store_true", help="note the processor seconds of each crate")
     parser.add_argument("--tests", action="store_true", help="prove the crate with its tests, and build them")
@@ -376,6 +400,9 @@ def main() -> int:
         parser.error(f"crates.txt has no line for {name}")
     crate = crates()[name]
     try:
+        if asked.over_gate:
+            crate.stamp.unlink(missing_ok=True)
+            return prove_over_gate(crate)
         if asked.sum:
             print(sum_of(name))
             return 0

@@ -26,7 +26,7 @@ from pathlib import Path
 from urllib.parse import urlsplit
 
 import gdlsolve
-from gdlsolve.calls import Refusal
+from gdlsolve.calls import Ended, Refusal
 from gdlsolve.engine import Turn, history
 from gdlsolve.messages import Malformed, tree, trees
 from gdlsolve.replies import Position, State
@@ -281,7 +281,7 @@ def main(words: Sequence[str] | None = None) -> int:
         referee.play(given.turns)
         for failed in referee.failed:
             print(f"not ready: {failed}", file=sys.stderr)
-    except (Refusal, ValueError, OSError) as fault:
+    except (Refusal, ValueError, OSError, ImportError, Ended) as fault:
         print(fault, file=sys.stderr)
         return 1
     wrong = sum(1 for turn in record.errors for error in turn if error)

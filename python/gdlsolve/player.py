@@ -20,7 +20,7 @@ from dataclasses import dataclass
 from http.server import BaseHTTPRequestHandler, ThreadingHTTPServer
 from typing import Any
 
-from gdlsolve.calls import Misuse, Refusal, reply
+from gdlsolve.calls import Ended, Misuse, Refusal, reply
 from gdlsolve.engine import Broken, Children, Engine, Late, Limit, Turn
 from gdlsolve.messages import MOST_BYTES, Malformed, Message, clock, parts_of, turn
 from gdlsolve.replies import Position, State
@@ -388,7 +388,11 @@ def options(words: Sequence[str] | None) -> argparse.Namespace:
 def main(words: Sequence[str] | None = None) -> int:
     """The command `gdlsolve-player`."""
     given = options(words)
-    reply(["--version"], b"")  # The library is there, or else it is told at once.
+    try:
+        reply(["--version"], b"")
+    except (ImportError, OSError, Ended) as fault:
+        print(f"nothing answers: {fault}", file=sys.stderr)
+        return 1
     signal.signal(signal.SIGTERM, lambda *_: sys.exit(0))
     known = Options(
         given.name, given.matches, given.margin, given.depth, given.idle, given.quiet

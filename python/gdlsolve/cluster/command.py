@@ -133,7 +133,7 @@ def main() -> int:
         _say(f"no answer: {type(fault).__name__}: {fault}")
         return NO_ANSWER
     except ImportError as fault:
-        _say(f"this engine is not here: {fault}")
+        _say(f"no answer: {fault}")
         return NO_ANSWER
     except OSError as fault:
         _say(f"{fault.filename}: {fault.strerror}" if fault.filename else f"fault: {fault}")
