@@ -5,6 +5,7 @@ before. matplotlib is needed to draw (Debian's python3-matplotlib), and points a
 from __future__ import annotations
 
 import json
+import math
 import os
 import re
 import shlex
@@ -63,10 +64,10 @@ def has_matplotlib(python: str) -> bool:
     return subprocess.run(test, capture_output=True, check=False).returncode == 0
 
 
-def write(points: list[Point], file: Path) -> None:
-    """Keeps the points beside the chart, and draws it by a Python that has matplotlib."""
+def write(points: list[Point], file: Path, what: str) -> None:
+    """Keeps the points beside the chart, with what was measured, and draws it by a Python that has matplotlib."""
     kept = file.with_suffix(".json")
-    told = {"machine": told_of_machine(), "points": [asdict(point) for point in points]}
+    told = {"machine": told_of_machine(), "what": what, "points": [asdict(point) for point in points]}
     kept.write_text(json.dumps(told, indent=1) + "\n")
     for python in dict.fromkeys([sys.executable, DEBIANS]):
         if has_matplotlib(python):
@@ -106,13 +107,14 @@ def panel(axes: Any, lines: dict[str, list[tuple[int, float]]], across: str) -> 
     axes.legend(handles[::-1], labels[::-1], frameon=False, fontsize=9, **place_of)
     axes.set_yscale("log")
     axes.set_xlabel(across)
+    axes.xaxis.get_major_locator().set_params(integer=True)
     axes.grid(True, which="major", color="#d3dae4", linewidth=0.7)
     axes.margins(x=0.03)
     axes.spines[["top", "right"]].set_visible(False)
     axes.yaxis.set_major_formatter(told_time)
 
 
-def draw(points: list[Point], file: Path) -> None:
+def draw(points: list[Point], file: Path, what: str) -> None:
     """Draws the chart."""
     import matplotlib  # type: ignore[import]
 
@@ -123,7 +125,9 @@ def draw(points: list[Point], file: Path) -> None:
     figure, (left, right) = pyplot.subplots(1, 2, figsize=(11, 4.6), sharey=True)
     panel(left, lines_by(points, "depth"), "turns looked ahead")
     panel(right, lines_by(points, "cells"), "cells of the board")
-    left.set_ylabel("time from start to end")
+    left.set_ylabel(what)
+    least = min(point.seconds for point in points) * 1e3
+    left.set_ylim(bottom=10 ** math.floor(math.log10(least)))
     figure.tight_layout(w_pad=2)
     figure.savefig(file, metadata={"Date": None} if file.suffix == ".svg" else None)
 
@@ -133,7 +137,7 @@ def main() -> int:
         print(__doc__)
         return 2
     told = json.loads(Path(sys.argv[1]).read_text())
-    draw([Point(**point) for point in told["points"]], Path(sys.argv[2]))
+    draw([Point(**point) for point in told["points"]], Path(sys.argv[2]), told["what"])
     return 0
 
 

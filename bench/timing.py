@@ -1,6 +1,7 @@
 """What the scripts beside this file share: the programs that are timed, and how a row is timed."""
 import argparse
 import os
+import resource
 import shlex
 import shutil
 import statistics
@@ -18,11 +19,12 @@ START_UP = ["show"], os.devnull
 
 @dataclass
 class Timed:
-    """How one program did a row. The status is None where the row was given up."""
+    """How one program did a row: from start to end, and of processors alone. The status is None where the row was given up."""
 
     status: int | None
     output: bytes
     seconds: float
+    processor: float = 0.0
 
 
 def options(about: str) -> argparse.ArgumentParser:
@@ -56,15 +58,21 @@ def programs(given: argparse.Namespace) -> dict[str, list[str]]:
     return found
 
 
+def of_processors() -> float:
+    """The seconds of processors that children took which have ended."""
+    used = resource.getrusage(resource.RUSAGE_CHILDREN)
+    return used.ru_utime + used.ru_stime
+
+
 def run(command: list[str], words: list[str], rules: str | Path, limit: float | None = None) -> Timed:
     """One run over a file of rules."""
     with open(rules, "rb") as text:
-        start = time.perf_counter()
+        start, used = time.perf_counter(), of_processors()
         try:
             done = subprocess.run(command + words, stdin=text, stdout=subprocess.PIPE, stderr=subprocess.DEVNULL, timeout=limit)
         except subprocess.TimeoutExpired:
             return Timed(None, b"", limit or 0)
-        return Timed(done.returncode, done.stdout, time.perf_counter() - start)
+        return Timed(done.returncode, done.stdout, time.perf_counter() - start, of_processors() - used)
 
 
 def peak(command: list[str], words: list[str], rules: str | Path, limit: float | None = None) -> float | None:

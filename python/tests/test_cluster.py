@@ -66,7 +66,8 @@ def with_dask() -> str | None:
 
 def environment(**more: str) -> dict[str, str]:
     """The environment of a process that is started here. A program is quicker than the package."""
-    return known(**({program.VARIABLE: " ".join(PROGRAM)} if PROGRAM else {}), **more)
+    named = {program.VARIABLE: " ".join(PROGRAM)} if PROGRAM else {}
+    return known(**{**named, **more})
 
 
 def until(true: Callable[[], object], what: str) -> None:

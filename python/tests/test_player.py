@@ -2,7 +2,6 @@
 
 import json
 import os
-import random
 import signal
 import socket
 import subprocess
@@ -15,7 +14,7 @@ from concurrent.futures import ThreadPoolExecutor
 from pathlib import Path
 
 import gdlsolve
-from tests import LONG_TESTS, TOP, known, package
+from tests import TOP, known, package
 from tests.serving import PACE, Held, Served, clocks, post, rules_of, wait_for_end
 
 BOARD = rules_of("hexapawn")
@@ -279,7 +278,9 @@ class Program(unittest.TestCase):
                 start = f"(START m a {rules_of('matching_pennies')} 30 1)"
                 self.assertEqual(post(f"http://{where}", start), (200, "ready"))
                 self.assertEqual(post(f"http://{where}", "(PLAY m NIL)"), (200, "h"))
-                left = Path(f"/proc/{player.pid}/task/{player.pid}/children").read_text().split()
+                lists = Path(f"/proc/{player.pid}/task").glob("*/children")
+                left = [child for text in lists for child in text.read_text().split()]
+                self.assertTrue(left)
                 player.terminate()
                 _, errors = player.communicate(timeout=60)
             finally:
@@ -293,43 +294,6 @@ class Program(unittest.TestCase):
             command = package("gdlsolve.player", *words)
             done = subprocess.run(command, capture_output=True, env=known(), check=False)
             self.assertEqual(done.returncode, 2)
-
-
-class Leaks(unittest.TestCase):
-    """Many matches leave no memory, no process, no thread and no file behind."""
-
-    def used(self) -> tuple[int, int, int]:
-        """Kilobytes, threads and files of this process."""
-        status = Path("/proc/self/status").read_text()
-        size = int(status.split("VmRSS:")[1].split()[0])
-        return size, threading.active_count(), len(os.listdir("/proc/self/fd"))
-
-    def play(self, served: Served, number: int, dice: random.Random) -> None:
-        """A match of one turn of 0.1 s."""
-        game, role, turn = dice.choice(
-            [("hexapawn", "white", ""), ("matching_pennies", "a", "(h t)"), ("nim", "second", "")]
-        )
-        served.start(f"m{number}", game, role, f"{10 * PACE:.1f} 0.1")
-        self.assertNotIn(served.says(f"(PLAY m{number} NIL)"), ("nil", "busy"))
-        if turn:
-            # Where so short a clock leaves no time to see that play is over, a guess is a move.
-            self.assertIn(served.says(f"(PLAY m{number} {turn})"), ("nil", "h", "t"))
-        self.assertEqual(served.says(f"(STOP m{number} NIL)"), "done")
-
-    def test_many_short_matches(self) -> None:
-        served, dice = Served(self, matches=2), random.Random(7)
-        for number in range(50):
-            self.play(served, number, dice)
-        size, threads, files = self.used()
-        for number in range(50, 1000 if LONG_TESTS else 200):
-            self.play(served, number, dice)
-        time.sleep(0.5)
-        now_size, now_threads, now_files = self.used()
-        self.assertLess(now_size - size, 8_000)
-        self.assertLessEqual(now_threads, threads + 4)
-        self.assertLessEqual(now_files, files + 8)
-        self.assertLessEqual(len(served.player.children.idle), 6)
-        self.assertEqual(served.player.matches, {})
 
 
 if __name__ == "__main__":
