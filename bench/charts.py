@@ -13,6 +13,7 @@ import statistics
 import subprocess
 import sys
 from dataclasses import asdict, dataclass
+from importlib import import_module
 from pathlib import Path
 from typing import Any
 
@@ -116,11 +117,10 @@ def panel(axes: Any, lines: dict[str, list[tuple[int, float]]], across: str) -> 
 
 def draw(points: list[Point], file: Path, what: str) -> None:
     """Draws the chart."""
-    import matplotlib  # type: ignore[import]
-
+    matplotlib: Any = import_module("matplotlib")
     matplotlib.use("Agg")
     matplotlib.rcParams.update({"svg.fonttype": "none", "svg.hashsalt": "gdlsolve"})
-    from matplotlib import pyplot
+    pyplot: Any = import_module("matplotlib.pyplot")
 
     figure, (left, right) = pyplot.subplots(1, 2, figsize=(11, 4.6), sharey=True)
     panel(left, lines_by(points, "depth"), "turns looked ahead")

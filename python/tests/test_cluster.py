@@ -1,8 +1,5 @@
 """`python -m gdlsolve.cluster` with the program itself: a process pool, and a Dask cluster on the
 loopback in which things are killed.
-
-`GDLSOLVE_PROGRAM` names another program than that of the package. With `GDLSOLVE_LONG_TESTS=1` all
-stored games are solved over Dask, and not the short ones alone.
 """
 import contextlib
 import os
@@ -21,11 +18,9 @@ from typing import IO
 
 from gdlsolve import cluster
 from gdlsolve.cluster import program
-from tests import GAMES, LONG_TESTS, PROGRAM, TOP, known, package
+from tests import GAMES, PROGRAM, TOP, known, package
 
 MARKS = TOP / "games/tic_tac_toe.kif"
-# Games whose stored solve takes long, or is of very many questions.
-LENGTHY = {"connect_four_4x4", "connect_four_5x4", "blotto"}
 WORKERS = 3
 # So long a test waits for what has to happen at some time, in seconds.
 PATIENCE = 180.0
@@ -221,11 +216,10 @@ class OverDask(unittest.TestCase):
         until(lambda: not self.solvers(), "no program is left behind")
 
     def test_stored_games(self) -> None:
-        games = [game for game in GAMES if LONG_TESTS or game.stem not in LENGTHY]
         script = TOP / "python/tests/over_dask.py"
-        command = [self.python, str(script), self.address, *map(str, games)]
+        command = [self.python, str(script), self.address, *map(str, GAMES)]
         done = subprocess.run(command, capture_output=True, text=True, env=self.known, check=False)
-        self.assertEqual(done.stdout, f"same {len(games)}\n", done.stderr)
+        self.assertEqual(done.stdout, f"same {len(GAMES)}\n", done.stderr)
         self.assert_nothing_runs()
 
     def test_a_worker_is_killed(self) -> None:
