@@ -11,7 +11,7 @@ from collections.abc import Callable
 from dataclasses import dataclass
 from pathlib import Path
 
-from timing import TOP, program
+from timing import TOP
 
 STATUSES = {"answer": 0, "misuse": 1, "refusal": 2, "memory": 3, "device": 4}
 TEXT_LIMIT = 1_048_576

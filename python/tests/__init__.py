@@ -5,6 +5,7 @@ else the one that `rt ci` or `./gdlsolve --prove` has left. Where there is no li
 is left out, which is told. `GDLSOLVE_LONG_TESTS=1` asks for more of some tests.
 """
 import os
+import runpy
 import subprocess
 import sys
 import unittest
@@ -15,6 +16,9 @@ from gdlsolve import calls, program
 
 TOP = Path(__file__).resolve().parent.parent.parent
 GAMES = sorted((TOP / "games").glob("*.kif"))
+# A game that no search comes to the end of within minutes: connect four on a large board.
+ENDLESS = "connect_four_8x8"
+ENDLESS_RULES = str(runpy.run_path(str(TOP / "bench/boards"))["description"](8, 8))
 LONG_TESTS = os.environ.get("GDLSOLVE_LONG_TESTS") == "1"
 
 

@@ -17,7 +17,7 @@ from unittest import TestCase
 
 from gdlsolve.engine import Broken, Children, Engine, Limit
 from gdlsolve.player import Options, Player, Server
-from tests import TOP
+from tests import ENDLESS, ENDLESS_RULES, TOP
 
 HANGING = Path(__file__).with_name("hanging.py")
 # A machine may be busy: so long an answer is waited for that has to come.
@@ -61,7 +61,7 @@ def wait_for_end(process: int, seconds: float = LONG) -> bool:
 
 def rules_of(game: str) -> str:
     """The rules of a game as a message tells them."""
-    text = (TOP / f"games/{game}.kif").read_text()
+    text = ENDLESS_RULES if game == ENDLESS else (TOP / f"games/{game}.kif").read_text()
     return "(" + re.sub(r";[^\n]*", "", text) + ")"
 
 

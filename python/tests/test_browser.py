@@ -10,6 +10,7 @@ import io
 import os
 import shutil
 import sys
+import tempfile
 import threading
 import time
 import unittest
@@ -19,7 +20,7 @@ from typing import Any
 
 from gdlsolve.engine import Pool
 from gdlsolve.page.server import Desk, Server
-from tests import TOP
+from tests import ENDLESS, ENDLESS_RULES, TOP
 
 PICTURES = os.environ.get("GDLSOLVE_PICTURES", "")
 # Where Debian puts the driver's package, for a Python that is not Debian's.
@@ -101,7 +102,12 @@ class Browser(unittest.TestCase):
         for word in ("headless=new", "no-sandbox", "disable-gpu", "disable-dev-shm-usage"):
             options.add_argument(f"--{word}")
         options.add_argument("--window-size=1200,1000")
-        cls.desk = Desk(Pool(3), TOP / "games")
+        room = tempfile.TemporaryDirectory()
+        cls.addClassCleanup(room.cleanup)
+        games = Path(room.name) / "games"
+        shutil.copytree(TOP / "games", games)
+        (games / f"{ENDLESS}.kif").write_text(ENDLESS_RULES)
+        cls.desk = Desk(Pool(3), games)
         cls.addClassCleanup(cls.desk.close)
         cls.server = Server(cls.desk, 0)
         threading.Thread(target=cls.server.serve_forever, daemon=True).start()
@@ -244,7 +250,7 @@ class Play(Browser):
 
 class Long(Browser):
     def test_a_long_look_is_cancelled(self) -> None:
-        self.go("game=connect_four_5x4")
+        self.go(f"game={ENDLESS}")
         self.pick("seconds", "")
         self.wait(lambda: "turns ahead" in self.text("looked"))
         self.assertTrue(self.element("stop").is_enabled())
@@ -256,7 +262,7 @@ class Long(Browser):
         self.wait(lambda: "Moves of black" in self.text("moves-title"))
 
     def test_the_solver_moves_now_when_it_is_told_to(self) -> None:
-        self.go("game=connect_four_5x4&you=none")
+        self.go(f"game={ENDLESS}&you=none")
         self.wait(lambda: len(self.all("#list button")) > 1)
         self.pick("seat-black", "you")
         self.pick("seconds", "60")

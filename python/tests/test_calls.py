@@ -139,7 +139,10 @@ class Both(unittest.TestCase):
         for words in MISUSED:
             with self.subTest(words=words):
                 told = self.library(words, PENNIES)
-                self.assertEqual((1, b"", told.output), ran(words, PENNIES))
+                status, output, errors = ran(words, PENNIES)
+                self.assertEqual((told.status, status, output), (Status.MISUSE, 1, b""))
+                # The program adds what the option takes.
+                self.assertTrue(errors.startswith(told.output), (told.output, errors))
 
     def test_help(self) -> None:
         for words in HELP:

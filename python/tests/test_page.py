@@ -15,9 +15,11 @@ from gdlsolve.calls import Refusal
 from gdlsolve.engine import Limit, Pool
 from gdlsolve.page import looks, places, records, state
 from gdlsolve.page.server import Desk, Server
-from tests import TOP, known, package
+from tests import ENDLESS, ENDLESS_RULES, TOP, known, package
 
 MARKS = (TOP / "games/tic_tac_toe.kif").read_bytes()
+# So deep a question takes long, so that processes are at one at nearly any time.
+DEEP = 12
 UNSAFE = "(role a) ; one\n(base p)\n  (<= (next p) (not (true ?x)))\n"
 
 
@@ -95,6 +97,8 @@ class Served(unittest.TestCase):
         return json.loads(body)
 
     def opened(self, name: str) -> str:
+        if name == ENDLESS:
+            return str(self.ask("open", text=ENDLESS_RULES)["id"])
         return str(self.ask("open", name=name)["id"])
 
     def ended(self, look: int) -> Any:
@@ -222,13 +226,13 @@ class Looks(Served):
         self.assertEqual(told["ended"], "settled")
 
     def test_a_look_ends_with_its_time(self) -> None:
-        told = self.looked("values", "connect_four_5x4", "red", [], 0.5)
+        told = self.looked("values", ENDLESS, "red", [], 0.5)
         self.assertEqual(told["ended"], "time")
 
     def test_a_long_look_is_stopped_and_its_processes_end(self) -> None:
-        game = self.opened("connect_four_5x4")
+        game = self.opened(ENDLESS)
         look = self.ask("values", game=game, role="red", after=[], seconds=None)["look"]
-        self.assertTrue(until(lambda: self.ask("news", look=look, seen=-1)["depth"] >= 2))
+        self.assertTrue(until(lambda: self.ask("news", look=look, seen=-1)["depth"] >= DEEP))
         at_work = children(os.getpid())
         self.ask("stop", look=look)
         self.assertEqual(self.ended(look)["ended"], "stopped")
@@ -307,9 +311,9 @@ class Ends(unittest.TestCase):
             link.request("POST", f"/api/{what}", body, {"Content-Type": "application/json"})
             return json.loads(link.getresponse().read())
 
-        game = ask("open", name="connect_four_5x4")["id"]
+        game = ask("open", text=ENDLESS_RULES)["id"]
         look = ask("values", game=game, role="red", after=[], seconds=None)["look"]
-        self.assertTrue(until(lambda: ask("news", look=look, seen=-1)["depth"] >= 2))
+        self.assertTrue(until(lambda: ask("news", look=look, seen=-1)["depth"] >= DEEP))
 
 
 class Places(unittest.TestCase):

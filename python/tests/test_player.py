@@ -14,15 +14,14 @@ from concurrent.futures import ThreadPoolExecutor
 from pathlib import Path
 
 import gdlsolve
-from tests import TOP, known, package
+from tests import ENDLESS, ENDLESS_RULES, TOP, known, package
 from tests.serving import PACE, Held, Served, clocks, post, rules_of, wait_for_end
 
 BOARD = rules_of("hexapawn")
 HEXAPAWN = (TOP / "games/hexapawn.kif").read_text()
 MARKS = (TOP / "games/tic_tac_toe.kif").read_text()
-FOUR = (TOP / "games/connect_four_5x4.kif").read_text()
 # A game that is not settled within some seconds, and the role that begins.
-RED = ("connect_four_5x4", "red")
+RED = (ENDLESS, "red")
 OPENINGS = gdlsolve.moves(HEXAPAWN).legal["white"]
 
 
@@ -183,7 +182,7 @@ class Clocks(unittest.TestCase):
 
     def test_four_matches_at_once(self) -> None:
         names = [f"m{number}" for number in range(4)]
-        openings = legal(FOUR, "red", [])
+        openings = legal(ENDLESS_RULES, "red", [])
         with ThreadPoolExecutor(4) as threads:
             starts = threads.map(lambda name: self.served.start(name, *RED, clocks(4, 2)), names)
             self.assertEqual(list(starts), ["ready"] * 4)
@@ -256,9 +255,9 @@ class Clocks(unittest.TestCase):
         turns = [(opening, "noop")]
         self.assertEqual(served.says(f"(PLAY m ({opening} noop))"), "noop")
         threading.Timer(0.5 * PACE, kill).start()
-        reply = legal(FOUR, "black", turns)[0]
+        reply = legal(ENDLESS_RULES, "black", turns)[0]
         move = served.says(f"(PLAY m (noop {reply}))")
-        self.assertIn(move, legal(FOUR, "red", [*turns, ("noop", reply)]))
+        self.assertIn(move, legal(ENDLESS_RULES, "red", [*turns, ("noop", reply)]))
 
     def test_a_solver_that_always_ends(self) -> None:
         self.held.at("end")
