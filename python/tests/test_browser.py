@@ -223,6 +223,21 @@ class Play(Browser):
         self.all("#rows tr.best button")[0].click()
         self.wait(lambda: "Turn 6" in self.text("status") or self.is_over())
 
+    def test_a_move_that_is_pressed_twice_is_one_turn(self) -> None:
+        self.go("game=tic_tac_toe&you=xplayer,oplayer")
+        self.wait(lambda: len(self.all("#rows button")) == 9)
+        self.run_js("""
+            const [one, other] = document.querySelectorAll('#rows button');
+            one.click();
+            one.click();
+            other.click();
+            document.getElementById('seconds').dispatchEvent(new Event('change'));
+        """)
+        self.wait(lambda: "Your move, oplayer" in self.text("status"))
+        time.sleep(0.5)
+        self.assertTrue(self.text("status").startswith("Turn 1: xplayer (mark 1 1)."))
+        self.assertEqual(len(self.all("#rows button")), 8)
+
     def test_two_roles_at_once_are_both_asked(self) -> None:
         self.go("game=matching_pennies&you=a,b")
         self.wait(lambda: "Your move, a" in self.text("status"))

@@ -5,10 +5,11 @@ const $ = (id) => document.getElementById(id);
 const IDLE = /^(noop|no_op|wait)$/;
 const MOST_SHOWN = 12;
 
-// What the page is at. `run` counts the positions shown: news for an earlier one is dropped.
+// What the page is at. `run` counts the positions shown: news for an earlier one is dropped. While one is `awaited`, the one that is
+// drawn is old.
 const now = {
   games: [], game: null, turns: [], chosen: [], at: 0, position: null, pending: {}, seats: {},
-  auto: false, source: null, run: 0, looks: new Set(), role: "", tree: null, drawn: "",
+  auto: false, source: null, run: 0, awaited: false, looks: new Set(), role: "", tree: null, drawn: "",
 };
 
 // ---------------------------------------------------------------- asking
@@ -55,6 +56,7 @@ function leave() {
   stopLooks();
   now.looks.clear();
   now.run += 1;
+  now.awaited = false;
   busy(false);
 }
 
@@ -190,7 +192,13 @@ function fillSubject() {
 async function show({ auto = false } = {}) {
   leave();
   const run = now.run;
-  const told = await ask("position", { game: now.game.id, after: played() });
+  now.awaited = true;
+  let told;
+  try {
+    told = await ask("position", { game: now.game.id, after: played() });
+  } finally {
+    if (run === now.run) now.awaited = false;
+  }
   if (run !== now.run) return;
   if (told.refused) {
     now.turns = now.turns.slice(0, now.at - 1);
@@ -279,6 +287,7 @@ async function play() {
 }
 
 async function press(role, move) {
+  if (now.awaited) return;
   now.pending[role] = move;
   now.source = null;
   const left = choosers();
@@ -768,7 +777,7 @@ function wire() {
   on("stop", stopLooks);
   on("save", save);
   for (const id of ["subject", "seconds", "tell"]) {
-    on(id, () => { leave(); if (now.game) { drawMoves(); drawBoards(); drawTree(null); onward(); } }, "change");
+    on(id, () => { if (now.awaited) return; leave(); if (now.game) { drawMoves(); drawBoards(); drawTree(null); onward(); } }, "change");
   }
   $("boards").addEventListener("keydown", walkBoard);
   $("tree").addEventListener("keydown", walkTree);
