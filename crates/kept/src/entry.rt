@@ -7,7 +7,7 @@ pub struct Entry {
     /// The number of its head's atom.
     pub head: u32,
     /// Where its literals end among those of all instances.
-    pub end: u32,
+    pub end: usize,
 }
 
 /// Instances of one alternative, which stand one behind the other, up to the first of the next run.

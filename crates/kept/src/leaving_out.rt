@@ -38,9 +38,9 @@ fn move_ends<F: Fn(AtomLiteral) -> bool>(
     let mut start = 0;
     let mut staying = 0;
     for place in 0..entries.len() {
-        let end = entries[place].end as usize;
+        let end = entries[place].end;
         staying += count_staying(literals_between(literals, start, end), stays);
-        entries[place].end = staying as u32;
+        entries[place].end = staying;
         start = end;
     }
 }

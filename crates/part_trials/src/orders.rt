@@ -1,5 +1,5 @@
 //! Joins of which a level shares no value with those before it.
-use join::{Column, Level};
+use join::{Column, Level, Levels, buckets_of};
 use reorder::{are_levels, reordered_rows};
 use std::alloc::{AllocError, Global};
 use std::test::Fail;
@@ -22,6 +22,28 @@ fn cells(alloc: Global) -> Result<Vec<u32>, AllocError> {
         cells.push(1_000 + row / 2)?;
     }
     Ok(cells)
+}
+
+/// The rows of a join that binds so many values, if it is one and they are found in another order.
+fn rows_in(
+    alloc: Global,
+    columns: &[Column],
+    cells: &[u32],
+    levels: &[Level],
+    variables: usize,
+    most: usize,
+) -> Result<Option<Vec<u32>>, AllocError> {
+    if !are_levels(columns, cells, levels, variables) {
+        return Ok(None);
+    }
+    let buckets = buckets_of(alloc, columns, cells, levels)?;
+    let written = Levels {
+        columns,
+        cells,
+        levels,
+        buckets: &buckets,
+    };
+    reordered_rows(alloc, &written, variables, most)
 }
 
 /// A level of 70 rows.
@@ -49,10 +71,7 @@ fn rows(alloc: Global, most: usize) -> Result<Option<Vec<u32>>, AllocError> {
     ];
     let levels = [level(0, 2, 0, 0), level(2, 5, 140, 2), level(5, 8, 350, 5)];
     let cells = cells(alloc)?;
-    if !are_levels(&columns, &cells, &levels, 6) {
-        return Ok(None);
-    }
-    reordered_rows(alloc, &columns, &cells, &levels, 6, most)
+    rows_in(alloc, &columns, &cells, &levels, 6, most)
 }
 
 #[test]
@@ -119,8 +138,7 @@ fn a_level_of_one_row_comes_first(rt: HostRuntime) -> Result<(), Fail> {
         pairs(12, 9),
     ];
     let cells = cells_of_a_trap(rt.alloc())?;
-    assert!(rt; are_levels(&columns, &cells, &levels, 11));
-    let values = reordered_rows(rt.alloc(), &columns, &cells, &levels, 11, 70)?.ok_or("not found")?;
+    let values = rows_in(rt.alloc(), &columns, &cells, &levels, 11, 70)?.ok_or("not found")?;
     assert_eq!(rt; values.len(), 0);
     Ok(())
 }

@@ -20,7 +20,7 @@ impl Net {
         if n == 0 {
             return 0;
         }
-        self.nodes.list[n - 1].end as usize
+        self.nodes.list[n - 1].end
     }
 
     /// What a node stands for, and the numbers of the nodes that it reads.
@@ -31,7 +31,7 @@ impl Net {
         let node = self.nodes.list[n];
         (
             node.name.name(),
-            reads(&self.nodes.operands, self.start(n), node.end as usize),
+            reads(&self.nodes.operands, self.start(n), node.end),
         )
     }
 
