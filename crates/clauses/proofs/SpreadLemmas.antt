@@ -1,6 +1,7 @@
 -- Lists of numbers, and the readings that they stand for.
-use Rattle.std.proofs.Common.{ℕ, ◌≡◌, ◌+◌, ◌<◌, ◌≤◌, List, [], ◌∷◌, ◌++◌, length, drop, refl, sym, ◌∙◌, ap, subst, get_or, append_assoc}
+use Rattle.std.proofs.Common.{ℕ, suc, zero, ◌≡◌, ◌+◌, ◌-◌, ◌<◌, ◌≤◌, List, [], ◌∷◌, ◌++◌, length, drop, refl, sym, ◌∙◌, ap, subst, get_or, append_assoc, arith}
 use Rattle.std.specs.Prelude.{Vec}
+use Rattle.std.specs.List.{range_with_len}
 use Rattle.std.proofs.lemmas.List.{append-nil}
 use Rattle.statement.specs.Tree.{Tree, name, list, Trees, tree, trees_of}
 use Rattle.kif.specs.View.{tree_of, trees_in}
@@ -13,14 +14,64 @@ use Rattle.profile.specs.declared.forms.Connective.{Connective}
 use Rattle.profile.specs.declared.forms.Connective.TheVariants as words
 use Rattle.profile.specs.Connectives.{IsNoConnective, IsConnectiveOf}
 use Rattle.statement.specs.Items.{behind_each, picks, readings, readings_in_turn, readings_of_all, atom_in, negated}
-use Rattle.clauses.specs.Spread.{lists_of, numbers_behind_each, number_picks}
+use Rattle.clauses.specs.declared.numbered.Span.{Span}
+use Rattle.clauses.specs.Spread.{lists_of, numbers_of, numbers_in, numbers_behind_each, number_picks}
 use Rattle.clauses.specs.Store.{Data}
 use Rattle.clauses.specs.Adding.{AddsLiteral, StandForEach, StandForLists, Spreads}
 use Rattle.clauses.proofs.AddingLemmas.{extends_trans, grows_refl, grows_trans}
 
-pub lists_of-append : {G : Type 0} (vs ws : List (Vec ℕ G)) → lists_of (vs ++ ws) ≡ lists_of vs ++ lists_of ws
+-- Numbers of places.
+
+pub one_number : (xs : List ℕ) (a b : ℕ) → a < b → (xs ++ a ∷ []) ++ range_with_len (a + 1) (b - (a + 1)) ≡ xs ++ range_with_len a (b - a)
+one_number xs a b h =
+    append_assoc xs (a ∷ []) (range_with_len (a + 1) (b - (a + 1)))
+    ∙ ap (λ (n : ℕ). xs ++ range_with_len a n) (let e : suc (b - (a + 1)) ≡ b - a = omega (arith, h) in e)
+
+pub no_number : (xs : List ℕ) (a b : ℕ) → b ≤ a → xs ++ range_with_len a (b - a) ≡ xs
+no_number xs a b h = ap (λ (n : ℕ). xs ++ range_with_len a n) (let e : b - a ≡ 0 = omega (arith, h) in e) ∙ append-nil xs
+
+range_both : (a m n : ℕ) → range_with_len a (m + n) ≡ range_with_len a m ++ range_with_len (a + m) n
+range_both a zero n =
+    ap (λ (k : ℕ). range_with_len a k) (let e : 0 + n ≡ n = omega arith in e)
+    ∙ ap (λ (k : ℕ). range_with_len k n) (let e : a ≡ a + 0 = omega arith in e)
+range_both a (suc m) n =
+    ap (λ (k : ℕ). range_with_len a k) (let e : suc m + n ≡ suc (m + n) = omega arith in e)
+    ∙ ap (λ (ns : List ℕ). a ∷ ns) (range_both (a + 1) m n
+    ∙ ap (λ (k : ℕ). range_with_len (a + 1) m ++ range_with_len k n) (let e : (a + 1) + m ≡ a + suc m = omega arith in e))
+
+-- of two places the second begins where the first ends
+pub both_numbers : (a b d c : ℕ) → a ≤ b → b ≡ d → d ≤ c → range_with_len a (c - a) ≡ range_with_len a (b - a) ++ range_with_len d (c - d)
+both_numbers a b d c h same k =
+    ap (λ (n : ℕ). range_with_len a n) (let e : c - a ≡ (b - a) + (c - d) = omega (arith, h, same, k) in e)
+    ∙ range_both a (b - a) (c - d)
+    ∙ ap (λ (m : ℕ). range_with_len a (b - a) ++ range_with_len m (c - d)) (let e : a + (b - a) ≡ d = omega (arith, h, same) in e)
+
+numbers_in-append : (ss ts : List Span) → numbers_in (ss ++ ts) ≡ numbers_in ss ++ numbers_in ts
+numbers_in-append [] ts = refl
+numbers_in-append (s ∷ ss) ts =
+    ap (λ (ns : List ℕ). numbers_of s ++ ns) (numbers_in-append ss ts) ∙ sym (append_assoc (numbers_of s) (numbers_in ss) (numbers_in ts))
+
+one_behind : (ss : List Span) (s : Span) → numbers_in (ss ++ s ∷ []) ≡ numbers_in ss ++ numbers_of s
+one_behind ss s = numbers_in-append ss (s ∷ []) ∙ ap (λ (ns : List ℕ). numbers_in ss ++ ns) (append-nil (numbers_of s))
+
+-- a place was added behind others
+pub added_behind : (old new : List Span) (s : Span) → new ≡ old ++ s ∷ [] → numbers_in new ≡ numbers_in old ++ numbers_of s
+added_behind old new s e = ap numbers_in e ∙ one_behind old s
+
+-- the last place was made longer by one
+pub added_to_last : (old front new : List Span) (last s both : Span) → old ≡ front ++ last ∷ [] → new ≡ front ++ both ∷ []
+    → numbers_of both ≡ numbers_of last ++ numbers_of s → numbers_in new ≡ numbers_in old ++ numbers_of s
+added_to_last old front new last s both e f same =
+    added_behind front new both f
+    ∙ ap (λ (ns : List ℕ). numbers_in front ++ ns) same
+    ∙ sym (append_assoc (numbers_in front) (numbers_of last) (numbers_of s))
+    ∙ ap (λ (ns : List ℕ). ns ++ numbers_of s) (sym (added_behind front old last e))
+
+pub lists_of-append : {G : Type 0} (vs ws : List (Vec Span G)) → lists_of (vs ++ ws) ≡ lists_of vs ++ lists_of ws
 lists_of-append [] ws = refl
-lists_of-append (v ∷ vs) ws = ap (λ (ls : List (List ℕ)). v.items ∷ ls) (lists_of-append vs ws)
+lists_of-append (v ∷ vs) ws = ap (λ (ls : List (List ℕ)). numbers_in v.items ∷ ls) (lists_of-append vs ws)
+
+-- Picks of numbers.
 
 number_picks-append : (xs ys bs : List (List ℕ)) → number_picks (xs ++ ys) bs ≡ number_picks xs bs ++ number_picks ys bs
 number_picks-append [] ys bs = refl
@@ -28,17 +79,47 @@ number_picks-append (x ∷ xs) ys bs =
     ap (λ (ls : List (List ℕ)). numbers_behind_each x bs ++ ls) (number_picks-append xs ys bs)
     ∙ sym (append_assoc (numbers_behind_each x bs) (number_picks xs bs) (number_picks ys bs))
 
--- a list was added with numbers behind it
-pub one_longer : {G : Type 0} (out more done : List (Vec ℕ G)) (numbers : List ℕ) (v longer : Vec ℕ G)
-    → lists_of out ≡ number_picks (lists_of done) (numbers ∷ [])
-    → longer.items ≡ v.items ++ numbers → more ≡ out ++ longer ∷ [] → lists_of more ≡ number_picks (lists_of (done ++ v ∷ [])) (numbers ∷ [])
-one_longer out more done numbers v longer before same added =
-    ap (λ us. lists_of us) added
-    ∙ lists_of-append out (longer ∷ [])
-    ∙ ap (λ (ls : List (List ℕ)). ls ++ longer.items ∷ []) before
-    ∙ ap (λ (n : List ℕ). number_picks (lists_of done) (numbers ∷ []) ++ n ∷ []) same
-    ∙ sym (number_picks-append (lists_of done) (v.items ∷ []) (numbers ∷ []))
-    ∙ ap (λ (ls : List (List ℕ)). number_picks ls (numbers ∷ [])) (sym (lists_of-append done (v ∷ [])))
+-- what stands behind each, and then more
+pub behind_more : (xs : List (List ℕ)) (b c : List ℕ) → number_picks xs ((b ++ c) ∷ []) ≡ number_picks (number_picks xs (b ∷ [])) (c ∷ [])
+behind_more [] b c = refl
+behind_more (x ∷ xs) b c = cc (append_assoc x b c, behind_more xs b c)
+
+pub nothing_behind : (xs : List (List ℕ)) → number_picks xs ([] ∷ []) ≡ xs
+nothing_behind [] = refl
+nothing_behind (x ∷ xs) = cc (append-nil x, nothing_behind xs)
+
+one_of : {A : Type 0} (xs : List A) (x : A) → 1 ≤ length xs → length xs < 2 → x ≡ get_or xs 0 x → xs ≡ x ∷ []
+one_of [] x some one is = absurd (let bad : ⊥ = omega (arith, some) in bad)
+one_of (y ∷ []) x some one is = ap (λ z. z ∷ []) (sym is)
+one_of (y ∷ z ∷ xs) x some one is = absurd (let bad : ⊥ = omega (arith, one) in bad)
+
+-- there is one list alone to pick
+pub picked_one : {G : Type 0} (ls : List (Vec Span G)) (v : Vec Span G) (xs : List (List ℕ)) (b new : List ℕ) (lent : List Span) → 1 ≤ length ls
+    → length ls < 2 → v ≡ get_or ls 0 v → lent ≡ v.items → new ≡ b ++ numbers_in lent
+    → number_picks xs (new ∷ []) ≡ number_picks (number_picks xs (b ∷ [])) (lists_of ls)
+picked_one ls v xs b new lent some one is same e =
+    ap (λ (n : List ℕ). number_picks xs (n ∷ [])) (e ∙ ap (λ (ss : List Span). b ++ numbers_in ss) same)
+    ∙ behind_more xs b (numbers_in v.items)
+    ∙ ap (λ us. number_picks (number_picks xs (b ∷ [])) (lists_of us)) (sym (one_of ls v some one is))
+
+-- one list, which is empty, and nothing behind it
+pub one_empty : {G : Type 0} (new old : List (Vec Span G)) (v : Vec Span G) (behind : List Span) → new ≡ old ++ v ∷ [] → old ≡ [] → v.items ≡ []
+    → behind ≡ [] → number_picks (lists_of new) (numbers_in behind ∷ []) ≡ [] ∷ []
+one_empty new old v behind e f g h =
+    ap (λ us. number_picks (lists_of us) (numbers_in behind ∷ [])) e
+    ∙ ap (λ us. number_picks (lists_of (us ++ v ∷ [])) (numbers_in behind ∷ [])) f
+    ∙ ap (λ (ss : List Span). number_picks (numbers_in ss ∷ []) (numbers_in behind ∷ [])) g
+    ∙ ap (λ (ss : List Span). number_picks ([] ∷ []) (numbers_in ss ∷ [])) h
+
+-- one place of one number
+pub one_alone : {G : Type 0} (new old : List (Vec Span G)) (v : Vec Span G) (before : List Span) (s : Span) (n : ℕ) → new ≡ old ++ v ∷ [] → old ≡ []
+    → v.items ≡ before ++ s ∷ [] → before ≡ [] → numbers_of s ≡ n ∷ [] → lists_of new ≡ (n ∷ []) ∷ []
+one_alone new old v before s n e f g h same =
+    ap (λ us. lists_of us) e
+    ∙ ap (λ us. lists_of (us ++ v ∷ [])) f
+    ∙ ap (λ (ss : List Span). numbers_in ss ∷ []) g
+    ∙ ap (λ (ss : List Span). numbers_in (ss ++ s ∷ []) ∷ []) h
+    ∙ ap (λ (ns : List ℕ). (ns ++ []) ∷ []) same
 
 -- Readings.
 
@@ -234,8 +315,3 @@ not_word w words.Or h e = absurd cc
 not_word w words.And h e = absurd cc
 not_word w words.Not h e = h
 not_word w words.Nothing h e = absurd cc
-
--- one empty list alone
-pub one_empty : {G : Type 0} (new old : List (Vec ℕ G)) (v : Vec ℕ G) → new ≡ old ++ v ∷ [] → old ≡ [] → v.items ≡ [] → lists_of new ≡ [] ∷ []
-one_empty new old v e f g =
-    ap (λ us. lists_of us) e ∙ ap (λ us. lists_of (us ++ v ∷ [])) f ∙ ap (λ (n : List ℕ). n ∷ []) g

@@ -4,5 +4,6 @@ pub mod Store
 pub mod Adding
 pub mod StoreView
 pub mod Spread
+pub mod PicksView
 pub mod ItemView
 pub mod Marks

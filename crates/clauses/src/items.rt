@@ -12,12 +12,12 @@ use kif::Expr;
 use profile::split_item;
 use std::alloc::{AllocError, Allocator, Global};
 
-/// An item: its head, where its variables stand, and the numbers of the literals of each alternative.
+/// An item: its head, where its variables stand, and for each alternative where its literals stand.
 #[derive(Drop)]
 pub struct Item {
     pub head: Atom,
     pub variables: Span,
-    pub bodies: Vec<Vec<usize>>,
+    pub bodies: Vec<Vec<Span>>,
 }
 
 /// Writes an item to the lists in memory.

@@ -11,8 +11,9 @@ mod store;
 mod symbols;
 
 pub use items::{Item, read_item};
-pub use numbered::{Alternative, Atom, Literal, Part, Span};
+pub use numbered::{Alternative, Atom, Literal, Part, SharedAlternative, Span};
 pub use safety::is_safe_item;
 pub use signatures::{Signature, Signatures};
+pub use spread::numbers_at;
 pub use store::Store;
 pub use symbols::Symbols;

@@ -32,6 +32,16 @@ pub struct Literal {
     pub is_negated: bool,
 }
 
+/// One way to read an item: its head, and where the literals stand that must all be right, in their order. Alternatives of one item
+/// share its literals, so this takes no more memory where they are many.
+#[derive(Drop)]
+pub struct SharedAlternative {
+    /// Where the variables of the item stand.
+    pub variables: Span,
+    pub head: Atom,
+    pub body: Vec<Span>,
+}
+
 /// One way to read an item: its head, and the numbers of the literals that must all be right.
 #[derive(Drop)]
 pub struct Alternative {

@@ -8,7 +8,8 @@ ghost use Rattle.statement.specs.Items.{is_atom, is_one_atom, is_literal, are_li
 ghost use Rattle.clauses.specs.Spread.{lists_of};
 ghost use Rattle.clauses.specs.StoreView.{data_of};
 
-use crate::spread::{add_all, picks_of};
+use crate::numbered::Span;
+use crate::spread::{Picks, add_all};
 use crate::store::Store;
 use kif::Expr;
 use profile::{Connective, connective_of, split_word};
@@ -21,7 +22,7 @@ fn read_atom<A: Allocator>(
     from: usize,
     e: &Expr<A>,
     is_negated: bool,
-) -> Result<Vec<Vec<usize>>, AllocError>
+) -> Result<Vec<Vec<Span>>, AllocError>
     requires variables { from ≤ length (data_of store.old).variables }
     requires atom { is_atom (tree_of e.now) ≡ true }
     ensures { IfOk result (λ lists. Spreads from (data_of store.old) (data_of store.new) (lists_of lists.items)
@@ -29,7 +30,7 @@ fn read_atom<A: Allocator>(
 {
     let number = store.add_literal(from, e, is_negated)?;
     let mut reading = Vec::new(alloc);
-    reading.push(number)?;
+    reading.push(store.place_of_literal(number))?;
     let mut lists = Vec::new(alloc);
     lists.push(reading)?;
     Ok(lists)
@@ -43,14 +44,14 @@ fn only_part<A: Allocator>(parts: &[Expr<A>]) -> &Expr<A>
     &parts[0]
 }
 
-/// The readings of a literal, as lists of the numbers of literals that are added.
+/// The readings of a literal, as lists of where the literals stand that are added.
 #[cycle(readings)]
 fn read_literal<A: Allocator>(
     alloc: Global,
     store: &mut Store,
     from: usize,
     e: &Expr<A>,
-) -> Result<Vec<Vec<usize>>, AllocError>
+) -> Result<Vec<Vec<Span>>, AllocError>
     requires variables { from ≤ length (data_of store.old).variables }
     requires literal { is_literal (tree_of e.now) ≡ true }
     ensures { IfOk result (λ lists. Spreads from (data_of store.old) (data_of store.new) (lists_of lists.items) (readings (tree_of e.now))) }
@@ -76,7 +77,7 @@ fn read_in_turn<A: Allocator>(
     store: &mut Store,
     from: usize,
     parts: &[Expr<A>],
-) -> Result<Vec<Vec<usize>>, AllocError>
+) -> Result<Vec<Vec<Span>>, AllocError>
     requires variables { from ≤ length (data_of store.old).variables }
     requires literals { are_literals (trees_of (trees_in parts.now)) ≡ true }
     ensures { IfOk result (λ lists. Spreads from (data_of store.old) (data_of store.new) (lists_of lists.items)
@@ -97,17 +98,16 @@ pub(crate) fn read_all<A: Allocator>(
     store: &mut Store,
     from: usize,
     parts: &[Expr<A>],
-) -> Result<Vec<Vec<usize>>, AllocError>
+) -> Result<Vec<Vec<Span>>, AllocError>
     requires variables { from ≤ length (data_of store.old).variables }
     requires literals { are_literals (trees_of (trees_in parts.now)) ≡ true }
     ensures { IfOk result (λ lists. Spreads from (data_of store.old) (data_of store.new) (lists_of lists.items)
         (readings_of_all (trees_of (trees_in parts.now)))) }
 {
-    let mut all = Vec::new(alloc);
-    all.push(Vec::new(alloc))?;
+    let mut picks = Picks::new(alloc)?;
     for part in parts {
         let lists = read_literal(alloc, store, from, part)?;
-        all = picks_of(alloc, all, &lists)?;
+        picks.pick(alloc, &lists)?;
     }
-    Ok(all)
+    picks.made(alloc)
 }

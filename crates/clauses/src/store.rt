@@ -12,6 +12,7 @@ ghost use Rattle.clauses.specs.StoreView.{data_of};
 ghost use Rattle.clauses.specs.Marks.{literal_in};
 ghost use Rattle.statement.specs.Dependence.{is_distinct};
 ghost use Rattle.clauses.specs.Signatures.{signature_at};
+ghost use Rattle.clauses.specs.Spread.{numbers_of};
 ghost use Rattle.clauses.specs.Store.{relation_at};
 
 use crate::numbered::{Atom, Literal, Part, Span};
@@ -83,6 +84,17 @@ impl Store {
         ensures { result ≡ literal_in (data_of self.now) number }
     {
         self.literals[number]
+    }
+
+    /// Where a literal stands.
+    pub(crate) fn place_of_literal(&self, number: usize) -> Span
+        requires { number < length (data_of self.now).literals }
+        ensures { numbers_of result ≡ number ∷ [] }
+    {
+        Span {
+            from: number,
+            to: number + 1,
+        }
     }
 
     /// The parts that stand in a place.

@@ -53,15 +53,6 @@ impl Symbols {
         self.names.get(number)
     }
 
-    /// The number of a name, if it has one.
-    pub fn number(&self, name: &[u8]) -> Option<usize>
-        ensures { MatchOption result
-            ((k : ℕ) → k < length self.now → word_at self.now k ≢ name.now)
-            (λ k. (k < length self.now) × (word_at self.now k ≡ name.now)) }
-    {
-        self.number_by(name, hash_of_name(name))
-    }
-
     /// The number of a name with this hash, if it has one.
     fn number_by(&self, name: &[u8], hash: usize) -> Option<usize>
         requires { hash ≡ key_hash 0 name.now }

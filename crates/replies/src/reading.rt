@@ -1,8 +1,7 @@
 //! From bytes to their rules, or to a reply that needs no more than reading.
-ghost use Rattle.std.specs.Prelude.{◌≡◌, ◌++◌, IfOk, OnOk, length};
+ghost use Rattle.std.specs.Prelude.{◌≡◌, ◌++◌, IfOk, OnOk};
 ghost use Rattle.kif.specs.View.{trees_in};
-ghost use Rattle.statement.specs.Order.{relations_in_order};
-ghost use Rattle.rules.specs.RuleSetView.{rules_in, roles_in};
+ghost use Rattle.rules.specs.RuleSets.{texts_of};
 ghost use Rattle.statement.specs.Checking.{spaced, check_lines, IsCheckReply};
 ghost use Rattle.replies.specs.Readings.{IsReadingOf, IsReadingOfItems};
 ghost use Rattle.replies.specs.Replies.{reply_of};
@@ -12,7 +11,7 @@ ghost use Rattle.statement.specs.Queries as query;
 use crate::reply::{Reply, add_count, answered, refused};
 use bumpalo::Bump;
 use kif::{Expr, KifFault, canonical_lines};
-use rules::{RuleFault, RuleSet};
+use rules::{Counts, RuleFault, RuleSet, count_rules};
 use std::alloc::{AllocError, Allocator, Global};
 
 /// What bytes are as a description.
@@ -25,27 +24,26 @@ pub enum Reading {
 }
 
 /// Adds each role with a space before it. After an error the output may have a beginning of them.
-fn add_roles(rules: &RuleSet, output: &mut Vec<u8>) -> Result<(), AllocError>
-    ensures { OnOk result (output.new.items ≡ output.old.items ++ spaced (roles_in rules.now)) }
+fn add_roles(roles: &[Vec<u8>], output: &mut Vec<u8>) -> Result<(), AllocError>
+    ensures { OnOk result (output.new.items ≡ output.old.items ++ spaced (texts_of roles.now)) }
 {
-    for role in 0..rules.roles() {
+    for role in roles {
         output.push(b' ')?;
-        output.extend_from_slice(rules.role_text(role))?;
+        output.extend_from_slice(role)?;
     }
     Ok(())
 }
 
 /// How many items, alternatives and relations there are, each on a line, and a line of the roles.
-fn counted(alloc: Global, items: usize, rules: &RuleSet) -> Result<Vec<u8>, AllocError>
-    ensures { IfOk result (λ output. output.items
-        ≡ check_lines items (length (rules_in rules.now)) (length (relations_in_order (rules_in rules.now))) (roles_in rules.now)) }
+fn counted(alloc: Global, items: usize, counts: &Counts) -> Result<Vec<u8>, AllocError>
+    ensures { IfOk result (λ output. output.items ≡ check_lines items counts.now.alternatives counts.now.relations (texts_of counts.now.roles.items)) }
 {
     let mut output = Vec::new(alloc);
     add_count("items", items, &mut output)?;
-    add_count("alternatives", rules.alternatives().len(), &mut output)?;
-    add_count("relations", rules.relations_in_order().len(), &mut output)?;
+    add_count("alternatives", counts.alternatives, &mut output)?;
+    add_count("relations", counts.relations, &mut output)?;
     output.extend_from_slice(b"roles")?;
-    add_roles(rules, &mut output)?;
+    add_roles(&counts.roles, &mut output)?;
     output.push(b'\n')?;
     Ok(output)
 }
@@ -54,8 +52,8 @@ fn counted(alloc: Global, items: usize, rules: &RuleSet) -> Result<Vec<u8>, Allo
 fn checked<A: Allocator>(alloc: Global, items: &[Expr<A>]) -> Result<Reply, AllocError>
     ensures { IfOk result (λ reply. IsCheckReply (trees_in items.now) (reply_of reply)) }
 {
-    match RuleSet::check(alloc, items) {
-        Ok(rules) => Ok(answered(counted(alloc, items.len(), &rules)?)),
+    match count_rules(alloc, items) {
+        Ok(counts) => Ok(answered(counted(alloc, items.len(), &counts)?)),
         Err(RuleFault::NoMemory) => Err(AllocError),
         Err(fault) => refused(alloc, &fault),
     }

@@ -1,6 +1,7 @@
 -- The fault that is found first, and the rule set where none is found.
-use Rattle.std.proofs.Common.{ℕ, ◌≡◌, ◌==◌, Bool, false, List, [], ◌∷◌, length, map, refl, sym, ◌∙◌, ap, Option}
+use Rattle.std.proofs.Common.{ℕ, suc, ◌≡◌, ◌==◌, Bool, false, List, [], ◌∷◌, length, map, refl, sym, ◌∙◌, ap, subst, Option}
 use Rattle.std.proofs.Common.{Some, None}
+use Rattle.std.proofs.lemmas.List.{length-map}
 use Rattle.statement.specs.Tree.{Tree, text}
 use Rattle.statement.specs.declared.rule_fault.RuleFault.{RuleFault}
 use Rattle.statement.specs.declared.rule_fault.RuleFault.TheVariants as errors
@@ -9,7 +10,9 @@ use Rattle.statement.specs.RuleFaults.{PassesFirstTests, IsRuleFault}
 use Rattle.statement.specs.Clause as said
 use Rattle.clauses.specs.Adding.{AreDifferentSignatures, HaveNames, StandForEach}
 use Rattle.statement.specs.Dependence.{dependences, is_fixed}
-use Rattle.rules.specs.Drafts.{Numbered, alternative_of, AlternativeStandsFor, StandForAlternatives}
+use Rattle.clauses.specs.declared.numbered.Alternative.{Alternative}
+use Rattle.clauses.specs.declared.numbered.SharedAlternative.{SharedAlternative}
+use Rattle.rules.specs.Drafts.{Numbered, numbered, shared, alternative_of, AlternativeStandsFor, StandForAlternatives}
 use Rattle.statement.specs.Items.{alternatives}
 use Rattle.rules.specs.Layout.{IsLayoutOf, IsDependenceFault}
 use Rattle.statement.specs.Order.{relations_in_order}
@@ -100,6 +103,29 @@ whole_stand d (n ∷ ns) (a ∷ rules) s = (
   (is_inside _ d n.head a.head s.0.head, are_inside _ d n.body a.body s.0.body, s.0.variables),
   whole_stand d ns rules s.1,
 )
+
+-- alternatives with literals of their own stand for what those with shared ones do
+pub each_own : (d : Data) (all : List Alternative) (seen ones : List SharedAlternative) (rules : List said.Alternative)
+    → map numbered all ≡ map shared seen → seen ≡ ones → StandForAlternatives d (map shared ones) rules → StandForAlternatives d (map numbered all) rules
+each_own d all seen ones rules own same s =
+    subst (λ (ns : List Numbered). StandForAlternatives d ns rules) (sym (own ∙ ap (λ (as' : List SharedAlternative). map shared as') same)) s
+
+-- What is counted.
+
+as_many : (d : Data) (ns : List Numbered) (rules : List said.Alternative) → StandForAlternatives d ns rules → length ns ≡ length rules
+as_many d [] [] s = refl
+as_many d [] (a ∷ rules) s = absurd s
+as_many d (n ∷ ns) [] s = absurd s
+as_many d (n ∷ ns) (a ∷ rules) s = ap (λ (k : ℕ). suc k) (as_many d ns rules s.1)
+
+pub as_many_alternatives : (d : Data) (ones : List SharedAlternative) (items : List Tree) → StandForAlternatives d (map shared ones) (alternatives items)
+    → length ones ≡ length (alternatives items)
+as_many_alternatives d ones items s = sym (length-map ones shared) ∙ as_many d (map shared ones) (alternatives items) s
+
+pub as_many_relations : (d : Data) (items : List Tree) (fixed : List Bool) (order : List ℕ) → IsLayoutOf d items fixed order
+    → length order ≡ length (relations_in_order (alternatives items))
+as_many_relations d items fixed order l =
+    sym (length-map order (λ r. relation_at d r)) ∙ ap (λ (ps : List said.Relation). length ps) l.in_order
 
 -- What is accepted.
 

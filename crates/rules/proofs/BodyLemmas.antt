@@ -10,7 +10,8 @@ use Rattle.std.specs.Prelude.{Vec}
 use Rattle.std.specs.List.Sorted.{IsSorted, IsStrictlyIncreasing}
 use Rattle.std.specs.Ordering.{nat_cmp}
 use Rattle.std.proofs.lemmas.Map.Keys.{IsStrictlyIncreasing-dedup}
-use Rattle.clauses.specs.Spread.{lists_of}
+use Rattle.clauses.specs.declared.numbered.Span.{Span}
+use Rattle.clauses.specs.Spread.{lists_of, numbers_in}
 use Rattle.clauses.specs.Store.{Data}
 use Rattle.clauses.specs.Marks.{AreInside, AreAllInside}
 use Rattle.rules.specs.Bodies.{named_relations, all_named_relations, HaveSame}
@@ -73,29 +74,29 @@ all_named from d out all n x =
     let same : out ++ [] ≡ out = append-nil out in
     ((λ i. (n.same x).0 (subst (λ (xs : List ℕ). IsAmong x xs) (sym same) i)), (λ i. subst (λ (xs : List ℕ). IsAmong x xs) same ((n.same x).1 i)))
 
-lists_from : {G : Type 0} (xs : List (Vec ℕ G)) (i : ℕ) (v : Vec ℕ G) → i < length xs → v ≡ get_or xs i v
-    → lists_of (drop i xs) ≡ v.items ∷ lists_of (drop (suc i) xs)
+lists_from : {G : Type 0} (xs : List (Vec Span G)) (i : ℕ) (v : Vec Span G) → i < length xs → v ≡ get_or xs i v
+    → lists_of (drop i xs) ≡ numbers_in v.items ∷ lists_of (drop (suc i) xs)
 lists_from [] i v h e = absurd (let bad : ⊥ = omega (arith, h) in bad)
 lists_from (x ∷ xs) zero v h e = ap (λ y. lists_of (y ∷ xs)) (sym e)
 lists_from (x ∷ xs) (suc i) v h e = lists_from xs i v (omega (arith, h)) e
 
-pub next_named : {G : Type 0} (from : ℕ) (d : Data) (items : List (Vec ℕ G)) (i : ℕ) (v : Vec ℕ G) (b now new out : List ℕ) (all : List (List ℕ))
+pub next_named : {G : Type 0} (from : ℕ) (d : Data) (items : List (Vec Span G)) (i : ℕ) (v : Vec Span G) (b now new out : List ℕ) (all : List (List ℕ))
     → NamingAll from d now all (lists_of (drop i items)) → i < length items
-    → v ≡ get_or items i v → b ≡ v.items → new ≡ now ++ named_relations d b → HaveSame out new → IsStrictlyIncreasing out
+    → v ≡ get_or items i v → b ≡ numbers_in v.items → new ≡ now ++ named_relations d b → HaveSame out new → IsStrictlyIncreasing out
     → NamingAll from d out all (lists_of (drop (i + 1) items))
 next_named {G} from d items i v b now new out all n h e f g k r =
     let next : suc i ≡ i + 1 = omega arith in
     let here = subst (λ (ls : List (List ℕ)). NamingAll from d now all ls) (lists_from items i v h e) n in
     subst (λ (j : ℕ). NamingAll from d out all (lists_of (drop j items))) next
-    (body_named from d now new out v.items all (lists_of (drop (suc i) items)) here (g ∙ ap (λ (xs : List ℕ). now ++ named_relations d xs) f) k r)
+    (body_named from d now new out (numbers_in v.items) all (lists_of (drop (suc i) items)) here (g ∙ ap (λ (xs : List ℕ). now ++ named_relations d xs) f) k r)
 
-none_left : {G : Type 0} (xs : List (Vec ℕ G)) (i : ℕ) → length xs ≤ i → lists_of (drop i xs) ≡ []
+none_left : {G : Type 0} (xs : List (Vec Span G)) (i : ℕ) → length xs ≤ i → lists_of (drop i xs) ≡ []
 none_left [] zero h = refl
 none_left [] (suc i) h = refl
 none_left (x ∷ xs) zero h = absurd (let bad : ⊥ = omega (arith, h) in bad)
 none_left (x ∷ xs) (suc i) h = none_left xs i (omega (arith, h))
 
-pub last_named : {G : Type 0} (from : ℕ) (d : Data) (items : List (Vec ℕ G)) (i : ℕ) (out : List ℕ) (all : List (List ℕ))
+pub last_named : {G : Type 0} (from : ℕ) (d : Data) (items : List (Vec Span G)) (i : ℕ) (out : List ℕ) (all : List (List ℕ))
     → NamingAll from d out all (lists_of (drop i items)) → length items ≤ i
     → HaveSame out (all_named_relations d all)
 last_named {G} from d items i out all n h =

@@ -5,7 +5,7 @@ use Rattle.std.specs.Prelude.{Vec}
 use Rattle.std.proofs.lemmas.List.{map-append, append-nil}
 use Rattle.statement.specs.Tree.{Tree}
 use Rattle.statement.specs.Clause as said
-use Rattle.clauses.specs.declared.numbered.Alternative.{Alternative}
+use Rattle.clauses.specs.declared.numbered.SharedAlternative.{SharedAlternative}
 use Rattle.clauses.specs.declared.numbered.Atom.{Atom}
 use Rattle.clauses.specs.declared.numbered.Span.{Span}
 use Rattle.clauses.specs.declared.items.Item.{Item}
@@ -15,7 +15,7 @@ use Rattle.statement.specs.Items.{item_head, item_alternatives, alternatives, bo
 use Rattle.statement.specs.Profile.{first_failing, not_safe, is_unsafe}
 use Rattle.statement.specs.Safety.{are_safe}
 use Rattle.clauses.specs.Numbers.{NamesDiffer}
-use Rattle.clauses.specs.Spread.{lists_of}
+use Rattle.clauses.specs.Spread.{lists_of, numbers_in}
 use Rattle.clauses.specs.Store.{Data, relation_at, no_literal}
 use Rattle.clauses.specs.Adding.{Extends, HasVariables, AtomStandsFor, LiteralStandsFor, StandForEach, StandForLists}
 use Rattle.clauses.specs.ItemView.{ItemStandsFor, ReadsItem}
@@ -24,7 +24,7 @@ use Rattle.rules.specs.declared.item_links.Links.{Links}
 use Rattle.clauses.specs.StoreView.{data_of}
 use Rattle.rules.specs.Bodies.{named_relation, named_relations, all_named_relations, HaveSame, has_literal}
 use Rattle.clauses.specs.Marks.{literal_in, IsInside, AreAllInside, are_safe_by}
-use Rattle.rules.specs.Drafts.{Numbered, numbered, numbered_with, numbered_of, AddsSafe, LinksItem, StandForAlternatives, LinkStandsFor}
+use Rattle.rules.specs.Drafts.{Numbered, shared, numbered_with, numbered_of, AddsSafe, LinksItem, StandForAlternatives, LinkStandsFor}
 use Rattle.rules.specs.Drafts.{StandForItems, some_literal_in, rests_on_any, IsDraftOf, AddsItem}
 use Rattle.kif.specs.View.{tree_of, trees_in}
 use Rattle.kif.specs.declared.expr.Expr.{Expr}
@@ -39,19 +39,19 @@ numbered_with-append variables head [] ys = refl
 numbered_with-append variables head (x ∷ xs) ys =
     ap (λ (ns : List Numbered). record { variables = variables; head = head; body = x } ∷ ns) (numbered_with-append variables head xs ys)
 
-pub one_more : {G : Type 0} (start now new : List Alternative) (a : Alternative) (done : List (Vec ℕ G)) (v : Vec ℕ G) (variables : Span)
-    (head : Atom)
-    → map numbered now ≡ map numbered start ++ numbered_with variables head (lists_of done) → new ≡ now ++ a ∷ []
-    → numbered a ≡ record { variables = variables; head = head; body = v.items }
-    → map numbered new ≡ map numbered start ++ numbered_with variables head (lists_of (done ++ v ∷ []))
+pub one_more : {G : Type 0} (start now new : List SharedAlternative) (a : SharedAlternative) (done : List (Vec Span G)) (v : Vec Span G)
+    (variables : Span) (head : Atom)
+    → map shared now ≡ map shared start ++ numbered_with variables head (lists_of done) → new ≡ now ++ a ∷ []
+    → shared a ≡ record { variables = variables; head = head; body = numbers_in v.items }
+    → map shared new ≡ map shared start ++ numbered_with variables head (lists_of (done ++ v ∷ []))
 one_more start now new a done v variables head before added same =
-    ap (λ (as' : List Alternative). map numbered as') added
-    ∙ map-append numbered now (a ∷ [])
-    ∙ ap (λ (ns : List Numbered). ns ++ numbered a ∷ []) before
-    ∙ append_assoc (map numbered start) (numbered_with variables head (lists_of done)) (numbered a ∷ [])
-    ∙ ap (λ (n : Numbered). map numbered start ++ (numbered_with variables head (lists_of done) ++ n ∷ [])) same
-    ∙ ap (λ (ns : List Numbered). map numbered start ++ ns) (sym (numbered_with-append variables head (lists_of done) (v.items ∷ [])))
-    ∙ ap (λ (ls : List (List ℕ)). map numbered start ++ numbered_with variables head ls) (sym (lists_of-append done (v ∷ [])))
+    ap (λ (as' : List SharedAlternative). map shared as') added
+    ∙ map-append shared now (a ∷ [])
+    ∙ ap (λ (ns : List Numbered). ns ++ shared a ∷ []) before
+    ∙ append_assoc (map shared start) (numbered_with variables head (lists_of done)) (shared a ∷ [])
+    ∙ ap (λ (n : Numbered). map shared start ++ (numbered_with variables head (lists_of done) ++ n ∷ [])) same
+    ∙ ap (λ (ns : List Numbered). map shared start ++ ns) (sym (numbered_with-append variables head (lists_of done) (numbers_in v.items ∷ [])))
+    ∙ ap (λ (ls : List (List ℕ)). map shared start ++ numbered_with variables head ls) (sym (lists_of-append done (v ∷ [])))
 
 -- Safety of an item.
 
@@ -91,7 +91,7 @@ pub not_safe_item : (old d : Data) (i : Item) (t : Tree) (b : Bool) → ReadsIte
 not_safe_item old d i t b r words e = ap not (sym (e ∙ item_safe old d i t r words r.order))
 
 pub adds_safe : (old new : Draft) (i : Item) (l : Links) (t : Tree) → ReadsItem (data_of old.store) (data_of new.store) i t
-    → map numbered new.alternatives.items ≡ map numbered old.alternatives.items ++ numbered_of i → new.links.items ≡ old.links.items ++ l ∷ []
+    → map shared new.alternatives.items ≡ map shared old.alternatives.items ++ numbered_of i → new.links.items ≡ old.links.items ++ l ∷ []
     → l.head ≡ i.head.relation → HaveSame l.body.items (all_named_relations (data_of new.store) (lists_of i.bodies.items))
     → new.rests.items ≡ old.rests.items ++ has_literal (lists_of i.bodies.items) ∷ [] → AddsSafe old new t
 adds_safe old new i l t r alternatives links head body rests =
@@ -202,10 +202,10 @@ draft_more old new ts t o a =
       alternatives = λ later x.
           let s = a.stands later x in
           subst (λ (ns : List Numbered). StandForAlternatives later ns (alternatives (ts ++ t ∷ []))) (sym a.alternatives)
-          (subst (λ (as' : List said.Alternative). StandForAlternatives later (map numbered old.alternatives.items ++ numbered_of item) as')
+          (subst (λ (as' : List said.Alternative). StandForAlternatives later (map shared old.alternatives.items ++ numbered_of item) as')
           (ap (λ (as' : List said.Alternative). alternatives ts ++ as') (sym (append-nil (item_alternatives t)))
           ∙ sym (alternatives-append ts (t ∷ [])))
-          (alternatives_append later (map numbered old.alternatives.items) (numbered_of item) (alternatives ts) (item_alternatives t)
+          (alternatives_append later (map shared old.alternatives.items) (numbered_of item) (alternatives ts) (item_alternatives t)
           (o.alternatives later (up later x))
           (numbered_stand later item (item_head t) (lists_of item.bodies.items) (readings_of_all (body_trees t)) s.variables s.head s.bodies)));
       links = λ later x.

@@ -8,17 +8,17 @@ use Rattle.statement.specs.Clause as said
 use Rattle.statement.specs.Clause.{Relation, relation_of}
 use Rattle.statement.specs.Dependence.{IsAmong, heads_of}
 use Rattle.statement.specs.Items.{item_head, item_alternatives, alternatives, body_trees, readings_of_all}
-use Rattle.clauses.specs.declared.numbered.Alternative.{Alternative}
+use Rattle.clauses.specs.declared.numbered.SharedAlternative.{SharedAlternative}
 use Rattle.rules.specs.declared.item_links.Links.{Links}
 use Rattle.clauses.specs.Store.{Data, relation_at}
 use Rattle.rules.specs.Numbering.{HasBody, AreBodies}
-use Rattle.rules.specs.Drafts.{numbered, StandForAlternatives, StandForItems, some_literal_in, rests_on_any}
+use Rattle.rules.specs.Drafts.{shared, StandForAlternatives, StandForItems, some_literal_in, rests_on_any}
 use Rattle.rules.specs.Heads.{with_marked_heads, with_passing}
 use Rattle.profile.proofs.Facts.{IsAmong-append, IsAmong-append_left, IsAmong-append_right, same_head}
 use Rattle.rules.proofs.LinkLemmas.{in_map, of_map}
 
 -- the marks, with those of the alternatives that are left, are those of all
-pub record Heading (nodes : ℕ) (marks : List Bool) (all rest : List Alternative) : Type 0 where
+pub record Heading (nodes : ℕ) (marks : List Bool) (all rest : List SharedAlternative) : Type 0 where
   pub same : with_marked_heads marks rest ≡ with_marked_heads (replicate nodes false) all
   pub counted : length marks ≡ nodes
 
@@ -60,11 +60,11 @@ pub no_marks_long : (n : ℕ) → length (replicate n false) ≡ n
 no_marks_long zero = refl
 no_marks_long (suc n) = ap (λ (x : ℕ). suc x) (no_marks_long n)
 
-heads_long : (marks : List Bool) (as' : List Alternative) → length (with_marked_heads marks as') ≡ length marks
+heads_long : (marks : List Bool) (as' : List SharedAlternative) → length (with_marked_heads marks as') ≡ length marks
 heads_long marks [] = refl
 heads_long marks (a ∷ as') = heads_long (slice_set marks a.head.relation true) as' ∙ length-set marks a.head.relation true
 
-pub all_heads_long : (n : ℕ) (as' : List Alternative) (marks : List Bool) → marks ≡ with_marked_heads (replicate n false) as' → length marks ≡ n
+pub all_heads_long : (n : ℕ) (as' : List SharedAlternative) (marks : List Bool) → marks ≡ with_marked_heads (replicate n false) as' → length marks ≡ n
 all_heads_long n as' marks e = ap length e ∙ heads_long (replicate n false) as' ∙ no_marks_long n
 
 passing_long : (marks : List Bool) (links : List Links) (tests : List Bool) → length (with_passing marks links tests) ≡ length marks
@@ -79,11 +79,11 @@ all_passing_long n links tests marks e = ap length e ∙ passing_long (replicate
 
 -- Heads of alternatives.
 
-abbrev IsHeaded : List Alternative → ℕ → Type 0
+abbrev IsHeaded : List SharedAlternative → ℕ → Type 0
 IsHeaded [] r = ⊥
 IsHeaded (a ∷ as') r = (a.head.relation ≡ r) ⊎ IsHeaded as' r
 
-heads_out : (marks : List Bool) (as' : List Alternative) (r : ℕ) → get_or (with_marked_heads marks as') r false ≡ true
+heads_out : (marks : List Bool) (as' : List SharedAlternative) (r : ℕ) → get_or (with_marked_heads marks as') r false ≡ true
     → (get_or marks r false ≡ true) ⊎ IsHeaded as' r
 heads_out marks [] r h = inl h
 heads_out marks (a ∷ as') r h = elim (heads_out (slice_set marks a.head.relation true) as' r h) [
@@ -91,18 +91,18 @@ heads_out marks (a ∷ as') r h = elim (heads_out (slice_set marks a.head.relati
   | inr i ↦ inr (inr i)
 ]
 
-heads_kept : (marks : List Bool) (as' : List Alternative) (r : ℕ) → get_or marks r false ≡ true → get_or (with_marked_heads marks as') r false ≡ true
+heads_kept : (marks : List Bool) (as' : List SharedAlternative) (r : ℕ) → get_or marks r false ≡ true → get_or (with_marked_heads marks as') r false ≡ true
 heads_kept marks [] r h = h
 heads_kept marks (a ∷ as') r h = heads_kept (slice_set marks a.head.relation true) as' r (set_kept marks a.head.relation r h)
 
-heads_in : (marks : List Bool) (as' : List Alternative) (r : ℕ) → r < length marks → IsHeaded as' r → get_or (with_marked_heads marks as') r false ≡ true
+heads_in : (marks : List Bool) (as' : List SharedAlternative) (r : ℕ) → r < length marks → IsHeaded as' r → get_or (with_marked_heads marks as') r false ≡ true
 heads_in marks [] r h i = absurd i
 heads_in marks (a ∷ as') r h (inl e) = heads_kept (slice_set marks a.head.relation true) as' r (set_at marks a.head.relation r e h)
 heads_in marks (a ∷ as') r h (inr i) =
     let l : length (slice_set marks a.head.relation true) ≡ length marks = length-set marks a.head.relation true in
     heads_in (slice_set marks a.head.relation true) as' r (omega (arith, l, h)) i
 
-headed_among : (d : Data) (as' : List Alternative) (rules : List said.Alternative) (r : ℕ) → StandForAlternatives d (map numbered as') rules
+headed_among : (d : Data) (as' : List SharedAlternative) (rules : List said.Alternative) (r : ℕ) → StandForAlternatives d (map shared as') rules
     → IsHeaded as' r → IsAmong (relation_at d r) (heads_of rules)
 headed_among d [] rules r s i = absurd i
 headed_among d (a ∷ as') [] r s i = absurd s
@@ -110,13 +110,13 @@ headed_among d (a ∷ as') (rule ∷ rules) r s (inl e) = inl (ap (λ (x : ℕ).
 headed_among d (a ∷ as') (rule ∷ rules) r s (inr i) = inr (headed_among d as' rules r s.1 i)
 
 -- the number of a relation that heads an alternative
-pub record Headed (d : Data) (as' : List Alternative) (p : Relation) : Type 0 where
+pub record Headed (d : Data) (as' : List SharedAlternative) (p : Relation) : Type 0 where
   pub number : ℕ
   pub inside : number < length d.signatures
   pub named : relation_at d number ≡ p
   pub heads : IsHeaded as' number
 
-among_headed : (d : Data) (as' : List Alternative) (rules : List said.Alternative) (p : Relation) → StandForAlternatives d (map numbered as') rules
+among_headed : (d : Data) (as' : List SharedAlternative) (rules : List said.Alternative) (p : Relation) → StandForAlternatives d (map shared as') rules
     → IsAmong p (heads_of rules) → Headed d as' p
 among_headed d [] [] p s i = absurd i
 among_headed d [] (rule ∷ rules) p s i = absurd s
@@ -126,16 +126,16 @@ among_headed d (a ∷ as') (rule ∷ rules) p s (inl e) =
 among_headed d (a ∷ as') (rule ∷ rules) p s (inr i) =
     let m = among_headed d as' rules p s.1 i in record { number = m.number; inside = m.inside; named = m.named; heads = inr m.heads }
 
-pub heads_within : (d : Data) (as' : List Alternative) (rules : List said.Alternative) → StandForAlternatives d (map numbered as') rules
-    → All (λ (a : Alternative). a.head.relation < length d.signatures) as'
+pub heads_within : (d : Data) (as' : List SharedAlternative) (rules : List said.Alternative) → StandForAlternatives d (map shared as') rules
+    → All (λ (a : SharedAlternative). a.head.relation < length d.signatures) as'
 heads_within d [] rules s k e h = absurd (let bad : ⊥ = omega (arith, h) in bad)
 heads_within d (a ∷ as') [] s k e h = absurd s
 heads_within d (a ∷ as') (rule ∷ rules) s zero e h = s.0.head.relation
 heads_within d (a ∷ as') (rule ∷ rules) s (suc k) e h = heads_within d as' rules s.1 k e (omega (arith, h))
 
 -- what is marked heads an alternative
-pub marked_heads : (d : Data) (as' : List Alternative) (rules : List said.Alternative) (marks : List Bool)
-    → StandForAlternatives d (map numbered as') rules → marks ≡ with_marked_heads (replicate (length d.signatures) false) as'
+pub marked_heads : (d : Data) (as' : List SharedAlternative) (rules : List said.Alternative) (marks : List Bool)
+    → StandForAlternatives d (map shared as') rules → marks ≡ with_marked_heads (replicate (length d.signatures) false) as'
     → (r : ℕ) → r < length d.signatures → get_or marks r false ≡ true → IsAmong (relation_at d r) (heads_of rules)
 marked_heads d as' rules marks s e r h m =
     elim (heads_out (replicate (length d.signatures) false) as' r (subst (λ (bs : List Bool). get_or bs r false ≡ true) e m)) [
@@ -144,8 +144,8 @@ marked_heads d as' rules marks s e r h m =
     ]
 
 -- what heads an alternative has a number that is marked
-pub heads_marked : (d : Data) (as' : List Alternative) (rules : List said.Alternative) (marks : List Bool)
-    → StandForAlternatives d (map numbered as') rules → marks ≡ with_marked_heads (replicate (length d.signatures) false) as'
+pub heads_marked : (d : Data) (as' : List SharedAlternative) (rules : List said.Alternative) (marks : List Bool)
+    → StandForAlternatives d (map shared as') rules → marks ≡ with_marked_heads (replicate (length d.signatures) false) as'
     → (p : Relation) → IsAmong p (heads_of rules) → (r : ℕ) × (r < length d.signatures) × (relation_at d r ≡ p) × (get_or marks r false ≡ true)
 heads_marked d as' rules marks s e p i =
     let m = among_headed d as' rules p s i in

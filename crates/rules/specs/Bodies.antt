@@ -1,6 +1,6 @@
 -- This crate's own: what `run` promises does not rest on it.
 -- The relations that bodies name, by number.
-use Rattle.std.specs.Prelude.{ℕ, ◌↔◌, Bool, true, false, cond, List, [], ◌∷◌, ◌++◌}
+use Rattle.std.specs.Prelude.{ℕ, ◌↔◌, Bool, true, false, cond, ◌||◌, List, [], ◌∷◌, ◌++◌}
 use Rattle.statement.specs.Dependence.{IsAmong, is_distinct}
 use Rattle.clauses.specs.Store.{Data, relation_at}
 use Rattle.clauses.specs.Marks.{literal_in}
@@ -17,10 +17,14 @@ abbrev pub all_named_relations : Data → List (List ℕ) → List ℕ
 all_named_relations d [] = []
 all_named_relations d (b ∷ bodies) = named_relations d b ++ all_named_relations d bodies
 
+-- there is a number
+abbrev pub is_longer : List ℕ → Bool
+is_longer [] = false
+is_longer (n ∷ ns) = true
+
 abbrev pub has_literal : List (List ℕ) → Bool
 has_literal [] = false
-has_literal ([] ∷ bodies) = has_literal bodies
-has_literal ((n ∷ ns) ∷ bodies) = true
+has_literal (b ∷ bodies) = is_longer b || has_literal bodies
 
 -- the same numbers, however often and in whatever order
 abbrev pub HaveSame : List ℕ → List ℕ → Type 0

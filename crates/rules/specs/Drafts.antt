@@ -3,6 +3,7 @@
 use Rattle.std.specs.Prelude.{ℕ, ◌≡◌, ◌<◌, Bool, true, false, List, [], ◌∷◌, ◌++◌, map, length, Some}
 use Rattle.statement.specs.Tree.{Tree}
 use Rattle.clauses.specs.declared.numbered.Alternative.{Alternative}
+use Rattle.clauses.specs.declared.numbered.SharedAlternative.{SharedAlternative}
 use Rattle.clauses.specs.declared.numbered.Atom.{Atom}
 use Rattle.clauses.specs.declared.numbered.Span.{Span}
 use Rattle.rules.specs.declared.draft.Draft.{Draft}
@@ -15,7 +16,7 @@ use Rattle.statement.specs.declared.rule_fault.RuleFault.TheVariants as errors
 use Rattle.rules.specs.Numbering.{AreBodyNumbers}
 use Rattle.statement.specs.Profile.{first_failing, not_safe, is_unsafe}
 use Rattle.clauses.specs.Numbers.{NamesDiffer}
-use Rattle.clauses.specs.Spread.{lists_of}
+use Rattle.clauses.specs.Spread.{lists_of, numbers_in}
 use Rattle.clauses.specs.Store.{Data, relation_at, stated_atom, stated_literal}
 use Rattle.clauses.specs.StoreView.{data_of}
 use Rattle.clauses.specs.Adding.{Extends, AreDifferentSignatures, HasVariables, HaveNames, AtomStandsFor, StandForEach}
@@ -30,6 +31,10 @@ pub record Numbered : Type 0 where
 
 abbrev pub numbered : Alternative → Numbered
 numbered a = record { variables = a.variables; head = a.head; body = a.body.items }
+
+-- the same of one that shares the literals of its item
+abbrev pub shared : SharedAlternative → Numbered
+shared a = record { variables = a.variables; head = a.head; body = numbers_in a.body.items }
 
 -- the alternative that stands for an item
 abbrev pub alternative_of : Data → Numbered → said.Alternative
@@ -69,7 +74,7 @@ pub record AddsSafe (old new : Draft) (t : Tree) : Type 0 where
   pub item : Item
   pub link : Links
   pub stands : (later : Data) → Extends (data_of new.store) later → ItemStandsFor later item t
-  pub alternatives : map numbered new.alternatives.items ≡ map numbered old.alternatives.items ++ numbered_of item
+  pub alternatives : map shared new.alternatives.items ≡ map shared old.alternatives.items ++ numbered_of item
   pub linked : LinksItem (data_of new.store) item link
   pub links : new.links.items ≡ old.links.items ++ link ∷ []
   pub rests : new.rests.items ≡ old.rests.items ++ has_literal (lists_of item.bodies.items) ∷ []
@@ -118,6 +123,6 @@ pub record IsDraftOf (draft : Draft) (items : List Tree) : Type 0 where
   pub signatures : AreDifferentSignatures (data_of draft.store).signatures
   pub named : HaveNames (data_of draft.store)
   pub alternatives : (later : Data) → Extends (data_of draft.store) later
-      → StandForAlternatives later (map numbered draft.alternatives.items) (alternatives items)
+      → StandForAlternatives later (map shared draft.alternatives.items) (alternatives items)
   pub links : (later : Data) → Extends (data_of draft.store) later → StandForItems later draft.links.items items
   pub rests : draft.rests.items ≡ map rests_on_any items

@@ -1,11 +1,11 @@
 -- This crate's own: what `run` promises does not rest on it.
 -- Which relations head alternatives, by number.
 use Rattle.std.specs.Prelude.{Bool, true, cond, List, [], ◌∷◌, slice_set}
-use Rattle.clauses.specs.declared.numbered.Alternative.{Alternative}
+use Rattle.clauses.specs.declared.numbered.SharedAlternative.{SharedAlternative}
 use Rattle.rules.specs.declared.item_links.Links.{Links}
 
 -- the marks, and those of the heads of alternatives
-abbrev pub with_marked_heads : List Bool → List Alternative → List Bool
+abbrev pub with_marked_heads : List Bool → List SharedAlternative → List Bool
 with_marked_heads marks [] = marks
 with_marked_heads marks (a ∷ as') = with_marked_heads (slice_set marks a.head.relation true) as'
 

@@ -3,14 +3,14 @@
 //! Each stands once and by rising number, so the graph has no more arrows from an item than there are relations in it.
 ghost use Rattle.std.specs.Prelude.{◌≡◌, ◌<◌, ◌++◌, ◌∷◌, [], length, IfOk, OnOk, if◌then◌else◌};
 ghost use Rattle.std.specs.List.Sorted.{IsStrictlyIncreasing};
-ghost use Rattle.rules.specs.Bodies.{named_relations, all_named_relations, HaveSame, has_literal};
+ghost use Rattle.rules.specs.Bodies.{named_relations, all_named_relations, HaveSame, has_literal, is_longer};
 ghost use Rattle.statement.specs.Dependence.{is_distinct};
 ghost use Rattle.clauses.specs.Marks.{literal_in, IsInside, AreInside, AreAllInside};
 ghost use Rattle.clauses.specs.Spread.{lists_of};
 ghost use Rattle.clauses.specs.Store.{relation_at};
 ghost use Rattle.clauses.specs.StoreView.{data_of};
 
-use clauses::{Item, Store};
+use clauses::{Item, Store, numbers_at};
 use std::alloc::{AllocError, Global};
 
 /// Adds the relation of a literal, unless it is `distinct`.
@@ -71,20 +71,29 @@ pub(crate) fn relations_of(
 {
     let mut out = Vec::new(alloc);
     for body in &item.bodies {
-        add_relations(store, item.variables.from, body, &mut out)?;
+        let numbers = numbers_at(alloc, body)?;
+        add_relations(store, item.variables.from, &numbers, &mut out)?;
         keep_once(&mut out);
     }
     Ok(out)
 }
 
+/// Whether there is a number.
+fn is_some(numbers: &[usize]) -> bool
+    ensures { result ≡ is_longer numbers.now }
+{
+    !numbers.is_empty()
+}
+
 /// Whether some body of an item has a literal.
-pub(crate) fn is_resting(item: &Item) -> bool
-    ensures { result ≡ has_literal (lists_of item.now.bodies.items) }
+pub(crate) fn is_resting(alloc: Global, item: &Item) -> Result<bool, AllocError>
+    ensures { IfOk result (λ rests. rests ≡ has_literal (lists_of item.now.bodies.items)) }
 {
     for body in &item.bodies {
-        if !body.is_empty() {
-            return true;
+        let numbers = numbers_at(alloc, body)?;
+        if is_some(&numbers) {
+            return Ok(true);
         }
     }
-    false
+    Ok(false)
 }

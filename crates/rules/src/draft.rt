@@ -1,7 +1,7 @@
 //! A rule set that is read item by item.
 ghost use Rattle.std.specs.Prelude.{◌≡◌, ◌++◌, true, map, IfOk, IfErr, OnOk, None};
 ghost use Rattle.kif.specs.View.{tree_of, trees_in};
-ghost use Rattle.rules.specs.Drafts.{numbered, numbered_of, AddsItem, IsDraftOf, IsSafetyFault};
+ghost use Rattle.rules.specs.Drafts.{numbered, shared, numbered_of, AddsItem, IsDraftOf, IsSafetyFault};
 ghost use Rattle.statement.specs.Items.{is_item};
 ghost use Rattle.clauses.specs.Numbers.{NamesDiffer};
 ghost use Rattle.profile.specs.Parts.{AreItems};
@@ -10,7 +10,7 @@ ghost use Rattle.clauses.specs.StoreView.{data_of};
 
 use crate::bodies::{is_resting, relations_of};
 use crate::item_links::Links;
-use clauses::{Alternative, Item, Store, is_safe_item, read_item};
+use clauses::{Alternative, Item, SharedAlternative, Store, is_safe_item, numbers_at, read_item};
 use kif::Expr;
 use profile::RuleFault;
 use std::alloc::{AllocError, Allocator, Global};
@@ -20,25 +20,50 @@ use std::alloc::{AllocError, Allocator, Global};
 #[derive(Drop)]
 pub(crate) struct Draft {
     pub(crate) store: Store,
-    pub(crate) alternatives: Vec<Alternative>,
+    pub(crate) alternatives: Vec<SharedAlternative>,
     pub(crate) links: Vec<Links>,
     pub(crate) rests: Vec<bool>,
 }
 
 /// Adds the alternatives of an item.
-fn add_alternatives(item: Item, out: &mut Vec<Alternative>) -> Result<(), AllocError>
-    ensures { OnOk result (map numbered out.new.items ≡ map numbered out.old.items ++ numbered_of item) }
+fn add_alternatives(item: Item, out: &mut Vec<SharedAlternative>) -> Result<(), AllocError>
+    ensures { OnOk result (map shared out.new.items ≡ map shared out.old.items ++ numbered_of item) }
 {
     let head = item.head;
     let variables = item.variables;
     for body in item.bodies {
-        out.push(Alternative {
+        out.push(SharedAlternative {
             variables,
             head,
             body,
         })?;
     }
     Ok(())
+}
+
+/// An alternative with the numbers of its literals.
+fn alone(alloc: Global, alternative: &SharedAlternative) -> Result<Alternative, AllocError>
+    ensures { IfOk result (λ own. numbered own ≡ shared alternative.now) }
+{
+    Ok(Alternative {
+        variables: alternative.variables,
+        head: alternative.head,
+        body: numbers_at(alloc, &alternative.body)?,
+    })
+}
+
+/// Alternatives with the numbers of their literals, each for itself.
+pub(crate) fn each_alone(
+    alloc: Global,
+    alternatives: &[SharedAlternative],
+) -> Result<Vec<Alternative>, AllocError>
+    ensures { IfOk result (λ all. map numbered all.items ≡ map shared alternatives.now) }
+{
+    let mut all = Vec::new(alloc);
+    for alternative in alternatives {
+        all.push(alone(alloc, alternative)?)?;
+    }
+    Ok(all)
 }
 
 /// Adds an item, unless one of its alternatives is not safe.
@@ -58,7 +83,8 @@ pub(crate) fn add_item<A: Allocator>(
     let body = relations_of(alloc, &draft.store, &item)?;
     let head = item.head.relation;
     draft.links.push(Links { head, body })?;
-    draft.rests.push(is_resting(&item))?;
+    let rests = is_resting(alloc, &item)?;
+    draft.rests.push(rests)?;
     add_alternatives(item, &mut draft.alternatives)?;
     Ok(true)
 }

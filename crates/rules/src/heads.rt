@@ -4,14 +4,14 @@ ghost use Rattle.rules.specs.Heads.{with_marked_heads, with_passing};
 ghost use Rattle.rules.specs.ItemLinks.{LinksWithin};
 
 use crate::item_links::Links;
-use clauses::Alternative;
+use clauses::SharedAlternative;
 use std::alloc::{AllocError, Global};
 
 /// Marks the heads of alternatives.
 pub(crate) fn heads_of(
     alloc: Global,
     nodes: usize,
-    alternatives: &[Alternative],
+    alternatives: &[SharedAlternative],
 ) -> Result<Vec<bool>, AllocError>
     requires { All (λ a. a.head.relation < nodes) alternatives.now }
     ensures { IfOk result (λ marks. marks.items ≡ with_marked_heads (replicate nodes false) alternatives.now) }

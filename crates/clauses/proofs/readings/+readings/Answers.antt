@@ -1,16 +1,19 @@
-use Rattle.std.proofs.Common.{ap, sym, ◌∙◌, arith, refl}
+use Rattle.std.proofs.Common.{ℕ, List, ap, sym, ◌∙◌, arith, refl, subst}
 use Rattle.statement.specs.Tree.{trees_of}
 use Rattle.kif.specs.View.{tree_of, trees_in}
-use Rattle.statement.specs.Items.{is_literal, are_literals}
+use Rattle.statement.specs.Items.{is_literal, are_literals, readings_of_all}
+use Rattle.clauses.specs.StoreView.{data_of}
+use Rattle.clauses.specs.Adding.{Spreads}
+use Rattle.clauses.specs.PicksView.{picks_made}
 use Rattle.clauses.specs.Spread.{lists_of, number_picks}
-use Rattle.profile.proofs.Facts.{part_smaller, tree_is_slice, tree_is_word, no_word_no_literal, literal_of_not, one_of_all}
+use Rattle.profile.proofs.Facts.{part_smaller, tree_is_slice, tree_is_word, no_word_no_literal, literal_of_not, one_of_all, if_ok}
 use Rattle.clauses.proofs.NumberLemmas.{true_or_false}
 use Rattle.clauses.proofs.AddingLemmas.{longer}
-use Rattle.clauses.proofs.SpreadLemmas.{turn_begun, turn_on, picks_begun, picks_on, picks_ended, one_empty, not_word}
+use Rattle.clauses.proofs.SpreadLemmas.{turn_begun, turn_on, picks_begun, picks_on, picks_ended, not_word}
 use Rattle.clauses.proofs.readings.+readings.Goals as goal
 
 pub read_all-loop-part-init : goal.read_all-loop-part-init
-read_all-loop-part-init g t c = picks_begun c.args.from _ _ _ (one_empty _ _ _ c.in_ok-push.ensures.items c.new-all.ensures.items c.new.ensures.items)
+read_all-loop-part-init g t c = picks_begun c.args.from _ _ _ c.in_ok-picks.ensures
 
 pub read_all-read_literal-requires : goal.read_all-read_literal-requires
 read_all-read_literal-requires g t c κs within =
@@ -30,10 +33,13 @@ pub read_all-loop-part-preserved : goal.read_all-loop-part-preserved
 read_all-loop-part-preserved g t c =
     picks_on c.args.from _ _ _ _ _ _ c.args.parts.now c.loop-part.part-index c.part-item.result _ c.loop-part.invariant c.loop-part-test.true
     c.part-item.is c.in_ok-lists.ensures
-    (c.in_ok-all.ensures ∙ ap (λ vs. number_picks (lists_of c.loop-part.all.items) (lists_of vs)) c.deref.ensures.value)
+    (c.in_ok-pick.ensures ∙ ap (λ vs. number_picks (picks_made c.loop-part.picks) (lists_of vs)) c.deref.ensures.value)
 
 pub read_all-returns : goal.read_all-returns
-read_all-returns g t c = picks_ended c.args.from _ _ _ c.args.parts.now c.loop-part.part-index _ c.loop-part.invariant c.loop-part-test.false
+read_all-returns g t c =
+    if_ok c.made.result _ _ (λ out e. subst (λ (ls : List (List ℕ)). Spreads c.args.from (data_of c.args.store.now) (data_of c.loop-part.store) ls
+    (readings_of_all (trees_of (trees_in c.args.parts.now)))) (sym e)
+    (picks_ended c.args.from _ _ _ c.args.parts.now c.loop-part.part-index _ c.loop-part.invariant c.loop-part-test.false)) c.made.ensures
 
 pub read_in_turn-loop-part-init : goal.read_in_turn-loop-part-init
 read_in_turn-loop-part-init g t c = turn_begun c.args.from _ _ _ (ap lists_of c.new-all.ensures.items)

@@ -2,6 +2,7 @@ use Rattle.std.proofs.Common.{drop}
 use Rattle.statement.specs.Tree.{trees_of}
 use Rattle.kif.specs.View.{tree_of, trees_in}
 use Rattle.statement.specs.Items.{readings_in_turn, readings_of_all}
+use Rattle.clauses.specs.PicksView.{picks_made}
 use Rattle.clauses.specs.Spread.{lists_of}
 use Rattle.clauses.specs.StoreView.{data_of}
 use Rattle.profile.proofs.Facts.{tree_size, trees_size}
@@ -24,5 +25,5 @@ invariant-read_in_turn-loop-part g l =
 
 abbrev pub invariant-read_all-loop-part : goal.invariant-read_all-loop-part
 invariant-read_all-loop-part g l =
-    Picked l.from (data_of l.fn.store) (data_of l.store) (lists_of l.all.items) (readings_of_all (trees_of (trees_in (drop l.part-index l.parts))))
+    Picked l.from (data_of l.fn.store) (data_of l.store) (picks_made l.picks) (readings_of_all (trees_of (trees_in (drop l.part-index l.parts))))
     (readings_of_all (trees_of (trees_in l.parts)))

@@ -4,5 +4,5 @@ use Rattle.clauses.proofs.spread.picks_of.Given as goal
 
 abbrev pub invariant-loop-list : goal.invariant-loop-list
 invariant-loop-list l =
-    lists_of l.out.items ++ number_picks (lists_of (drop l.list-index l.list-items)) (lists_of l.second)
-    ≡ number_picks (lists_of l.fn.first.items) (lists_of l.second)
+    lists_of l.out.items ++ number_picks (lists_of (drop l.list-index l.first)) (lists_of l.second)
+    ≡ number_picks (lists_of l.first) (lists_of l.second)

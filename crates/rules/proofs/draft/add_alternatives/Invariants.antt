@@ -1,7 +1,7 @@
 use Rattle.std.proofs.Common.{◌≡◌, ◌++◌, map}
 use Rattle.clauses.specs.Spread.{lists_of}
-use Rattle.rules.specs.Drafts.{numbered, numbered_with}
+use Rattle.rules.specs.Drafts.{shared, numbered_with}
 use Rattle.rules.proofs.draft.add_alternatives.Given as goal
 
 abbrev pub invariant-loop-body : goal.invariant-loop-body
-invariant-loop-body l = map numbered l.out.items ≡ map numbered l.fn.out.items ++ numbered_with l.variables l.head (lists_of l.yielded)
+invariant-loop-body l = map shared l.out.items ≡ map shared l.fn.out.items ++ numbered_with l.variables l.head (lists_of l.yielded)

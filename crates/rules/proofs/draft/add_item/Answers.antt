@@ -21,7 +21,7 @@ pub returns : goal.returns
 returns g c = (
   adds_safe c.args.draft.now _ c.in_ok-item.item (record { head = c.in_ok-item.item.head.relation; body = c.in_ok-body.body }) _ c.in_ok-item.ensures
       c.in_ok-add_alternatives.ensures c.in_ok-push.ensures.items refl c.in_ok-body.ensures.same
-      (c.in_ok-push-2.ensures.items ∙ ap (λ (b : Bool). c.args.draft.now.rests.items ++ b ∷ []) c.is_resting.ensures),
+      (c.in_ok-push-2.ensures.items ∙ ap (λ (b : Bool). c.args.draft.now.rests.items ++ b ∷ []) c.in_ok-rests.ensures),
   not_safe_item _ _ c.in_ok-item.item _ c.in_ok-is_safe_item.field-0 c.in_ok-item.ensures c.requires.words c.in_ok-is_safe_item.ensures
       ∙ ap not c.if-not-branch.false,
 )

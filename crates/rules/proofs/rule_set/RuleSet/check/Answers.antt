@@ -1,55 +1,30 @@
-use Rattle.std.proofs.Common.{◌∙◌, sym, subst, map}
+use Rattle.std.proofs.Common.{List, sym, subst, map}
 use Rattle.kif.specs.View.{trees_in}
-use Rattle.statement.specs.declared.rule_fault.RuleFault.{RuleFault}
-use Rattle.statement.specs.RuleFaults.{IsRuleFault}
-use Rattle.rules.specs.Drafts.{numbered}
+use Rattle.statement.specs.Items.{alternatives}
+use Rattle.rules.specs.Drafts.{Numbered, StandForAlternatives}
 use Rattle.clauses.specs.StoreView.{data_of}
 use Rattle.clauses.proofs.Facts.{extends_refl}
-use Rattle.rules.proofs.AnswerLemmas.{dependence_fault, no_fault, texts_are, has_items, is_sound, rules_stand}
-use Rattle.profile.proofs.Facts.{err_given}
-use Rattle.rules.proofs.TextLemmas.{places_inside}
+use Rattle.rules.proofs.AnswerLemmas.{has_items, is_sound, rules_stand, each_own}
 use Rattle.rules.proofs.rule_set.RuleSet.check.Goals as goal
-
-pub layout_of-requires : goal.layout_of-requires
-layout_of-requires g c = (trees_in c.args.items.now, c.in_ok-draft.ensures.read)
-
-pub returns-in_err-layout-clause-refused : goal.returns-in_err-layout-clause-refused
-returns-in_err-layout-clause-refused g c =
-    let items = trees_in c.args.items.now in
-    let said = c.in_err-layout.ensures.faults items c.in_ok-draft.ensures.read in
-    err_given c.from_residual-in_err-layout.result _ _ c.from_residual-in_err-layout.ensures.1
-    (λ fault same. subst (λ (f : RuleFault). IsRuleFault items f) (sym same)
-    (dependence_fault items _ c.in_ok-places.ensures.passed c.in_ok-draft.ensures.safe said))
-
-pub role_texts-requires : goal.role_texts-requires
-role_texts-requires g c = places_inside c.args.items.now c.in_ok-places.places.items _ c.in_ok-places.ensures.places.within c.deref.ensures.0
 
 pub invariant_of-result : goal.invariant_of-result
 invariant_of-result g c =
     let items = trees_in c.args.items.now in
-    let d = data_of c.in_ok-draft.draft.store in
-    let ns = map numbered c.in_ok-draft.draft.alternatives.items in
-    let read = c.in_ok-draft.ensures.read in
-    let stand = read.alternatives d (extends_refl d) in
-    let laid = c.in_ok-layout.ensures.laid items read in
-    let none = no_fault items c.in_ok-places.places.items d _ _ c.in_ok-places.ensures.passed c.in_ok-draft.ensures.safe laid
-    c.in_ok-places.ensures.roles c.in_ok-places.ensures.places (sym c.is_empty.ensures ∙ c.if-is_empty.false) in
-    let texts = texts_are items c.in_ok-places.places.items c.deref.result.now _ c.in_ok-places.ensures.roles c.deref.ensures.0
-    c.in_ok-roles.ensures in
+    let is = c.in_ok-all.ensures.accepted in
+    let d = data_of c.in_ok-all.all.draft.store in
+    let stand = each_own d _ _ _ (alternatives items) c.in_ok-alternatives.ensures c.deref.ensures.value (is.read.alternatives d (extends_refl d)) in
     record {
-      accepted = ∣ has_items items d ns _ none stand texts ∣₁;
-      sound = is_sound items d ns _ _ _ read.words read.signatures read.named stand laid c.in_ok-draft.ensures.keywords;
+      accepted = ∣ has_items items d _ _ is.clean stand is.texts ∣₁;
+      sound = is_sound items d _ _ _ _ is.read.words is.read.signatures is.read.named stand is.laid is.keywords;
     }
 
 pub returns-clause-accepted : goal.returns-clause-accepted
 returns-clause-accepted g c =
     let items = trees_in c.args.items.now in
-    let d = data_of c.in_ok-draft.draft.store in
-    let ns = map numbered c.in_ok-draft.draft.alternatives.items in
-    let read = c.in_ok-draft.ensures.read in
-    let laid = c.in_ok-layout.ensures.laid items read in (
-      no_fault items c.in_ok-places.places.items d _ _ c.in_ok-places.ensures.passed c.in_ok-draft.ensures.safe laid c.in_ok-places.ensures.roles
-          c.in_ok-places.ensures.places (sym c.is_empty.ensures ∙ c.if-is_empty.false),
-      rules_stand d ns _ (read.alternatives d (extends_refl d)),
-      texts_are items c.in_ok-places.places.items c.deref.result.now _ c.in_ok-places.ensures.roles c.deref.ensures.0 c.in_ok-roles.ensures,
+    let is = c.in_ok-all.ensures.accepted in
+    let d = data_of c.in_ok-all.all.draft.store in (
+      is.clean,
+      rules_stand d _ _ (each_own d _ _ _ (alternatives items) c.in_ok-alternatives.ensures c.deref.ensures.value
+          (is.read.alternatives d (extends_refl d))),
+      is.texts,
     )
