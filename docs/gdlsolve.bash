@@ -28,14 +28,14 @@ _gdlsolve() {
     *)
       case $command in
         '')
-          words='show check lint net moves state solve values help --help --version'
+          words='show check lint net moves state solve values serve help --help --version'
           [ "${COMP_WORDS[0]}" = ./gdlsolve ] && words+=' --prove --proved'
           ;;
-        show | check | lint | net) words='--help' ;;
+        show | check | lint | net | serve) words='--help' ;;
         moves | state) words='--after --help' ;;
         solve) words='--role --depth --at-bound --unfinished --window --cut --table --after --help' ;;
         values) words='--role --depth --at-bound --unfinished --cut --table --after --help' ;;
-        help) words='show check lint net moves state solve values' ;;
+        help) words='show check lint net moves state solve values serve' ;;
       esac
       ;;
   esac

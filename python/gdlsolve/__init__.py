@@ -13,6 +13,7 @@ as `MemoryError`.
 from gdlsolve.calls import Misuse, Refusal, Reply, Status, reply
 from gdlsolve.commands import Bound, History, check, moves, net, show, solve, solve_within, state, values
 from gdlsolve.replies import Description, Network, Outside, Position, Solution, Standing, State, Values
+from gdlsolve.session import Session
 
 __version__ = "0.1.0"
 
@@ -26,6 +27,7 @@ __all__ = [
     "Position",
     "Refusal",
     "Reply",
+    "Session",
     "Solution",
     "Standing",
     "State",

@@ -9,7 +9,7 @@ History = str | Sequence[Sequence[str]]
 Bound = Literal["zero", "goal"]
 
 
-def _text(after: History) -> str:
+def history_text(after: History) -> str:
     """The text of a history."""
     return after if isinstance(after, str) else " ".join("(" + " ".join(turn) + ")" for turn in after)
 
@@ -31,18 +31,23 @@ def net(rules: bytes | str) -> Network:
 
 def moves(rules: bytes | str, after: History = "") -> Position:
     """How play stands after a history."""
-    return Position.of(answer(["moves", "--after", _text(after)], rules))
+    return Position.of(answer(["moves", "--after", history_text(after)], rules))
 
 
 def state(rules: bytes | str, after: History = "") -> Standing:
     """How play stands after a history, and which base propositions hold."""
-    return Standing.of(answer(["state", "--after", _text(after)], rules))
+    return Standing.of(answer(["state", "--after", history_text(after)], rules))
+
+
+def question(role: str, depth: int, at_bound: Bound, unfinished: int | None) -> list[str]:
+    """The options of a question for a role, but for its history."""
+    worth = ["--at-bound", at_bound] if unfinished is None else ["--unfinished", str(unfinished)]
+    return ["--role", role, "--depth", str(depth), *worth]
 
 
 def _question(role: str, depth: int, at_bound: Bound, unfinished: int | None, after: History) -> list[str]:
     """The options of a question for a role."""
-    worth = ["--at-bound", at_bound] if unfinished is None else ["--unfinished", str(unfinished)]
-    return ["--role", role, "--depth", str(depth), *worth, "--after", _text(after)]
+    return [*question(role, depth, at_bound, unfinished), "--after", history_text(after)]
 
 
 def solve(

@@ -1,7 +1,7 @@
 //! The program `gdlsolve`: the rules of a game on standard input, answers on standard output.
 #![tactic(auto)]
 
-use running::main_program;
+use serving::main_program;
 use std::io::{ErrorKind, Read, Write};
 use std::process::ExitCode;
 use std::thread::Threads;

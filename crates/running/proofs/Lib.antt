@@ -1,4 +1,5 @@
 mod Ending
+pub mod Facts
 mod Filling
 mod Findings
 mod Telling

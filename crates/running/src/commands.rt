@@ -35,8 +35,9 @@ pub(crate) fn tell<E: Write>(errors: &mut E, text: &[u8])
     let _ = write_bytes(errors, text);
 }
 
-/// The exit status of a run, whose fault is told to the errors.
-pub(crate) fn status_of<E: Write>(ended: Result<Status, RunFault>, errors: &mut E) -> u8
+/// The exit status of a run, whose fault is told to the errors: 0 for an answer, 2 for a refusal, 3 for want of memory, 4 where the input or the
+/// output failed. A fault in writing to the errors is passed over.
+pub fn status_of<E: Write>(ended: Result<Status, RunFault>, errors: &mut E) -> u8
     ensures status { result ≡ exit_status ended }
     ensures told { AreErrorsTold ended (E.contents errors.old) (E.contents errors.new) }
 {

@@ -13,9 +13,10 @@ mod program;
 mod runs;
 mod working;
 
-pub use commands::{fulfil, main_with};
+pub use commands::{fulfil, main_with, status_of};
 pub use explained::main_explained;
 pub use fault::RunFault;
+pub use linting::lint_reply;
 pub use program::main_program;
-pub use runs::{run, run_with};
-pub use working::told_by_workers;
+pub use runs::{run, run_with, write_out};
+pub use working::{reply_by_workers, told_by_workers};

@@ -46,8 +46,8 @@ fn found(alloc: Global, bytes: &[u8]) -> Result<replies::Reply, AllocError>
     Ok(replies::Reply { output, status })
 }
 
-/// The reply to `lint` over the bytes of the input: the refusal that `check` writes, or the lines of findings.
-fn lint_reply(alloc: Global, bytes: &[u8]) -> Result<replies::Reply, AllocError>
+/// The reply to `lint` over the bytes of the input: the refusal that `check` writes, or the lines of findings. It fails only for want of memory.
+pub fn lint_reply(alloc: Global, bytes: &[u8]) -> Result<replies::Reply, AllocError>
     ensures { IfOk result (λ reply. IsLintReply bytes.now (reply_of reply)) }
 {
     let checked = check(alloc, bytes)?;

@@ -19,8 +19,8 @@ use std::io::{Read, Write};
 use std::thread::Threads;
 use words::Command;
 
-/// Writes all the bytes and flushes the writer.
-pub(crate) fn write_out<W: Write>(output: &mut W, bytes: &[u8]) -> Result<(), RunFault>
+/// Writes all the bytes and flushes the writer. Where the writer fails it holds a beginning of them.
+pub fn write_out<W: Write>(output: &mut W, bytes: &[u8]) -> Result<(), RunFault>
     ensures whole { OnOk result (Appends (W.contents output.old) (W.contents output.new) bytes.now) }
     ensures front { OnErr result (AppendsFront (W.contents output.old) (W.contents output.new) bytes.now) }
     ensures fault { IfErr result (λ fault. fault ≡ RunFault.Write) }

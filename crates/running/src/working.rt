@@ -72,7 +72,7 @@ fn inquired_by_workers<G: GroundGame, T: Threads + Sync + AllocGlobal>(
 }
 
 /// The reply to a command over the bytes of the input. It fails only for want of memory.
-pub(crate) fn reply_by_workers<G: GroundGame, T: Threads + Sync + AllocGlobal>(
+pub fn reply_by_workers<G: GroundGame, T: Threads + Sync + AllocGlobal>(
     rt: &T,
     command: &Command,
     bytes: &[u8],

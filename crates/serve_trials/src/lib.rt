@@ -1,0 +1,5 @@
+//! Sessions over readers and writers in memory, with worked frames.
+#![tactic(auto)]
+
+#[cfg(test)]
+mod tests;

@@ -1,0 +1,5 @@
+mod FrameTexts
+mod Requests
+mod Standing
+mod Turning
+mod Holding

@@ -1,0 +1,9 @@
+use Rattle.requests.specs.Desks.{IsDesk, rules_kept, to_come}
+use Rattle.serving.proofs.Holding.{IsHeld}
+use Rattle.serving.proofs.session.answer_all.Given as goal
+
+abbrev pub invariant-loop : goal.invariant-loop
+invariant-loop g l =
+    IsDesk l.desk
+    × IsHeld (g.R.Read.remaining l.fn.input) (to_come l.desk (g.R.Read.remaining l.input)) (g.W.Write.contents l.fn.output)
+    (g.W.Write.contents l.output) (rules_kept l.desk)

@@ -1,0 +1,34 @@
+-- This crate's own: what `run` promises does not rest on it.
+-- What is told of a line, and the frame of it.
+use Rattle.std.specs.Prelude.{ℕ, ◌≡◌, ◌⊎◌, List, Ok, string_bytes}
+use Rattle.statement.specs.Answers.{Reply}
+use Rattle.statement.specs.Replies.{IsReply}
+use Rattle.words.specs.Asked.{query_of}
+use Rattle.words.specs.declared.grammar.Request.{Request}
+use Rattle.words.specs.declared.grammar.Request.TheVariants.{Run, Help, Misuse}
+use Rattle.running.specs.Exits.{exit_status}
+use Rattle.running.specs.Linted.{IsLintReply}
+use Rattle.serving.specs.declared.framing.Frame.{Frame}
+use Rattle.serving.specs.declared.framing.Frame.TheVariants.{Made, Fixed}
+
+-- of a command its reply over the rules is told, with the status that the program ends with; of any other request its text, with status 0
+-- for help, and 1 where the words are no command
+abbrev pub IsToldOf : Request → List ℕ → ℕ → List ℕ → Type 0
+IsToldOf (Run command) rules status bytes =
+    (reply : Reply) × IsReply (query_of command) rules reply × (status ≡ exit_status (Ok reply.status)) × (bytes ≡ reply.output)
+IsToldOf (Help text) rules status bytes = (status ≡ 0) × (bytes ≡ string_bytes text)
+IsToldOf (Misuse text) rules status bytes = (status ≡ 1) × (bytes ≡ string_bytes text)
+
+-- the findings in the rules, or what `check` refuses in them
+abbrev pub IsToldOfLint : List ℕ → ℕ → List ℕ → Type 0
+IsToldOfLint rules status bytes =
+    (reply : Reply) × IsLintReply rules reply × (status ≡ exit_status (Ok reply.status)) × (bytes ≡ reply.output)
+
+-- some request is answered, or `lint`
+abbrev pub IsTold : List ℕ → ℕ → List ℕ → Type 0
+IsTold rules status bytes = ((request : Request) × IsToldOf request rules status bytes) ⊎ IsToldOfLint rules status bytes
+
+-- the bytes of a frame
+abbrev pub frame_bytes : Frame → List ℕ
+frame_bytes (Made bytes) = bytes.items
+frame_bytes (Fixed bytes) = bytes.now

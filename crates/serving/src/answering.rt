@@ -1,0 +1,111 @@
+//! What is told of a line.
+ghost use Rattle.std.specs.Prelude.{◌≡◌, IfOk, Ok};
+ghost use Rattle.running.specs.Exits.{exit_status};
+ghost use Rattle.serving.specs.Telling.{IsToldOf, IsTold};
+
+use crate::splitting::words_in;
+use netgame::NetGame;
+use replies::Reply;
+use running::{lint_reply, reply_by_workers};
+use statement::Status;
+use std::alloc::{AllocError, Global};
+use std::thread::Threads;
+use words::{Request, request_of};
+
+/// The status of an answer, and of help.
+const ANSWERED: u8 = 0;
+
+/// The status of words that are no command.
+const MISUSED: u8 = 1;
+
+/// The status of a refusal.
+const REFUSED: u8 = 2;
+
+/// What is told of a line.
+#[derive(Drop)]
+pub(crate) struct Told {
+    pub(crate) status: u8,
+    pub(crate) bytes: Vec<u8>,
+}
+
+/// What is told by a reply.
+fn told_by(reply: Reply) -> Told
+    ensures status { result.status ≡ exit_status (Ok reply.status) }
+    ensures bytes { result.bytes ≡ reply.output }
+{
+    let status = match reply.status {
+        Status::Answer => ANSWERED,
+        Status::Refused => REFUSED,
+    };
+    Told {
+        status,
+        bytes: reply.output,
+    }
+}
+
+/// A text that is told with a status.
+fn told_text(alloc: Global, status: u8, text: &str) -> Result<Told, AllocError>
+    ensures status { IfOk result (λ told. told.status ≡ status) }
+    ensures bytes { IfOk result (λ told. told.bytes.items ≡ text.now) }
+{
+    let mut bytes = Vec::new(alloc);
+    bytes.extend_from_slice(text.as_bytes())?;
+    Ok(Told { status, bytes })
+}
+
+/// What is told of a request, over the rules.
+fn told_of<T: Threads + Sync + AllocGlobal>(
+    rt: &T,
+    request: &Request,
+    rules: &[u8],
+) -> Result<Told, AllocError>
+    ensures { IfOk result (λ told. IsToldOf request.now rules.now told.status told.bytes.items) }
+{
+    match request {
+        Request::Run(command) => {
+            let reply = reply_by_workers::<NetGame, T>(rt, command, rules)?;
+            Ok(told_by(reply))
+        }
+        Request::Help(text) => told_text(rt.alloc(), ANSWERED, text.as_str()),
+        Request::Misuse(text) => told_text(rt.alloc(), MISUSED, text.as_str()),
+    }
+}
+
+/// Whether the words are the command `lint` and nothing else.
+fn is_lint(words: &[&str]) -> bool {
+    match words {
+        [word] => *word == "lint",
+        _ => false,
+    }
+}
+
+/// What is told of words, over the rules.
+fn told_of_words<T: Threads + Sync + AllocGlobal>(
+    rt: &T,
+    words: &[&str],
+    rules: &[u8],
+) -> Result<Told, AllocError>
+    ensures { IfOk result (λ told. IsTold rules.now told.status told.bytes.items) }
+{
+    if is_lint(words) {
+        let reply = lint_reply(rt.alloc(), rules)?;
+        return Ok(told_by(reply));
+    }
+    let request = request_of(rt.alloc(), words)?;
+    told_of(rt, &request, rules)
+}
+
+/// What is told of a line, over the rules. It fails only for want of memory.
+pub(crate) fn told_of_line<T: Threads + Sync + AllocGlobal>(
+    rt: &T,
+    line: &[u8],
+    rules: &[u8],
+) -> Result<Told, AllocError>
+    ensures { IfOk result (λ told. IsTold rules.now told.status told.bytes.items) }
+{
+    let Some(words) = words_in(rt.alloc(), line)? else {
+        let fault = Request::Misuse(format!(in rt.alloc(); "a word is no UTF-8\n")?);
+        return told_of(rt, &fault, rules);
+    };
+    told_of_words(rt, &words, rules)
+}
