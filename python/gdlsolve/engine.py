@@ -253,7 +253,7 @@ class Engine:
         with readable():
             lines = lines_of(found.output)
             if found.status == Status.REFUSED:
-                raise Refusal(lines[0])
+                raise Refusal(lines[0], words, self.rules)
         return lines
 
     def check(self, limit: Limit) -> Description:

@@ -98,6 +98,26 @@ class Faults(unittest.TestCase):
                 self.assertEqual((told.status, told.output.decode()), (Status.REFUSED, f"{caught.exception}\n"))
                 text = rules if isinstance(rules, bytes) else rules.encode()
                 self.assertEqual((told.status, told.output), ran(words, text)[:2])
+                self.assertEqual(caught.exception.explanation, ran(words, text)[2].decode())
+
+    def test_a_refusal_has_its_place(self):
+        with self.assertRaises(Refusal) as caught:
+            gdlsolve.check("(role a)\n(<= (p ?x) (not (q ?x)))")
+        found = caught.exception
+        self.assertEqual((found.source, found.line, found.column, found.text), ("<input>", 2, 8, "(<= (p ?x) (not (q ?x)))"))
+        self.assertIn("no positive literal of the body binds ?x", found.explanation)
+
+    def test_a_history_has_its_place(self):
+        with self.assertRaises(Refusal) as caught:
+            gdlsolve.moves(PENNIES, "(h t)\n(h t)")
+        found = caught.exception
+        self.assertEqual((found.source, found.line, found.column, found.text), ("--after", 2, 1, "(h t)"))
+
+    def test_without_a_place_there_is_none(self):
+        with self.assertRaises(Refusal) as caught:
+            gdlsolve.check("(p)")
+        found = caught.exception
+        self.assertEqual((found.source, found.line, found.column, found.text), ("<input>", None, None, None))
 
     def test_misuses_say_what_the_program_says(self):
         for words in MISUSED:
@@ -125,7 +145,7 @@ class Rooms(unittest.TestCase):
         words, whole = b"moves\0", reply(["moves"], MARKS).output
         for place in [*range(8), len(whole) - 1, len(whole), len(whole) + 1]:
             room, size = ctypes.create_string_buffer(b"~" * (len(whole) + 2)), ctypes.c_size_t()
-            status = calls._call()(words, len(words), MARKS, len(MARKS), room, place, ctypes.byref(size))
+            status = calls._call("gdlsolve_reply", 2)(words, len(words), MARKS, len(MARKS), room, place, ctypes.byref(size))
             self.assertEqual((status, size.value), (0, len(whole)))
             front = whole[:place]
             self.assertEqual(room.raw[: len(whole) + 2], front + b"~" * (len(whole) + 2 - len(front)))

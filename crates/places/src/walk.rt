@@ -35,6 +35,13 @@ impl<'a> Walk<'a> {
         }
     }
 
+    /// How many trees it has passed.
+    pub fn passed(&self) -> usize
+        ensures { result ≡ self.now.passed }
+    {
+        self.passed
+    }
+
     /// Goes on to the beginning of a tree, of those that the text is read as. Where it has passed that tree it stays.
     pub fn go_to<A: Allocator>(&mut self, items: &[Expr<A>], index: usize)
         requires { IsWalk (trees_in items.now) self.old }

@@ -181,9 +181,10 @@ class Driver:
     def _look_at(self, node: Node) -> None:
         """Looks at the moves of a state, and on where there is but one way to go on."""
         while True:
-            told = _local(["moves", "--after", self.sought.history(node.turns)], self.sought.rules)
+            words = ["moves", "--after", self.sought.history(node.turns)]
+            told = _local(words, self.sought.rules)
             if told.status != Status.ANSWER:
-                raise Refusal(lines_of(told.output)[0])
+                raise Refusal(lines_of(told.output)[0], words, self.sought.rules)
             position = Position.of(lines_of(told.output))
             if position.state is not State.OPEN:
                 node.closed = True

@@ -1,6 +1,6 @@
 use Rattle.std.proofs.Common.{arith}
 use Rattle.profile.proofs.Facts.{tree_is_word, rest_smaller, part_smaller}
-use Rattle.outline.proofs.literals.+gathering.Goals as goal
+use Rattle.outline.proofs.asked.+gathering.Goals as goal
 
 pub gather-gather_all-requires : goal.gather-gather_all-requires
 gather-gather_all-requires g t c κs within =
