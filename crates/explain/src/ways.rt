@@ -1,10 +1,10 @@
 //! Ways from relation to relation, along what items head and ask.
-ghost use Rattle.std.specs.Prelude.{◌≡◌, ◌<◌, true, length, map, IfOk, IfSome};
+ghost use Rattle.std.specs.Prelude.{◌≡◌, ◌&&◌, ◌<◌, true, length, map, IfOk, IfSome};
 ghost use Rattle.statement.specs.Clause.{relation_of};
 ghost use Rattle.statement.specs.Items.{item_head};
 ghost use Rattle.kif.specs.View.{tree_of, trees_in};
 ghost use Rattle.outline.specs.Relations.{relation_in};
-ghost use Rattle.explain.specs.Ways.{is_chain, ends_with, asks_first, IsWay, IsWayToSome};
+ghost use Rattle.explain.specs.Ways.{is_chain, ends_with, asks_first, IsWayToSome};
 
 use kif::Expr;
 use crate::graph::shortest;
@@ -29,11 +29,13 @@ fn is_chain<A: Allocator>(
     ensures { result ≡ is_chain (trees_in items.now) (relation_in from.now) (map relation_in steps.now) }
 {
     let mut here = *from;
-    for i in 0..steps.len() {
-        if !leads_to(items, &here, &steps[i], guess_at(places, i)) {
+    let mut at: usize = 0;
+    for step in steps {
+        if !leads_to(items, &here, step, guess_at(places, at)) {
             return false;
         }
-        here = steps[i];
+        here = *step;
+        at = at.wrapping_add(1);
     }
     true
 }
@@ -66,10 +68,30 @@ fn is_way<A: Allocator>(
     places: &[usize],
     to: &Relation,
 ) -> bool
-    ensures { result ≡ true → IsWay (trees_in items.now) (tree_of item.now) (relation_in to.now) (map relation_in steps.now) }
+    ensures { result ≡ (ends_with (relation_in to.now) (map relation_in steps.now)
+        && (asks_first (tree_of item.now) (map relation_in steps.now)
+        && is_chain (trees_in items.now) (relation_of (item_head (tree_of item.now))) (map relation_in steps.now))) }
 {
     let from = head_of(item);
     ends_with(steps, to) && asks_first(item, steps) && is_chain(items, &from, steps, places)
+}
+
+/// Whether relations are a way from an item's own relation to one of some, by what the item asks.
+fn is_way_to_some<A: Allocator>(
+    items: &[Expr<A>],
+    item: &Expr<A>,
+    steps: &[Relation],
+    places: &[usize],
+    targets: &[Relation],
+) -> bool
+    ensures { result ≡ true → IsWayToSome (trees_in items.now) (tree_of item.now) (map relation_in targets.now) (map relation_in steps.now) }
+{
+    for to in targets {
+        if is_way(items, item, steps, places, to) {
+            return true;
+        }
+    }
+    false
 }
 
 /// A shortest way from an item's own relation to one of some relations, by what the item asks: the relations behind the item's own, each
@@ -85,10 +107,8 @@ pub fn way_from<'a, A: Allocator>(
     let Some(trail) = shortest(alloc, items, item, targets)? else {
         return Ok(None);
     };
-    for to in targets {
-        if is_way(items, item, &trail.steps, &trail.places, to) {
-            return Ok(Some(trail.steps));
-        }
+    if !is_way_to_some(items, item, &trail.steps, &trail.places, targets) {
+        return Ok(None);
     }
-    Ok(None)
+    Ok(Some(trail.steps))
 }

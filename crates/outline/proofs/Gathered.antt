@@ -1,10 +1,10 @@
 -- The relations of literals, in lists and in sets.
-use Rattle.std.proofs.Common.{ℕ, zero, suc, Bool, true, false, ◌≡◌, ◌<◌, ◌+◌, List, [], ◌∷◌, ◌++◌, map, drop, length, get_or, refl, sym, ap, ◌∙◌, append_assoc, arith, ◌⊎◌, inl, inr}
+use Rattle.std.proofs.Common.{ℕ, zero, suc, Bool, true, false, ◌≡◌, ◌<◌, ◌+◌, List, [], ◌∷◌, ◌++◌, map, drop, length, get_or, refl, sym, ap, subst, ◌∙◌, append_assoc, arith, ◌⊎◌, inl, inr}
 use Rattle.std.specs.Prelude.{◌&&◌, ◌||◌, ◌==◌, cond, nat_eq, if◌then◌else◌}
 use lib.Pointwise.{pointwise}
 use Rattle.std.specs.List.{list_any}
 use Rattle.std.proofs.lemmas.List.{map-append, append-nil}
-use Rattle.std.proofs.lemmas.List.Folds.{list_any-append}
+use Rattle.std.proofs.lemmas.Bool.{eqb-true, eq-eqb}
 use Rattle.statement.specs.Tree.{Tree, Trees, tree, trees_of, name_eq}
 use Rattle.statement.specs.Clause.{Literal, Relation, relation_of, relation_eq, atom_of}
 use Rattle.statement.specs.Dependence.{is_among}
@@ -35,10 +35,12 @@ one_gathered es i e before now next all within is so_far more =
     ap (λ (l : List Relation). l ++ rest) more ∙ append_assoc now here rest ∙ ap (λ (l : List Relation). now ++ l) (sym split) ∙ so_far
 
 eq_sym : (a b : ℕ) → (a == b) ≡ (b == a)
-eq_sym zero zero = refl
-eq_sym zero (suc b) = refl
-eq_sym (suc a) zero = refl
-eq_sym (suc a) (suc b) = eq_sym a b
+eq_sym a b = go (a == b) (b == a) refl refl
+  where
+    go : (p q : Bool) → (a == b) ≡ p → (b == a) ≡ q → (a == b) ≡ (b == a)
+    go true q e f = e ∙ sym (eq-eqb b a (sym (eqb-true a b e)))
+    go false true e f = let g : (a == b) ≡ true = eq-eqb a b (sym (eqb-true b a f)) in absurd cc
+    go false false e f = e ∙ sym f
 
 name_sym : (v w : List ℕ) → name_eq v w ≡ name_eq w v
 name_sym [] [] = refl
@@ -70,11 +72,14 @@ pub one_set : (next now here left rest whole : Bool) → next ≡ (now || here) 
 one_set next true here left rest whole e f g = ap (λ (b : Bool). b || rest) e ∙ g
 one_set next false here left rest whole e f g = ap (λ (b : Bool). b || rest) e ∙ sym f ∙ g
 
-pub among_first : (p : Relation) {R : Type 0} (view : R → Relation) (rs : List R) (i : ℕ) (r d : R) → i < length rs → r ≡ get_or rs i d
+pub among_first : {R : Type 0} (p : Relation) (view : R → Relation) (rs : List R) (i : ℕ) (r d : R) → i < length rs → r ≡ get_or rs i d
     → is_among p (map view (drop i rs)) ≡ (relation_eq p (view r) || is_among p (map view (drop (i + 1) rs)))
 among_first p view [] i r d h is = absurd (omega (arith, h))
 among_first p view (s ∷ rs) zero r d h is = ap (λ x. relation_eq p (view x) || is_among p (map view rs)) (sym is)
-among_first p view (s ∷ rs) (suc i) r d h is = among_first p view rs i r d (omega (arith, h)) is
+among_first {R} p view (s ∷ rs) (suc i) r d h is =
+    let far : suc (i + 1) ≡ suc i + 1 = omega arith in
+    subst (λ (k : ℕ). is_among p (map view (drop (suc i) (s ∷ rs))) ≡ (relation_eq p (view r) || is_among p (map view (drop k (s ∷ rs))))) far
+    (among_first p view rs i r d (omega (arith, h)) is)
 
 pub item_first : {A : Type 0} (test : Tree → Bool) (es : List (Expr A)) (i : ℕ) (e : Expr A) → i < length es → e ≡ get_or es i e
     → some_item test (trees_in (drop i es)) ≡ (test (tree_of e) || some_item test (trees_in (drop (i + 1) es)))
@@ -121,3 +126,7 @@ inserted eq same ks k p = go (list_any (eq k) ks) refl
     go false e =
         ap (is_among p) (map-append relation_in ks (k ∷ [])) ∙ among_append p (map relation_in ks) (relation_in k ∷ [])
         ∙ ap (λ (b : Bool). is_among p (map relation_in ks) || b) (only (relation_eq p (relation_in k)))
+
+-- what `==` says of relations in memory
+pub same_relation : (s t : memory.Relation) → (pointwise nat_eq s.word.now t.word.now && nat_eq s.arity t.arity) ≡ relation_eq (relation_in s) (relation_in t)
+same_relation s t = ap (λ (b : Bool). b && (s.arity == t.arity)) (same_names s.word.now t.word.now)

@@ -49,7 +49,7 @@ impl<'a> RelationSet<'a> {
 
     /// Adds a relation, and answers whether it was new.
     pub fn insert(&mut self, relation: Relation<'a>) -> Result<bool, AllocError>
-        ensures { OnOk result ((p : said.Relation) → is_among p self.new ≡ (is_among p self.old || relation_eq p (relation_in relation))) }
+        ensures { OnOk result ((p : said.Relation) → is_among p self.new ≡ (is_among p self.old || relation_eq p (relation_in relation.entry))) }
     {
         let is_new = self.known.insert(relation)?;
         Ok(is_new)

@@ -6,6 +6,7 @@ ghost use Rattle.statement.specs.Answers.{Reply};
 ghost use Rattle.replies.specs.Replies.{reply_of};
 ghost use Rattle.running.specs.Input.{IsReadFrom};
 ghost use Rattle.running.specs.Ran.{ended_of};
+ghost use Rattle.running.specs.Explained.{TellsMore};
 ghost use Rattle.running.specs.Fulfilling.{streams};
 ghost use Rattle.running.specs.Linted.{status_of_lines, IsLintReply, IsLintRun};
 
@@ -118,6 +119,28 @@ fn lint_keeping<T: AllocGlobal, R: Read, W: Write>(
     })
 }
 
+/// Whether a run ended with a refusal of `check`, and not with findings.
+fn is_refused(ran: &Result<Ran, RunFault>) -> bool {
+    match ran {
+        Ok(ran) => ran.reply.output.get(..8) == Some(b"refused ".as_slice()),
+        Err(_) => false,
+    }
+}
+
+/// Tells the errors what explains a refusal of `check`. Findings explain themselves.
+fn explain_lint<T: Threads + Sync + AllocGlobal, E: Write>(
+    rt: &T,
+    ran: &Result<Ran, RunFault>,
+    errors: &mut E,
+)
+    ensures { TellsMore (ended_of ran.now ≡ Ok Status.Refused) (E.contents errors.old) (E.contents errors.new) }
+{
+    if !is_refused(ran) {
+        return;
+    }
+    explain_ran(rt, &Command::Check, ran, errors);
+}
+
 /// Runs `lint`, and tells the errors what explains a refusal.
 pub(crate) fn run_lint<T: Threads + Sync + AllocGlobal, R: Read, W: Write, E: Write>(
     rt: &T,
@@ -131,6 +154,6 @@ pub(crate) fn run_lint<T: Threads + Sync + AllocGlobal, R: Read, W: Write, E: Wr
 {
     let ran = lint_keeping(rt, input, output);
     let status = status_of(ended(&ran), errors);
-    explain_ran(rt, &Command::Check, &ran, errors);
+    explain_lint(rt, &ran, errors);
     status
 }
