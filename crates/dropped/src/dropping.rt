@@ -13,7 +13,9 @@ use kept::AlternativeRun;
 use kif::Expr;
 use lint::{has_open_goal, is_goal_number};
 use listing::{GroundFault, Listed, Most, list_all};
+use outline::{Relation, is_stated};
 use piecewise::{Body, Matched};
+use profile::Word;
 use rules::{Keywords, RuleSet};
 use std::alloc::{AllocError, Allocator, Global};
 use terms::{Arena, TEXT_LIMIT};
@@ -137,11 +139,31 @@ fn add(
     Ok(())
 }
 
-/// Whether a lack of an item is told here: a goal that stands in the item itself is told by itself.
-fn is_told<A: Allocator>(items: &[Expr<A>], place: usize, lack: Lack) -> bool {
-    match items.get(place) {
-        Some(item) => lack != Lack::Goal || has_open_goal(item),
-        None => false,
+/// Whether items state anything of a word.
+fn state<A: Allocator>(items: &[Expr<A>], word: Word) -> bool {
+    let relation = Relation {
+        word: word.name(),
+        arity: word.arity(),
+    };
+    is_stated(items, &relation)
+}
+
+/// Of which lacks heads are told. Where no item states `base`, or `input`, that is found by itself, and no head is told for it.
+#[derive(Clone, Copy)]
+struct Wanted {
+    base: bool,
+    input: bool,
+}
+
+/// Whether a lack of an item is told: a goal whose value stands in the item itself is found by itself.
+fn is_told<A: Allocator>(items: &[Expr<A>], wanted: Wanted, place: usize, lack: Lack) -> bool {
+    let Some(item) = items.get(place) else {
+        return false;
+    };
+    match lack {
+        Lack::Base => wanted.base,
+        Lack::Input => wanted.input,
+        Lack::Goal => has_open_goal(item),
     }
 }
 
@@ -194,12 +216,16 @@ fn found_by_place<A: Allocator>(
     let mut runs = Runs {
         left: &instances.runs,
     };
+    let wanted = Wanted {
+        base: state(items, Word::Base),
+        input: state(items, Word::Input),
+    };
     let mut seen: IndexSet<(usize, usize)> = IndexSet::new(alloc);
     for (index, entry) in instances.entries.iter().enumerate() {
         let number = entry.head as usize;
         let place = owner_of(&owners, runs.at(index));
         if let Some(lack) = lack_of(looked, number) {
-            if is_told(items, place, lack) && seen.insert((place, number))? {
+            if is_told(items, wanted, place, lack) && seen.insert((place, number))? {
                 add(alloc, looked, place, number, lack, &mut found)?;
             }
         }
@@ -223,8 +249,9 @@ fn found_in<A: Allocator>(
     Ok(found)
 }
 
-/// The heads that have no effect on play, of each item the first with the number of further ones, in the order of the items. It fails for
-/// want of memory, and where the rules pass a limit.
+/// The heads that have no effect on play, of each item the first with the number of further ones, in the order of the items. Where no item
+/// states `base` no `init` and `next` is told, and where none states `input` no `legal`. It fails for want of memory, and where the rules
+/// pass a limit.
 pub fn dropped_heads<A: Allocator>(
     alloc: Global,
     items: &[Expr<A>],
