@@ -93,17 +93,14 @@ fn lacks_goal(looked: &Looked, words: Keywords, key: &[u32]) -> bool {
 }
 
 /// What the atom of a number lacks to have an effect on play, if it lacks something.
-fn lack_of(looked: &Looked, number: usize) -> Option<Lack> {
+fn lack_of(looked: &Looked, atom: u32) -> Option<Lack> {
     let words = looked.rules.keywords();
-    let tables = &looked.tables;
-    let key = key_of(&looked.listed.arena, number);
+    let arena = &looked.listed.arena;
+    let key = key_of(arena, atom as usize);
     if lacks_goal(looked, words, key) {
         return Some(Lack::Goal);
     }
-    if tables.inputs.len() != tables.roles.len() {
-        return None;
-    }
-    if !is_dropped(words, &tables.base, &tables.roles, &tables.inputs, key) {
+    if !is_dropped(arena, words, &looked.tables, atom) {
         return None;
     }
     if key.len() == 2 {
@@ -220,13 +217,12 @@ fn found_by_place<A: Allocator>(
         base: state(items, Word::Base),
         input: state(items, Word::Input),
     };
-    let mut seen: IndexSet<(usize, usize)> = IndexSet::new(alloc);
+    let mut seen: IndexSet<(usize, u32)> = IndexSet::new(alloc);
     for (index, entry) in instances.entries.iter().enumerate() {
-        let number = entry.head as usize;
         let place = owner_of(&owners, runs.at(index));
-        if let Some(lack) = lack_of(looked, number) {
-            if is_told(items, wanted, place, lack) && seen.insert((place, number))? {
-                add(alloc, looked, place, number, lack, &mut found)?;
+        if let Some(lack) = lack_of(looked, entry.head) {
+            if is_told(items, wanted, place, lack) && seen.insert((place, entry.head))? {
+                add(alloc, looked, place, entry.head as usize, lack, &mut found)?;
             }
         }
     }

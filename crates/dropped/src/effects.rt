@@ -1,12 +1,9 @@
 //! Whether an atom has an effect on play.
-ghost use Rattle.std.specs.Prelude.{◌≡◌, ◌&&◌, ◌||◌, length, map};
-ghost use Rattle.terms.specs.Dropping.{is_input_in, misses_base_in, misses_input_in, is_dropped_in};
-
 use indexmap::IndexSet;
 use listing::ContextTerms;
 use rules::Keywords;
 use std::alloc::{AllocError, Global};
-use terms::Named;
+use terms::{Arena, Named, count_dropped};
 
 /// What an atom without effect on play lacks.
 #[derive(Clone, Copy, Debug, PartialEq, Eq)]
@@ -51,56 +48,20 @@ pub(crate) fn tables_of(alloc: Global, context: &ContextTerms) -> Result<Tables,
     })
 }
 
-/// Whether a term is an input of a role.
-fn is_input(roles: &IndexSet<usize>, inputs: &[IndexSet<usize>], role: usize, input: usize) -> bool
-    requires { length inputs.now ≡ length roles.now.keys }
-    ensures { result ≡ is_input_in roles.now.keys (map (λ s. s.keys) inputs.now) role input }
-{
-    let Some(place) = roles.get_index_of(&role) else {
+/// Whether the atom of a number is an `init`, a `next` or a `legal` that has no effect on play: it is counted as dropped.
+pub(crate) fn is_dropped(arena: &Arena, words: Keywords, tables: &Tables, atom: u32) -> bool {
+    if atom as usize >= arena.len() {
         return false;
-    };
-    inputs[place].contains(&input)
-}
-
-/// Whether a word and a part are those of an `init` or `next` outside the base propositions.
-fn misses_base(words: Keywords, base: &IndexSet<usize>, word: usize, part: usize) -> bool
-    ensures { result ≡ misses_base_in words base.now.keys word part }
-{
-    (word == words.init || word == words.next) && !base.contains(&part)
-}
-
-/// Whether a word and two parts are those of a `legal` of no role or outside its inputs.
-fn misses_input(
-    words: Keywords,
-    roles: &IndexSet<usize>,
-    inputs: &[IndexSet<usize>],
-    word: usize,
-    role: usize,
-    input: usize,
-) -> bool
-    requires { length inputs.now ≡ length roles.now.keys }
-    ensures { result ≡ misses_input_in words roles.now.keys (map (λ s. s.keys) inputs.now) word role input }
-{
-    word == words.legal && !is_input(roles, inputs, role, input)
-}
-
-/// Whether the atom with a key is an `init`, a `next` or a `legal` that has no effect on play.
-pub(crate) fn is_dropped(
-    words: Keywords,
-    base: &IndexSet<usize>,
-    roles: &IndexSet<usize>,
-    inputs: &[IndexSet<usize>],
-    key: &[u32],
-) -> bool
-    requires { length inputs.now ≡ length roles.now.keys }
-    ensures { result ≡ is_dropped_in words base.now.keys roles.now.keys (map (λ s. s.keys) inputs.now) key.now }
-{
-    if key.len() == 2 {
-        return misses_base(words, base, key[0] as usize, key[1] as usize);
     }
-    if key.len() == 3 {
-        let (word, role, input) = (key[0] as usize, key[1] as usize, key[2] as usize);
-        return misses_input(words, roles, inputs, word, role, input);
+    if tables.inputs.len() != tables.roles.len() {
+        return false;
     }
-    false
+    count_dropped(
+        arena,
+        words,
+        &tables.base,
+        &tables.roles,
+        &tables.inputs,
+        &[atom],
+    ) > 0
 }

@@ -31,7 +31,10 @@ fn plain(alloc: Global) -> Result<Vec<u8>, AllocError>
 pub(crate) fn headed(alloc: Global, text: Vec<u8>) -> Result<Vec<u8>, AllocError>
     ensures { IfOk result (λ text. IsHeaded text.items) }
 {
-    if names_input(&text) || names_option(&text) {
+    if names_input(&text) {
+        return Ok(text);
+    }
+    if names_option(&text) {
         return Ok(text);
     }
     plain(alloc)
