@@ -6,8 +6,8 @@ ghost use Rattle.statement.specs.Most.{limits};
 
 use crate::effects::{Lack, Tables, is_dropped, tables_of};
 use crate::owners::owners_of;
-use ground::{BASE_LIMIT, INPUTS_LIMIT, INSTANCES_LIMIT};
 use crate::texts::write_term;
+use ground::{BASE_LIMIT, INPUTS_LIMIT, INSTANCES_LIMIT};
 use indexmap::IndexSet;
 use kept::AlternativeRun;
 use kif::Expr;

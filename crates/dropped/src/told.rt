@@ -11,7 +11,8 @@ fn words_of(lack: Lack) -> &'static str {
     match lack {
         Lack::Base => "it is of no base proposition",
         Lack::Input => "it is of no input of a role",
-        Lack::Goal => "it is of no role, or its value is no number from 0 to 100 without a leading zero",
+        Lack::Goal =>
+            "it is of no role, or its value is no number from 0 to 100 without a leading zero",
     }
 }
 

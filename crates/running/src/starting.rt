@@ -7,14 +7,13 @@ use std::alloc::AllocError;
 use words::{Command, Inquiry};
 
 /// Adds a line for each role of which no line tells a legal move.
-fn add_idle_roles(
-    rules: &RuleSet,
-    lines: &[u8],
-    output: &mut Vec<u8>,
-) -> Result<(), AllocError> {
+fn add_idle_roles(rules: &RuleSet, lines: &[u8], output: &mut Vec<u8>) -> Result<(), AllocError> {
     for number in 0..rules.roles() {
         let role = rules.role_text(number);
-        if !lines.split(|byte| *byte == b'\n').any(|line| is_legal_line(line, role)) {
+        if !lines
+            .split(|byte| *byte == b'\n')
+            .any(|line| is_legal_line(line, role))
+        {
             output.extend_from_slice(b"1:1: at the start `")?;
             output.extend_from_slice(role)?;
             output.extend_from_slice(b"` has no legal move\n")?;

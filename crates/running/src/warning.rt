@@ -34,11 +34,7 @@ fn add_heads(alloc: Global, bytes: &[u8], output: &mut Vec<u8>) -> Result<(), Al
 }
 
 /// What warns of rules of these sizes: that there are no base propositions or no inputs, and which heads have no effect.
-pub(crate) fn warnings(
-    alloc: Global,
-    bytes: &[u8],
-    sizes: &Sizes,
-) -> Result<Vec<u8>, AllocError> {
+pub(crate) fn warnings(alloc: Global, bytes: &[u8], sizes: &Sizes) -> Result<Vec<u8>, AllocError> {
     let mut output = Vec::new(alloc);
     if !sizes.has_base {
         output.extend_from_slice(
