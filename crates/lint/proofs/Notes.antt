@@ -5,6 +5,7 @@ use Rattle.kif.specs.View.{tree_of, trees_in}
 use Rattle.kif.specs.declared.expr.Expr.{Expr}
 use Rattle.outline.proofs.Facts.{item_there}
 use Rattle.lint.specs.declared.finding.Finding.{Finding}
+use Rattle.lint.specs.declared.whole.Whole.{Whole}
 use Rattle.lint.specs.Findings.{holds_of, holds_of_first, IsTrueNote}
 
 pub true_there : {A : Type 0} (es : List (Expr A)) (n : ℕ) (e : Expr A) (f : Finding) → n < length es → e ≡ get_or es n e
