@@ -96,10 +96,10 @@ pub(crate) fn item_over<T: AllocGlobal, A: Allocator>(
     rules: &RuleSet,
 ) -> Result<Option<usize>, AllocError> {
     let order = order_of(rt.alloc(), items, rules)?;
-    let mut within = 0;
+    let mut within: usize = 0;
     let mut over = order.len();
     for _ in 0..usize::BITS {
-        let middle = within + (over.saturating_sub(within)) / 2;
+        let middle = within.saturating_add(over.saturating_sub(within) / 2);
         if middle <= within {
             break;
         }
