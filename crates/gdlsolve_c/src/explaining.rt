@@ -1,5 +1,5 @@
 //! The call that explains a refusal.
-ghost use Rattle.std.specs.Prelude.{◌≡◌, ◌≤◌, ◌×◌, ℕ, List, [], IfOk, IfSome, Option, MatchOption};
+ghost use Rattle.std.specs.Prelude.{◌≡◌, ◌≤◌, ℕ, List, [], IfOk, IfSome};
 ghost use Rattle.gdlsolve_c.specs.Calls.{Fills};
 ghost use Rattle.gdlsolve_c.specs.Explaining.{RoomExplained};
 ghost use Rattle.reasons.specs.Headed.{IsHeaded};
