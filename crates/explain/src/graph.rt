@@ -92,19 +92,16 @@ impl<'a> Graph<'a> {
     fn is_target(&self, link: &Link, targets: &[Relation]) -> bool {
         match self.relations.as_slice().get(link.relation) {
             Some(relation) => {
-                targets.iter().any(|target| is_same(relation.word, relation.arity, target))
+                targets
+                    .iter()
+                    .any(|target| is_same(relation.word, relation.arity, target))
             }
             None => false,
         }
     }
 
     /// The relations on the way to a link, and the places of the items that lead there.
-    fn trail(
-        &self,
-        alloc: Global,
-        links: &[Link],
-        end: usize,
-    ) -> Result<Trail<'a>, AllocError> {
+    fn trail(&self, alloc: Global, links: &[Link], end: usize) -> Result<Trail<'a>, AllocError> {
         let mut steps = Vec::new(alloc);
         let mut places = Vec::new(alloc);
         let mut next = Some(end);

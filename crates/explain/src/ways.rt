@@ -6,8 +6,8 @@ ghost use Rattle.kif.specs.View.{tree_of, trees_in};
 ghost use Rattle.outline.specs.Relations.{relation_in};
 ghost use Rattle.explain.specs.Ways.{is_chain, ends_with, asks_first, IsWayToSome};
 
-use kif::Expr;
 use crate::graph::shortest;
+use kif::Expr;
 use outline::{Relation, asks, head_of, is_same, leads_to};
 use std::alloc::{AllocError, Allocator, Global};
 

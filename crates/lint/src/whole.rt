@@ -15,10 +15,7 @@ pub(crate) struct Whole<'a> {
 }
 
 /// What items state and ask.
-pub(crate) fn whole_of<A: Allocator>(
-    alloc: Global,
-    items: &[Expr<A>],
-) -> Result<Whole, AllocError>
+pub(crate) fn whole_of<A: Allocator>(alloc: Global, items: &[Expr<A>]) -> Result<Whole, AllocError>
     ensures { IfOk result (IsWhole (trees_in items.now)) }
 {
     let stated = stated_in(alloc, items)?;

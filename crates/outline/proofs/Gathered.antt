@@ -120,6 +120,7 @@ inserted eq same ks k p = go (list_any (eq k) ks) refl
         ap (λ (q : Relation). is_among q (map relation_in ks)) (relation_eq_yes p (relation_in k) e) ∙ sym (any_among eq same ks k) ∙ found in
         rw here refl
     already false e found = sym (ap (λ (b : Bool). is_among p (map relation_in ks) || b) e ∙ only (is_among p (map relation_in ks)))
+
     go : (b : Bool) → list_any (eq k) ks ≡ b
         → is_among p (map relation_in (if b then ks else (ks ++ k ∷ []))) ≡ (is_among p (map relation_in ks) || relation_eq p (relation_in k))
     go true e = already (relation_eq p (relation_in k)) refl e

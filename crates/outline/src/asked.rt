@@ -45,10 +45,7 @@ fn add_negated<'a, A: Allocator>(
 
 /// Adds the relations of the literals in a tree.
 #[cycle(gathering)]
-fn gather<'a, A: Allocator>(
-    e: &'a Expr<A>,
-    found: &mut Vec<Relation<'a>>,
-) -> Result<(), AllocError>
+fn gather<'a, A: Allocator>(e: &'a Expr<A>, found: &mut Vec<Relation<'a>>) -> Result<(), AllocError>
     ensures { OnOk result (map relation_in found.new.items ≡ map relation_in found.old.items ++ relations_of (literals_in (tree_of e.now))) }
 {
     match e {

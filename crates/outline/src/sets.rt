@@ -67,10 +67,7 @@ fn insert_all<'a>(set: &mut RelationSet<'a>, relations: &[Relation<'a>]) -> Resu
 }
 
 /// The relations that items head.
-pub fn stated_in<A: Allocator>(
-    alloc: Global,
-    items: &[Expr<A>],
-) -> Result<RelationSet, AllocError>
+pub fn stated_in<A: Allocator>(alloc: Global, items: &[Expr<A>]) -> Result<RelationSet, AllocError>
     ensures { IfOk result (λ set. (p : said.Relation) → is_among p set ≡ some_item (heads_it p) (trees_in items.now)) }
 {
     let mut set = RelationSet::new(alloc);
@@ -81,10 +78,7 @@ pub fn stated_in<A: Allocator>(
 }
 
 /// The relations of the literals in the bodies of items.
-pub fn asked_in<A: Allocator>(
-    alloc: Global,
-    items: &[Expr<A>],
-) -> Result<RelationSet, AllocError>
+pub fn asked_in<A: Allocator>(alloc: Global, items: &[Expr<A>]) -> Result<RelationSet, AllocError>
     ensures { IfOk result (λ set. (p : said.Relation) → is_among p set ≡ some_item (asks_it p) (trees_in items.now)) }
 {
     let mut set = RelationSet::new(alloc);

@@ -49,6 +49,7 @@ same_start text i start b is other h = record {
   where
     split : (k : ℕ) → k < i + 1 → (k < i) ⊎ (k ≡ i)
     split k to = grind arith
+
     go : (k : ℕ) → start ≤ k → (k < i) ⊎ (k ≡ i) → slice_index text k ≢ 10
     go k from (inl below) = h.together k from below
     go k from (inr here) = λ e. other (is ∙ ap (slice_index text) (sym here) ∙ e)
@@ -79,6 +80,7 @@ placed_after text i b place within is at h = feeds (is_line_feed b) refl
           in_line = same_start text i h.start b at other h.in_line;
           column = h.column ∙ ap suc (sym size);
         })
+
     feeds : (t : Bool) → is_line_feed b ≡ t → IsPlace text (i + 1) (after place b)
     feeds true holds =
         subst (IsPlace text (i + 1)) (let e : record { line = suc place.line; column = 1 } ≡ after place b = rw holds refl in e)
