@@ -214,6 +214,12 @@ def explains(refusal: bytes, errors: bytes) -> bool:
     return re.match(rb"(<input>|--after|--role)(:" + PLACE + rb":" + PLACE + rb")?: " + re.escape(name) + rb": ", errors) is not None
 
 
+def warns(errors: bytes) -> bool:
+    """Whether each line of the errors is a warning, or says of how many more items there is one."""
+    line = rb"<input>:(" + PLACE + rb":" + PLACE + rb":)? warning: [^\n]+\n|  and of [^\n]+\n"
+    return re.fullmatch(rb"(?:" + line + rb")*", errors) is not None
+
+
 def unlawful(command: str, told: Told) -> str | None:
     """Why a reply to a command is none of the lawful ones, or None."""
     if told.status is None:
@@ -221,7 +227,7 @@ def unlawful(command: str, told: Told) -> str | None:
     if told.status not in STATUSES.values():
         return "no status of the program"
     if told.status in (0, 2):
-        if told.errors and (told.status == 0 or not explains(told.output, told.errors)):
+        if told.errors and not (warns(told.errors) if told.status == 0 else explains(told.output, told.errors)):
             return "errors beside a reply"
         if told.output and not told.output.endswith(b"\n"):
             return "no line end"

@@ -1,4 +1,5 @@
-/* The library of gdlsolve for C and for what calls C: one call, which answers a command over the rules of a game.
+/* The library of gdlsolve for C and for what calls C: a call that answers a command over the rules of a game, and one that explains a
+ * refusal.
  *
  * docs/EMBEDDING.md says how the library is built and what is proved of the call; docs/USAGE.md tells the commands and their replies.
  */
@@ -42,6 +43,17 @@ enum gdlsolve_status {
  * returns. Do not call it from a signal handler, nor in the child of a fork of a process with threads. */
 uint32_t gdlsolve_reply(const char *words, size_t words_size, const char *rules, size_t rules_size, char *room, size_t room_size,
                         size_t *size);
+
+/* Explains a refusal, for people, as the program does on standard error: where the fault stands, and what it is about.
+ *
+ * words, words_size, rules, rules_size: those of the call of gdlsolve_reply that was refused.
+ * reply, reply_size: the line that it gave.
+ * room, room_size, size: as for gdlsolve_reply, for the text that explains it.
+ *
+ * It gives GDLSOLVE_ANSWER and a text; GDLSOLVE_MISUSE, with a size of 0, where the words make no command; or GDLSOLVE_NO_MEMORY, with a
+ * size of 0. Of a reply that is no refusal the text says little. What is said of pointers, threads and memory above holds of it too. */
+uint32_t gdlsolve_explain(const char *words, size_t words_size, const char *rules, size_t rules_size, const char *reply, size_t reply_size,
+                          char *room, size_t room_size, size_t *size);
 
 #ifdef __cplusplus
 }

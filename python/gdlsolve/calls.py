@@ -5,10 +5,11 @@ its place, as a child process.
 """
 import ctypes
 import os
+import re
 from collections.abc import Callable, Sequence
-from dataclasses import dataclass
+from dataclasses import dataclass, field
 from enum import IntEnum
-from functools import cache
+from functools import cache, cached_property
 from pathlib import Path
 from typing import cast
 
@@ -34,14 +35,53 @@ class Refusal(Exception):
 
     `code` and `name` are those of the fault, as `G4` and `Recursive`; the table in docs/USAGE.md has them all. `values` are what
     stands behind them: an offset, an item or a turn as a number, and what is named as a text. `str` of it is the line of the program.
-    `explanation` is what the program says of it to people; the library says nothing.
+
+    `explanation` is what the program tells on standard error, for people. `source` is the text in which the fault stands, `<input>`,
+    `--after` or `--role`; `line` and `column` are its place there, each counted from 1, and `text` is that line of it as it is shown, each of
+    them `None` where no place is told. The library is asked for them when one of them is first read; a program has told them.
     """
 
-    def __init__(self, line: str, explanation: str = ""):
+    def __init__(self, line: str, explain: Callable[[], str] = str):
         super().__init__(line)
         _, self.code, self.name, *values = terms(line)
         self.values: tuple[int | str, ...] = tuple(int(value) if place == 0 and value.isdecimal() else value for place, value in enumerate(values))
-        self.explanation = explanation
+        self._explain = explain
+
+    @cached_property
+    def explanation(self) -> str:
+        """What explains it."""
+        return self._explain()
+
+    @cached_property
+    def _place(self) -> re.Match[str] | None:
+        """The first line of the explanation, taken apart, and the line behind it, where it tells a place."""
+        return re.match(r"(?P<source>[^:\n]*):(?:(?P<line>\d+):(?P<column>\d+):.*\n(?P<text>.*))?", self.explanation)
+
+    def _told(self, part: str) -> str | None:
+        """A part of the place."""
+        return self._place.group(part) if self._place else None
+
+    @property
+    def source(self) -> str | None:
+        """The text in which the fault stands."""
+        return self._told("source")
+
+    @property
+    def line(self) -> int | None:
+        """The line of the fault."""
+        told = self._told("line")
+        return None if told is None else int(told)
+
+    @property
+    def column(self) -> int | None:
+        """The column of the fault, in characters."""
+        told = self._told("column")
+        return None if told is None else int(told)
+
+    @property
+    def text(self) -> str | None:
+        """The line of the text in which the fault stands, as it is shown."""
+        return self._told("text")
 
 
 class Misuse(ValueError):
@@ -59,6 +99,7 @@ class Reply:
     status: Status
     output: bytes
     errors: bytes = b""
+    explain: Callable[[], str] | None = field(default=None, compare=False, repr=False)
 
     def lines(self) -> list[str]:
         """The lines of an answer. What is none is raised."""
@@ -68,7 +109,7 @@ class Reply:
             raise Misuse(self.output.decode(errors="replace").rstrip("\n"))
         lines = lines_of(self.output)
         if self.status == Status.REFUSED:
-            raise Refusal(lines[0], self.errors.decode(errors="replace"))
+            raise Refusal(lines[0], self.explain or (lambda: self.errors.decode(errors="replace")))
         return lines
 
 
@@ -107,13 +148,28 @@ def answers() -> Path | list[str]:
 
 
 @cache
-def _call(library: Path) -> Callable[..., int]:
-    """The function of the library."""
-    call = ctypes.CDLL(str(library)).gdlsolve_reply
+def _call(library: Path, name: str, texts: int) -> Callable[..., int]:
+    """A function of the library, which takes so many texts, a room and the place of a size."""
+    call = getattr(ctypes.CDLL(str(library)), name)
     call.restype = ctypes.c_uint32
     text = [ctypes.c_char_p, ctypes.c_size_t]
-    call.argtypes = [*text, *text, *text, ctypes.POINTER(ctypes.c_size_t)]
+    call.argtypes = [*text * (texts + 1), ctypes.POINTER(ctypes.c_size_t)]
     return cast(Callable[..., int], call)
+
+
+def _told(library: Path, name: str, texts: Sequence[bytes]) -> tuple[Status, bytes]:
+    """What a function of the library tells of texts. It raises `MemoryError` for want of memory."""
+    call = _call(library, name, len(texts))
+    given = [part for text in texts for part in (text, len(text))]
+    size = ctypes.c_size_t(4096)
+    while True:
+        place = size.value
+        room = ctypes.create_string_buffer(max(place, 1))
+        status = Status(call(*given, room, place, ctypes.byref(size)))
+        if status == Status.NO_MEMORY:
+            raise MemoryError
+        if size.value <= place:
+            return status, room.raw[: size.value]
 
 
 def _check(words: Sequence[str]) -> None:
@@ -126,15 +182,12 @@ def _check(words: Sequence[str]) -> None:
 def by_library(library: Path, words: Sequence[str], rules: bytes) -> Reply:
     """The reply of the library to words without a character 0."""
     command = b"".join(word.encode() + b"\0" for word in words)
-    size = ctypes.c_size_t(4096)
-    while True:
-        place = size.value
-        room = ctypes.create_string_buffer(max(place, 1))
-        status = Status(_call(library)(command, len(command), rules, len(rules), room, place, ctypes.byref(size)))
-        if status == Status.NO_MEMORY:
-            raise MemoryError
-        if size.value <= place:
-            return Reply(status, room.raw[: size.value])
+    status, output = _told(library, "gdlsolve_reply", [command, rules])
+
+    def explain() -> str:
+        return _told(library, "gdlsolve_explain", [command, rules, output])[1].decode(errors="replace")
+
+    return Reply(status, output, explain=explain if status == Status.REFUSED else None)
 
 
 def by_program(command: Sequence[str], words: Sequence[str], rules: bytes) -> Reply:

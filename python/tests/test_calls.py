@@ -99,6 +99,25 @@ class Faults(unittest.TestCase):
                 told = reply(words, rules)
                 self.assertEqual((told.status, told.output.decode()), (Status.REFUSED, f"{caught.exception}\n"))
 
+    def test_a_refusal_has_its_place(self) -> None:
+        with self.assertRaises(Refusal) as caught:
+            gdlsolve.check("(role a)\n(<= (p ?x) (not (q ?x)))")
+        found = caught.exception
+        self.assertEqual((found.source, found.line, found.column, found.text), ("<input>", 2, 8, "(<= (p ?x) (not (q ?x)))"))
+        self.assertIn("no positive literal of the body binds ?x", found.explanation)
+
+    def test_a_history_has_its_place(self) -> None:
+        with self.assertRaises(Refusal) as caught:
+            gdlsolve.moves(PENNIES, "(h t)\n(h t)")
+        found = caught.exception
+        self.assertEqual((found.source, found.line, found.column, found.text), ("--after", 2, 1, "(h t)"))
+
+    def test_without_a_place_there_is_none(self) -> None:
+        with self.assertRaises(Refusal) as caught:
+            gdlsolve.check("(p)")
+        found = caught.exception
+        self.assertEqual((found.source, found.line, found.column, found.text), ("<input>", None, None, None))
+
     def test_misuses_are_told(self) -> None:
         for words in MISUSED:
             with self.subTest(words=words):
@@ -134,6 +153,8 @@ class Both(unittest.TestCase):
             with self.subTest(words=words):
                 told = self.library(words, text)
                 self.assertEqual((told.status, told.output), ran(words, text)[:2])
+                assert told.explain is not None
+                self.assertEqual(told.explain(), ran(words, text)[2].decode())
 
     def test_misuses(self) -> None:
         for words in MISUSED:
@@ -196,7 +217,7 @@ class Rooms(unittest.TestCase):
     def test_a_room_gets_what_it_has_place_for(self) -> None:
         file = calls.library()
         assert file is not None
-        call, words, whole = calls._call(file), b"moves\0", reply(["moves"], MARKS).output
+        call, words, whole = calls._call(file, "gdlsolve_reply", 2), b"moves\0", reply(["moves"], MARKS).output
         for place in [*range(8), len(whole) - 1, len(whole), len(whole) + 1]:
             room, size = ctypes.create_string_buffer(b"~" * (len(whole) + 2)), ctypes.c_size_t()
             status = call(words, len(words), MARKS, len(MARKS), room, place, ctypes.byref(size))

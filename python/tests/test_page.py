@@ -318,7 +318,7 @@ class Ends(unittest.TestCase):
 
 class Places(unittest.TestCase):
     def place(self, line: str, text: str, explanation: str = "") -> tuple[int, int] | None:
-        found = places.where(Refusal(line, explanation), text.encode())
+        found = places.where(Refusal(line, lambda: explanation), text.encode())
         return (found.line, found.column) if found else None
 
     def test_offsets_and_items(self) -> None:

@@ -4,11 +4,12 @@ use Rattle.std.specs.Prelude.{ℕ, ◌≡◌, Bool, true, false, ◌&&◌, List,
 use Rattle.statement.specs.Tree.{Tree}
 use Rattle.statement.specs.Clause.{Relation, relation_eq, relation_of}
 use Rattle.statement.specs.Items.{item_head}
-use Rattle.outline.specs.Asking.{heads_it, asks_it, some_item}
+use Rattle.statement.specs.Dependence.{IsAmong}
+use Rattle.outline.specs.Asking.{asks_it, links_them, some_item}
 
 -- some item heads the first relation and asks the second
 abbrev pub leads : List Tree → Relation → Relation → Bool
-leads items p q = some_item (λ t. heads_it p t && asks_it q t) items
+leads items p q = some_item (links_them p q) items
 
 -- each relation leads to the next
 abbrev pub is_chain : List Tree → Relation → List Relation → Bool
@@ -30,3 +31,7 @@ pub record IsWay (items : List Tree) (t : Tree) (q : Relation) (steps : List Rel
   pub first : asks_first t steps ≡ true
   pub chain : is_chain items (relation_of (item_head t)) steps ≡ true
   pub last : ends_with q steps ≡ true
+
+-- such a way leads to one of some relations
+abbrev pub IsWayToSome : List Tree → Tree → List Relation → List Relation → Type 0
+IsWayToSome items t targets steps = (q : Relation) × IsAmong q targets × IsWay items t q steps

@@ -40,7 +40,7 @@ fn count_of_all<A: Allocator>(parts: &[Expr<A>]) -> usize {
 }
 
 /// How many alternatives an item stands for. A number that does not fit counts as the greatest.
-pub(crate) fn count_alternatives<A: Allocator>(item: &Expr<A>) -> usize {
+pub fn count_alternatives<A: Allocator>(item: &Expr<A>) -> usize {
     let (_, body) = split_item(item);
     count_of_all(body)
 }

@@ -2,7 +2,7 @@
 use crate::variables::variables_of;
 use kif::Expr;
 use outline::has_variable;
-use profile::{Connective, Word, connective_of, split_item, split_word};
+use profile::{Connective, VARIABLES_LIMIT, Word, connective_of, split_item, split_word};
 use std::alloc::{AllocError, Allocator, Global};
 
 /// Whether an atom binds a variable: it has it, and is no `distinct`.
@@ -87,15 +87,18 @@ fn some_asks_free<A: Allocator>(parts: &[Expr<A>], variable: &[u8]) -> bool {
     false
 }
 
-/// A variable that some alternative of an item has to bind and does not, though another may: the first in the order of the text. This is
-/// tested alone.
+/// A variable that some alternative of an item has to bind and does not, though another may: the first in the order of the text. Of an
+/// item with more variables than any may have none is looked for. This is tested alone.
 pub(crate) fn half_bound_variable<A: Allocator>(
     alloc: Global,
     item: &Expr<A>,
 ) -> Result<Option<&[u8]>, AllocError> {
     let (head, body) = split_item(item);
     let variables = variables_of(alloc, item)?;
-    for variable in &variables {
+    if variables.len() > VARIABLES_LIMIT {
+        return Ok(None);
+    }
+    for variable in variables.as_slice() {
         let is_asked = has_variable(head, variable) || some_asks_free(body, variable);
         if is_asked && all_leave_free(body, variable) {
             return Ok(Some(*variable));

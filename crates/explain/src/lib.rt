@@ -3,6 +3,7 @@
 
 mod counts;
 mod forms;
+mod graph;
 mod halves;
 mod marked;
 mod misuses;
@@ -18,10 +19,13 @@ mod variables;
 mod ways;
 mod wording;
 
+pub use counts::count_alternatives;
 pub use marked::add_marked_line;
 pub use refusals::PlayFault;
 pub use spots::{Spot, item_spot, text_spot, word_spot};
-pub use told_play::{Before, explain_history, explain_limit, explain_role, explain_unread_history};
+pub use told_play::{
+    Before, explain_history, explain_limit, explain_role, explain_unread_history, is_legal_line,
+};
 pub use told_rules::{Source, explain_rules};
 pub use told_text::{begins_with_mark, explain_text};
 pub use variables::unbound_variable;

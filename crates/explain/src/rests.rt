@@ -54,15 +54,5 @@ pub(crate) fn bad_way<'a, A: Allocator>(
     item: &'a Expr<A>,
 ) -> Result<Option<Vec<Relation<'a>>>, AllocError> {
     let head = head_of(item);
-    let mut best = None;
-    let mut length = usize::MAX;
-    for target in forbidden(head.word) {
-        if let Some(steps) = way_from(alloc, items, item, target)? {
-            if steps.len() < length {
-                length = steps.len();
-                best = Some(steps);
-            }
-        }
-    }
-    Ok(best)
+    way_from(alloc, items, item, forbidden(head.word))
 }

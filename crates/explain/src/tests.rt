@@ -225,9 +225,23 @@ fn faults_of_histories_are_told(rt: HostRuntime) -> Result<(), Fail> {
 fn roles_and_limits_are_told(rt: HostRuntime) -> Result<(), Fail> {
     let mut output = Vec::new(rt.alloc());
     explain_role(b" x (o 2)", &mut output)?;
-    explain_limit("<input>", b"refused N1 TooMany base\n", &mut output)?;
+    let Ok(items) = read(rt.alloc(), b"(p)\n(q)") else {
+        return Err(AllocError.into());
+    };
+    let source = Source {
+        name: "<input>",
+        text: b"(p)\n(q)",
+        items: &items,
+    };
+    explain_limit(&source, None, b"refused N1 TooMany base\n", &mut output)?;
+    explain_limit(
+        &source,
+        Some(2),
+        b"refused N1 TooMany instances\n",
+        &mut output,
+    )?;
     let wanted =
-        "--role: refused S1 NoSuchRole: the roles are x (o 2)\n<input>: refused N1 TooMany: more than 65536 base propositions\n";
+        "--role: refused S1 NoSuchRole: the roles are x (o 2)\n<input>: refused N1 TooMany: more than 65536 base propositions\n<input>:2:1: refused N1 TooMany: more than 262144 instances of rules\n(q)\n^\n  with this item the limit is passed; the items that are instantiated before it pass none\n";
     assert_eq!(rt; from_utf8(&output)?, wanted);
     Ok(())
 }

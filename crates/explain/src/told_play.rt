@@ -2,6 +2,7 @@
 use crate::marked::add_marked_line;
 use crate::refusals::PlayFault;
 use crate::spots::item_spot;
+use crate::told_rules::Source;
 use crate::told_text::explain_text;
 use crate::wording::{add_bytes, add_end, add_reason, add_start, add_words};
 use kif::Expr;
@@ -26,22 +27,43 @@ pub fn explain_role(roles: &[u8], output: &mut Vec<u8>) -> Result<(), AllocError
     Ok(())
 }
 
-/// Adds what is told of rules that pass a limit where they are instantiated.
-pub fn explain_limit(source: &str, line: &[u8], output: &mut Vec<u8>) -> Result<(), AllocError> {
-    let excess: &[u8] = line.get(19..).unwrap_or(b"");
-    let words = match excess {
+/// What the limit is that a line of a refusal names.
+fn words_of_limit(line: &[u8]) -> &'static str {
+    match line.get(19..).unwrap_or(b"") {
         b"base\n" => "more than 65536 base propositions",
         b"inputs\n" => "more than 4096 moves of all roles together",
         b"instances\n" => "more than 262144 instances of rules",
         b"text\n" => "a head of more than 4096 bytes",
         _ => "a limit is passed",
-    };
-    add_start(source, None, "N1 TooMany", output)?;
-    add_end(words, output)
+    }
 }
 
-/// Whether a line tells of a legal move of a role.
-fn is_legal_line(line: &[u8], role: &[u8]) -> bool {
+/// Adds what is told of rules that pass a limit where they are instantiated: with the item of this number, counted from 1, if it is known.
+pub fn explain_limit<A: Allocator>(
+    source: &Source<A>,
+    number: Option<usize>,
+    line: &[u8],
+    output: &mut Vec<u8>,
+) -> Result<(), AllocError> {
+    let spot = match number {
+        Some(number) => item_spot(source.text, source.items, number),
+        None => None,
+    };
+    add_start(source.name, spot, "N1 TooMany", output)?;
+    add_end(words_of_limit(line), output)?;
+    match spot {
+        Some(spot) => {
+            add_marked_line(source.text, spot.offset, output)?;
+            add_reason(
+                "with this item the limit is passed; the items that are instantiated before it pass none",
+                output,
+            )
+        }
+        None => Ok(()),
+    }
+}
+/// Whether a line of the reply to `moves` tells of a legal move of a role.
+pub fn is_legal_line(line: &[u8], role: &[u8]) -> bool {
     match line.get(6..) {
         Some(rest) => {
             line.get(..6) == Some(b"legal ".as_slice())

@@ -155,7 +155,7 @@ fn tell_cycle<A: Allocator>(
     item: &Expr<A>,
     output: &mut Vec<u8>,
 ) -> Result<(), AllocError> {
-    let way = way_from(alloc, source.items, item, &head_of(item))?;
+    let way = way_from(alloc, source.items, item, &[head_of(item)])?;
     tell_way(source, number, item, "G4 Recursive", way.as_deref(), output)?;
     add_reason("no relation may rest on itself", output)
 }

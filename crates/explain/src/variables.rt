@@ -5,33 +5,34 @@ ghost use Rattle.kif.specs.View.{tree_of};
 ghost use Rattle.outline.specs.Asking.{binds_it};
 ghost use Rattle.explain.specs.Unbound.{IsUnbound};
 
+use indexmap::IndexSet;
 use kif::Expr;
 use outline::{binds, has_variable};
-use profile::is_variable_name;
+use profile::{Connective, Word, connective_of, is_variable_name, split_item, split_word};
 use std::alloc::{AllocError, Allocator, Global};
 
-/// Adds a name that is a variable, and not there yet.
-fn add_variable<'a>(word: &'a [u8], found: &mut Vec<&'a [u8]>) -> Result<(), AllocError> {
-    if is_variable_name(word) && !found.iter().any(|known| *known == word) {
-        found.push(word)?;
-    }
-    Ok(())
-}
-
-/// Adds the variables of a tree that are not there yet.
+/// Adds the variables of a tree.
 #[cycle(gathering)]
-fn gather<'a, A: Allocator>(e: &'a Expr<A>, found: &mut Vec<&'a [u8]>) -> Result<(), AllocError> {
+fn gather<'a, A: Allocator>(
+    e: &'a Expr<A>,
+    found: &mut IndexSet<&'a [u8]>,
+) -> Result<(), AllocError> {
     match e {
-        Expr::Name(word) => add_variable(word, found),
+        Expr::Name(word) => {
+            if is_variable_name(word) {
+                found.insert(word)?;
+            }
+            Ok(())
+        }
         Expr::List(parts) => gather_all(parts, found),
     }
 }
 
-/// Adds the variables of trees that are not there yet.
+/// Adds the variables of trees.
 #[cycle(gathering)]
 fn gather_all<'a, A: Allocator>(
     parts: &'a [Expr<A>],
-    found: &mut Vec<&'a [u8]>,
+    found: &mut IndexSet<&'a [u8]>,
 ) -> Result<(), AllocError> {
     for part in parts {
         gather(part, found)?;
@@ -44,9 +45,56 @@ fn gather_all<'a, A: Allocator>(
 pub(crate) fn variables_of<A: Allocator>(
     alloc: Global,
     e: &Expr<A>,
-) -> Result<Vec<&[u8]>, AllocError> {
-    let mut found = Vec::new(alloc);
+) -> Result<IndexSet<&[u8]>, AllocError> {
+    let mut found = IndexSet::new(alloc);
     gather(e, &mut found)?;
+    Ok(found)
+}
+
+/// Adds the variables of the positive literals in a tree, other than those of a `distinct`.
+#[cycle(binding)]
+fn gather_bound<'a, A: Allocator>(
+    e: &'a Expr<A>,
+    found: &mut IndexSet<&'a [u8]>,
+) -> Result<(), AllocError> {
+    let Expr::List(parts) = e else {
+        return Ok(());
+    };
+    let Some((word, rest)) = split_word(parts) else {
+        return Ok(());
+    };
+    match connective_of(word) {
+        Connective::Or | Connective::And => gather_all_bound(rest, found),
+        Connective::Not => Ok(()),
+        Connective::Nothing => {
+            if Word::Distinct.is_named(word) {
+                return Ok(());
+            }
+            gather_all(rest, found)
+        }
+    }
+}
+
+/// Adds the variables of the positive literals in trees, other than those of a `distinct`.
+#[cycle(binding)]
+fn gather_all_bound<'a, A: Allocator>(
+    parts: &'a [Expr<A>],
+    found: &mut IndexSet<&'a [u8]>,
+) -> Result<(), AllocError> {
+    for part in parts {
+        gather_bound(part, found)?;
+    }
+    Ok(())
+}
+
+/// The variables of the positive literals of an item's body, other than those of a `distinct`. No clause says that these are they.
+fn variables_bound<A: Allocator>(
+    alloc: Global,
+    item: &Expr<A>,
+) -> Result<IndexSet<&[u8]>, AllocError> {
+    let mut found = IndexSet::new(alloc);
+    let (_, body) = split_item(item);
+    gather_all_bound(body, &mut found)?;
     Ok(found)
 }
 
@@ -65,8 +113,9 @@ pub fn unbound_variable<A: Allocator>(
     ensures { IfOk result (λ found. IfSome found (λ variable. IsUnbound (tree_of item.now) variable.now)) }
 {
     let variables = variables_of(alloc, item)?;
-    for variable in &variables {
-        if is_unbound(item, variable) {
+    let bound = variables_bound(alloc, item)?;
+    for variable in variables.as_slice() {
+        if !bound.contains(variable) && is_unbound(item, variable) {
             return Ok(Some(*variable));
         }
     }

@@ -10,7 +10,7 @@ use std::alloc::Global;
 const STARVED: u32 = 3;
 
 /// Writes the bytes into the room, as many as it has place for.
-fn fill(room: &mut [u8], bytes: &[u8])
+pub(crate) fn fill(room: &mut [u8], bytes: &[u8])
     ensures { room.new ≡ filled room.old bytes.now }
 {
     let count = bytes.len().min(room.len());

@@ -1,5 +1,5 @@
 //! Calls with worked texts, in rooms of any size.
-use crate::gdlsolve_reply;
+use crate::{gdlsolve_explain, gdlsolve_reply};
 use std::alloc::{AllocError, Global};
 
 /// Two roles choose at once. The first wins where they choose the same, and the second where they do not.
@@ -175,5 +175,33 @@ fn a_text_may_pass_its_limit_by_any_number_of_bytes(rt: HostRuntime) -> Result<(
         );
         assert!(rt; tells(rt.alloc(), row, 80)?, "at {more}");
     }
+    Ok(())
+}
+
+/// Whether a call explains a refusal so, in a room with so much place.
+fn explains(
+    alloc: Global,
+    words: &[u8],
+    reply: &[u8],
+    place: usize,
+    want: &[u8],
+    status: u32,
+) -> Result<bool, AllocError> {
+    let mut room = vec![in alloc; b'~'; place]?;
+    let mut size = 7_777;
+    let told = gdlsolve_explain(alloc, words, MATCH, reply, &mut room, &mut size);
+    let front = want.len().min(place);
+    Ok(told == status && size == want.len() && room[..front] == want[..front])
+}
+
+#[test]
+fn refusals_are_explained(rt: HostRuntime) -> Result<(), AllocError> {
+    let alloc = rt.alloc();
+    let role = b"--role: refused S1 NoSuchRole: the roles are a b\n";
+    let words = b"solve\0--role\0c\0--depth\01\0";
+    let refused = b"refused S1 NoSuchRole\n";
+    assert!(rt; explains(alloc, words, refused, 100, role, 0)?);
+    assert!(rt; explains(alloc, words, refused, 10, role, 0)?);
+    assert!(rt; explains(alloc, b"solve\0", refused, 100, b"", 1)?);
     Ok(())
 }

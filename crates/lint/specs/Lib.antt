@@ -1,2 +1,4 @@
 pub mod Names
 pub mod Findings
+pub mod Wholes
+pub mod Pointing

@@ -2,11 +2,15 @@
 ghost use Rattle.std.specs.Prelude.{◌≡◌, All, IfOk, OnOk};
 ghost use Rattle.kif.specs.View.{trees_in};
 ghost use Rattle.lint.specs.Findings.{IsTrueNote};
+ghost use Rattle.lint.specs.Wholes.{IsWhole};
 
 use crate::finding::{Finding, Note};
 use crate::holds::holds_of;
+use crate::whole::{Whole, whole_of};
+use crate::words::is_foreign;
+use indexmap::IndexMap;
 use kif::Expr;
-use outline::{Relation, asked_by, head_of, heads, is_same};
+use outline::{Relation, RelationSet, asked_by, head_of};
 use profile::Word;
 use std::alloc::{AllocError, Allocator, Global};
 
@@ -19,140 +23,132 @@ const NEEDED: [Word; 5] = [
     Word::Terminal,
 ];
 
-/// The relation that a finding is about, if it is about one that was asked or stated.
-fn relation_in<'a>(finding: &Finding<'a>) -> Option<Relation<'a>> {
-    match finding {
-        Finding::NeverStated(relation)
-        | Finding::OtherArity(relation, _)
-        | Finding::NeverAsked(relation)
-        | Finding::Foreign(relation) => Some(*relation),
-        Finding::BadGoal | Finding::Missing(_) => None,
-    }
+/// What is known while findings are gathered: what all items state and ask, how many arguments some relation of each name has that is
+/// stated, and which relations were looked at.
+#[derive(Drop)]
+struct Known<'a> {
+    whole: Whole<'a>,
+    arities: IndexMap<&'a [u8], usize>,
+    seen: RelationSet<'a>,
 }
 
-/// Whether a finding is about a relation.
-fn is_about(finding: &Finding, relation: &Relation) -> bool {
-    match relation_in(finding) {
-        Some(known) => is_same(known.word, known.arity, relation),
-        None => false,
+/// How many arguments a relation of each name has that some item states: the first.
+fn arities_of<A: Allocator>(
+    alloc: Global,
+    items: &[Expr<A>],
+) -> Result<IndexMap<&[u8], usize>, AllocError> {
+    let mut arities = IndexMap::new(alloc);
+    for item in items {
+        let head = head_of(item);
+        if !arities.contains_key(&head.word) {
+            arities.insert(head.word, head.arity)?;
+        }
     }
-}
-
-/// Whether there is a finding about a relation.
-fn is_noted(notes: &[Note], relation: &Relation) -> bool {
-    notes.iter().any(|note| is_about(&note.finding, relation))
+    Ok(arities)
 }
 
 /// Adds a finding of the item at a place, if it is true.
 fn add<'a, A: Allocator>(
+    whole: &Whole<'a>,
     items: &[Expr<A>],
     place: usize,
     finding: Finding<'a>,
     notes: &mut Vec<Note<'a>>,
 ) -> Result<(), AllocError>
-    requires { All (IsTrueNote (trees_in items.now)) notes.old.items }
+    requires whole { IsWhole (trees_in items.now) whole.now }
+    requires notes { All (IsTrueNote (trees_in items.now)) notes.old.items }
     ensures { OnOk result (All (IsTrueNote (trees_in items.now)) notes.new.items) }
 {
     if place >= items.len() {
         return Ok(());
     }
-    if !holds_of(items, &items[place], &finding) {
+    if !holds_of(whole, &items[place], &finding) {
         return Ok(());
     }
     notes.push(Note { place, finding })?;
     Ok(())
 }
 
-/// How many arguments a relation of this name has that some item states.
-fn stated_arity<A: Allocator>(items: &[Expr<A>], name: &[u8]) -> Option<usize> {
-    for item in items {
-        let head = head_of(item);
-        if head.word == name {
-            return Some(head.arity);
-        }
-    }
-    None
+/// Whether something may be found of a relation that an item asks. Most are stated, and then nothing is.
+fn is_suspect<'a>(known: &Known<'a>, relation: Relation<'a>) -> bool {
+    is_foreign(relation.word) || !known.whole.stated.contains(relation)
 }
 
-/// Adds what is found of a relation that the item at a place asks, if nothing was found of it before.
-fn add_asked<'a, A: Allocator>(
-    items: &[Expr<A>],
-    place: usize,
-    relation: Relation<'a>,
-    notes: &mut Vec<Note<'a>>,
-) -> Result<(), AllocError>
-    requires { All (IsTrueNote (trees_in items.now)) notes.old.items }
-    ensures { OnOk result (All (IsTrueNote (trees_in items.now)) notes.new.items) }
-{
-    if is_noted(notes, &relation) {
-        return Ok(());
+/// What may be found of a relation that an item asks.
+fn finding_of_asked<'a>(known: &Known<'a>, relation: Relation<'a>) -> Finding<'a> {
+    if is_foreign(relation.word) {
+        return Finding::Foreign(relation);
     }
-    add(items, place, Finding::Foreign(relation), notes)?;
-    if is_noted(notes, &relation) {
-        return Ok(());
-    }
-    match stated_arity(items, relation.word) {
-        Some(arity) => add(items, place, Finding::OtherArity(relation, arity), notes),
-        None => add(items, place, Finding::NeverStated(relation), notes),
+    match known.arities.get(&relation.word) {
+        Some(arity) => Finding::OtherArity(relation, *arity),
+        None => Finding::NeverStated(relation),
     }
 }
 
-/// Adds what is found of the relations that the item at a place asks.
+/// What may be found of a relation that an item states.
+fn finding_of_stated<'a>(relation: Relation<'a>) -> Finding<'a> {
+    if is_foreign(relation.word) {
+        return Finding::Foreign(relation);
+    }
+    Finding::NeverAsked(relation)
+}
+
+/// Adds what is found of the relations that the item at a place asks and that were not looked at before.
 fn add_all_asked<'a, A: Allocator>(
     alloc: Global,
+    known: &mut Known<'a>,
     items: &[Expr<A>],
     place: usize,
     item: &'a Expr<A>,
     notes: &mut Vec<Note<'a>>,
 ) -> Result<(), AllocError>
-    requires { All (IsTrueNote (trees_in items.now)) notes.old.items }
-    ensures { OnOk result (All (IsTrueNote (trees_in items.now)) notes.new.items) }
+    requires whole { IsWhole (trees_in items.now) known.old.whole }
+    requires notes { All (IsTrueNote (trees_in items.now)) notes.old.items }
+    ensures whole { known.new.whole ≡ known.old.whole }
+    ensures notes { OnOk result (All (IsTrueNote (trees_in items.now)) notes.new.items) }
 {
     let asked = asked_by(alloc, item)?;
     for relation in &asked {
-        add_asked(items, place, *relation, notes)?;
+        if known.seen.insert(*relation)? && is_suspect(known, *relation) {
+            let finding = finding_of_asked(known, *relation);
+            add(&known.whole, items, place, finding, notes)?;
+        }
     }
     Ok(())
 }
 
-/// Whether the item before a place states the same relation.
-fn is_repeated<A: Allocator>(items: &[Expr<A>], place: usize, relation: &Relation) -> bool {
-    match items.get(place.wrapping_sub(1)) {
-        Some(before) => heads(before, relation),
-        None => false,
-    }
-}
-
-/// Adds what is found of the relation that the item at a place states, if nothing was found of it before.
+/// Adds what is found of the relation that the item at a place states, if it was not looked at before.
 fn add_stated<'a, A: Allocator>(
+    known: &mut Known<'a>,
     items: &[Expr<A>],
     place: usize,
     relation: Relation<'a>,
     notes: &mut Vec<Note<'a>>,
 ) -> Result<(), AllocError>
-    requires { All (IsTrueNote (trees_in items.now)) notes.old.items }
-    ensures { OnOk result (All (IsTrueNote (trees_in items.now)) notes.new.items) }
+    requires whole { IsWhole (trees_in items.now) known.old.whole }
+    requires notes { All (IsTrueNote (trees_in items.now)) notes.old.items }
+    ensures whole { known.new.whole ≡ known.old.whole }
+    ensures notes { OnOk result (All (IsTrueNote (trees_in items.now)) notes.new.items) }
 {
-    if is_repeated(items, place, &relation) || is_noted(notes, &relation) {
-        return Ok(());
+    if known.seen.insert(relation)? {
+        let finding = finding_of_stated(relation);
+        return add(&known.whole, items, place, finding, notes);
     }
-    add(items, place, Finding::Foreign(relation), notes)?;
-    if is_noted(notes, &relation) {
-        return Ok(());
-    }
-    add(items, place, Finding::NeverAsked(relation), notes)
+    Ok(())
 }
 
 /// Adds the words of the language that no item states.
 fn add_missing<'a, A: Allocator>(
+    whole: &Whole<'a>,
     items: &[Expr<A>],
     notes: &mut Vec<Note<'a>>,
 ) -> Result<(), AllocError>
-    requires { All (IsTrueNote (trees_in items.now)) notes.old.items }
+    requires whole { IsWhole (trees_in items.now) whole.now }
+    requires notes { All (IsTrueNote (trees_in items.now)) notes.old.items }
     ensures { OnOk result (All (IsTrueNote (trees_in items.now)) notes.new.items) }
 {
     for word in &NEEDED {
-        add(items, 0, Finding::Missing(*word), notes)?;
+        add(whole, items, 0, Finding::Missing(*word), notes)?;
     }
     Ok(())
 }
@@ -165,11 +161,19 @@ pub fn findings<'a, A: Allocator>(
     ensures { IfOk result (λ notes. All (IsTrueNote (trees_in items.now)) notes.items) }
 {
     let mut notes = Vec::new(alloc);
-    add_missing(items, &mut notes)?;
+    let whole = whole_of(alloc, items)?;
+    add_missing(&whole, items, &mut notes)?;
+    let arities = arities_of(alloc, items)?;
+    let seen = RelationSet::new(alloc);
+    let mut known = Known {
+        whole,
+        arities,
+        seen,
+    };
     for (place, item) in items.iter().enumerate() {
-        add_stated(items, place, head_of(item), &mut notes)?;
-        add(items, place, Finding::BadGoal, &mut notes)?;
-        add_all_asked(alloc, items, place, item, &mut notes)?;
+        add_stated(&mut known, items, place, head_of(item), &mut notes)?;
+        add(&known.whole, items, place, Finding::BadGoal, &mut notes)?;
+        add_all_asked(alloc, &mut known, items, place, item, &mut notes)?;
     }
     Ok(notes)
 }

@@ -17,7 +17,7 @@ fn is_digit(byte: u8) -> bool
 }
 
 /// Whether bytes are a number from 0 to 100 in decimal, without a leading zero.
-fn is_goal_number(bytes: &[u8]) -> bool
+pub fn is_goal_number(bytes: &[u8]) -> bool
     ensures { result ≡ is_goal_number bytes.now }
 {
     match bytes {
@@ -55,4 +55,17 @@ pub(crate) fn states_bad_goal<A: Allocator>(item: &Expr<A>) -> bool
     let (head, _) = split_item(item);
     let (word, terms) = split_atom(head);
     Word::Goal.is_named(word) && has_bad_value(terms)
+}
+
+/// Whether an item states a goal whose value is a variable.
+pub fn has_open_goal<A: Allocator>(item: &Expr<A>) -> bool {
+    let (head, _) = split_item(item);
+    let (word, terms) = split_atom(head);
+    if !Word::Goal.is_named(word) {
+        return false;
+    }
+    match terms {
+        [_, Expr::Name(value)] => is_variable_name(value),
+        _ => false,
+    }
 }

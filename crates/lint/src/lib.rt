@@ -5,11 +5,15 @@ mod finding;
 mod gathering;
 mod goals;
 mod holds;
+mod pointer;
 #[cfg(test)]
 mod tests;
 mod told;
+mod whole;
 mod words;
 
 pub use finding::{Finding, Note};
 pub use gathering::findings;
+pub use goals::{has_open_goal, is_goal_number};
+pub use pointer::Pointer;
 pub use told::finding_lines;

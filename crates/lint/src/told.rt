@@ -1,9 +1,13 @@
 //! The lines that tell of findings.
+ghost use Rattle.kif.specs.View.{trees_in};
+ghost use Rattle.lint.specs.Pointing.{IsPointer};
+
 use crate::finding::{Finding, Note};
 use crate::gathering::findings;
-use explain::{Spot, item_spot, word_spot};
+use crate::pointer::Pointer;
 use kif::Expr;
 use outline::Relation;
+use places::Place;
 use std::alloc::{AllocError, Allocator, Global};
 use std::io::Write;
 
@@ -60,33 +64,48 @@ fn add_words(finding: &Finding, output: &mut Vec<u8>) -> Result<(), AllocError> 
     }
 }
 
-/// Where a finding stands: at the first place of the relation that an item asks, or at the beginning of the item.
-fn spot_of<A: Allocator>(text: &[u8], items: &[Expr<A>], note: &Note) -> Option<Spot> {
-    let number = note.place.saturating_add(1);
-    match note.finding {
+/// The name by whose place a finding is told, if it is not told by the beginning of its item.
+fn name_of<'a>(finding: &Finding<'a>) -> Option<&'a [u8]> {
+    match finding {
         Finding::NeverStated(relation)
         | Finding::OtherArity(relation, _)
-        | Finding::Foreign(relation) => word_spot(text, items, number, relation.word),
-        Finding::NeverAsked(_) | Finding::BadGoal | Finding::Missing(_) => {
-            item_spot(text, items, number)
-        }
+        | Finding::Foreign(relation) => Some(relation.word),
+        Finding::NeverAsked(_) | Finding::BadGoal | Finding::Missing(_) => None,
+    }
+}
+
+/// The place of a finding: that of the relation that an item asks, or the beginning of the item.
+fn place_of_note<A: Allocator>(
+    pointer: &mut Pointer,
+    items: &[Expr<A>],
+    note: &Note,
+) -> Option<Place>
+    requires { IsPointer (trees_in items.now) pointer.old }
+    ensures { IsPointer (trees_in items.now) pointer.new }
+{
+    match name_of(&note.finding) {
+        Some(name) => pointer.name_place(items, note.place, name),
+        None => pointer.item_place(items, note.place),
     }
 }
 
 /// Adds the line of a finding.
 fn add_line<A: Allocator>(
-    text: &[u8],
+    pointer: &mut Pointer,
     items: &[Expr<A>],
     note: &Note,
     output: &mut Vec<u8>,
-) -> Result<(), AllocError> {
-    if let Some(spot) = spot_of(text, items, note) {
-        let line = spot.place.line;
-        let column = spot.place.column;
-        write!(output, "{line}:{column}: ").map_err(|_| AllocError)?;
-        return add_words(&note.finding, output);
-    }
-    Ok(())
+) -> Result<(), AllocError>
+    requires { IsPointer (trees_in items.now) pointer.old }
+    ensures { IsPointer (trees_in items.now) pointer.new }
+{
+    let Some(place) = place_of_note(pointer, items, note) else {
+        return Ok(());
+    };
+    let line = place.line;
+    let column = place.column;
+    write!(output, "{line}:{column}: ").map_err(|_| AllocError)?;
+    add_words(&note.finding, output)
 }
 
 /// A line for each finding in the items that a text is read as: line and column, and what is found there.
@@ -97,8 +116,9 @@ pub fn finding_lines<A: Allocator>(
 ) -> Result<Vec<u8>, AllocError> {
     let mut output = Vec::new(alloc);
     let notes = findings(alloc, items)?;
+    let mut pointer = Pointer::new(text);
     for note in &notes {
-        add_line(text, items, note, &mut output)?;
+        add_line(&mut pointer, items, note, &mut output)?;
     }
     Ok(output)
 }

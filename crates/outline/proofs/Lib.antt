@@ -1,2 +1,3 @@
 mod Looking
+mod Gathered
 pub mod Facts

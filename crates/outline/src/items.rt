@@ -2,7 +2,7 @@
 ghost use Rattle.std.specs.Prelude.{◌≡◌, ◌&&◌};
 ghost use Rattle.kif.specs.View.{tree_of, trees_in};
 ghost use Rattle.outline.specs.Relations.{relation_in};
-ghost use Rattle.outline.specs.Asking.{heads_it, asks_it, binds_it, some_item};
+ghost use Rattle.outline.specs.Asking.{heads_it, asks_it, binds_it, links_them, some_item};
 
 use crate::literals::some_in_all;
 use crate::probe::Probe;
@@ -61,14 +61,14 @@ pub fn is_asked<A: Allocator>(items: &[Expr<A>], relation: &Relation) -> bool
 
 /// Whether an item heads the first relation and asks the second.
 fn links<A: Allocator>(item: &Expr<A>, from: &Relation, to: &Relation) -> bool
-    ensures { result ≡ (heads_it (relation_in from.now) (tree_of item.now) && asks_it (relation_in to.now) (tree_of item.now)) }
+    ensures { result ≡ links_them (relation_in from.now) (relation_in to.now) (tree_of item.now) }
 {
     heads(item, from) && asks(item, to)
 }
 
-/// Whether some item heads the first relation and asks the second.
-pub fn leads_to<A: Allocator>(items: &[Expr<A>], from: &Relation, to: &Relation) -> bool
-    ensures { result ≡ some_item (λ t. heads_it (relation_in from.now) t && asks_it (relation_in to.now) t) (trees_in items.now) }
+/// Whether some item heads the first relation and asks the second: each is looked at.
+fn some_links<A: Allocator>(items: &[Expr<A>], from: &Relation, to: &Relation) -> bool
+    ensures { result ≡ some_item (links_them (relation_in from.now) (relation_in to.now)) (trees_in items.now) }
 {
     for item in items {
         if links(item, from, to) {
@@ -76,4 +76,20 @@ pub fn leads_to<A: Allocator>(items: &[Expr<A>], from: &Relation, to: &Relation)
         }
     }
     false
+}
+
+/// Whether some item heads the first relation and asks the second. The item at a place is looked at first, so that a right guess saves the
+/// look at all others.
+pub fn leads_to<A: Allocator>(
+    items: &[Expr<A>],
+    from: &Relation,
+    to: &Relation,
+    guess: usize,
+) -> bool
+    ensures { result ≡ some_item (links_them (relation_in from.now) (relation_in to.now)) (trees_in items.now) }
+{
+    if guess < items.len() && links(&items[guess], from, to) {
+        return true;
+    }
+    some_links(items, from, to)
 }

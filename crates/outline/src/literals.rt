@@ -7,10 +7,9 @@ ghost use Rattle.profile.specs.Standing.{literals_in, literals_of_all};
 ghost use Rattle.outline.specs.Probes.{passes, some_of};
 
 use crate::probe::{Probe, passes_atom, passes_literal};
-use crate::relation::{Relation, split_atom};
 use kif::Expr;
-use profile::{Connective, connective_of, split_item, split_word};
-use std::alloc::{AllocError, Allocator, Global};
+use profile::{Connective, connective_of, split_word};
+use std::alloc::Allocator;
 
 /// Whether the negation of the atom behind a `not` is what is looked for.
 fn negated_passes<A: Allocator>(
@@ -61,68 +60,4 @@ pub(crate) fn some_in_all<A: Allocator>(
         }
     }
     false
-}
-
-/// Adds the relation of an atom.
-fn add_relation<'a, A: Allocator>(
-    e: &'a Expr<A>,
-    found: &mut Vec<Relation<'a>>,
-) -> Result<(), AllocError> {
-    let (word, terms) = split_atom(e);
-    found.push(Relation {
-        word,
-        arity: terms.len(),
-    })?;
-    Ok(())
-}
-
-/// Adds the relation of the atom behind a `not`.
-fn add_negated<'a, A: Allocator>(
-    parts: &'a [Expr<A>],
-    found: &mut Vec<Relation<'a>>,
-) -> Result<(), AllocError> {
-    match parts.split_first() {
-        None => Ok(()),
-        Some((part, _)) => add_relation(part, found),
-    }
-}
-
-/// Adds the relations of the literals in a tree.
-#[cycle(gathering)]
-fn gather<'a, A: Allocator>(
-    e: &'a Expr<A>,
-    found: &mut Vec<Relation<'a>>,
-) -> Result<(), AllocError> {
-    match e {
-        Expr::Name(_) => add_relation(e, found),
-        Expr::List(parts) => match split_word(parts) {
-            None => Ok(()),
-            Some((word, rest)) => match connective_of(word) {
-                Connective::Or | Connective::And => gather_all(rest, found),
-                Connective::Not => add_negated(rest, found),
-                Connective::Nothing => add_relation(e, found),
-            },
-        },
-    }
-}
-
-/// Adds the relations of the literals in trees.
-#[cycle(gathering)]
-fn gather_all<'a, A: Allocator>(
-    parts: &'a [Expr<A>],
-    found: &mut Vec<Relation<'a>>,
-) -> Result<(), AllocError> {
-    for part in parts {
-        gather(part, found)?;
-    }
-    Ok(())
-}
-
-/// The relations of the literals of an item's body, in the order of the text. No clause says that these are they: who takes one tests it
-/// by `asks`.
-pub fn asked_by<A: Allocator>(alloc: Global, item: &Expr<A>) -> Result<Vec<Relation>, AllocError> {
-    let mut found = Vec::new(alloc);
-    let (_, body) = split_item(item);
-    gather_all(body, &mut found)?;
-    Ok(found)
 }

@@ -11,7 +11,7 @@ use profile::{split_item, split_word};
 use std::alloc::Allocator;
 
 /// A relation: its name, and its number of arguments.
-#[derive(Clone, Copy, Debug)]
+#[derive(Clone, Copy, Debug, PartialEq, Eq, Hash)]
 pub struct Relation<'a> {
     pub word: &'a [u8],
     pub arity: usize,
@@ -45,7 +45,7 @@ pub fn split_atom<A: Allocator>(e: &Expr<A>) -> (&[u8], &[Expr<A>])
 }
 
 /// The relation of an atom.
-fn relation_of_atom<A: Allocator>(e: &Expr<A>) -> Relation
+pub(crate) fn relation_of_atom<A: Allocator>(e: &Expr<A>) -> Relation
     ensures { relation_in result ≡ relation_of (atom_in (tree_of e.now)) }
 {
     let (word, terms) = split_atom(e);

@@ -11,7 +11,7 @@ use Rattle.places.specs.Unread.{spot_of}
 use Rattle.places.specs.Standing.{IsBehind, LeavesOut, BeginsAt}
 use Rattle.places.proofs.Passing.{tokens_in}
 
-trees_in_front : {A : Type 0} (n : ℕ) (es : List (Expr A)) → trees_in (take n es) ≡ take n (trees_in es)
+pub trees_in_front : {A : Type 0} (n : ℕ) (es : List (Expr A)) → trees_in (take n es) ≡ take n (trees_in es)
 trees_in_front zero es = refl
 trees_in_front (suc n) [] = refl
 trees_in_front (suc n) (e ∷ es) = ap (λ (ts : List Tree). tree_of e ∷ ts) (trees_in_front n es)

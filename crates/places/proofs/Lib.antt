@@ -3,3 +3,5 @@ mod Steps
 mod Passing
 mod ItemStarts
 mod Words
+mod Along
+mod Journeys

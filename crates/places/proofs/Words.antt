@@ -51,7 +51,7 @@ tokens_append [] rs = refl
 tokens_append (s ∷ ss) rs = ap (λ (l : List Token). s.token ∷ l) (tokens_append ss rs)
 
 -- before the last trees stand the first
-front_tokens : (n : ℕ) (ts : List Tree) (front old : List Spot) → tokens_of (front ++ old) ≡ trees_tokens (trees_of ts)
+pub front_tokens : (n : ℕ) (ts : List Tree) (front old : List Spot) → tokens_of (front ++ old) ≡ trees_tokens (trees_of ts)
     → tokens_of old ≡ trees_tokens (trees_of (drop n ts)) → tokens_of front ≡ trees_tokens (trees_of (take n ts))
 front_tokens n ts front old whole last =
     let D = trees_tokens (trees_of (drop n ts)) in

@@ -7,8 +7,10 @@ mod place;
 mod tests;
 mod tokens;
 mod trees;
+mod walk;
 
 pub use line::{Line, line_around};
-pub use place::{Place, place_of};
+pub use place::{Place, place_behind, place_of};
 pub use tokens::{Token, TokenKind, Tokens};
 pub use trees::{item_start, skip_tree, word_start};
+pub use walk::Walk;

@@ -1,8 +1,8 @@
 //! Lines and columns.
-ghost use Rattle.std.specs.Prelude.{◌≡◌, ◌≤◌, length, min};
+ghost use Rattle.std.specs.Prelude.{◌≡◌, ◌≤◌, ◌<◌, ◌+◌, ◌-◌, ◌^◌, length, min};
 ghost use Rattle.std.specs.List.{count_by};
 ghost use Rattle.places.specs.Lines.{is_line_feed, begins_character};
-ghost use Rattle.places.specs.Places.{IsPlace};
+ghost use Rattle.places.specs.Places.{after, IsPlace};
 
 use crate::line::line_start;
 
@@ -58,4 +58,46 @@ pub fn place_of(text: &[u8], offset: usize) -> Place
     let line = count_line_feeds(&text[..at]) + 1;
     let column = count_characters(&text[start..at]) + 1;
     Place { line, column }
+}
+
+/// A number and one more, or the greatest.
+fn one_more(count: usize) -> usize
+    ensures { count < 2 ^ 64 - 1 → result ≡ count + 1 }
+{
+    count.saturating_add(1)
+}
+
+/// The place one byte on.
+fn place_after(place: Place, byte: u8) -> Place
+    ensures { place.line < 2 ^ 64 - 1 → place.column < 2 ^ 64 - 1 → result ≡ after place byte }
+{
+    if byte == b'\n' {
+        return Place {
+            line: one_more(place.line),
+            column: 1,
+        };
+    }
+    if is_first_byte(byte) {
+        return Place {
+            line: place.line,
+            column: one_more(place.column),
+        };
+    }
+    place
+}
+
+/// The place of an offset, by that of one before it: only the bytes between are looked at. An offset behind the end of the text counts as
+/// the end.
+pub fn place_behind(text: &[u8], known: usize, place: Place, offset: usize) -> Place
+    ensures { known ≤ length text.now → IsPlace text.now known place → IsPlace text.now (min offset (length text.now)) result }
+{
+    let end = offset.min(text.len());
+    if known > end {
+        return place_of(text, end);
+    }
+    let mut here = place;
+    for at in known..end {
+        here = place_after(here, text[at]);
+    }
+    here
 }

@@ -96,7 +96,7 @@ fn is_name_at(text: &[u8], start: usize, name: &[u8]) -> bool
 }
 
 /// Whether a token is the name, in lower case.
-fn is_name(text: &[u8], token: Token, name: &[u8]) -> bool
+pub(crate) fn is_name(text: &[u8], token: Token, name: &[u8]) -> bool
     ensures { IsTrue result ↔ (token_at text.now token.start token.kind ≡ word name.now) }
 {
     match token.kind {

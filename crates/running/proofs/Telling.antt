@@ -8,14 +8,14 @@ use Rattle.statement.specs.Answers.{Reply}
 use Rattle.statement.specs.Queries.{Query}
 use Rattle.statement.specs.Input.{RepliesTo}
 use Rattle.statement.specs.declared.status.Status.{Status}
-use Rattle.statement.specs.declared.status.Status.TheVariants.{Refused}
+use Rattle.statement.specs.declared.status.Status.TheVariants.{Answer, Refused}
 use Rattle.replies.specs.Replies.{reply_of}
 use Rattle.running.specs.declared.fault.RunFault.{RunFault}
 use Rattle.running.specs.declared.fault.RunFault.TheVariants.{Memory, Read, Write}
 use Rattle.running.specs.declared.runs.Ran.{Ran}
 use Rattle.running.specs.Ran.{ended_of}
 use Rattle.running.specs.Exits.{exit_status, HasWritten}
-use Rattle.running.specs.Explained.{TellsMore}
+use Rattle.running.specs.Explained.{TellsMore, IsReplied, IsAnswered}
 
 -- what a run wrote that keeps its reply
 pub written : (query : Query) (r : Result Ran RunFault) (input left before after : Option (List ℕ))
@@ -39,6 +39,11 @@ tells_none now = inl (Keeps-refl now)
 -- a run that ended with a refusal has status 2
 pub refused_is_two : (ended : Result Status RunFault) (status : ℕ) → status ≡ exit_status ended → ended ≡ Ok Refused → status ≡ 2
 refused_is_two ended status is e = is ∙ ap exit_status e
+
+-- a run that ended with its reply has status 2 or 0
+pub replied_is_answered : (ended kept : Result Status RunFault) (status : ℕ) → status ≡ exit_status ended → ended ≡ kept → IsReplied kept → IsAnswered status
+replied_is_answered ended kept status is same (inl e) = inl (is ∙ ap exit_status (same ∙ e))
+replied_is_answered ended kept status is same (inr e) = inr (is ∙ ap exit_status (same ∙ e))
 
 -- what is told of how a run ended that keeps its reply
 pub replied : (query : Query) (r : Result Ran RunFault) (result : Result Status RunFault) (input left before after : Option (List ℕ)) → result ≡ ended_of r

@@ -1,11 +1,15 @@
 -- This crate's own: what `run` promises does not rest on it.
 -- What is told to the errors behind what the program tells them without explanations.
-use Rattle.std.specs.Prelude.{ℕ, List, Option, ◌≡◌, ◌⊎◌}
+use Rattle.std.specs.Prelude.{ℕ, List, Option, Result, Ok, ◌≡◌, ◌⊎◌}
 use Rattle.std.specs.Io.KnownBytes.{Keeps}
 use Rattle.kif.specs.Written.{AppendsFront}
 use Rattle.words.specs.declared.command.Command.{Command}
 use Rattle.words.specs.declared.grammar.Request.{Request}
-use Rattle.running.specs.Fulfilling.{Streams, streams, IsCommandRun, IsFulfilled, AreDone}
+use Rattle.words.specs.declared.grammar.Request.TheVariants.{Run, Help, Misuse}
+use Rattle.statement.specs.declared.status.Status.{Status}
+use Rattle.statement.specs.declared.status.Status.TheVariants.{Answer, Refused}
+use Rattle.running.specs.declared.fault.RunFault.{RunFault}
+use Rattle.running.specs.Fulfilling.{Streams, streams, IsCommandRun, IsFulfilled, IsUnread}
 
 -- nothing more was told; or, where that may be, a beginning of some text
 abbrev pub TellsMore : Type 0 → Option (List ℕ) → Option (List ℕ) → Type 0
@@ -15,25 +19,34 @@ TellsMore may before after = Keeps before after ⊎ (may × (text : List ℕ) ×
 abbrev pub Always : Type 0
 Always = Unit {0}
 
--- an explanation stands behind a refusal, and advice behind words that are no command
-abbrev pub IsExplicable : ℕ → Type 0
-IsExplicable status = (status ≡ 2) ⊎ (status ≡ 1)
+-- the run ended with its reply
+abbrev pub IsReplied : Result Status RunFault → Type 0
+IsReplied ended = (ended ≡ Ok Refused) ⊎ (ended ≡ Ok Answer)
+
+-- an explanation stands behind a refusal, and a warning behind an answer
+abbrev pub IsAnswered : ℕ → Type 0
+IsAnswered status = (status ≡ 2) ⊎ (status ≡ 0)
+
+-- what may be told behind a request: that, where its command was run, advice behind words that are no command, and nothing behind help
+abbrev pub MayTell : Request → ℕ → Type 0
+MayTell (Run command) status = IsAnswered status
+MayTell (Help text) status = ⊥
+MayTell (Misuse text) status = status ≡ 1
 
 -- the streams before more was told to the errors
 abbrev pub before_more : Streams → Option (List ℕ) → Streams
 before_more new told = streams new.input new.output told
 
--- the command was run, and then more was told, if it was refused
+-- the command was run, and then more was told, if it was refused or answered
 abbrev pub IsRunExplained : Command → ℕ → Streams → Streams → Type 0
 IsRunExplained command status old new =
-    (told : Option (List ℕ)) × IsCommandRun command status old (before_more new told) × TellsMore (status ≡ 2) told new.errors
+    (told : Option (List ℕ)) × IsCommandRun command status old (before_more new told) × TellsMore (IsAnswered status) told new.errors
 
--- the request was fulfilled, and then more was told, if it was refused or is no command
+-- the request was fulfilled, and then more was told, where that may be
 abbrev pub IsFulfilledExplained : Request → ℕ → Streams → Streams → Type 0
 IsFulfilledExplained request status old new =
-    (told : Option (List ℕ)) × IsFulfilled request status old (before_more new told) × TellsMore (IsExplicable status) told new.errors
+    (told : Option (List ℕ)) × IsFulfilled request status old (before_more new told) × TellsMore (MayTell request status) told new.errors
 
--- what becomes of words, and then more was told, if they were refused or are no command
+-- what becomes of words: some request was fulfilled, and then more was told; or there was no memory to make one of them
 abbrev pub IsExplained : ℕ → Streams → Streams → Type 0
-IsExplained status old new =
-    (told : Option (List ℕ)) × AreDone status old (before_more new told) × TellsMore (IsExplicable status) told new.errors
+IsExplained status old new = ((request : Request) × IsFulfilledExplained request status old new) ⊎ IsUnread status old new

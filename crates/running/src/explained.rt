@@ -1,17 +1,19 @@
-//! The command line with explanations: behind what the errors are told of a refusal, or of words that are no command, stands why.
+//! The command line with explanations: behind what the errors are told of a refusal, or of words that are no command, stands why, and an
+//! answer to rules that are most likely not meant so has a warning.
 ghost use Rattle.std.specs.Prelude.{◌≡◌, ◌≤◌, ◌⊎◌, Ok};
 ghost use Rattle.std.specs.Io.KnownBytes.{Keeps};
 ghost use Rattle.running.specs.Exits.{Replied};
 ghost use Rattle.running.specs.Fulfilling.{streams};
 ghost use Rattle.running.specs.Ran.{ended_of};
-ghost use Rattle.running.specs.Explained.{IsExplained, IsFulfilledExplained, IsRunExplained, Always, TellsMore};
+ghost use Rattle.running.specs.Explained.{IsExplained, IsFulfilledExplained, IsRunExplained, IsReplied, Always, TellsMore};
 
 use crate::advice::advice;
 use crate::commands::{fulfil, status_of, tell};
-use crate::explaining::explanation;
 use crate::fault::RunFault;
 use crate::runs::{Ran, ended, run_keeping};
+use crate::warning::warnings;
 use netgame::NetGame;
+use reasons::explanation;
 use statement::Status;
 use std::alloc::Global;
 use std::io::{Read, Write};
@@ -39,7 +41,50 @@ pub(crate) fn explain_ran<T: Threads + Sync + AllocGlobal, E: Write>(
     tell(errors, &text);
 }
 
-/// Runs a command, and tells the errors what explains a refusal.
+/// Tells the errors what warns of an answer, if there is anything and memory for it.
+fn warn_ran<E: Write>(alloc: Global, ran: &Result<Ran, RunFault>, errors: &mut E)
+    ensures { TellsMore (ended_of ran.now ≡ Ok Status.Answer) (E.contents errors.old) (E.contents errors.new) }
+{
+    let Ok(ran) = ran else {
+        return;
+    };
+    let Status::Answer = ran.reply.status else {
+        return;
+    };
+    let Some(sizes) = &ran.sizes else {
+        return;
+    };
+    let Ok(text) = warnings(alloc, &ran.bytes, sizes) else {
+        return;
+    };
+    tell(errors, &text);
+}
+
+/// Whether a run ended with a refusal.
+fn is_refused(ran: &Result<Ran, RunFault>) -> bool {
+    match ran {
+        Ok(ran) => matches!(ran.reply.status, Status::Refused),
+        Err(_) => false,
+    }
+}
+
+/// Tells the errors what explains a reply that is a refusal, or warns of one that is an answer.
+fn comment_on<T: Threads + Sync + AllocGlobal, E: Write>(
+    rt: &T,
+    command: &Command,
+    ran: &Result<Ran, RunFault>,
+    errors: &mut E,
+)
+    ensures { TellsMore (IsReplied (ended_of ran.now)) (E.contents errors.old) (E.contents errors.new) }
+{
+    if is_refused(ran) {
+        explain_ran(rt, command, ran, errors);
+        return;
+    }
+    warn_ran(rt.alloc(), ran, errors);
+}
+
+/// Runs a command, and tells the errors what explains a refusal, or warns of an answer.
 fn run_explained<T: Threads + Sync + AllocGlobal, R: Read, W: Write, E: Write>(
     rt: &T,
     command: &Command,
@@ -53,7 +98,7 @@ fn run_explained<T: Threads + Sync + AllocGlobal, R: Read, W: Write, E: Write>(
 {
     let ran = run_keeping::<NetGame, T, R, W>(rt, command, input, output);
     let status = status_of(ended(&ran), errors);
-    explain_ran(rt, command, &ran, errors);
+    comment_on(rt, command, &ran, errors);
     status
 }
 
@@ -67,7 +112,7 @@ fn advise<E: Write>(alloc: Global, words: &[&str], text: &str, errors: &mut E)
     tell(errors, &text);
 }
 
-/// Does what `fulfil` does, and then tells the errors what explains a refusal, or what helps with words that are no command.
+/// Does what `fulfil` does, and then tells the errors what explains a refusal, warns of an answer, or helps with words that are no command.
 fn fulfil_explained<T: Threads + Sync + AllocGlobal, R: Read, W: Write, E: Write>(
     rt: &T,
     words: &[&str],
@@ -91,8 +136,8 @@ fn fulfil_explained<T: Threads + Sync + AllocGlobal, R: Read, W: Write, E: Write
     }
 }
 
-/// Does what `main_with` does, and then tells the errors more: what explains a refusal, or what helps with words that are no command. What
-/// is told more is for people; where there is no memory for it, it is left out.
+/// Does what `main_with` does, and then tells the errors more: what explains a refusal, warns of an answer, or helps with words that are no
+/// command. What is told more is for people; where there is no memory for it, it is left out.
 pub fn main_explained<T: Threads + Sync + AllocGlobal, R: Read, W: Write, E: Write>(
     rt: &T,
     words: &[&str],

@@ -5,12 +5,14 @@
 mod advice;
 mod commands;
 mod explained;
-mod explaining;
 mod fault;
 mod input;
 mod linting;
 mod program;
 mod runs;
+mod sizes;
+mod starting;
+mod warning;
 mod working;
 
 pub use commands::{fulfil, main_with, status_of};

@@ -10,7 +10,8 @@ ghost use Rattle.words.specs.Asked.{query_of};
 
 use crate::fault::RunFault;
 use crate::input::read_input;
-use crate::working::reply_by_workers;
+use crate::sizes::Sizes;
+use crate::working::reply_noting;
 use kif::write_bytes;
 use netgame::NetGame;
 use rulebook::GroundGame;
@@ -31,11 +32,13 @@ pub fn write_out<W: Write>(output: &mut W, bytes: &[u8]) -> Result<(), RunFault>
     Ok(())
 }
 
-/// A run that ended with its reply: the bytes that were read, and the reply that was written.
+/// A run that ended with its reply: the bytes that were read, the reply that was written, and the sizes of the instantiation, if there was
+/// one.
 #[derive(Drop)]
 pub(crate) struct Ran {
     pub(crate) bytes: Vec<u8>,
     pub(crate) reply: replies::Reply,
+    pub(crate) sizes: Option<Sizes>,
 }
 
 /// Reads the rules, writes the reply to the command and nothing else, and keeps both. The type `G` says who plays their game.
@@ -54,11 +57,16 @@ pub(crate) fn run_keeping<G: GroundGame, T: Threads + Sync + AllocGlobal, R: Rea
         × AppendsFront (W.contents output.old) (W.contents output.new) reply.output) }
 {
     let bytes = read_input(rt.alloc(), input)?;
-    let Ok(reply) = reply_by_workers::<G, T>(rt, command, &bytes) else {
+    let mut sizes = None;
+    let Ok(reply) = reply_noting::<G, T>(rt, command, &bytes, &mut sizes) else {
         return Err(RunFault::Memory);
     };
     write_out(output, &reply.output)?;
-    Ok(Ran { bytes, reply })
+    Ok(Ran {
+        bytes,
+        reply,
+        sizes,
+    })
 }
 
 /// How a run ended, without what it kept.

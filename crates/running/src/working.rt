@@ -7,6 +7,7 @@ ghost use Rattle.statement.specs.Replies.{IsReply};
 ghost use Rattle.words.specs.Asked.{query_about, query_of};
 ghost use Rattle.statement.specs.Solving.{solve_lines};
 
+use crate::sizes::{Sizes, sizes_of};
 use game::Game;
 use ground::instantiate_flat;
 use replies::{Asked, Reading, Reply, Search, ask, check, read, show, told_alone};
@@ -50,11 +51,12 @@ pub fn told_by_workers<T: Threads + Sync + AllocGlobal, G: Game + Drop>(
     search.told(rt.alloc(), found)
 }
 
-/// The reply to an inquiry over the bytes of the input.
+/// The reply to an inquiry over the bytes of the input. Where they are instantiated the sizes of that are noted.
 fn inquired_by_workers<G: GroundGame, T: Threads + Sync + AllocGlobal>(
     rt: &T,
     inquiry: &Inquiry,
     bytes: &[u8],
+    sizes: &mut Option<Sizes>,
 ) -> Result<Reply, AllocError>
     ensures { IfOk result (λ reply. IsReply (query_about inquiry.now) bytes.now (reply_of reply)) }
 {
@@ -65,9 +67,27 @@ fn inquired_by_workers<G: GroundGame, T: Threads + Sync + AllocGlobal>(
     };
     let instantiated = instantiate_flat(rt, &rules);
     drop(rules);
+    *sizes = sizes_of(&instantiated);
     match ask::<G>(alloc, inquiry, instantiated)? {
         Asked::Told(reply) => Ok(reply),
         Asked::ToSearch(search) => told_by_workers(rt, search),
+    }
+}
+
+/// The reply to a command over the bytes of the input. It fails only for want of memory. Where the rules are instantiated the sizes of that
+/// are noted.
+pub(crate) fn reply_noting<G: GroundGame, T: Threads + Sync + AllocGlobal>(
+    rt: &T,
+    command: &Command,
+    bytes: &[u8],
+    sizes: &mut Option<Sizes>,
+) -> Result<Reply, AllocError>
+    ensures { IfOk result (λ reply. IsReply (query_of command.now) bytes.now (reply_of reply)) }
+{
+    match command {
+        Command::Show => show(rt.alloc(), bytes),
+        Command::Check => check(rt.alloc(), bytes),
+        Command::Ask(inquiry) => inquired_by_workers::<G, T>(rt, inquiry, bytes, sizes),
     }
 }
 
@@ -79,9 +99,6 @@ pub fn reply_by_workers<G: GroundGame, T: Threads + Sync + AllocGlobal>(
 ) -> Result<Reply, AllocError>
     ensures { IfOk result (λ reply. IsReply (query_of command.now) bytes.now (reply_of reply)) }
 {
-    match command {
-        Command::Show => show(rt.alloc(), bytes),
-        Command::Check => check(rt.alloc(), bytes),
-        Command::Ask(inquiry) => inquired_by_workers::<G, T>(rt, inquiry, bytes),
-    }
+    let mut sizes = None;
+    reply_noting::<G, T>(rt, command, bytes, &mut sizes)
 }

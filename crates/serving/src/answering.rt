@@ -88,7 +88,7 @@ fn told_of_words<T: Threads + Sync + AllocGlobal>(
     ensures { IfOk result (λ told. IsTold rules.now told.status told.bytes.items) }
 {
     if is_lint(words) {
-        let reply = lint_reply(rt.alloc(), rules)?;
+        let reply = lint_reply(rt, rules)?;
         return Ok(told_by(reply));
     }
     let request = request_of(rt.alloc(), words)?;

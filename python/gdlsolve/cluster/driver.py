@@ -122,7 +122,7 @@ def _local(words: list[str], rules: bytes) -> Reply:
         raise Misuse(ran.errors.decode(errors="replace").strip())
     if ran.status not in (Status.ANSWER, Status.REFUSED):
         raise Failed(f"the program ended with {ran.status} on this machine")
-    return Reply(Status(ran.status), ran.output)
+    return Reply(Status(ran.status), ran.output, ran.errors)
 
 
 class Driver:
@@ -181,10 +181,9 @@ class Driver:
     def _look_at(self, node: Node) -> None:
         """Looks at the moves of a state, and on where there is but one way to go on."""
         while True:
-            told = _local(["moves", "--after", self.sought.history(node.turns)], self.sought.rules)
-            if told.status != Status.ANSWER:
-                raise Refusal(lines_of(told.output)[0])
-            position = Position.of(lines_of(told.output))
+            words = ["moves", "--after", self.sought.history(node.turns)]
+            told = _local(words, self.sought.rules)
+            position = Position.of(told.lines())
             if position.state is not State.OPEN:
                 node.closed = True
                 return

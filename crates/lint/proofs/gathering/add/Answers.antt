@@ -12,5 +12,5 @@ returns g c =
     let P : Note → Type 0 = IsTrueNote (trees_in c.args.items.now) in
     let here : P (record { place = c.args.place; finding = c.args.finding }) =
     true_there c.args.items.now c.args.place c.index-items-place.result c.args.finding c.if-place-items.false c.index-items-place.is
-    (sym c.if-not-holds_of.ensures) in
-    subst (λ (ns : List Note). All P ns) (sym c.in_ok-push.ensures.items) (All-push P _ _ c.requires here)
+    (sym (c.if-not-holds_of.ensures _ c.requires.whole)) in
+    subst (λ (ns : List Note). All P ns) (sym c.in_ok-push.ensures.items) (All-push P _ _ c.requires.notes here)

@@ -1,17 +1,12 @@
-use Rattle.std.proofs.Common.{sym, ◌∙◌}
-use Rattle.std.specs.Prelude.{◌&&◌, Bool}
-use Rattle.statement.specs.Tree.{Tree}
+use Rattle.std.proofs.Common.{sym}
 use Rattle.outline.specs.Relations.{relation_in}
-use Rattle.outline.specs.Asking.{heads_it, asks_it}
-use Rattle.outline.proofs.Looking.{item_holds, item_fails}
+use Rattle.outline.specs.Asking.{links_them}
+use Rattle.outline.proofs.Looking.{item_holds}
+use Rattle.outline.proofs.Gathered.{some_behind}
 use Rattle.outline.proofs.items.leads_to.Goals as goal
 
 pub returns-then-links : goal.returns-then-links
 returns-then-links g c =
-    let test : Tree → Bool = λ t. heads_it (relation_in c.args.from.now) t && asks_it (relation_in c.args.to.now) t in
-    sym (c.loop-item.invariant ∙ item_holds test _ _ _ c.loop-item-test.true c.item-item.is (sym c.if-links.ensures))
-
-pub loop-item-preserved : goal.loop-item-preserved
-loop-item-preserved g c =
-    let test : Tree → Bool = λ t. heads_it (relation_in c.args.from.now) t && asks_it (relation_in c.args.to.now) t in
-    c.loop-item.invariant ∙ item_fails test _ _ _ c.loop-item-test.true c.item-item.is (sym c.if-links.ensures)
+    let test = links_them (relation_in c.args.from.now) (relation_in c.args.to.now) in
+    sym (some_behind test c.args.items.now c.args.guess
+    (item_holds test c.args.items.now c.args.guess c.index-items-guess.result c.if-guess-items.true c.index-items-guess.is (sym c.if-links.ensures)))

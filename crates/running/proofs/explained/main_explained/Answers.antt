@@ -1,14 +1,11 @@
 use Rattle.std.proofs.Common.{inl, inr}
 use Rattle.std.proofs.KnownBytes.{Keeps-refl}
 use Rattle.running.proofs.Ending.{done_known, starved_known}
-use Rattle.running.proofs.Telling.{tells_none}
 use Rattle.running.specs.Fulfilling.{streams}
-use Rattle.running.specs.Explained.{before_more}
 use Rattle.running.proofs.explained.main_explained.Goals as goal
 
 pub returns-clause-explained : goal.returns-clause-explained
-returns-clause-explained g c =
-    (c.fulfil_explained.ensures.0, inl (c.in-Ok.request, c.fulfil_explained.ensures.1), c.fulfil_explained.ensures.2)
+returns-clause-explained g c = inl (c.in-Ok.request, c.fulfil_explained.ensures)
 
 pub returns-clause-statuses : goal.returns-clause-statuses
 returns-clause-statuses g c = (done_known c.fulfil_explained.result _ _ (inl (c.in-Ok.request, c.fulfil_explained.ensures.1))).within
@@ -26,11 +23,7 @@ pub returns-clause-starved : goal.returns-clause-starved
 returns-clause-starved g c = (done_known c.fulfil_explained.result _ _ (inl (c.in-Ok.request, c.fulfil_explained.ensures.1))).starved
 
 pub returns-in_default-clause-explained : goal.returns-in_default-clause-explained
-returns-in_default-clause-explained g c = (
-  g.E.Write.contents c.status_of.new.errors,
-  inr (c.status_of.ensures.status, Keeps-refl _, Keeps-refl _, c.status_of.ensures.told),
-  tells_none _,
-)
+returns-in_default-clause-explained g c = inr (c.status_of.ensures.status, Keeps-refl _, Keeps-refl _, c.status_of.ensures.told)
 
 pub returns-in_default-clause-answered : goal.returns-in_default-clause-answered
 returns-in_default-clause-answered g c =

@@ -12,6 +12,6 @@ returns g c =
       (
         g.E.Write.contents c.status_of-status.new.errors,
         c.status_of-status.ensures.told,
-        tells_if _ _ (λ e. refused_is_two c.ended.result _ c.status_of-status.ensures.status (c.ended.ensures ∙ e)) c.explain_ran.ensures,
+        tells_if _ _ (λ e. refused_is_two c.ended.result _ c.status_of-status.ensures.status (c.ended.ensures ∙ e)) c.explain_lint.ensures,
       ),
     )

@@ -1,16 +1,20 @@
 //! What explains a refusal, for people.
-use crate::working::reply_by_workers;
+ghost use Rattle.std.specs.Prelude.{IfOk};
+ghost use Rattle.reasons.specs.Headed.{IsHeaded};
+
+use crate::headed::headed;
+use crate::passing::item_over;
 use bumpalo::Bump;
 use explain::{
     Before, PlayFault, Source, explain_history, explain_limit, explain_role, explain_rules,
     explain_text, explain_unread_history, item_spot,
 };
 use kif::{Expr, KifFault, read};
+use replies::reply_alone;
 use rulebook::GroundGame;
 use rules::{RuleFault, RuleSet};
-use std::alloc::{AllocError, Allocator, Global};
+use std::alloc::{AllocError, AllocGlobal, Allocator, Global};
 use std::str::from_utf8;
-use std::thread::Threads;
 use words::{Command, Inquiry};
 
 /// What the input is called.
@@ -38,7 +42,7 @@ fn history_of<'a>(inquiry: &Inquiry<'a>) -> &'a str {
 }
 
 /// What `moves` tells after the beginning of a history.
-fn lines_after<G: GroundGame, T: Threads + Sync + AllocGlobal>(
+fn lines_after<G: GroundGame, T: AllocGlobal>(
     rt: &T,
     bytes: &[u8],
     front: &[u8],
@@ -47,12 +51,12 @@ fn lines_after<G: GroundGame, T: Threads + Sync + AllocGlobal>(
         return Ok(Vec::new(rt.alloc()));
     };
     let moves = Command::Ask(Inquiry::Moves { after });
-    let reply = reply_by_workers::<G, T>(rt, &moves, bytes)?;
+    let reply = reply_alone::<G, T>(rt, &moves, bytes)?;
     Ok(reply.output)
 }
 
 /// What `moves` tells before the turn that has a fault, where a move of it is not legal.
-fn lines_before<G: GroundGame, T: Threads + Sync + AllocGlobal, A: Allocator>(
+fn lines_before<G: GroundGame, T: AllocGlobal, A: Allocator>(
     rt: &T,
     bytes: &[u8],
     after: &[u8],
@@ -68,7 +72,7 @@ fn lines_before<G: GroundGame, T: Threads + Sync + AllocGlobal, A: Allocator>(
 }
 
 /// Adds what explains the fault of a history.
-fn explain_turns<G: GroundGame, T: Threads + Sync + AllocGlobal>(
+fn explain_turns<G: GroundGame, T: AllocGlobal>(
     rt: &T,
     bytes: &[u8],
     after: &[u8],
@@ -92,68 +96,81 @@ fn explain_turns<G: GroundGame, T: Threads + Sync + AllocGlobal>(
 }
 
 /// Adds what explains the refusal of an inquiry over rules without a fault.
-fn explain_inquiry<G: GroundGame, T: Threads + Sync + AllocGlobal>(
+fn explain_inquiry<G: GroundGame, T: AllocGlobal, A: Allocator>(
     rt: &T,
     inquiry: &Inquiry,
-    bytes: &[u8],
-    roles: &[u8],
+    source: &Source<A>,
+    rules: &RuleSet,
     refusal: &[u8],
     output: &mut Vec<u8>,
 ) -> Result<(), AllocError> {
+    let roles = role_names(rt.alloc(), rules)?;
     if let Some(fault) = PlayFault::named_by(refusal) {
         let after = history_of(inquiry).as_bytes();
-        return explain_turns::<G, T>(rt, bytes, after, &fault, roles, output);
+        return explain_turns::<G, T>(rt, source.text, after, &fault, &roles, output);
     }
     if refusal.get(8..10) == Some(b"S1".as_slice()) {
-        return explain_role(roles, output);
+        return explain_role(&roles, output);
     }
-    explain_limit(INPUT, refusal, output)
+    let over = item_over(rt, source.items, rules)?;
+    explain_limit(source, over, refusal, output)
 }
 
-/// The names of the roles of the input, each with a space before it; or none, where the input is no set of rules, and then what explains
-/// that is added.
-fn roles_or_explained(
-    alloc: Global,
-    bytes: &[u8],
+/// Adds what explains the refusal of a command over items.
+fn explain_items<G: GroundGame, T: AllocGlobal, A: Allocator>(
+    rt: &T,
+    command: &Command,
+    source: &Source<A>,
+    refusal: &[u8],
     output: &mut Vec<u8>,
-) -> Result<Option<Vec<u8>>, AllocError> {
-    let arena = Bump::new(alloc);
-    let items = match read(&arena, bytes) {
-        Ok(items) => items,
-        Err(KifFault::NoMemory) => return Err(AllocError),
-        Err(fault) => {
-            explain_text(INPUT, bytes, &fault, output)?;
-            return Ok(None);
-        }
-    };
-    match RuleSet::check(alloc, &items) {
-        Ok(rules) => Ok(Some(role_names(alloc, &rules)?)),
+) -> Result<(), AllocError> {
+    match RuleSet::check(rt.alloc(), source.items) {
+        Ok(rules) => match command {
+            Command::Ask(inquiry) => {
+                explain_inquiry::<G, T, A>(rt, inquiry, source, &rules, refusal, output)
+            }
+            Command::Show | Command::Check => Ok(()),
+        },
         Err(RuleFault::NoMemory) => Err(AllocError),
-        Err(fault) => {
-            let source = Source {
-                name: INPUT,
-                text: bytes,
-                items: &items,
-            };
-            explain_rules(alloc, &source, &fault, output)?;
-            Ok(None)
-        }
+        Err(fault) => explain_rules(rt.alloc(), source, &fault, output),
     }
 }
 
-/// What explains the refusal of a command over the bytes of the input.
-pub(crate) fn explanation<G: GroundGame, T: Threads + Sync + AllocGlobal>(
+/// What explains the refusal of a command over the bytes of the input, if it is one.
+fn explained<G: GroundGame, T: AllocGlobal>(
     rt: &T,
     command: &Command,
     bytes: &[u8],
     refusal: &[u8],
 ) -> Result<Vec<u8>, AllocError> {
     let mut output = Vec::new(rt.alloc());
-    let Some(roles) = roles_or_explained(rt.alloc(), bytes, &mut output)? else {
-        return Ok(output);
-    };
-    if let Command::Ask(inquiry) = command {
-        explain_inquiry::<G, T>(rt, inquiry, bytes, &roles, refusal, &mut output)?;
+    let arena = Bump::new(rt.alloc());
+    match read(&arena, bytes) {
+        Ok(items) => {
+            let source = Source {
+                name: INPUT,
+                text: bytes,
+                items: &items,
+            };
+            explain_items::<G, T, _>(rt, command, &source, refusal, &mut output)?;
+        }
+        Err(KifFault::NoMemory) => return Err(AllocError),
+        Err(fault) => explain_text(INPUT, bytes, &fault, &mut output)?,
     }
     Ok(output)
+}
+
+/// What explains the refusal of a command over the bytes of the input: a text that begins with what it is about, which is the input or
+/// the text of an option. `refusal` is the line that was written, and the type `G` says who plays the game of the rules. It fails only for
+/// want of memory.
+pub fn explanation<G: GroundGame, T: AllocGlobal>(
+    rt: &T,
+    command: &Command,
+    bytes: &[u8],
+    refusal: &[u8],
+) -> Result<Vec<u8>, AllocError>
+    ensures { IfOk result (λ text. IsHeaded text.items) }
+{
+    let text = explained::<G, T>(rt, command, bytes, refusal)?;
+    headed(rt.alloc(), text)
 }

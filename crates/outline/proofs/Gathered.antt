@@ -1,0 +1,133 @@
+-- The relations of literals, in lists and in sets.
+use Rattle.std.proofs.Common.{ℕ, zero, suc, Bool, true, false, ◌≡◌, ◌<◌, ◌+◌, List, [], ◌∷◌, ◌++◌, map, drop, length, get_or, refl, sym, ap, subst, ◌∙◌, append_assoc, arith, ◌⊎◌, inl, inr}
+use Rattle.std.specs.Prelude.{◌&&◌, ◌||◌, ◌==◌, cond, nat_eq, if◌then◌else◌}
+use lib.Pointwise.{pointwise}
+use Rattle.std.specs.List.{list_any}
+use Rattle.std.proofs.lemmas.List.{map-append, append-nil}
+use Rattle.std.proofs.lemmas.Bool.{eqb-true, eq-eqb}
+use Rattle.statement.specs.Tree.{Tree, Trees, tree, trees_of, name_eq}
+use Rattle.statement.specs.Clause.{Literal, Relation, relation_of, relation_eq, atom_of}
+use Rattle.statement.specs.Dependence.{is_among}
+use Rattle.kif.specs.View.{tree_of, trees_in}
+use Rattle.kif.specs.declared.expr.Expr.{Expr}
+use Rattle.kif.proofs.Facts.{parts_from, no_parts}
+use Rattle.profile.specs.Standing.{literals_in, literals_of_all}
+use Rattle.profile.proofs.Facts.{relation_eq_yes}
+use Rattle.outline.specs.declared.relation.Relation as memory
+use Rattle.outline.specs.Relations.{relation_in}
+use Rattle.outline.specs.Probes.{some_of}
+use Rattle.outline.specs.Asking.{relations_of, asked_relations, asks_it, heads_it, body_literals, some_item}
+
+pub relations_append : (xs ys : List Literal) → relations_of (xs ++ ys) ≡ relations_of xs ++ relations_of ys
+relations_append xs ys = map-append (λ l. relation_of (atom_of l)) xs ys
+
+-- one tree more
+pub one_gathered : {A : Type 0} (es : List (Expr A)) (i : ℕ) (e : Expr A) (before now next all : List Relation) → i < length es → e ≡ get_or es i e
+    → now ++ relations_of (literals_of_all (trees_of (trees_in (drop i es)))) ≡ all
+    → next ≡ now ++ relations_of (literals_in (tree_of e))
+    → next ++ relations_of (literals_of_all (trees_of (trees_in (drop (i + 1) es)))) ≡ all
+one_gathered es i e before now next all within is so_far more =
+    let here = relations_of (literals_in (tree_of e)) in
+    let rest = relations_of (literals_of_all (trees_of (trees_in (drop (i + 1) es)))) in
+    let split : relations_of (literals_of_all (trees_of (trees_in (drop i es)))) ≡ here ++ rest =
+    ap (λ (ts : List Tree). relations_of (literals_of_all (trees_of ts))) (parts_from es i e within is)
+    ∙ relations_append (literals_in (tree_of e)) (literals_of_all (trees_of (trees_in (drop (i + 1) es)))) in
+    ap (λ (l : List Relation). l ++ rest) more ∙ append_assoc now here rest ∙ ap (λ (l : List Relation). now ++ l) (sym split) ∙ so_far
+
+eq_sym : (a b : ℕ) → (a == b) ≡ (b == a)
+eq_sym a b = go (a == b) (b == a) refl refl
+  where
+    go : (p q : Bool) → (a == b) ≡ p → (b == a) ≡ q → (a == b) ≡ (b == a)
+    go true q e f = e ∙ sym (eq-eqb b a (sym (eqb-true a b e)))
+    go false true e f = let g : (a == b) ≡ true = eq-eqb a b (sym (eqb-true b a f)) in absurd cc
+    go false false e f = e ∙ sym f
+
+name_sym : (v w : List ℕ) → name_eq v w ≡ name_eq w v
+name_sym [] [] = refl
+name_sym [] (c ∷ cs) = refl
+name_sym (b ∷ bs) [] = refl
+name_sym (b ∷ bs) (c ∷ cs) = (λ i. eq_sym b c i && name_sym bs cs i)
+
+pub relation_sym : (p q : Relation) → relation_eq p q ≡ relation_eq q p
+relation_sym p q = (λ i. name_sym p.word q.word i && eq_sym p.arity q.arity i)
+
+among_append : (p : Relation) (xs ys : List Relation) → is_among p (xs ++ ys) ≡ (is_among p xs || is_among p ys)
+among_append p [] ys = refl
+among_append p (x ∷ xs) ys = ap (λ (b : Bool). relation_eq p x || b) (among_append p xs ys) ∙ sym (or_assoc (relation_eq p x) (is_among p xs) (is_among p ys))
+  where
+    or_assoc : (a b c : Bool) → ((a || b) || c) ≡ (a || (b || c))
+    or_assoc true b c = refl
+    or_assoc false b c = refl
+
+pub asked_among : (p : Relation) (ls : List Literal) → some_of (λ l. relation_eq (relation_of (atom_of l)) p) ls ≡ is_among p (relations_of ls)
+asked_among p [] = refl
+asked_among p (l ∷ ls) = (λ i. relation_sym (relation_of (atom_of l)) p i || asked_among p ls i)
+
+pub only : (b : Bool) → (b || false) ≡ b
+only true = refl
+only false = refl
+
+-- a set with one thing more, and what is left
+pub one_set : (next now here left rest whole : Bool) → next ≡ (now || here) → left ≡ (here || rest) → (now || left) ≡ whole → (next || rest) ≡ whole
+one_set next true here left rest whole e f g = ap (λ (b : Bool). b || rest) e ∙ g
+one_set next false here left rest whole e f g = ap (λ (b : Bool). b || rest) e ∙ sym f ∙ g
+
+pub among_first : {R : Type 0} (p : Relation) (view : R → Relation) (rs : List R) (i : ℕ) (r d : R) → i < length rs → r ≡ get_or rs i d
+    → is_among p (map view (drop i rs)) ≡ (relation_eq p (view r) || is_among p (map view (drop (i + 1) rs)))
+among_first p view [] i r d h is = absurd (omega (arith, h))
+among_first p view (s ∷ rs) zero r d h is = ap (λ x. relation_eq p (view x) || is_among p (map view rs)) (sym is)
+among_first {R} p view (s ∷ rs) (suc i) r d h is =
+    let far : suc (i + 1) ≡ suc i + 1 = omega arith in
+    subst (λ (k : ℕ). is_among p (map view (drop (suc i) (s ∷ rs))) ≡ (relation_eq p (view r) || is_among p (map view (drop k (s ∷ rs))))) far
+    (among_first p view rs i r d (omega (arith, h)) is)
+
+pub item_first : {A : Type 0} (test : Tree → Bool) (es : List (Expr A)) (i : ℕ) (e : Expr A) → i < length es → e ≡ get_or es i e
+    → some_item test (trees_in (drop i es)) ≡ (test (tree_of e) || some_item test (trees_in (drop (i + 1) es)))
+item_first test es i e h same = ap (some_item test) (parts_from es i e h same)
+
+pub some_behind : {A : Type 0} (test : Tree → Bool) (es : List (Expr A)) (i : ℕ) → some_item test (trees_in (drop i es)) ≡ true
+    → some_item test (trees_in es) ≡ true
+some_behind test es zero h = h
+some_behind test [] (suc i) h = h
+some_behind test (e ∷ es) (suc i) h = go (test (tree_of e)) (some_behind test es i h)
+  where
+    go : (b : Bool) → some_item test (trees_in es) ≡ true → (b || some_item test (trees_in es)) ≡ true
+    go true h' = refl
+    go false h' = h'
+
+pub same_names : (xs ys : List ℕ) → pointwise nat_eq xs ys ≡ name_eq xs ys
+same_names [] [] = refl
+same_names [] (y ∷ ys) = refl
+same_names (x ∷ xs) [] = refl
+same_names (x ∷ xs) (y ∷ ys) = ap (λ (b : Bool). (x == y) && b) (same_names xs ys)
+
+-- keys of a set of relations
+pub any_among : (eq : memory.Relation → memory.Relation → Bool) → ((s t : memory.Relation) → eq s t ≡ relation_eq (relation_in s) (relation_in t))
+    → (ks : List memory.Relation) (s : memory.Relation) → list_any (eq s) ks ≡ is_among (relation_in s) (map relation_in ks)
+any_among eq same [] s = refl
+any_among eq same (k ∷ ks) s = (λ i. same s k i || any_among eq same ks s i)
+
+pub inserted : (eq : memory.Relation → memory.Relation → Bool) → ((s t : memory.Relation) → eq s t ≡ relation_eq (relation_in s) (relation_in t))
+    → (ks : List memory.Relation) (k : memory.Relation) (p : Relation)
+    → is_among p (map relation_in (if list_any (eq k) ks then ks else (ks ++ k ∷ [])))
+    ≡ (is_among p (map relation_in ks) || relation_eq p (relation_in k))
+inserted eq same ks k p = go (list_any (eq k) ks) refl
+  where
+    already : (t : Bool) → relation_eq p (relation_in k) ≡ t → list_any (eq k) ks ≡ true
+        → is_among p (map relation_in ks) ≡ (is_among p (map relation_in ks) || relation_eq p (relation_in k))
+    already true e found =
+        let here : is_among p (map relation_in ks) ≡ true =
+        ap (λ (q : Relation). is_among q (map relation_in ks)) (relation_eq_yes p (relation_in k) e) ∙ sym (any_among eq same ks k) ∙ found in
+        rw here refl
+    already false e found = sym (ap (λ (b : Bool). is_among p (map relation_in ks) || b) e ∙ only (is_among p (map relation_in ks)))
+
+    go : (b : Bool) → list_any (eq k) ks ≡ b
+        → is_among p (map relation_in (if b then ks else (ks ++ k ∷ []))) ≡ (is_among p (map relation_in ks) || relation_eq p (relation_in k))
+    go true e = already (relation_eq p (relation_in k)) refl e
+    go false e =
+        ap (is_among p) (map-append relation_in ks (k ∷ [])) ∙ among_append p (map relation_in ks) (relation_in k ∷ [])
+        ∙ ap (λ (b : Bool). is_among p (map relation_in ks) || b) (only (relation_eq p (relation_in k)))
+
+-- what `==` says of relations in memory
+pub same_relation : (s t : memory.Relation) → (pointwise nat_eq s.word.now t.word.now && nat_eq s.arity t.arity) ≡ relation_eq (relation_in s) (relation_in t)
+same_relation s t = ap (λ (b : Bool). b && (s.arity == t.arity)) (same_names s.word.now t.word.now)

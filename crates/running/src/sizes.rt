@@ -1,0 +1,32 @@
+//! What a description should have to be a game, as its instantiation tells it.
+use ground::{FlatGround, GroundFault};
+
+/// Whether an instantiation has base propositions and inputs, and how many heads without effect.
+#[derive(Clone, Copy, Debug)]
+pub(crate) struct Sizes {
+    pub(crate) has_base: bool,
+    pub(crate) has_inputs: bool,
+    pub(crate) dropped: usize,
+}
+
+/// Whether some role has an input.
+fn has_inputs(ground: &FlatGround) -> bool {
+    for role in 0..ground.roles() {
+        if ground.inputs(role) > 0 {
+            return true;
+        }
+    }
+    false
+}
+
+/// What an instantiation has, if there is one.
+pub(crate) fn sizes_of(instantiated: &Result<FlatGround, GroundFault>) -> Option<Sizes> {
+    let Ok(ground) = instantiated else {
+        return None;
+    };
+    Some(Sizes {
+        has_base: ground.base() > 0,
+        has_inputs: has_inputs(ground),
+        dropped: ground.dropped(),
+    })
+}
