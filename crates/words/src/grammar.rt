@@ -211,6 +211,13 @@ fn solve<'a>(alloc: Global) -> Result<clap::Command<'a>, AllocError> {
         .arg(history(alloc))
 }
 
+/// The command `serve`, which is no request either.
+fn serve<'a>(alloc: Global) -> clap::Command<'a> {
+    clap::Command::new(alloc, "serve").about(
+        "Answer many requests in one process, each by a frame with its status and size",
+    )
+}
+
 /// The commands and their options.
 fn grammar<'a>(alloc: Global) -> Result<clap::Command<'a>, AllocError> {
     clap::Command::new(alloc, "gdlsolve")
@@ -227,7 +234,8 @@ fn grammar<'a>(alloc: Global) -> Result<clap::Command<'a>, AllocError> {
         .subcommand(moves(alloc)?)?
         .subcommand(state(alloc)?)?
         .subcommand(solve(alloc)?)?
-        .subcommand(values(alloc)?)
+        .subcommand(values(alloc)?)?
+        .subcommand(serve(alloc))
 }
 
 /// What the options say that a state is worth where no turn is left and play goes on, or none where that is no text for it.

@@ -17,6 +17,7 @@ Commands:
   state   Tell how play stands after a history, and which base propositions hold
   solve   Tell what a role can be sure of after a history, the move that makes sure of it, and the line of play
   values  Tell of each legal move of a role after a history what it makes sure of
+  serve   Answer many requests in one process, each by a frame with its status and size
   help    Print this message or the help of the given subcommand(s)
 
 Options:
