@@ -25,11 +25,11 @@ NO_LINES = [["moves", "--after", ""], ["moves", "--after", "(a\nb)"], ["a b"], [
 
 
 class Lines(unittest.TestCase):
-    def test_words(self):
+    def test_words(self) -> None:
         for line, words in LINES.items():
             self.assertEqual(words_of(line), words)
 
-    def test_words_that_no_line_has(self):
+    def test_words_that_no_line_has(self) -> None:
         for words in NO_LINES:
             with self.assertRaises(Misuse):
                 line_of(words)
@@ -37,10 +37,10 @@ class Lines(unittest.TestCase):
 
 class Sessions(unittest.TestCase):
     @classmethod
-    def setUpClass(cls):
+    def setUpClass(cls) -> None:
         ran(["show"], b"")
 
-    def test_answers_are_those_of_single_calls(self):
+    def test_answers_are_those_of_single_calls(self) -> None:
         with Session(MARKS) as session:
             self.assertEqual(session.check(), gdlsolve.check(MARKS))
             self.assertEqual(session.net(), gdlsolve.net(MARKS))
@@ -53,14 +53,14 @@ class Sessions(unittest.TestCase):
                 both = [call("xplayer", 2, 49, 50, unfinished=50, after=after) for call in (session.solve_within,)]
                 self.assertEqual(both, [gdlsolve.solve_within(MARKS, "xplayer", 2, 49, 50, unfinished=50, after=after)])
 
-    def test_rules_of_each_game_stand_one_after_the_other(self):
+    def test_rules_of_each_game_stand_one_after_the_other(self) -> None:
         with Session("") as session:
             for game in GAMES:
                 rules = game.read_bytes()
                 session.stand(rules)
                 self.assertEqual(session.moves(), gdlsolve.moves(rules), game.stem)
 
-    def test_refusals_and_misuse(self):
+    def test_refusals_and_misuse(self) -> None:
         with Session("") as session:
             with self.assertRaises(Refusal) as told:
                 session.moves()
@@ -72,7 +72,7 @@ class Sessions(unittest.TestCase):
                 session.moves("h t")
             self.assertEqual(session.moves("(h t)").goals, {"a": 0, "b": 100})
 
-    def test_an_ended_session_says_so(self):
+    def test_an_ended_session_says_so(self) -> None:
         session = Session(PENNIES)
         session.close()
         with self.assertRaises(ProcessLookupError):
