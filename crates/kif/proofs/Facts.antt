@@ -11,4 +11,4 @@ unfoldable pub use Rattle.kif.proofs.Builder.{items_in}
 -- The tree of a value, by its variants.
 pub use Rattle.kif.proofs.ViewLemmas.{tree_of-Name, tree_of-List, list_of-trees_of, trees_in_take}
 -- What a writer holds while a text is being written.
-pub use Rattle.kif.proofs.Writing.{parts_from, no_parts}
+pub use Rattle.kif.proofs.Writing.{parts_from, no_parts, appends_kept, Written, begun, further, ended, broken, on_err}

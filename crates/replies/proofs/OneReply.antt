@@ -12,14 +12,18 @@ use Rattle.replies.proofs.OneSolve.{some_solve, one_solve}
 use Rattle.replies.proofs.OneRole.{some_for_role, one_for_role}
 use Rattle.replies.proofs.OneWithin.{window_alike}
 use Rattle.replies.proofs.OneValues.{values_alike}
+use Rattle.replies.proofs.OneLines.{with_lines_alike}
+use Rattle.replies.proofs.OneDeepening.{deepen_alike}
 use Rattle.replies.proofs.OneState.{some_state, one_state}
 use Rattle.replies.proofs.OneText.{fault_or_trees, one_text_fault, not_fault_and_trees}
-use Rattle.statement.specs.Queries.{Query, show, check, net, moves, state, solve, solve_within, values}
+use Rattle.statement.specs.Queries.{Query, show, check, net, moves, state, solve, solve_within, values, values_with_lines, deepen}
 use Rattle.statement.specs.Answers.{Reply, answer, refusal}
 use Rattle.statement.specs.Moving.{IsMovesReply}
 use Rattle.statement.specs.Solving.{IsSolveReply}
 use Rattle.statement.specs.Within.{window_lines, IsWindowReply}
 use Rattle.statement.specs.MoveValues.{values_lines, IsValuesReply}
+use Rattle.statement.specs.MoveLines.{moves_with_lines, IsLinesReply}
+use Rattle.statement.specs.Deepening.{deepen_lines, IsDeepenReply}
 use Rattle.statement.specs.Holding.{IsStateReply}
 use Rattle.statement.specs.Replies.{lines_of, IsReplyTo, IsReply}
 
@@ -35,6 +39,10 @@ some_reply_to (solve_within role depth at w after) ts =
     some_play (list_of ts) (λ g. IsWindowReply g role depth at w after) (λ g. some_for_role g role (λ r. window_lines g w r depth at) after)
 some_reply_to (values role depth at after) ts =
     some_play (list_of ts) (λ g. IsValuesReply g role depth at after) (λ g. some_for_role g role (λ r. values_lines g r depth at) after)
+some_reply_to (values_with_lines role depth at after) ts =
+    some_play (list_of ts) (λ g. IsLinesReply g role depth at after) (λ g. some_for_role g role (λ r. moves_with_lines g r depth at) after)
+some_reply_to (deepen role depth at after) ts =
+    some_play (list_of ts) (λ g. IsDeepenReply g role depth at after) (λ g. some_for_role g role (λ r. deepen_lines g r depth at) after)
 some_reply_to (solve role depth at after) ts =
     some_play (list_of ts) (λ g. IsSolveReply g role depth at after) (λ g. some_solve g role depth at after)
 
@@ -55,6 +63,14 @@ one_reply_to (values role depth at after) ts reply other p q =
     one_play (list_of ts) (λ g. IsValuesReply g role depth at after)
     (λ g h same. one_for_role g h same role (λ r. values_lines g r depth at) (λ r. values_lines h r depth at)
     (λ r lt s. values_alike g h same r lt depth at s) after) reply other p q
+one_reply_to (values_with_lines role depth at after) ts reply other p q =
+    one_play (list_of ts) (λ g. IsLinesReply g role depth at after)
+    (λ g h same. one_for_role g h same role (λ r. moves_with_lines g r depth at) (λ r. moves_with_lines h r depth at)
+    (λ r lt s. with_lines_alike g h same r lt depth at s) after) reply other p q
+one_reply_to (deepen role depth at after) ts reply other p q =
+    one_play (list_of ts) (λ g. IsDeepenReply g role depth at after)
+    (λ g h same. one_for_role g h same role (λ r. deepen_lines g r depth at) (λ r. deepen_lines h r depth at)
+    (λ r lt s. deepen_alike g h same r lt depth at s) after) reply other p q
 one_reply_to (solve role depth at after) ts reply other p q =
     one_play (list_of ts) (λ g. IsSolveReply g role depth at after) (λ g h same. one_solve g h same role depth at after) reply other p
     q

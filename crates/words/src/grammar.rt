@@ -116,6 +116,25 @@ fn window<'a>(alloc: Global) -> clap::Arg<'a> {
         )
 }
 
+/// The option for one depth after the other.
+fn deepen<'a>(alloc: Global) -> Result<clap::Arg<'a>, AllocError> {
+    clap::Arg::new(alloc, "deepen")
+        .long("deepen")
+        .action(clap::ArgAction::SetTrue)
+        .help(
+            "Answer for one turn, then for two, and so on, until no further turn can change the value",
+        )
+        .conflicts_with("window")
+}
+
+/// The option for the line of play behind each move.
+fn lines<'a>(alloc: Global) -> clap::Arg<'a> {
+    clap::Arg::new(alloc, "lines")
+        .long("lines")
+        .action(clap::ArgAction::SetTrue)
+        .help("Tell the line of play behind each move too")
+}
+
 /// The option for how many threads search.
 fn cut<'a>(alloc: Global) -> clap::Arg<'a> {
     clap::Arg::new(alloc, "cut")
@@ -189,6 +208,7 @@ fn values<'a>(alloc: Global) -> Result<clap::Command<'a>, AllocError> {
         .arg(depth(alloc))?
         .arg(at_bound(alloc))?
         .arg(unfinished(alloc)?)?
+        .arg(lines(alloc))?
         .arg(cut(alloc))?
         .arg(table(alloc))?
         .arg(history(alloc))
@@ -206,6 +226,7 @@ fn solve<'a>(alloc: Global) -> Result<clap::Command<'a>, AllocError> {
         .arg(at_bound(alloc))?
         .arg(unfinished(alloc)?)?
         .arg(window(alloc))?
+        .arg(deepen(alloc)?)?
         .arg(cut(alloc))?
         .arg(table(alloc))?
         .arg(history(alloc))
@@ -248,6 +269,34 @@ fn window_of(text: &str) -> Option<Window> {
     Window::of(Some(low.parse::<u8>().ok()?), high)
 }
 
+/// What `values` with these options asks.
+fn values_inquiry<'a>(
+    options: &clap::ArgMatches<'a>,
+    sought: Sought<'a>,
+) -> Result<Inquiry<'a>, &'static str> {
+    if options.get_flag("lines") {
+        return Ok(Inquiry::ValuesWithLines(sought));
+    }
+    Ok(Inquiry::Values(sought))
+}
+
+/// What `solve` with these options asks, or which of them has a text that it does not take.
+fn solve_inquiry<'a>(
+    options: &clap::ArgMatches<'a>,
+    sought: Sought<'a>,
+) -> Result<Inquiry<'a>, &'static str> {
+    if options.get_flag("deepen") {
+        return Ok(Inquiry::Deepen(sought));
+    }
+    let Some(text) = options.get_str("window") else {
+        return Ok(Inquiry::Solve(sought));
+    };
+    let Some(window) = window_of(text) else {
+        return Err("bad window");
+    };
+    Ok(Inquiry::SolveWithin(sought, window))
+}
+
 /// The command of this name, `solve` or `values`, that the options make, or which of them has a text that it does not take.
 fn search_command<'a>(
     name: &str,
@@ -267,16 +316,14 @@ fn search_command<'a>(
         table: options.get_one("table")?,
         after: options.get_str("after").unwrap_or(""),
     };
-    if name == "values" {
-        return Some(Ok(Command::Ask(Inquiry::Values(sought))));
+    let inquiry = match name {
+        "values" => values_inquiry(options, sought),
+        _ => solve_inquiry(options, sought),
+    };
+    match inquiry {
+        Ok(inquiry) => Some(Ok(Command::Ask(inquiry))),
+        Err(line) => Some(Err(line)),
     }
-    let Some(text) = options.get_str("window") else {
-        return Some(Ok(Command::Ask(Inquiry::Solve(sought))));
-    };
-    let Some(window) = window_of(text) else {
-        return Some(Err("bad window"));
-    };
-    Some(Ok(Command::Ask(Inquiry::SolveWithin(sought, window))))
 }
 
 /// The command that was matched, or why there is none.

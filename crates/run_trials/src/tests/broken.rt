@@ -7,13 +7,15 @@ use std::io::{Read, Write};
 use std::thread::Threads;
 
 /// The words of each command.
-const COMMANDS: [&[&str]; 6] = [
+const COMMANDS: [&[&str]; 8] = [
     &["show"],
     &["check"],
     &["net"],
     &["moves", "--after", "(h t)"],
     &["solve", "--role", "a", "--depth", "1"],
     &["solve", "--role", "b", "--depth", "1", "--cut", "2x2"],
+    &["solve", "--role", "a", "--depth", "2", "--deepen"],
+    &["values", "--role", "a", "--depth", "1", "--lines"],
 ];
 
 /// What the command line answers over these devices: the exit status and the errors.
