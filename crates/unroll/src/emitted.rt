@@ -1,0 +1,188 @@
+//! The layers of a relation as items.
+use crate::book::Book;
+use crate::fault::UnrollFault;
+use crate::kinds::{Described, Kinds};
+use crate::layers::{is_inner, is_linear};
+use crate::ways::{Clause, Said};
+use crate::writer::Writer;
+use std::alloc::AllocError;
+
+/// The names of the layers of a component: for each layer, those of its relations.
+#[derive(Drop)]
+struct LayerNames {
+    relations: Vec<u32>,
+    names: Vec<Vec<u8>>,
+}
+
+/// A component, and whether each of its rules names it at most once.
+#[derive(Clone, Copy)]
+struct Layering {
+    component: u32,
+    layers: u32,
+    is_linear: bool,
+}
+
+impl LayerNames {
+    /// The name of a relation in a layer, which are numbered from 1.
+    fn get(&self, relation: u32, layer: u32) -> &[u8] {
+        let Some(place) = self.relations.iter().position(|other| *other == relation) else {
+            return b"";
+        };
+        let before = (layer.saturating_sub(1) as usize).saturating_mul(self.relations.len());
+        match self.names.get(before.saturating_add(place)) {
+            Some(name) => name,
+            None => b"",
+        }
+    }
+}
+
+impl Book {
+    /// New names for the layers of a component.
+    fn layer_names(
+        &mut self,
+        kinds: &Kinds,
+        layering: Layering,
+    ) -> Result<LayerNames, UnrollFault> {
+        let relations = self.relations_in(kinds, layering.component)?;
+        let mut names: Vec<Vec<u8>> = Vec::new(self.alloc);
+        for layer in 1..=layering.layers {
+            for relation in &relations {
+                let mut base = Vec::new(self.alloc);
+                base.extend_from_slice(self.relation_name(*relation))?;
+                names.push(self.fresh_numbered(&base, layer)?)?;
+            }
+        }
+        Ok(LayerNames { relations, names })
+    }
+
+    /// Adds a literal, where atoms of the component are those of a layer.
+    fn add_said(
+        &mut self,
+        writer: &mut Writer,
+        said: Said,
+        names: &LayerNames,
+        layer: u32,
+    ) -> Result<(), AllocError> {
+        let (word, terms) = outline::split_atom(said.atom);
+        let relation = self.relation(word, terms.len())?;
+        let name = names.get(relation, layer);
+        writer.add(if said.is_negated { b" (not " } else { b" " })?;
+        if name.is_empty() {
+            writer.add_expr(said.atom)?;
+        } else {
+            writer.add_renamed(said.atom, name)?;
+        }
+        writer.add(if said.is_negated { b")" } else { b"" })
+    }
+
+    /// Adds an alternative as the item of a layer.
+    fn write_layer_rule(
+        &mut self,
+        writer: &mut Writer,
+        clause: &Clause,
+        relation: u32,
+        names: &LayerNames,
+        layer: u32,
+    ) -> Result<(), UnrollFault> {
+        let name = names.get(relation, layer);
+        if clause.way.is_empty() {
+            writer.add_renamed(clause.head, name)?;
+            return writer.end_item();
+        }
+        writer.add(b"(<= ")?;
+        writer.add_renamed(clause.head, name)?;
+        for said in &clause.way {
+            self.add_said(writer, *said, names, layer.saturating_sub(1))?;
+        }
+        writer.add(b")")?;
+        writer.end_item()
+    }
+
+    /// Adds the items of a layer: the alternatives that do not name the component in the first, and the others in those behind it.
+    fn write_layer(
+        &mut self,
+        writer: &mut Writer,
+        described: &Described,
+        layering: Layering,
+        names: &LayerNames,
+        layer: u32,
+    ) -> Result<(), UnrollFault> {
+        let kinds = &described.kinds;
+        for (place, rule) in described.rules.iter().enumerate() {
+            if !kinds.is_in(rule.target.relation, layering.component) {
+                continue;
+            }
+            if is_inner(rule, kinds, layering.component) == (layer > 1) {
+                if let Some(clause) = described.clauses.get(place) {
+                    self.write_layer_rule(writer, clause, rule.target.relation, names, layer)?;
+                }
+            }
+        }
+        if layering.is_linear || layer == 1 {
+            return Ok(());
+        }
+        for relation in &names.relations {
+            let name = names.get(*relation, layer);
+            let before = names.get(*relation, layer.saturating_sub(1));
+            write_copy(writer, name, before, self.arity(*relation))?;
+        }
+        Ok(())
+    }
+
+    /// Adds the items by which a relation holds where it does in a layer: in any, or in the last if each layer keeps those before.
+    fn write_tops(
+        &mut self,
+        writer: &mut Writer,
+        layering: Layering,
+        names: &LayerNames,
+    ) -> Result<(), UnrollFault> {
+        let first = if layering.is_linear {
+            1
+        } else {
+            layering.layers
+        };
+        for relation in &names.relations {
+            for layer in first..=layering.layers {
+                let own = self.relation_name(*relation);
+                let name = names.get(*relation, layer);
+                write_copy(writer, own, name, self.arity(*relation))?;
+            }
+        }
+        Ok(())
+    }
+
+    /// Adds all layers of a component.
+    pub(crate) fn write_layers(
+        &mut self,
+        writer: &mut Writer,
+        described: &Described,
+        component: u32,
+        layers: u32,
+    ) -> Result<(), UnrollFault> {
+        let layering = Layering {
+            component,
+            layers,
+            is_linear: is_linear(&described.rules, &described.kinds, component),
+        };
+        let names = self.layer_names(&described.kinds, layering)?;
+        for layer in 1..=layers {
+            self.write_layer(writer, described, layering, &names, layer)?;
+        }
+        self.write_tops(writer, layering, &names)
+    }
+}
+
+/// Adds an item by which a relation holds where another does.
+fn write_copy(
+    writer: &mut Writer,
+    name: &[u8],
+    other: &[u8],
+    arity: u32,
+) -> Result<(), UnrollFault> {
+    writer.add(b"(<= ")?;
+    writer.add_open_atom(name, b'x', arity)?;
+    writer.add(b" ")?;
+    writer.add_open_atom(other, b'x', arity)?;
+    writer.add(b")")?;
+    writer.end_item()
+}
