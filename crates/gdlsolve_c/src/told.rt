@@ -4,6 +4,7 @@ ghost use Rattle.gdlsolve_c.specs.Telling.{IsOutcomeOf, IsOutcome, told_bytes, s
 
 use netgame::NetGame;
 use replies::{Reply, reply_alone};
+use rulegame::RuleGame;
 use statement::Status;
 use std::alloc::{AllocError, Global};
 use words::{Request, request_of};
@@ -57,7 +58,11 @@ fn tell_of(alloc: Global, request: &Request, rules: &[u8]) -> Result<Outcome, Al
 {
     match request {
         Request::Run(command) => {
-            let reply = reply_alone::<NetGame, ((), Global)>(&((), alloc), command, rules)?;
+            let reply = reply_alone::<NetGame, RuleGame, ((), Global)>(
+                &((), alloc),
+                command,
+                rules,
+            )?;
             Ok(Outcome::Reply(reply))
         }
         Request::Help(text) | Request::Misuse(text) => {

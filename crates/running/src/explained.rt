@@ -12,6 +12,7 @@ use crate::explaining::explanation;
 use crate::fault::RunFault;
 use crate::runs::{Ran, ended, run_keeping};
 use netgame::NetGame;
+use rulegame::RuleGame;
 use statement::Status;
 use std::alloc::Global;
 use std::io::{Read, Write};
@@ -33,7 +34,7 @@ pub(crate) fn explain_ran<T: Threads + Sync + AllocGlobal, E: Write>(
     let Status::Refused = ran.reply.status else {
         return;
     };
-    let Ok(text) = explanation::<NetGame, T>(rt, command, &ran.bytes, &ran.reply.output) else {
+    let Ok(text) = explanation::<RuleGame, T>(rt, command, &ran.bytes, &ran.reply.output) else {
         return;
     };
     tell(errors, &text);
@@ -51,7 +52,7 @@ fn run_explained<T: Threads + Sync + AllocGlobal, R: Read, W: Write, E: Write>(
         (streams (R.remaining input.old) (W.contents output.old) (E.contents errors.old))
         (streams (R.remaining input.new) (W.contents output.new) (E.contents errors.new)) }
 {
-    let ran = run_keeping::<NetGame, T, R, W>(rt, command, input, output);
+    let ran = run_keeping::<NetGame, RuleGame, T, R, W>(rt, command, input, output);
     let status = status_of(ended(&ran), errors);
     explain_ran(rt, command, &ran, errors);
     status

@@ -47,7 +47,7 @@ fn lines_after<G: GroundGame, T: Threads + Sync + AllocGlobal>(
         return Ok(Vec::new(rt.alloc()));
     };
     let moves = Command::Ask(Inquiry::Moves { after });
-    let reply = reply_by_workers::<G, T>(rt, &moves, bytes)?;
+    let reply = reply_by_workers::<G, G, T>(rt, &moves, bytes)?;
     Ok(reply.output)
 }
 

@@ -14,6 +14,7 @@ use crate::working::reply_by_workers;
 use kif::write_bytes;
 use netgame::NetGame;
 use rulebook::GroundGame;
+use rulegame::RuleGame;
 use statement::Status;
 use std::io::{Read, Write};
 use std::thread::Threads;
@@ -38,13 +39,15 @@ pub(crate) struct Ran {
     pub(crate) reply: replies::Reply,
 }
 
-/// Reads the rules, writes the reply to the command and nothing else, and keeps both. The type `G` says who plays their game.
-pub(crate) fn run_keeping<G: GroundGame, T: Threads + Sync + AllocGlobal, R: Read, W: Write>(
-    rt: &T,
-    command: &Command,
-    input: &mut R,
-    output: &mut W,
-) -> Result<Ran, RunFault>
+/// Reads the rules, writes the reply to the command and nothing else, and keeps both. The type `G` says who plays their game,
+/// and `S` who tells of a state where nothing is searched.
+pub(crate) fn run_keeping<
+    G: GroundGame,
+    S: GroundGame,
+    T: Threads + Sync + AllocGlobal,
+    R: Read,
+    W: Write,
+>(rt: &T, command: &Command, input: &mut R, output: &mut W) -> Result<Ran, RunFault>
     ensures answers { IfOk result (λ ran.
         RepliesTo (query_of command.now) (R.remaining input.old) (R.remaining input.new) (reply_of ran.reply)
         × Appends (W.contents output.old) (W.contents output.new) ran.reply.output.items) }
@@ -54,7 +57,7 @@ pub(crate) fn run_keeping<G: GroundGame, T: Threads + Sync + AllocGlobal, R: Rea
         × AppendsFront (W.contents output.old) (W.contents output.new) reply.output) }
 {
     let bytes = read_input(rt.alloc(), input)?;
-    let Ok(reply) = reply_by_workers::<G, T>(rt, command, &bytes) else {
+    let Ok(reply) = reply_by_workers::<G, S, T>(rt, command, &bytes) else {
         return Err(RunFault::Memory);
     };
     write_out(output, &reply.output)?;
@@ -71,8 +74,9 @@ pub(crate) fn ended(ran: &Result<Ran, RunFault>) -> Result<Status, RunFault>
     }
 }
 
-/// Reads the rules, and writes the reply to the command and nothing else. The type `G` says who plays their game.
-pub fn run_with<G: GroundGame, T: Threads + Sync + AllocGlobal, R: Read, W: Write>(
+/// Reads the rules, and writes the reply to the command and nothing else. The type `G` says who plays their game, and `S` who
+/// tells of a state where nothing is searched.
+pub fn run_with<G: GroundGame, S: GroundGame, T: Threads + Sync + AllocGlobal, R: Read, W: Write>(
     rt: &T,
     command: &Command,
     input: &mut R,
@@ -86,10 +90,11 @@ pub fn run_with<G: GroundGame, T: Threads + Sync + AllocGlobal, R: Read, W: Writ
         × RepliesTo (query_of command.now) (R.remaining input.old) (R.remaining input.new) reply
         × AppendsFront (W.contents output.old) (W.contents output.new) reply.output) }
 {
-    ended(&run_keeping::<G, T, R, W>(rt, command, input, output))
+    ended(&run_keeping::<G, S, T, R, W>(rt, command, input, output))
 }
 
-/// Reads the rules, and writes the reply to the command and nothing else. The network of the rules plays their game.
+/// Reads the rules, and writes the reply to the command and nothing else. The network of the rules plays their game, and the
+/// kept instances tell of a state where nothing is searched: that needs no network.
 pub fn run<T: Threads + Sync + AllocGlobal, R: Read, W: Write>(
     rt: &T,
     command: &Command,
@@ -104,5 +109,5 @@ pub fn run<T: Threads + Sync + AllocGlobal, R: Read, W: Write>(
         × RepliesTo (query_of command.now) (R.remaining input.old) (R.remaining input.new) reply
         × AppendsFront (W.contents output.old) (W.contents output.new) reply.output) }
 {
-    run_with::<NetGame, T, R, W>(rt, command, input, output)
+    run_with::<NetGame, RuleGame, T, R, W>(rt, command, input, output)
 }

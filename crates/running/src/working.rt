@@ -51,7 +51,7 @@ pub fn told_by_workers<T: Threads + Sync + AllocGlobal, G: Game + Drop>(
 }
 
 /// The reply to an inquiry over the bytes of the input.
-fn inquired_by_workers<G: GroundGame, T: Threads + Sync + AllocGlobal>(
+fn inquired_by_workers<G: GroundGame, S: GroundGame, T: Threads + Sync + AllocGlobal>(
     rt: &T,
     inquiry: &Inquiry,
     bytes: &[u8],
@@ -65,14 +65,15 @@ fn inquired_by_workers<G: GroundGame, T: Threads + Sync + AllocGlobal>(
     };
     let instantiated = instantiate_flat(rt, &rules);
     drop(rules);
-    match ask::<G>(alloc, inquiry, instantiated)? {
+    match ask::<G, S>(alloc, inquiry, instantiated)? {
         Asked::Told(reply) => Ok(reply),
         Asked::ToSearch(search) => told_by_workers(rt, search),
     }
 }
 
-/// The reply to a command over the bytes of the input. It fails only for want of memory.
-pub(crate) fn reply_by_workers<G: GroundGame, T: Threads + Sync + AllocGlobal>(
+/// The reply to a command over the bytes of the input. The type `G` says who plays the game, and `S` who tells of a state where nothing is
+/// searched. It fails only for want of memory.
+pub(crate) fn reply_by_workers<G: GroundGame, S: GroundGame, T: Threads + Sync + AllocGlobal>(
     rt: &T,
     command: &Command,
     bytes: &[u8],
@@ -82,6 +83,6 @@ pub(crate) fn reply_by_workers<G: GroundGame, T: Threads + Sync + AllocGlobal>(
     match command {
         Command::Show => show(rt.alloc(), bytes),
         Command::Check => check(rt.alloc(), bytes),
-        Command::Ask(inquiry) => inquired_by_workers::<G, T>(rt, inquiry, bytes),
+        Command::Ask(inquiry) => inquired_by_workers::<G, S, T>(rt, inquiry, bytes),
     }
 }

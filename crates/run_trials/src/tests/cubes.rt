@@ -56,7 +56,7 @@ fn solves_by<G: GroundGame, T: AllocGlobal>(
         table: 1,
         after,
     }));
-    let reply = reply_alone::<G, T>(rt, &command, &rules)?;
+    let reply = reply_alone::<G, G, T>(rt, &command, &rules)?;
     let wanted = if answers {
         Status::Answer
     } else {

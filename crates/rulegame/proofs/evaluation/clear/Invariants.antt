@@ -1,5 +1,5 @@
 use Rattle.std.proofs.Common.{◌≡◌, ℕ, ◌<◌, length, false, get_or, vec_capacity}
-use Rattle.rulegame.proofs.reading.clear.Given as goal
+use Rattle.rulegame.proofs.evaluation.clear.Given as goal
 
 -- each mark before this one is taken away
 abbrev pub invariant-loop-place : goal.invariant-loop-place

@@ -1,7 +1,7 @@
 use Rattle.std.proofs.Common.{◌≡◌, length, false, ap, ◌∙◌, arith, refl}
 use Rattle.std.proofs.Math.ListN.{length-set}
 use Rattle.rulegame.proofs.Marks.{mark_more}
-use Rattle.rulegame.proofs.reading.clear.Goals as goal
+use Rattle.rulegame.proofs.evaluation.clear.Goals as goal
 
 pub loop-place-preserved : goal.loop-place-preserved
 loop-place-preserved c =
