@@ -27,4 +27,5 @@ mod OneState
 mod Placing
 mod MoveWorths
 mod Standings
+mod Over
 pub mod Facts

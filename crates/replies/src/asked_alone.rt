@@ -14,7 +14,7 @@ use crate::reply::{Reply, answered, refused};
 use crate::roles::role_named;
 use crate::search::bytes_in;
 use crate::windowed::lines_within;
-use crate::worths::lines_of_moves;
+use crate::worths::{lines_of_moves, whole_lines};
 use game::{Game, HistoryFault, Question};
 use maximin::Room;
 use statement::Window;
@@ -24,6 +24,8 @@ use words::Sought;
 /// What is wanted of a state for a role.
 #[derive(Clone, Copy)]
 pub(crate) enum Wanted {
+    /// Its value, the first best move and the line of play.
+    Whole,
     /// Its value within a window.
     Within(Window),
     /// What each legal move makes sure of.
@@ -46,6 +48,7 @@ fn lines_of<G: Game>(
 {
     let room = Room::with_table(alloc, g, asked, bytes)?;
     match wanted {
+        Wanted::Whole => whole_lines(alloc, g, asked, here, room),
         Wanted::Within(window) => lines_within(alloc, g, asked, window, here, room),
         Wanted::OfEachMove => lines_of_moves(alloc, g, asked, here, room),
     }

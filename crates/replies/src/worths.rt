@@ -78,7 +78,7 @@ fn add_worths<G: Game>(
 }
 
 /// The value of a state, the first best move and the line of play, as lines.
-fn whole_lines<G: Game>(
+pub(crate) fn whole_lines<G: Game>(
     alloc: Global,
     g: &G,
     asked: Question,

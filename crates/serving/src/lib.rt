@@ -4,6 +4,7 @@
 
 mod answering;
 mod framing;
+mod kept;
 mod program;
 mod session;
 mod splitting;
