@@ -3,7 +3,7 @@ use Rattle.std.proofs.lemmas.Grind.{common_steps}
 use Rattle.std.proofs.lemmas.List.Elements.{All-nil, All-cons, All-append}
 use Rattle.maximin.specs.declared.level.Level.{Level}
 use Rattle.maximin.specs.Level.{IsLevelOf}
-use Rattle.maximin.proofs.room.Room.with_table.Goals as goal
+use Rattle.maximin.proofs.room.new_levels.Goals as goal
 
 pub loop-preserved : goal.loop-preserved
 loop-preserved g c =
