@@ -1,6 +1,6 @@
 use Rattle.std.proofs.Common.{arith}
 use Rattle.share.proofs.Plans.{plan_free}
-use Rattle.share.proofs.single.answer_single.Goals as goal
+use Rattle.share.proofs.single.answer_in.Goals as goal
 
 pub value_and_choice-value-requires-clause-turn : goal.value_and_choice-value-requires-clause-turn
 value_and_choice-value-requires-clause-turn g c κs within =
