@@ -29,8 +29,8 @@ use table::hash_of;
 /// ahead a run of joint moves, the states after them, and one state.
 #[derive(Drop)]
 pub struct Room<G: Game> {
-    tools: Tools<G>,
-    levels: Vec<Level<G::Pos, G::Many>>,
+    pub(crate) tools: Tools<G>,
+    pub(crate) levels: Vec<Level<G::Pos, G::Many>>,
 }
 
 /// So many levels for a game.
