@@ -4,7 +4,6 @@
 //! two of them whether it is still wanted. Where few turns are left it hands the state to a search, which does not ask. No answer rests
 //! on what a helper finds: whatever a search keeps in the tables holds.
 ghost use Rattle.std.specs.Prelude.{◌≡◌, ◌<◌, ◌≤◌, ◌+◌};
-ghost use denote.Param.Send.{IsSync};
 ghost use Rattle.maximin.specs.Company.{company_game};
 ghost use Rattle.maximin.specs.Room.{IsRoomOf, room_depth};
 ghost use Rattle.share.specs.Step.{IsStepOf};
@@ -16,7 +15,6 @@ use game::{Game, Question};
 use maximin::{Company, Room, known_bounds, value_in};
 use std::alloc::Global;
 use std::sync::atomic::{AtomicU64, Ordering};
-use std::thread::{Threads, join};
 
 /// What all helpers of a search go by.
 #[derive(Drop)]
@@ -462,13 +460,13 @@ fn help_with_moves<G: Game>(
 /// States with so many turns left are handed on at first.
 const FIRST_TURNS: u32 = 6;
 
-/// Helps with a search, as its worker of this number.
-fn help_alone<G: Game>(aid: &Aid<'_, G>, worker: u32)
+/// Helps with a search, beside so many other helpers who came before.
+pub fn help<G: Game>(aid: &Aid<'_, G>, before: usize)
     requires fits { G.fits aid.now.game.now aid.now.from.now }
     requires role { aid.now.asked.role < (G.rules aid.now.game.now).roles }
     requires company { company_game aid.now.company.now ≡ aid.now.game.now }
 {
-    let number = (worker % 128) as u8;
+    let number = (before % 128) as u8 + 1;
     let Ok(room) = Room::in_company(aid.alloc, aid.game, aid.asked.depth, aid.company, number)
     else {
         return;
@@ -489,31 +487,4 @@ fn help_alone<G: Game>(aid: &Aid<'_, G>, worker: u32)
     };
     help_with_moves(aid, &node, true, &mut helper, &mut step);
     help_with_moves(aid, &node, false, &mut helper, &mut step);
-}
-
-/// Helps with a search by so many threads, as its workers from this number on.
-#[cycle(helpers)]
-pub fn help<R: Threads + Sync, G: Game>(rt: &R, aid: &Aid<'_, G>, first: u32, count: u32)
-    requires fits { G.fits aid.now.game.now aid.now.from.now }
-    requires role { aid.now.asked.role < (G.rules aid.now.game.now).roles }
-    requires company { company_game aid.now.company.now ≡ aid.now.game.now }
-{
-    if count == 0 {
-        return;
-    }
-    if count == 1 {
-        return help_alone(aid, first);
-    }
-    let few = count / 2;
-    let more = count - few;
-    let second = first.saturating_add(more);
-    let left = move || -> ()
-        requires { IsSync R.row × IsSync G.row × G.fits aid.now.game.now aid.now.from.now
-            × (aid.now.asked.role < (G.rules aid.now.game.now).roles) × (company_game aid.now.company.now ≡ aid.now.game.now) }
-    { help(rt, aid, first, more) };
-    let right = move || -> ()
-        requires { IsSync R.row × IsSync G.row × G.fits aid.now.game.now aid.now.from.now
-            × (aid.now.asked.role < (G.rules aid.now.game.now).roles) × (company_game aid.now.company.now ≡ aid.now.game.now) }
-    { help(rt, aid, second, few) };
-    join(rt, left, right);
 }

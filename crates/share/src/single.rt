@@ -8,7 +8,7 @@ use crate::desk::Desk;
 use crate::gate::Gate;
 use crate::node::Node;
 use game::Game;
-use maximin::{Room, value_and_choice};
+use maximin::{Room, open_room, value_and_choice};
 
 /// The value of the node and the place of its first best move, by the calling thread in a room.
 pub fn answer_in<G: Game>(node: &Node<'_, G>, room: &mut Room<G>) -> (i16, u32)
@@ -38,6 +38,6 @@ pub fn answer_single<G: Game, K: Gate>(node: &Node<'_, G>, gate: &K, desk: Desk<
     for task in 0..node.plan.moves * node.plan.replies {
         gate.at(task as usize);
     }
-    let mut room = desk.room;
+    let mut room = open_room(node.game, desk.room);
     answer_in(node, &mut room)
 }
