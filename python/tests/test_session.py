@@ -4,7 +4,7 @@ import unittest
 import gdlsolve
 from gdlsolve import Misuse, Refusal, Session
 from gdlsolve.session import line_of, words_of
-from tests import GAMES, TOP, ran
+from tests import GAMES, PROGRAM, TOP, needs_program
 
 PENNIES = (TOP / "games/matching_pennies.kif").read_bytes()
 MARKS = (TOP / "games/tic_tac_toe.kif").read_bytes()
@@ -35,13 +35,15 @@ class Lines(unittest.TestCase):
                 line_of(words)
 
 
-class Sessions(unittest.TestCase):
-    @classmethod
-    def setUpClass(cls) -> None:
-        ran(["show"], b"")
+def begun(rules: bytes | str) -> Session:
+    """A session of the program that the tests are over."""
+    return Session(rules, program=PROGRAM[0])
 
+
+@needs_program
+class Sessions(unittest.TestCase):
     def test_answers_are_those_of_single_calls(self) -> None:
-        with Session(MARKS) as session:
+        with begun(MARKS) as session:
             self.assertEqual(session.check(), gdlsolve.check(MARKS))
             self.assertEqual(session.net(), gdlsolve.net(MARKS))
             self.assertEqual(session.show(), gdlsolve.show(MARKS))
@@ -54,14 +56,14 @@ class Sessions(unittest.TestCase):
                 self.assertEqual(both, [gdlsolve.solve_within(MARKS, "xplayer", 2, 49, 50, unfinished=50, after=after)])
 
     def test_rules_of_each_game_stand_one_after_the_other(self) -> None:
-        with Session("") as session:
+        with begun("") as session:
             for game in GAMES:
                 rules = game.read_bytes()
                 session.stand(rules)
                 self.assertEqual(session.moves(), gdlsolve.moves(rules), game.stem)
 
     def test_refusals_and_misuse(self) -> None:
-        with Session("") as session:
+        with begun("") as session:
             with self.assertRaises(Refusal) as told:
                 session.moves()
             self.assertEqual((told.exception.code, told.exception.name), ("G6", "NoRole"))
@@ -73,7 +75,7 @@ class Sessions(unittest.TestCase):
             self.assertEqual(session.moves("(h t)").goals, {"a": 0, "b": 100})
 
     def test_an_ended_session_says_so(self) -> None:
-        session = Session(PENNIES)
+        session = begun(PENNIES)
         session.close()
         with self.assertRaises(ProcessLookupError):
             session.moves()
