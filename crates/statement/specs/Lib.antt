@@ -50,6 +50,8 @@ pub mod Solving
 pub mod ForRole
 pub mod Within
 pub mod MoveValues
+pub mod MoveLines
+pub mod Deepening
 pub mod Holding
 pub mod Replies
 pub mod Input

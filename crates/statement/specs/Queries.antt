@@ -3,8 +3,8 @@ use Rattle.std.specs.Prelude.{ℕ, List}
 use Rattle.statement.specs.declared.at_bound.AtBound.{AtBound}
 use Rattle.statement.specs.declared.window.Window.{Window}
 
--- the commands: `moves` and `state` have the text of a history; `solve`, also within a window, and `values` the text of a role, how many
--- turns are looked ahead, what a state is worth behind them, and the text of a history
+-- the commands: `moves` and `state` have the text of a history; `solve`, also within a window and by deepening, and `values`, also with
+-- lines, the text of a role, how many turns are looked ahead, what a state is worth behind them, and the text of a history
 pub data Query : Type 0 where
   show : Query
   check : Query
@@ -14,3 +14,5 @@ pub data Query : Type 0 where
   solve : List ℕ → ℕ → AtBound → List ℕ → Query
   solve_within : List ℕ → ℕ → AtBound → Window → List ℕ → Query
   values : List ℕ → ℕ → AtBound → List ℕ → Query
+  values_with_lines : List ℕ → ℕ → AtBound → List ℕ → Query
+  deepen : List ℕ → ℕ → AtBound → List ℕ → Query

@@ -5,7 +5,7 @@ use Rattle.statement.specs.Reading.{Reads}
 use Rattle.statement.specs.Items.{alternatives}
 use Rattle.statement.specs.TextFaults.{IsTextFault, text_fault_words}
 use Rattle.statement.specs.declared.text_fault.KifFault.{KifFault}
-use Rattle.statement.specs.Queries.{Query, show, check, net, moves, state, solve, solve_within, values}
+use Rattle.statement.specs.Queries.{Query, show, check, net, moves, state, solve, solve_within, values, values_with_lines, deepen}
 use Rattle.statement.specs.Answers.{Reply, answer, refusal}
 use Rattle.statement.specs.Checking.{IsCheckReply}
 use Rattle.statement.specs.Moving.{IsMovesReply}
@@ -14,6 +14,8 @@ use Rattle.statement.specs.Networks.{IsNetReply}
 use Rattle.statement.specs.Solving.{IsSolveReply}
 use Rattle.statement.specs.Within.{IsWindowReply}
 use Rattle.statement.specs.MoveValues.{IsValuesReply}
+use Rattle.statement.specs.MoveLines.{IsLinesReply}
+use Rattle.statement.specs.Deepening.{IsDeepenReply}
 use Rattle.statement.specs.Holding.{IsStateReply}
 use Rattle.statement.specs.declared.text_fault.KifFault.TheVariants as faults
 
@@ -32,6 +34,8 @@ IsReplyTo (state after) ts reply = IsPlayReply (list_of ts) (λ g. IsStateReply 
 IsReplyTo (solve role depth at after) ts reply = IsPlayReply (list_of ts) (λ g. IsSolveReply g role depth at after) reply
 IsReplyTo (solve_within role depth at w after) ts reply = IsPlayReply (list_of ts) (λ g. IsWindowReply g role depth at w after) reply
 IsReplyTo (values role depth at after) ts reply = IsPlayReply (list_of ts) (λ g. IsValuesReply g role depth at after) reply
+IsReplyTo (values_with_lines role depth at after) ts reply = IsPlayReply (list_of ts) (λ g. IsLinesReply g role depth at after) reply
+IsReplyTo (deepen role depth at after) ts reply = IsPlayReply (list_of ts) (λ g. IsDeepenReply g role depth at after) reply
 
 -- the bytes have a fault in their text, and the reply names it
 abbrev pub RefusesText : List ℕ → Reply → Type 0
