@@ -1,12 +1,15 @@
 """The child process of an engine: it answers questions on its standard input, which is a socket.
 
-    python -m gdlsolve.answering [PROGRAM WORDS..]
+    python -m gdlsolve.answering [--session] [PROGRAM WORDS..]
 
 A request is a line `rules N` and then N bytes of rules, or a line `words N` and then N bytes, which
 are the words of a command with a byte 0 behind each. The reply to words, over the last rules, is a
 line `STATUS SIZE SIZE` and then the bytes of the reply and of what is said to people. Where there is
-none, the status is 70, and what is said tells why. The words of the command line start a program
-that answers; without any, the package does. The end of input ends the process, whatever it does.
+none, the status is 70, and what is said tells why. A line `batch N` says that the next N requests
+are words, which are answered together. The words of the command line start a program that answers;
+without any, the package does. With `--session` the program reads rules once, and then says nothing
+to people. The words `legal` and `playouts` are answered in Python, without the program. The end of
+input ends the process, whatever it does.
 """
 
 from __future__ import annotations
@@ -15,10 +18,100 @@ import os
 import select
 import sys
 import threading
+from collections.abc import Iterator, Sequence
+from typing import IO
 
-from gdlsolve.calls import Ended, Reply, Status, by_program, reply
+from gdlsolve import program
+from gdlsolve.calls import Ended, Misuse, Reply, Status, by_program, reply
+from gdlsolve.lanes import Rehearsal
+from gdlsolve.session import Process, line_of
 
 NO_REPLY = 70
+# Commands that are answered in Python.
+OWN = (["legal"], ["playouts"])
+
+
+class InSession:
+    """A program that is asked in a session, as far as it knows any."""
+
+    def __init__(self, command: Sequence[str]):
+        self.command = command
+        self.rules: bytes | None = None
+        self.process: Process | None = None
+        self.knows = True
+
+    def standing(self, rules: bytes) -> Process:
+        """The process over these rules."""
+        made = self.process or Process(self.command, program.dies_with(os.getpid()))
+        self.process = made
+        if self.rules is not rules:
+            self.rules = None
+            made.stand(rules)
+            self.rules = rules
+        return made
+
+    def asked(self, lines: Sequence[bytes], rules: bytes) -> list[Reply]:
+        """The replies to lines."""
+        try:
+            process = self.standing(rules)
+        except ProcessLookupError:
+            self.knows = False
+            raise
+        return list(process.replies(lines))
+
+    def replies(self, batch: Sequence[Sequence[str]], rules: bytes) -> list[Reply] | None:
+        """The replies to commands, where a session takes them."""
+        try:
+            return self.asked(list(map(line_of, batch)), rules) if self.knows else None
+        except Misuse:
+            return None
+        except ProcessLookupError as fault:
+            if self.knows:
+                raise Ended(str(fault)) from None
+            return None
+
+
+class Answers:
+    """What answers: the program that the words start, or the package."""
+
+    def __init__(self, words: Sequence[str]):
+        in_session = words[:1] == ["--session"]
+        self.command = list(words[1:] if in_session else words)
+        known = self.command or (program.words() if in_session else [])
+        self.session = InSession(known) if in_session and known else None
+        self.rehearsal = Rehearsal()
+
+    def alone(self, words: Sequence[str], rules: bytes) -> Reply:
+        """The reply to one command without a session."""
+        try:
+            return by_program(self.command, words, rules) if self.command else reply(words, rules)
+        except MemoryError:
+            return Reply(Status.NO_MEMORY, b"")
+
+    def by_solver(self, batch: Sequence[Sequence[str]], rules: bytes) -> list[Reply]:
+        """The replies of the solver to commands over rules."""
+        found = self.session.replies(batch, rules) if self.session and batch else None
+        return [self.alone(words, rules) for words in batch] if found is None else found
+
+    def replies(self, batch: Sequence[Sequence[str]], rules: bytes) -> list[Reply]:
+        """The replies to commands over rules."""
+        solved = iter(self.by_solver([words for words in batch if words[:1] not in OWN], rules))
+        return [self.rehearsal.reply(words, rules) if words[:1] in OWN else next(solved) for words in batch]
+
+
+def told(answers: Answers, batch: Sequence[Sequence[str]], rules: bytes) -> Iterator[bytes]:
+    """What is written for commands."""
+    try:
+        found = answers.replies(batch, rules)
+    except MemoryError:
+        found = [Reply(Status.NO_MEMORY, b"") for _ in batch]
+    except (Ended, ImportError, OSError) as fault:
+        said = str(fault).encode()
+        yield from (b"%d 0 %d\n" % (NO_REPLY, len(said)) + said for _ in batch)
+        return
+    for each in found:
+        yield b"%d %d %d\n" % (each.status, len(each.output), len(each.errors))
+        yield each.output + each.errors
 
 
 def watch(socket: int) -> None:
@@ -29,47 +122,45 @@ def watch(socket: int) -> None:
     os._exit(1)
 
 
-def answered(words: bytes, rules: bytes) -> Reply:
-    """The reply of the program that the command line names, or of the package."""
-    program, listed = sys.argv[1:], words.decode().split("\0")[:-1]
-    try:
-        return by_program(program, listed, rules) if program else reply(listed, rules)
-    except MemoryError:
-        return Reply(Status.NO_MEMORY, b"")
+def request(source: IO[bytes]) -> tuple[bytes, bytes] | None:
+    """The kind of the next request and its bytes, or its number where it has none; nothing at the end."""
+    line = source.readline()
+    if not line:
+        return None
+    kind, size = line.split()
+    return kind, size if kind == b"batch" else source.read(int(size))
 
 
-def told(words: bytes, rules: bytes) -> tuple[int, bytes, bytes]:
-    """The status, the reply, and what is said to people."""
-    try:
-        found = answered(words, rules)
-    except (Ended, ImportError, OSError) as fault:
-        return NO_REPLY, b"", str(fault).encode()
-    return int(found.status), found.output, found.errors
+def commands(source: IO[bytes], first: bytes, many: int) -> Iterator[list[str]]:
+    """So many commands, the first of which was read."""
+    texts = [first, *(text for _, text in filter(None, (request(source) for _ in range(many - 1))))]
+    return (text.decode().split("\0")[:-1] for text in texts)
 
 
-def serve() -> None:
+def serve(answers: Answers, source: IO[bytes], sink: IO[bytes]) -> None:
     """Answers until the input ends."""
-    rules = b""
-    for line in sys.stdin.buffer:
-        kind, size = line.split()
-        text = sys.stdin.buffer.read(int(size))
-        if kind == b"rules":
+    rules, many = b"", 1
+    while (found := request(source)) is not None:
+        kind, text = found
+        if kind == b"batch":
+            many = int(text)
+        elif kind == b"rules":
             rules = text
-            continue
-        status, output, errors = told(text, rules)
-        head = b"%d %d %d\n" % (status, len(output), len(errors))
-        sys.stdout.buffer.write(head + output + errors)
-        sys.stdout.buffer.flush()
+        else:
+            batch = list(commands(source, text, many))
+            sink.write(b"".join(told(answers, batch, rules)))
+            sink.flush()
+            many = 1
 
 
-def main() -> None:
+def run(answers: Answers) -> None:
     """Answers, and ends without a word where nobody is at the other end any more."""
     threading.Thread(target=watch, args=(sys.stdin.fileno(),), daemon=True).start()
     try:
-        serve()
+        serve(answers, sys.stdin.buffer, sys.stdout.buffer)
     except OSError:
         os._exit(1)
 
 
 if __name__ == "__main__":
-    main()
+    run(Answers(sys.argv[1:]))

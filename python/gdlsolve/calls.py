@@ -135,14 +135,11 @@ def library() -> Path | None:
 
 def answers() -> Path | list[str]:
     """What answers: the words that start a program, or the file of the library. It is the program that `GDLSOLVE_PROGRAM` names, else the
-    library, else the program of the clone."""
-    found = program.named() or library()
+    library, else the program of the package or of the clone."""
+    found = program.named() or library() or program.words()
     if found:
         return found
     here, clone = _places()
-    proved = clone / "out/gdlsolve"
-    if proved.exists():
-        return [str(proved)]
     places = f"{LIBRARY} is neither in {here} nor in {clone / 'c/out'}: c/build builds it"
     raise ImportError(f"{places}; or let {program.VARIABLE} name a program")
 

@@ -17,15 +17,18 @@ import threading
 import time
 from collections.abc import Iterator, Sequence
 from contextlib import contextmanager
+from dataclasses import dataclass
 
 from gdlsolve.answering import NO_REPLY
 from gdlsolve.calls import Misuse, Reply, Status
 from gdlsolve.program import environment
 from gdlsolve.replies import Description, Position, Solution
+from gdlsolve.terms import terms
 
 Turn = tuple[str, ...]
-# What starts a child process.
+# What starts a child process, and what starts one that reads rules once where it can.
 OWN_COMMAND = (sys.executable, "-m", "gdlsolve.answering")
+SESSION_COMMAND = (*OWN_COMMAND, "--session")
 # So often a question that is waited for looks whether it has been given up, in seconds.
 BEAT = 0.02
 # No reply is longer: a line for each of 4,096 moves of at most 4,096 bytes.
@@ -74,11 +77,17 @@ def history(turns: Sequence[Turn]) -> str:
     return " ".join("(" + " ".join(turn) + ")" for turn in turns)
 
 
+def behind(turns: Sequence[Turn]) -> list[str]:
+    """The option that tells a history, where there is one."""
+    return ["--after", history(turns)] if turns else []
+
+
 class Child:
     """A process that answers, at the other end of a socket."""
 
     def __init__(self, command: Sequence[str]):
         self.rules: bytes | None = None
+        self.unread = bytearray()
         ours, theirs = socket.socketpair()
         try:
             # A group of its own, so that a key that ends the asker does not end it first.
@@ -110,18 +119,18 @@ class Child:
         self.process.wait()
         self.socket.close()
 
-    def send(self, kind: str, text: bytes, limit: Limit) -> None:
-        """Writes a request."""
+    def send(self, requests: bytes, limit: Limit) -> None:
+        """Writes requests."""
         self.socket.settimeout(min(max(limit.left(), 0.001), LONGEST_SEND))
         try:
-            self.socket.sendall(b"%s %d\n" % (kind.encode(), len(text)) + text)
+            self.socket.sendall(requests)
         except TimeoutError:
             raise Late from None
         except OSError as fault:
             raise Broken(str(fault)) from None
 
-    def receive(self, limit: Limit) -> bytes:
-        """Some bytes of a reply."""
+    def receive(self, limit: Limit) -> None:
+        """Reads some bytes of a reply."""
         while (left := limit.left()) > 0:
             if select.select([self.socket], [], [], min(left, BEAT))[0]:
                 try:
@@ -130,41 +139,54 @@ class Child:
                     raise Broken(str(fault)) from None
                 if not found:
                     raise Broken("the solver's process ended")
-                return found
+                self.unread += found
+                return
         raise Late
 
-    def reply(self, limit: Limit) -> Reply:
-        """The reply to the last request."""
-        found = b""
-        while b"\n" not in found:
-            found += self.receive(limit)
-            if len(found) > MOST_BYTES:
+    def line(self, limit: Limit) -> bytes:
+        """A line of a reply."""
+        while (end := self.unread.find(b"\n")) < 0:
+            if len(self.unread) > MOST_BYTES:
                 raise Broken("a line without an end")
-        line, rest = found.split(b"\n", 1)
+            self.receive(limit)
+        return self.taken(end + 1)[:-1]
+
+    def taken(self, size: int) -> bytes:
+        """So many bytes, which were read."""
+        found = bytes(self.unread[:size])
+        del self.unread[:size]
+        return found
+
+    def reply(self, limit: Limit) -> Reply:
+        """The next reply."""
+        line = self.line(limit)
         words = line.split()
         if len(words) != 3 or not all(word.isdigit() for word in words):
             raise Broken(f"no reply: {line[:80]!r}")
         status, size, more = map(int, words)
         if status not in {*Status, NO_REPLY} or size + more > MOST_BYTES:
             raise Broken(f"no reply: {line[:80]!r}")
-        parts, have = [rest], len(rest)
-        while have < size + more:
-            parts.append(self.receive(limit))
-            have += len(parts[-1])
-        if have > size + more:
-            raise Broken("more than a reply")
-        whole = b"".join(parts)
+        while len(self.unread) < size + more:
+            self.receive(limit)
+        output, said = self.taken(size), self.taken(more)
         if status == NO_REPLY:
-            raise Broken(whole.decode(errors="replace"))
-        return Reply(Status(status), whole[:size], whole[size:])
+            raise Broken(said.decode(errors="replace"))
+        return Reply(Status(status), output, said)
 
-    def ask(self, words: Sequence[str], rules: bytes, limit: Limit) -> Reply:
-        """The reply to a command over rules, which are sent where they are not those of before."""
+    def ask(self, batch: Sequence[Sequence[str]], rules: bytes, limit: Limit) -> list[Reply]:
+        """The replies to commands over rules, which are sent where they are not those of before."""
         if self.rules is not rules:
-            self.send("rules", rules, limit)
+            self.send(b"rules %d\n" % len(rules) + rules, limit)
             self.rules = rules
-        self.send("words", b"".join(word.encode() + b"\0" for word in words), limit)
-        return self.reply(limit)
+        requests = [b"batch %d\n" % len(batch)]
+        for words in batch:
+            text = b"".join(word.encode() + b"\0" for word in words)
+            requests.append(b"words %d\n" % len(text) + text)
+        self.send(b"".join(requests), limit)
+        found = [self.reply(limit) for _ in batch]
+        if self.unread:
+            raise Broken("more than a reply")
+        return found
 
 
 class Children:
@@ -172,7 +194,7 @@ class Children:
 
     def __init__(self, most: int, command: Sequence[str] | None = None, spare: int = 2):
         self.most, self.spare = max(most, spare), spare
-        self.command = list(command or OWN_COMMAND)
+        self.command = list(command or SESSION_COMMAND)
         self.idle: list[Child] = []
         self.change = threading.Condition()
         self.is_closed = False
@@ -213,14 +235,14 @@ class Children:
         child.end()
 
     def ask(
-        self, child: Child | None, words: Sequence[str], rules: bytes, limit: Limit
-    ) -> tuple[Child, Reply]:
-        """The reply of a child, and that child. One that is late is ended; one that ended by itself
-        is replaced once."""
+        self, child: Child | None, batch: Sequence[Sequence[str]], rules: bytes, limit: Limit
+    ) -> tuple[Child, list[Reply]]:
+        """The replies of a child, and that child. One that is late is ended; one that ended by
+        itself is replaced once."""
         for is_last in (False, True):
             asked = child or self.take()
             try:
-                return asked, asked.ask(words, rules, limit)
+                return asked, asked.ask(batch, rules, limit)
             except BaseException as fault:
                 child = None
                 asked.end()
@@ -243,7 +265,7 @@ class Pool:
 
     def __init__(self, most: int, command: Sequence[str] | None = None, spare: int = 0):
         self.most = most
-        self.children = Children(most, command, spare)
+        self.children = Children(most, command or OWN_COMMAND, spare)
         self.places = threading.Semaphore(most)
 
     def ask(self, words: Sequence[str], rules: bytes, limit: Limit) -> Reply:
@@ -254,7 +276,7 @@ class Pool:
         try:
             if limit.left() <= 0:
                 raise Late
-            child, found = self.children.ask(None, words, rules, limit)
+            child, [found] = self.children.ask(None, [words], rules, limit)
         finally:
             self.places.release()
         self.children.give_back(child)
@@ -263,6 +285,21 @@ class Pool:
     def close(self) -> None:
         """Asks no more. Questions that are under way end first."""
         self.children.close()
+
+
+@dataclass(frozen=True)
+class Playouts:
+    """So many random matches, of so many turns at most, behind which play is worth `unfinished`."""
+
+    matches: int
+    turns: int
+    unfinished: int
+    seed: int
+
+    def words(self) -> list[str]:
+        """The options that ask for them."""
+        numbers = {"matches": self.matches, "turns": self.turns, "unfinished": self.unfinished, "seed": self.seed}
+        return [word for name, number in numbers.items() for word in (f"--{name}", str(number))]
 
 
 class Engine:
@@ -275,21 +312,25 @@ class Engine:
         self.lock = threading.Lock()
         self.is_closed = False
 
-    def ask(self, words: Sequence[str], limit: Limit) -> list[str]:
-        """The lines of the answer."""
+    def ask_all(self, batch: Sequence[Sequence[str]], limit: Limit) -> list[list[str]]:
+        """The lines of the answers to commands, which are asked together."""
         if not self.lock.acquire(timeout=max(limit.left(), 0.001)):
             raise Late
         try:
             if self.is_closed:
                 raise Late
             child, self.child = self.child, None
-            self.child, found = self.children.ask(child, words, self.rules, limit)
+            self.child, found = self.children.ask(child, batch, self.rules, limit)
         finally:
             self.lock.release()
             if self.is_closed:
                 self.close()
         with readable():
-            return found.lines()
+            return [each.lines() for each in found]
+
+    def ask(self, words: Sequence[str], limit: Limit) -> list[str]:
+        """The lines of the answer."""
+        return self.ask_all([words], limit)[0]
 
     def check(self, limit: Limit) -> Description:
         """What the rules have."""
@@ -299,18 +340,39 @@ class Engine:
 
     def moves(self, turns: Sequence[Turn], limit: Limit) -> Position:
         """How play stands after a history."""
-        lines = self.ask(["moves", "--after", history(turns)], limit)
+        lines = self.ask(["moves", *behind(turns)], limit)
         with readable():
             return Position.of(lines)
+
+    def positions(self, histories: Sequence[Sequence[Turn]], limit: Limit) -> list[Position]:
+        """How play stands after each of these histories."""
+        told = self.ask_all([["moves", *behind(turns)] for turns in histories], limit)
+        with readable():
+            return list(map(Position.of, told))
 
     def solve(
         self, role: str, depth: int, turns: Sequence[Turn], unfinished: int, limit: Limit
     ) -> Solution:
         """What a role can be sure of, with play that goes on at the depth worth `unfinished`."""
         words = ["solve", "--role", role, "--depth", str(depth), "--unfinished", str(unfinished)]
-        lines = self.ask([*words, "--after", history(turns)], limit)
+        lines = self.ask([*words, *behind(turns)], limit)
         with readable():
             return Solution.of(lines)
+
+    def legal(self, turns: Sequence[Turn], limit: Limit) -> Position:
+        """How play stands after a history, without the solver. `Misuse` tells that the rules are
+        too large for that."""
+        lines = self.ask(["legal", *behind(turns)], limit)
+        with readable():
+            return Position.of(lines)
+
+    def played(self, turns: Sequence[Turn], asked: Playouts, limit: Limit) -> tuple[Position, dict[str, int]]:
+        """How play stands after a history, and what random matches behind it bring each role in all.
+        `Misuse` tells that the rules are too large for those."""
+        both = [["moves", *behind(turns)], ["playouts", *asked.words(), *behind(turns)]]
+        position, goals = self.ask_all(both, limit)
+        with readable():
+            return Position.of(position), {role: int(goal) for _, role, goal in map(terms, goals)}
 
     def close(self) -> None:
         """Asks no more. A question that is under way ends first."""

@@ -28,8 +28,9 @@ from urllib.parse import urlsplit
 import gdlsolve
 from gdlsolve.calls import Ended, Refusal
 from gdlsolve.engine import Turn, history
-from gdlsolve.messages import Malformed, tree, trees
+from gdlsolve.messages import tree
 from gdlsolve.replies import Position, State
+from gdlsolve.terms import Malformed, trees
 
 RANDOM = "random"
 # An answer is no longer, in bytes.

@@ -6,15 +6,12 @@ What is read is in lower case and without comments, as the solver reads it; so a
 from __future__ import annotations
 
 import re
-from collections.abc import Iterator
 from dataclasses import dataclass
 
-from gdlsolve.terms import terms
+from gdlsolve.terms import Malformed, terms, trees
 
 # No message is longer: the solver takes no longer rules, and the other words are few.
 MOST_BYTES = 2 << 20
-TOKENS = re.compile(r"[()]|[^\s();]+")
-COMMENT = re.compile(r";[^\n\r]*")
 # Words that some servers say for those of the protocol.
 ALIASES = {"ping": "info", "replay": "play", "kill": "abort", "quit": "abort"}
 PARTS = {"info": 0, "preview": 2, "start": 5, "play": 2, "stop": 2, "abort": 1}
@@ -22,28 +19,9 @@ PARTS = {"info": 0, "preview": 2, "start": 5, "play": 2, "stop": 2, "abort": 1}
 LONGEST_CLOCK = 604_800.0
 
 
-class Malformed(Exception):
-    """What was received is no message."""
-
-
-def trees(text: str) -> Iterator[str]:
-    """The canonical text of each tree of a text."""
-    depth, parts = 0, list[str]()
-    for token in TOKENS.findall(COMMENT.sub(" ", text).lower()):
-        depth += (token == "(") - (token == ")")
-        if depth < 0:
-            raise Malformed("a ) too many")
-        parts.append(token)
-        if depth == 0:
-            yield " ".join(parts).replace("( ", "(").replace(" )", ")")
-            parts = []
-    if depth:
-        raise Malformed("a ) is missing")
-
-
 def tree(text: str) -> str:
     """The canonical text of the one tree of a text."""
-    found = list(trees(text))
+    found = trees(text)
     if len(found) != 1:
         raise Malformed(f"{len(found)} trees, and not one")
     return found[0]

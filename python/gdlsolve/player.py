@@ -16,17 +16,22 @@ import sys
 import threading
 import time
 from collections.abc import Sequence
+from concurrent.futures import Future
 from dataclasses import dataclass
 from http.server import BaseHTTPRequestHandler, ThreadingHTTPServer
 from typing import Any
 
 from gdlsolve.calls import Ended, Misuse, Refusal, reply
 from gdlsolve.engine import Broken, Children, Engine, Late, Limit, Turn
-from gdlsolve.messages import MOST_BYTES, Malformed, Message, clock, parts_of, turn
+from gdlsolve.messages import MOST_BYTES, Message, clock, parts_of, turn
 from gdlsolve.replies import Position, State
 from gdlsolve.simulation import MOST_DEPTH, Node, Question
+from gdlsolve.terms import Malformed
 from gdlsolve.thinking import Choice, Thinking
 
+# This part of the time in which a solver that seems to hang is asked again is left for what is
+# worked out without it.
+RESERVE = 0.25
 # What the solver says or does when it gives no answer.
 NO_ANSWER = (Late, Broken, Misuse, MemoryError)
 
@@ -137,17 +142,37 @@ class Match:
             self.answer = Answer(behind, move, time.monotonic())
             return move
 
+    def rehearse(self, turns: tuple[Turn, ...], until: float) -> Future[Position]:
+        """Begins to work out without the solver how play stands."""
+        found: Future[Position] = Future()
+
+        def work() -> None:
+            try:
+                found.set_result(self.deep.legal(turns, Limit(until)))
+            except (Refusal, *NO_ANSWER) as fault:
+                found.set_exception(fault)
+
+        threading.Thread(target=work, daemon=True).start()
+        return found
+
     def position(self, turns: tuple[Turn, ...], until: float) -> Position | None:
         """How play stands, where that is told in time. A solver that seems to hang is ended at half
-        the time, and another one is asked; one that is known as slow is not."""
+        the time, and another one is asked; one that is known as slow is not. From then on it is
+        worked out without the solver too."""
         now = time.monotonic()
         half = until if 4 * self.usual > until - now else (now + until) / 2
-        for limit in (half, until):
-            try:
-                return self.quick.moves(turns, Limit(limit))
-            except NO_ANSWER:
-                continue
-        return None
+        try:
+            return self.quick.moves(turns, Limit(half))
+        except NO_ANSWER:
+            rehearsed = self.rehearse(turns, until)
+        try:
+            return self.quick.moves(turns, Limit(until - RESERVE * (until - half)))
+        except NO_ANSWER:
+            pass
+        try:
+            return rehearsed.result(max(until - time.monotonic(), 0))
+        except (TimeoutError, *NO_ANSWER):
+            return None
 
     def move(self, behind: Turn | None, until: float) -> str:
         """The move behind a turn, which from now on is part of the history."""

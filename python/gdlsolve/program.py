@@ -15,6 +15,7 @@ from dataclasses import dataclass
 from pathlib import Path
 
 VARIABLE = "GDLSOLVE_PROGRAM"
+NAME = "gdlsolve"
 # How long a child is waited for before it is asked again whether its answer is still wanted: at
 # first, and at most, in seconds.
 FIRST_BEAT = 0.01
@@ -44,6 +45,19 @@ def named() -> list[str]:
     return [text] if Path(text).is_file() else shlex.split(text)
 
 
+def own() -> Path | None:
+    """The program inside of the package, or that of the clone in which the package stands."""
+    package = Path(__file__).resolve().parent
+    places = (package / "bin" / NAME, package.parent.parent / "out" / NAME)
+    return next((file for file in places if os.access(file, os.X_OK)), None)
+
+
+def words() -> list[str]:
+    """The words that start the program that is named, or else its own, or none where there is none."""
+    file = own()
+    return named() or ([str(file)] if file else [])
+
+
 def environment() -> dict[str, str]:
     """The environment, in which this package is found."""
     package = str(Path(__file__).resolve().parent.parent)
@@ -51,7 +65,7 @@ def environment() -> dict[str, str]:
     return {**os.environ, "PYTHONPATH": path}
 
 
-def _dies_with(parent: int) -> Callable[[], None]:
+def dies_with(parent: int) -> Callable[[], None]:
     """What a child does first: it asks to be killed when the one who started it ends."""
 
     def begin() -> None:
@@ -95,7 +109,7 @@ def run(
         stdout=subprocess.PIPE,
         stderr=subprocess.PIPE,
         env=known,
-        preexec_fn=_dies_with(os.getpid()),
+        preexec_fn=dies_with(os.getpid()),
     ) as child:
         try:
             output, errors = _outputs(child, rules, stopped)

@@ -65,6 +65,12 @@ class Position:
                 legal[role] = legal.get(role, ()) + (move,)
         return cls(State(state), goals, legal)
 
+    def told(self) -> str:
+        """The lines of `moves` that tell the position."""
+        goals = [f"goal {role} {goal}" for role, goal in self.goals.items()]
+        legal = [f"legal {role} {move}" for role, moves in self.legal.items() for move in moves]
+        return "".join(f"{line}\n" for line in [f"state {self.state.value}", *goals, *legal])
+
 
 @dataclass(frozen=True)
 class Standing:

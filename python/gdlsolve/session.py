@@ -1,77 +1,125 @@
 """Many questions over rules that are read once, to one process of the program: `gdlsolve serve`."""
 from __future__ import annotations
 
-import os
-import re
 import subprocess
 import threading
-from collections.abc import Sequence
+from collections.abc import Callable, Iterator, Sequence
+from itertools import pairwise
 from pathlib import Path
 from types import TracebackType
 from typing import IO
 
-from gdlsolve.calls import Misuse, Refusal, Reply, Status, lines_of
+from gdlsolve import program
+from gdlsolve.calls import Misuse, Reply, Status, by_program
 from gdlsolve.commands import Bound, History, history_text, question
 from gdlsolve.replies import Description, Network, Outside, Position, Solution, Standing, Values
+from gdlsolve.terms import COMMENT, Malformed, trees
 
-BLANKS = " \t\r"
-COMMENT = re.compile(r";[^\n]*")
-
-
-def program_file() -> Path:
-    """The program: the one that a variable of the environment names, else that of the clone."""
-    named = os.environ.get("GDLSOLVE_PROGRAM")
-    if named:
-        return Path(named)
-    built = Path(__file__).resolve().parent.parent.parent / "out/gdlsolve"
-    if not built.exists():
-        raise FileNotFoundError(f"there is no {built}: ./gdlsolve --prove builds it, or GDLSOLVE_PROGRAM names another")
-    return built
+# So many bytes of requests are written before a frame is read; a pipe takes twice as many.
+AT_ONCE = 1 << 15
 
 
-def words_of(line: str) -> list[str]:
-    """The words of a line, as a session reads them: a word that begins with a bracket goes on over all brackets behind it."""
-    words: list[str] = []
-    start, end, opened, between = 0, 0, 0, True
-    for at, letter in enumerate(line):
-        stands = opened > 0 or letter not in BLANKS
-        if stands and between and not (letter == "(" == line[start]):
-            words.append(line[start:end])
-            start = at
-        if stands:
-            end = at + 1
-        between = not stands
-        opened = max(opened + (letter == "(") - (letter == ")"), 0)
-    return [word for word in [*words, line[start:end]] if word]
+def program_words() -> list[str]:
+    """The words that start the program: the one that a variable of the environment names, else that of the package or of the clone."""
+    found = program.words()
+    if not found:
+        raise FileNotFoundError(f"there is no program: ./gdlsolve --prove builds it, or {program.VARIABLE} names another")
+    return found
+
+
+def _is_list(word: str) -> bool:
+    """Whether a word begins with a bracket, and so goes on over all lists behind it."""
+    return word.startswith("(")
+
+
+def _is_one(word: str) -> bool:
+    """Whether a session reads a text as one word: lists alone, or what has neither blanks nor brackets."""
+    if ";" in word or "\n" in word:
+        return False
+    if not _is_list(word):
+        return bool(word) and not set(" \t\r()") & set(word)
+    try:
+        return word.endswith(")") and all(map(_is_list, trees(word)))
+    except Malformed:
+        return False
 
 
 def line_of(words: Sequence[str]) -> bytes:
-    """The line that asks for these words; there is none for a word with a line feed, an empty one, or one that a line would part."""
-    line = " ".join(words)
-    if "\n" in line or words_of(line) != list(words):
+    """The line that asks for these words. For some there is none, as for an empty one, or two lists that follow each other."""
+    if not all(map(_is_one, words)) or any(_is_list(one) and _is_list(next) for one, next in pairwise(words)):
         raise Misuse(f"no line has these words: {list(words)!r}")
-    return line.encode() + b"\n"
+    return " ".join(words).encode() + b"\n"
 
 
-def _one_line(after: History) -> str:
+def one_line(after: History) -> str:
     """The text of a history without its comments and line feeds."""
     return " ".join(COMMENT.sub(" ", history_text(after)).split())
+
+
+class Process:
+    """A process of `gdlsolve serve`, which is asked one request after the other. `ProcessLookupError` tells that it has ended."""
+
+    def __init__(self, command: Sequence[str], begin: Callable[[], None] | None = None):
+        self._process = subprocess.Popen([*command, "serve"], stdin=subprocess.PIPE, stdout=subprocess.PIPE, preexec_fn=begin)
+        assert self._process.stdin is not None and self._process.stdout is not None
+        self._requests: IO[bytes] = self._process.stdin
+        self._frames: IO[bytes] = self._process.stdout
+
+    def close(self) -> None:
+        """Ends the process."""
+        self._process.kill()
+        self._process.wait()
+        self._frames.close()
+        try:
+            self._requests.close()
+        except BrokenPipeError:
+            pass
+
+    def _frame(self) -> Reply:
+        """The next frame."""
+        status, size = map(int, self._frames.readline().split())
+        output = self._frames.read(size)
+        if len(output) < size:
+            raise EOFError
+        return Reply(Status(status), output)
+
+    def exchange(self, requests: Sequence[bytes]) -> list[Reply]:
+        """The frames of requests, which are written before the first frame is read. Together they are no longer than a pipe."""
+        try:
+            self._requests.write(b"".join(requests))
+            self._requests.flush()
+            return [self._frame() for _ in requests]
+        except (OSError, ValueError, EOFError):
+            raise ProcessLookupError("the session has ended") from None
+
+    def replies(self, lines: Sequence[bytes]) -> Iterator[Reply]:
+        """The replies to lines, of which as many are written at once as a pipe takes."""
+        start, size = 0, 0
+        for end, line in enumerate(lines):
+            if start < end and size + len(line) > AT_ONCE:
+                yield from self.exchange(lines[start:end])
+                start, size = end, 0
+            size += len(line)
+        yield from self.exchange(lines[start:])
+
+    def stand(self, rules: bytes) -> None:
+        """Takes other rules, which stand from then on."""
+        [told] = self.exchange([b"rules %d\n" % len(rules) + rules])
+        if told.status == Status.NO_MEMORY:
+            raise MemoryError
 
 
 class Session:
     """Questions over rules that are read once. It is closed by `close`, or at the end of a `with`.
 
     The calls are those of the package without their first argument, and several threads may call at once: each waits for those before
-    it. `ProcessLookupError` tells that the process has ended.
+    it. `ProcessLookupError` tells that the process has ended. What explains a refusal is asked of another process when it is first read.
     """
 
     def __init__(self, rules: bytes | str, program: str | Path | None = None):
         self._lock = threading.Lock()
-        command = [str(program or program_file()), "serve"]
-        self._process = subprocess.Popen(command, stdin=subprocess.PIPE, stdout=subprocess.PIPE)
-        assert self._process.stdin is not None and self._process.stdout is not None
-        self._requests: IO[bytes] = self._process.stdin
-        self._frames: IO[bytes] = self._process.stdout
+        self._command = [str(program)] if program else program_words()
+        self._process = Process(self._command)
         try:
             self.stand(rules)
         except BaseException:
@@ -86,48 +134,30 @@ class Session:
 
     def close(self) -> None:
         """Ends the session."""
-        self._process.kill()
-        self._process.wait()
-        self._frames.close()
-        try:
-            self._requests.close()
-        except BrokenPipeError:
-            pass
-
-    def _exchange(self, request: bytes) -> Reply:
-        """The frame of a request."""
-        with self._lock:
-            try:
-                self._requests.write(request)
-                self._requests.flush()
-                status, size = map(int, self._frames.readline().split())
-                output = self._frames.read(size)
-            except (OSError, ValueError):
-                raise ProcessLookupError("the session has ended") from None
-        if len(output) < size:
-            raise ProcessLookupError("the session has ended")
-        if status == Status.NO_MEMORY:
-            raise MemoryError
-        return Reply(Status(status), output)
+        self._process.close()
 
     def stand(self, rules: bytes | str) -> None:
         """Takes other rules, which stand from then on."""
-        text = rules.encode() if isinstance(rules, str) else bytes(rules)
-        self._exchange(b"rules %d\n" % len(text) + text)
+        with self._lock:
+            self._rules = rules.encode() if isinstance(rules, str) else bytes(rules)
+            self._process.stand(self._rules)
 
     def reply(self, words: Sequence[str]) -> Reply:
         """The reply to the words of the program, over the rules that stand."""
-        return self._exchange(line_of(words))
+        line = line_of(words)
+        with self._lock:
+            rules, [told] = self._rules, self._process.exchange([line])
+        if told.status == Status.NO_MEMORY:
+            raise MemoryError
+
+        def explain() -> str:
+            return by_program(self._command, words, rules).errors.decode(errors="replace")
+
+        return Reply(told.status, told.output, explain=explain)
 
     def _answer(self, words: Sequence[str]) -> list[str]:
         """The lines of the answer to a command, where it is one."""
-        told = self.reply(words)
-        if told.status == Status.MISUSE:
-            raise Misuse(told.output.decode().rstrip("\n"))
-        lines = lines_of(told.output)
-        if told.status == Status.REFUSED:
-            raise Refusal(lines[0])
-        return lines
+        return self.reply(words).lines()
 
     def show(self) -> tuple[str, ...]:
         """The canonical text of each tree."""
@@ -143,7 +173,7 @@ class Session:
 
     def _after(self, words: list[str], after: History) -> list[str]:
         """The lines of the answer to a command after a history."""
-        text = _one_line(after)
+        text = one_line(after)
         return self._answer([*words, "--after", text] if text else words)
 
     def moves(self, after: History = "") -> Position:

@@ -1,8 +1,9 @@
 """Matches at random, led by those before them.
 
-A tree of positions grows by one with each match. In it each role goes for what brought it much, and
-for what it knows little of; behind it all moves are at random. So the more matches, the more the
-replies are good ones. Of a new position a short search tells whether it is won or lost already.
+A tree of positions grows by one at a time. In it each role goes for what brought it much, and for
+what it knows little of; behind it some matches are played at once, with all moves at random. So the
+more matches, the more the replies are good ones. Of a new position a short search tells whether it
+is won or lost already.
 """
 
 from __future__ import annotations
@@ -12,10 +13,11 @@ import math
 import random
 import threading
 import time
-from collections.abc import Sequence
+from collections.abc import Mapping, Sequence
 from dataclasses import dataclass, field
 
-from gdlsolve.engine import Broken, Engine, Late, Limit, Turn
+from gdlsolve.calls import Misuse
+from gdlsolve.engine import Broken, Engine, Late, Limit, Playouts, Turn
 from gdlsolve.replies import Position, State
 
 # The goals of a match that is broken off, and after so many turns one is.
@@ -27,9 +29,15 @@ CURIOSITY = 0.7
 GRACE = 0.25
 # The short search goes a turn deeper where it was quicker than the first of these times, and a turn
 # less where it was slower than the second, in seconds; where the third is over, there is no more.
-QUICK, SLOW, TOO_SLOW = 0.005, 0.025, 0.5
-# So many matches are played for a question, and so many positions added to the tree, at most.
-MOST_MATCHES = 20_000
+QUICK, SLOW, TOO_SLOW = 0.002, 0.01, 0.5
+# So many matches go on at once at most, twice as many where a turn of them was quicker than the
+# first of these times, and half as many where it was slower than the second, in seconds.
+MOST_AT_ONCE = 16
+# So many matches are played behind a new position where the child process plays them by itself.
+BY_CHILD = 32
+QUICK_TURN, SLOW_TURN = 0.02, 0.2
+# So often the tree is gone through for a question, and so many positions are added, at most.
+MOST_PASSES = 20_000
 MOST_NODES = 5_000
 # The greatest depth that the solver takes.
 MOST_DEPTH = 64
@@ -83,10 +91,23 @@ class Seat:
 
         return max(self.tried, key=promise)
 
-    def note(self, move: str, goal: int) -> None:
-        """Puts down what a match with this move brought."""
-        self.gained[move] += goal
-        self.tried[move] += 1
+    def note(self, move: str, goals: int, matches: int) -> None:
+        """Puts down what some matches with this move brought in all."""
+        self.gained[move] += goals
+        self.tried[move] += matches
+
+
+@dataclass(frozen=True)
+class Outcome:
+    """What some matches brought each role in all."""
+
+    goals: dict[str, int]
+    matches: int
+
+    @classmethod
+    def of(cls, goals: Mapping[str, int], matches: int) -> Outcome:
+        """The outcome of so many matches that end with the same goals."""
+        return cls({role: goal * matches for role, goal in goals.items()}, matches)
 
 
 @dataclass
@@ -105,10 +126,10 @@ class Node:
             self.seats = {role: Seat(moves) for role, moves in self.here.legal.items()}
         return tuple(seat.choose(dice) for seat in self.seats.values())
 
-    def note(self, turn: Turn, goals: dict[str, int]) -> None:
-        """Puts down what a match with this turn brought each role."""
+    def note(self, turn: Turn, found: Outcome) -> None:
+        """Puts down what some matches with this turn brought each role."""
         for move, (role, seat) in zip(turn, self.seats.items()):
-            seat.note(move, goals.get(role, 0))
+            seat.note(move, found.goals.get(role, 0), found.matches)
 
 
 class Simulation:
@@ -124,6 +145,10 @@ class Simulation:
         self.nodes = 0
         # How many turns the short search looks ahead, or 0 where there is none.
         self.ahead = 1
+        # How many matches go on at once, and how many there were in all.
+        self.at_once = BY_CHILD
+        self.by_child = True
+        self.matches = 0
 
     @property
     def seat(self) -> Seat:
@@ -140,21 +165,52 @@ class Simulation:
         tried = [move for move, times in seat.tried.items() if times]
         return sorted(tried, key=lambda move: (seat.tried[move], seat.mean(move)), reverse=True)
 
-    def position(self, turns: list[Turn], stop: threading.Event) -> Position:
-        """How play stands after these turns."""
-        limit = Limit(self.question.until + GRACE, stop, GRACE)
-        return self.engine.moves(turns, limit)
+    def limit(self, stop: threading.Event) -> Limit:
+        """Until when an answer on positions is waited for."""
+        return Limit(self.question.until + GRACE, stop, GRACE)
 
-    def goals(
-        self, here: Position, turns: list[Turn], stop: threading.Event
-    ) -> dict[str, int] | None:
-        """What each role has at the end of a match that goes on at random, if it is not stopped."""
-        while here.state is State.OPEN and len(turns) < len(self.question.turns) + MOST_TURNS:
+    def longest(self, histories: Sequence[list[Turn]]) -> bool:
+        """Whether matches with these turns are broken off."""
+        return any(len(turns) >= len(self.question.turns) + MOST_TURNS for turns in histories)
+
+    def asked(self, turns: list[Turn], stop: threading.Event) -> tuple[Position, Outcome | None]:
+        """How play stands after these turns, and what matches bring that go on at random, where the
+        child process plays them."""
+        if self.by_child:
+            asked = Playouts(self.at_once, MOST_TURNS, UNFINISHED, self.dice.getrandbits(32))
+            try:
+                here, goals = self.engine.played(turns, asked, self.limit(stop))
+                return here, Outcome(goals, self.at_once)
+            except Misuse:
+                self.by_child, self.at_once = False, MOST_AT_ONCE // 2
+        return self.engine.positions([turns], self.limit(stop))[0], None
+
+    def goals(self, here: Position, turns: list[Turn], stop: threading.Event) -> Outcome | None:
+        """What matches bring that go on at random, turn by turn all at once, if they are not
+        stopped."""
+        count = self.at_once
+        going = [(here, list(turns)) for _ in range(count)]
+        ended: list[Mapping[str, int]] = []
+        while going and not self.longest([each for _, each in going]):
             if stop.is_set():
                 return None
-            turns.append(tuple(map(self.dice.choice, here.legal.values())))
-            here = self.position(turns, stop)
-        return dict.fromkeys(here.legal, UNFINISHED) if here.state is State.OPEN else here.goals
+            for position, each in going:
+                each.append(tuple(map(self.dice.choice, position.legal.values())))
+            begun = time.monotonic()
+            found = self.engine.positions([each for _, each in going], self.limit(stop))
+            self.measure(time.monotonic() - begun)
+            ended += [position.goals for position in found if position.state is not State.OPEN]
+            both = zip(found, [each for _, each in going])
+            going = [(position, each) for position, each in both if position.state is State.OPEN]
+        ended += [dict.fromkeys(here.legal, UNFINISHED) for _ in going]
+        return Outcome({role: sum(each.get(role, 0) for each in ended) for role in here.legal}, count)
+
+    def measure(self, took: float) -> None:
+        """Has more matches go on at once, or less, by how long a turn took."""
+        if took < QUICK_TURN:
+            self.at_once = min(2 * self.at_once, MOST_AT_ONCE)
+        elif took > SLOW_TURN:
+            self.at_once = max(self.at_once // 2, 1)
 
     def look(self, turns: list[Turn], stop: threading.Event) -> int | None:
         """The value that a short search tells."""
@@ -181,34 +237,43 @@ class Simulation:
             return None
         return {each: value if each == self.question.role else 100 - value for each in here.legal}
 
-    def grown(self, node: Node, turn: Turn, turns: list[Turn], stop: threading.Event) -> Node:
-        """The position behind a turn, which is new in the tree."""
-        here = self.position(turns, stop)
+    def grown(
+        self, node: Node, turn: Turn, turns: list[Turn], stop: threading.Event
+    ) -> tuple[Node, Outcome | None]:
+        """The position behind a turn, which is new in the tree, and what matches behind it bring."""
+        here, found = self.asked(turns, stop)
         made = Node(here, self.known(here, turns, stop))
         if self.nodes < MOST_NODES:
             node.next[turn] = made
             self.nodes += 1
-        return made
+        if made.goals is not None:
+            return made, None
+        found = found or self.goals(here, turns, stop)
+        self.matches += found.matches if found else 0
+        return made, found
 
-    def match(self, stop: threading.Event) -> None:
-        """Plays a match, and puts down what it brought."""
+    def grow(self, stop: threading.Event) -> None:
+        """Goes through the tree to a new position, and puts down what matches behind it brought."""
         node, turns = self.root, list(self.question.turns)
         path: list[tuple[Node, Turn]] = []
-        is_new = False
-        while node.goals is None and not is_new:
+        found: Outcome | None = None
+        while node.goals is None and found is None:
+            if stop.is_set():
+                return
             turn = node.turn(self.dice)
             path.append((node, turn))
             turns.append(turn)
-            is_new = turn not in node.next
-            node = self.grown(node, turn, turns, stop) if is_new else node.next[turn]
-        goals = node.goals or self.goals(node.here, turns, stop)
-        if goals is not None:
-            for place, turn in path:
-                place.note(turn, goals)
+            if turn in node.next:
+                node = node.next[turn]
+            else:
+                node, found = self.grown(node, turn, turns, stop)
+        found = found or Outcome.of(node.goals or {}, self.at_once)
+        for place, turn in path:
+            place.note(turn, found)
 
     def run(self, stop: threading.Event) -> None:
         """Plays until it is stopped, or more matches would say no more."""
-        for _ in range(MOST_MATCHES):
+        for _ in range(MOST_PASSES):
             if stop.is_set():
                 return
-            self.match(stop)
+            self.grow(stop)

@@ -1,8 +1,44 @@
-"""The parts of a line: names and lists, with one space between two of them."""
+"""Texts of names and lists: the trees of any text, and the parts of a line in canonical form."""
+import re
 from collections.abc import Iterator
+from functools import lru_cache
+
+TOKEN = re.compile(r"[()]|[^\t-\r ();]+")
+COMMENT = re.compile(r";[^\n]*")
+
+
+class Malformed(ValueError):
+    """A text is not what it should be. The message says why."""
+
+
+def tokens(text: str) -> list[str]:
+    """The brackets and the names of a text, in lower case and without comments."""
+    return TOKEN.findall(COMMENT.sub(" ", text).lower())
+
+
+def trees(text: str) -> list[str]:
+    """The canonical text of each tree of a text.
+
+    >>> trees("(PLAY m.1 NIL) ; the first\\n( a )")
+    ['(play m.1 nil)', '(a)']
+    """
+    found: list[str] = []
+    depth, parts = 0, list[str]()
+    for token in tokens(text):
+        depth += (token == "(") - (token == ")")
+        if depth < 0:
+            raise Malformed("a bracket closes nothing")
+        parts.append(token)
+        if depth == 0:
+            found.append(" ".join(parts).replace("( ", "(").replace(" )", ")"))
+            parts = []
+    if depth:
+        raise Malformed("a bracket is closed nowhere")
+    return found
 
 
 def _parts(line: str) -> Iterator[str]:
+    """The parts of a line that has brackets."""
     depth = start = 0
     for place, letter in enumerate(line):
         depth += (letter == "(") - (letter == ")")
@@ -13,10 +49,16 @@ def _parts(line: str) -> Iterator[str]:
         yield line[start:]
 
 
+@lru_cache(1024)
+def _known(line: str) -> tuple[str, ...]:
+    """The parts of a line. Answers over one game have few lines, and these again and again."""
+    return tuple(_parts(line) if "(" in line else line.split())
+
+
 def terms(line: str) -> list[str]:
     """The names and lists of a line in canonical form.
 
     >>> terms("line 1 (mark 1 1) noop")
     ['line', '1', '(mark 1 1)', 'noop']
     """
-    return list(_parts(line))
+    return list(_known(line))

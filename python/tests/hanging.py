@@ -1,32 +1,34 @@
 """A child process that answers as that of the package, but for commands that a file names.
 
-    hanging.py FILE
+    hanging.py FILE [--session] [PROGRAM WORDS..]
 
 It hangs at a command whose first word stands in the file, and with the word `end` there it ends."""
 
 import sys
 import time
+from collections.abc import Sequence
 from pathlib import Path
 
 sys.path.insert(0, str(Path(__file__).resolve().parent.parent))
 
-from gdlsolve import answering
+from gdlsolve.answering import Answers, run
 from gdlsolve.calls import Reply
 
-OWN = answering.answered
-# What is left of the command line is the answering module's own.
-HELD = Path(sys.argv.pop(1))
+
+class Hanging(Answers):
+    """Answers where a file does not say otherwise."""
+
+    def __init__(self, held: Path, words: Sequence[str]):
+        super().__init__(words)
+        self.held = held
+
+    def replies(self, batch: Sequence[Sequence[str]], rules: bytes) -> list[Reply]:
+        held = self.held.read_text().split()
+        if "end" in held:
+            raise SystemExit(1)
+        if any(words[0] in held for words in batch):
+            time.sleep(3600)
+        return super().replies(batch, rules)
 
 
-def answered(words: bytes, rules: bytes) -> Reply:
-    """The reply, where the file does not say otherwise."""
-    held = HELD.read_text().split()
-    if "end" in held:
-        raise SystemExit(1)
-    if words.decode().split("\0")[0] in held:
-        time.sleep(3600)
-    return OWN(words, rules)
-
-
-answering.answered = answered
-answering.main()
+run(Hanging(Path(sys.argv[1]), sys.argv[2:]))

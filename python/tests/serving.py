@@ -15,13 +15,15 @@ from pathlib import Path
 from typing import Any
 from unittest import TestCase
 
-from gdlsolve.engine import Broken, Children, Engine, Limit
+from gdlsolve.engine import SESSION_COMMAND, Broken, Children, Engine, Limit
 from gdlsolve.player import Options, Player, Server
-from tests import ENDLESS, ENDLESS_RULES, TOP
+from tests import ENDLESS, ENDLESS_RULES, PROGRAM, TOP
 
 HANGING = Path(__file__).with_name("hanging.py")
 # A machine may be busy: so long an answer is waited for that has to come.
 LONG = 60.0
+# Processes that ask the program in sessions, or the library where there is no program.
+SESSIONS = [*SESSION_COMMAND, *PROGRAM]
 
 
 def pace() -> float:
@@ -76,11 +78,26 @@ def post(url: str, message: str | bytes, seconds: float = LONG) -> tuple[int, st
             return fault.code, fault.read().decode()
 
 
+class Asking(TestCase):
+    """Tests that ask engines."""
+
+    def setUp(self) -> None:
+        self.children = Children(4, SESSIONS)
+        self.addCleanup(self.children.close)
+
+    def engine(self, rules: str) -> Engine:
+        """An engine that has begun its work."""
+        made = Engine(rules, self.children)
+        self.addCleanup(made.close)
+        made.check(Limit(time.monotonic() + LONG))
+        return made
+
+
 class Served:
     """A player that serves while a test runs."""
 
     def __init__(self, test: TestCase, command: Sequence[str] | None = None, **options: Any):
-        self.player = Player(Options(is_quiet=True, **options), command)
+        self.player = Player(Options(is_quiet=True, **options), command or SESSIONS)
         self.server = Server("127.0.0.1", 0, self.player)
         self.url = f"http://127.0.0.1:{self.server.server_address[1]}"
         thread = threading.Thread(target=self.server.serve_forever, args=(0.05,), daemon=True)
@@ -123,7 +140,7 @@ class Held:
         test.addCleanup(folder.cleanup)
         self.file = Path(folder.name) / "held"
         self.at("")
-        self.command = [sys.executable, str(HANGING), str(self.file)]
+        self.command = [sys.executable, str(HANGING), str(self.file), "--session", *PROGRAM]
 
     def at(self, words: str) -> None:
         """From now on it hangs at these commands."""

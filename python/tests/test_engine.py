@@ -14,7 +14,7 @@ import gdlsolve
 from gdlsolve import Misuse, Refusal
 from gdlsolve.engine import Broken, Child, Children, Engine, Late, Limit
 from tests import GAMES, TOP, known
-from tests.serving import HANGING, LONG, is_alive, wait_for_end
+from tests.serving import HANGING, LONG, Asking, is_alive, wait_for_end
 
 MARKS = (TOP / "games/tic_tac_toe.kif").read_text()
 
@@ -24,16 +24,7 @@ def soon(seconds: float = LONG) -> Limit:
     return Limit(time.monotonic() + seconds)
 
 
-class Answers(unittest.TestCase):
-    def setUp(self) -> None:
-        self.children = Children(2)
-        self.addCleanup(self.children.close)
-
-    def engine(self, rules: str) -> Engine:
-        made = Engine(rules, self.children)
-        self.addCleanup(made.close)
-        return made
-
+class Answers(Asking):
     def test_they_are_those_of_the_library(self) -> None:
         for game in GAMES:
             with self.subTest(game=game.stem):

@@ -2,7 +2,8 @@
 
 import unittest
 
-from gdlsolve.messages import Malformed, Message, clock, parts_of, tree, trees, turn
+from gdlsolve.messages import Message, clock, parts_of, tree, turn
+from gdlsolve.terms import Malformed, trees
 
 
 class Reading(unittest.TestCase):
@@ -52,7 +53,7 @@ class Reading(unittest.TestCase):
                 Message.of(text)
 
     def test_trees(self) -> None:
-        self.assertEqual(list(trees("A (b ( C)());x\n d")), ["a", "(b (c) ())", "d"])
+        self.assertEqual(trees("A (b ( C)());x\r y\n d"), ["a", "(b (c) ())", "d"])
         self.assertEqual(tree("(Mark 1 1)\r\n"), "(mark 1 1)")
         for text in ("", "a b", "(a"):
             with self.assertRaises(Malformed):

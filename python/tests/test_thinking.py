@@ -5,11 +5,11 @@ import time
 import unittest
 
 import gdlsolve
-from gdlsolve.engine import Children, Engine, Limit, Turn
+from gdlsolve.engine import Children, Engine, Turn
 from gdlsolve.simulation import Question
 from gdlsolve.thinking import Choice, Thinking
 from tests import TOP
-from tests.serving import LONG, PACE
+from tests.serving import PACE, Asking
 
 # One role, which loses at once or one turn later.
 LOST = """
@@ -28,17 +28,7 @@ SURE = """
 """
 
 
-class Choices(unittest.TestCase):
-    def setUp(self) -> None:
-        self.children = Children(4)
-        self.addCleanup(self.children.close)
-
-    def engine(self, rules: str) -> Engine:
-        """An engine that has begun its work."""
-        made = Engine(rules, self.children)
-        made.check(Limit(time.monotonic() + LONG))
-        return made
-
+class Choices(Asking):
     def choice(
         self, rules: str, role: str, seconds: float, turns: tuple[Turn, ...] = (), depth: int = 64
     ) -> Choice:

@@ -14,7 +14,7 @@ from typing import Any
 from gdlsolve.calls import Refusal
 
 EXPLAINED = re.compile(r"^[^\n]*?:(\d+):(\d+): ", re.MULTILINE)
-TOKEN = re.compile(rb";[^\n\r]*|[()]|[^\s();]+")
+TOKEN = re.compile(rb";[^\n]*|[()]|[^\t-\r ();]+")
 
 # What each fault is, and what helps. docs/USAGE.md says more.
 CAUSES = {

@@ -14,9 +14,8 @@ from dataclasses import dataclass
 from pathlib import PurePosixPath
 from typing import Any
 
-from gdlsolve.terms import terms
+from gdlsolve.terms import Malformed, terms, trees
 
-TOKEN = re.compile(r"[()]|[^\s();]+")
 VERSION = re.compile(r"v\d+")
 
 
@@ -34,22 +33,11 @@ class Record:
 
 
 def canonical(text: str) -> list[str]:
-    """The terms of a text in canonical form: lower case, and one space between two parts."""
-    without = re.sub(r";[^\n]*", "", text).lower()
-    found: list[str] = []
-    depth = 0
-    current: list[str] = []
-    for token in TOKEN.findall(without):
-        depth += (token == "(") - (token == ")")
-        if depth < 0:
-            raise BadRecord("A bracket closes nothing.")
-        current.append(token)
-        if depth == 0:
-            found.append(" ".join(current).replace("( ", "(").replace(" )", ")"))
-            current = []
-    if depth:
-        raise BadRecord("A bracket is closed nowhere.")
-    return found
+    """The canonical text of each tree of a text."""
+    try:
+        return trees(text)
+    except Malformed as fault:
+        raise BadRecord(f"{str(fault).capitalize()}.") from None
 
 
 def _of_history(text: str) -> Record:

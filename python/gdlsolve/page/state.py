@@ -6,20 +6,13 @@ never ends and a role has a further move `(see P)` for each P that holds, which 
 
 from __future__ import annotations
 
-import re
 from collections.abc import Callable, Sequence
 
 from gdlsolve.calls import Misuse, Refusal
 from gdlsolve.engine import Turn, history
-from gdlsolve.terms import terms
+from gdlsolve.terms import terms, tokens
 
 Ask = Callable[[Sequence[str], bytes], list[str]]
-TOKEN = re.compile(r"[()]|[^\s();]+")
-
-
-def tokens(rules: bytes) -> list[str]:
-    """The brackets and the names of rules."""
-    return TOKEN.findall(re.sub(r";[^\n\r]*", "", rules.decode("latin-1")).lower())
 
 
 def _fresh(name: str, taken: set[str]) -> str:
@@ -31,7 +24,7 @@ def _fresh(name: str, taken: set[str]) -> str:
 def watching(rules: bytes, role: str, asked: str) -> tuple[bytes, str]:
     """Rules in which a role has a move for each term that `asked` says, and the name of that move.
     `asked` is `true` for what holds, `base` for what can ever hold."""
-    words = tokens(rules)
+    words = tokens(rules.decode("latin-1"))
     taken = set(words)
     renamed = {name: _fresh(name, taken) for name in ("legal", "input", "terminal")}
     see = _fresh("see", taken)

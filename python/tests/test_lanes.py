@@ -1,0 +1,124 @@
+"""Matches at random and legal moves in Python, held against the solver's."""
+
+import random
+import time
+import unittest
+
+import gdlsolve
+from gdlsolve import Misuse, Position, State, Status
+from gdlsolve.engine import Limit, Playouts, Turn
+from gdlsolve.grounding import Grounding, TooLarge
+from gdlsolve.lanes import Lanes, Rehearsal
+from tests import GAMES, TOP
+from tests.serving import LONG, Asking
+
+MARKS = (TOP / "games/tic_tac_toe.kif").read_text()
+# So long a match of a test is at most.
+TURNS = 30
+# Rules in which each kind of literal stands, and roles and moves are lists.
+ALL_KINDS = """
+(role (p 1)) (role (p 2)) (number 0) (number 1) (number 2) (more 0 1) (more 1 2)
+(base (heap ?n)) (base (told ?n)) (<= (base (heap ?n)) (number ?n)) (base (turn (p 1))) (base (turn (p 2)))
+(<= (base (told ?n)) (number ?n))
+(init (heap 2)) (init (turn (p 1))) (init (elsewhere 1))
+(<= (input ?r (take ?n)) (role ?r) (number ?n)) (<= (input ?r wait) (role ?r))
+(<= (legal ?r (take ?n)) (true (turn ?r)) (true (heap ?m)) (or (more ?n ?m) (and (number ?n) (not (distinct ?n ?m)))) (distinct ?n 0))
+(<= (legal ?r wait) (role ?r) (not (true (turn ?r))))
+(<= (legal ?r never) (role ?r))
+(<= (next (heap ?k)) (true (heap ?m)) (does ?r (take ?n)) (less ?m ?n ?k))
+(less 2 1 1) (less 2 2 0) (less 1 1 0)
+(<= (next (turn ?r)) (role ?r) (not (true (turn ?r))))
+(<= (next (told ?n)) (does (p 1) (take ?n)) (not (true (told ?n))))
+(<= over (true (heap 0))) (<= terminal over)
+(<= (goal ?r 007) (role ?r)) (<= (goal ?r 30) (role ?r)) (<= (goal ?r 100) (true (turn ?r)) over) (<= (goal ?r 101) (role ?r))
+"""
+
+
+def lanes(rules: str) -> Lanes:
+    """The gates of rules."""
+    return Lanes(Grounding(rules, time.monotonic() + LONG))
+
+
+class Play(unittest.TestCase):
+    def same(self, rules: str, seed: int) -> None:
+        """Goes through a match at random, and compares all positions."""
+        own, dice, turns = lanes(rules), random.Random(seed), list[Turn]()
+        while True:
+            here = gdlsolve.moves(rules, turns)
+            self.assertEqual(own.position(tuple(turns)), here, turns)
+            if here.state is not State.OPEN or len(turns) == TURNS:
+                return
+            turns.append(tuple(map(dice.choice, here.legal.values())))
+
+    def test_positions_are_those_of_the_solver(self) -> None:
+        for game in GAMES:
+            with self.subTest(game=game.stem):
+                self.same(game.read_text(), len(game.stem))
+
+    def test_every_kind_of_literal(self) -> None:
+        for seed in range(4):
+            self.same(ALL_KINDS, seed)
+
+    def test_there_are_as_many_instances_as_the_network_has(self) -> None:
+        for game in GAMES:
+            with self.subTest(game=game.stem):
+                found = Grounding(game.read_text(), time.monotonic() + LONG)
+                self.assertEqual(len(found.instances), gdlsolve.net(game.read_bytes()).instances)
+
+    def test_every_end_of_nim_is_met_at_random(self) -> None:
+        rules = (TOP / "games/matching_pennies.kif").read_text()
+        goals = lanes(rules).playouts((), 4000, 9, 50, random.Random(1))
+        self.assertEqual(sum(goals.values()), 400_000)
+        for each in goals.values():
+            self.assertAlmostEqual(each / 4000, 50, delta=5)
+
+    def test_a_match_that_is_broken_off(self) -> None:
+        self.assertEqual(lanes(MARKS).playouts((), 10, 3, 50, random.Random(1)), {"xplayer": 500, "oplayer": 500})
+
+    def test_what_is_too_large(self) -> None:
+        numbers = "".join(f"(n {number})" for number in range(40))
+        rules = f"(role a) {numbers} (<= (p ?x ?y ?z) (n ?x) (n ?y) (n ?z))"
+        with self.assertRaises(TooLarge):
+            lanes(rules)
+        self.assertEqual(Rehearsal().reply(["legal"], rules.encode()).status, Status.MISUSE)
+
+
+class Asked(Asking):
+    def test_legal_moves_without_the_solver(self) -> None:
+        limit, turns = Limit(time.monotonic() + LONG), [("(mark 2 2)", "noop")]
+        engine = self.engine(MARKS)
+        self.assertEqual(engine.legal(turns, limit), gdlsolve.moves(MARKS, turns))
+        for turn in (("(mark 2 2)", "(mark 1 1)"), ("noop",), ("x", "noop")):
+            with self.assertRaises(gdlsolve.Refusal):
+                engine.legal([turn], limit)
+
+    def test_matches_at_random(self) -> None:
+        limit, asked = Limit(time.monotonic() + LONG), Playouts(32, 200, 50, 1)
+        here, goals = self.engine(MARKS).played([], asked, limit)
+        self.assertEqual(here, gdlsolve.moves(MARKS))
+        self.assertEqual(sum(goals.values()), 3200)
+        ended = [("(mark 1 1)", "noop"), ("noop", "(mark 2 1)"), ("(mark 1 2)", "noop"), ("noop", "(mark 2 2)"), ("(mark 1 3)", "noop")]
+        here, goals = self.engine(MARKS).played(ended, asked, limit)
+        self.assertEqual((here, goals), (Position(State.ENDED, {"xplayer": 100, "oplayer": 0}, {}), {"xplayer": 3200, "oplayer": 0}))
+
+    def test_hundreds_of_matches_a_second(self) -> None:
+        engine, asked = self.engine(MARKS), Playouts(32, 200, 50, 1)
+        engine.played([], asked, Limit(time.monotonic() + LONG))
+        took = []
+        for _ in range(20):
+            begun = time.monotonic()
+            engine.played([], asked, Limit(begun + LONG))
+            took.append(time.monotonic() - begun)
+        self.assertGreater(32 / min(took), 300)
+
+    def test_positions_behind_many_histories(self) -> None:
+        engine, moves = self.engine(MARKS), gdlsolve.moves(MARKS).legal["xplayer"]
+        histories = [[(move, "noop")] for move in moves]
+        found = engine.positions(histories, Limit(time.monotonic() + LONG))
+        self.assertEqual(found, [gdlsolve.moves(MARKS, turns) for turns in histories])
+        with self.assertRaises(Misuse):
+            engine.ask_all([["moves"], ["no such command"]], Limit(time.monotonic() + LONG))
+
+
+if __name__ == "__main__":
+    unittest.main()
