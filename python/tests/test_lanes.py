@@ -18,7 +18,7 @@ TURNS = 30
 # Rules in which each kind of literal stands, and roles and moves are lists.
 ALL_KINDS = """
 (role (p 1)) (role (p 2)) (number 0) (number 1) (number 2) (more 0 1) (more 1 2)
-(base (heap ?n)) (base (told ?n)) (<= (base (heap ?n)) (number ?n)) (base (turn (p 1))) (base (turn (p 2)))
+(<= (base (heap ?n)) (number ?n)) (base (turn (p 1))) (base (turn (p 2)))
 (<= (base (told ?n)) (number ?n))
 (init (heap 2)) (init (turn (p 1))) (init (elsewhere 1))
 (<= (input ?r (take ?n)) (role ?r) (number ?n)) (<= (input ?r wait) (role ?r))
