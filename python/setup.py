@@ -1,5 +1,6 @@
-"""Packs the shared object that c/build has built with the modules, and the licences of the repository. Where none was built the package
-goes without, and then asks the program that GDLSOLVE_PROGRAM names. All else is told in pyproject.toml."""
+"""Packs the shared object that c/build has built with the modules, the program where it is proved and built, and the licences of the
+repository. Where no shared object was built the package goes without, and then asks the program, or the one that GDLSOLVE_PROGRAM names.
+All else is told in pyproject.toml."""
 
 from __future__ import annotations
 
@@ -27,32 +28,50 @@ else:
 HERE = Path(__file__).resolve().parent
 TOP = HERE.parent
 LIBRARY = TOP / "c/out/libgdlsolve.so"
+# The clone, also where these sources are a copy of some of its folders.
+CLONE = (TOP / "c/build").resolve().parent.parent
+PROGRAM = CLONE / "out/gdlsolve"
 LICENCES = ("LICENSE-APACHE", "LICENSE-MIT", "COPYRIGHT")
 
 
+def is_fresh(*words: str | Path) -> bool:
+    """Whether something is made of the sources as they are."""
+    return subprocess.run(words, stdout=subprocess.DEVNULL, stderr=subprocess.DEVNULL, check=False).returncode == 0
+
+
 class WithLibrary(build_py):
-    """Puts the shared object beside the modules. It fails where that is older than what it is made of."""
+    """Puts the shared object and the program beside the modules. It fails where the shared object is older than what it is made of."""
 
     def run(self) -> None:
         super().run()
-        packed = Path(self.build_lib) / "gdlsolve" / LIBRARY.name
-        packed.unlink(missing_ok=True)
+        folder = Path(self.build_lib) / "gdlsolve"
+        library, program = folder / LIBRARY.name, folder / "bin" / PROGRAM.name
+        for packed in (library, program):
+            packed.unlink(missing_ok=True)
         if self.editable_mode:
             return
         if not LIBRARY.exists():
             print("gdlsolve goes without its library: c/build builds it", file=sys.stderr)
-            return
-        if subprocess.run([TOP / "c/build", "--fresh"], check=False).returncode:
+        elif not is_fresh(TOP / "c/build", "--fresh"):
             raise SystemExit(f"{LIBRARY} is older than what it is made of: run c/build first")
+        else:
+            self.pack(LIBRARY, library)
+        if PROGRAM.exists() and is_fresh(CLONE / "tools/prove.py", "program", "--fresh"):
+            self.pack(PROGRAM, program)
+        else:
+            print("gdlsolve goes without its program, and so without sessions: ./gdlsolve --prove builds it", file=sys.stderr)
+
+    def pack(self, file: Path, packed: Path) -> None:
+        """Puts a file among what is packed."""
         packed.parent.mkdir(parents=True, exist_ok=True)
-        shutil.copy2(LIBRARY, packed)
+        shutil.copy2(file, packed)
 
 
 class OfPlatform(Distribution):
-    """The shared object is of one platform."""
+    """The shared object and the program are of one platform."""
 
     def has_ext_modules(self) -> bool:
-        return LIBRARY.exists()
+        return LIBRARY.exists() or PROGRAM.exists()
 
 
 class ForAnyPython(bdist_wheel):

@@ -19,6 +19,7 @@ from typing import Any
 from gdlsolve.calls import ASKS_FOR_HELP, Ended, Misuse, Refusal, Reply, Status, lines_of, reply
 from gdlsolve.deepening import Deepest, deepen
 from gdlsolve.engine import Broken
+from gdlsolve.progress import progress
 from gdlsolve.replies import Description, Network, Outside, Position, Standing, Values
 
 USAGE = """
@@ -28,6 +29,8 @@ With this package a file of rules may stand among the words, else they are read 
 """
 # Words that ask for a text, to which no rules are read.
 ASKS = {*ASKS_FOR_HELP, "help"}
+# Commands that may take long.
+SEARCHES = (["solve"], ["values"])
 INPUT_FAILED = 4
 NO_PROGRAM = 70
 
@@ -141,12 +144,20 @@ def rules_of(line: Line) -> bytes:
     return sys.stdin.buffer.read() if line.game is None else line.game.read_bytes()
 
 
+def answered(line: Line, rules: bytes) -> Reply:
+    """The reply to the words. How long it takes is told where that may be long."""
+    if line.words[:1] not in SEARCHES:
+        return reply(line.words, rules)
+    with progress(f"{line.words[0]} looks ahead"):
+        return reply(line.words, rules)
+
+
 def run(words: Sequence[str]) -> int:
     """Does what the words ask for, and gives the exit status."""
     line = parse(words)
     rules = rules_of(line)
     if line.seconds is None:
-        return write(line, reply(line.words, rules))
+        return write(line, answered(line, rules))
     if line.words[:1] != ["solve"]:
         raise Misuse("--time goes with solve")
     return write_deepest(line, deepen(line.words, rules, line.seconds))

@@ -7,16 +7,13 @@ no further turn changes such a value.
 from __future__ import annotations
 
 import math
-import sys
 import time
-from collections.abc import Callable, Iterator, Sequence
-from contextlib import contextmanager
+from collections.abc import Iterator, Sequence
 from dataclasses import dataclass
-from importlib import import_module
-from typing import Any
 
 from gdlsolve.calls import Misuse, Reply, Status
 from gdlsolve.engine import Late, Limit, Pool
+from gdlsolve.progress import progress
 
 # The greatest depth that the program takes.
 MOST_TURNS = 64
@@ -30,21 +27,6 @@ class Deepest:
     depth: int
     reply: Reply
     settled: bool
-
-
-@contextmanager
-def _progress() -> Iterator[Callable[[str], None]]:
-    """A line on standard error that tells a text, where that is a terminal and `rich` is there; else nothing is told."""
-    if not sys.stderr.isatty():
-        yield lambda text: None
-        return
-    try:
-        console: Any = import_module("rich.console")
-    except ImportError:
-        yield lambda text: None
-        return
-    with console.Console(stderr=True).status("depth 1") as status:
-        yield status.update
 
 
 def _value(found: Reply) -> bytes:
@@ -80,11 +62,11 @@ def deepen(words: Sequence[str], rules: bytes, seconds: float) -> Deepest:
             raise Misuse(f"{word.partition('=')[0]} does not go with --time")
     until, pool = time.monotonic() + seconds, Pool(1)
     found: list[Deepest] = []
-    with _progress() as show:
+    with progress("1 turn ahead") as tell:
         try:
             for deepest in depths(pool, words, rules, until):
                 found.append(deepest)
-                show(f"depth {deepest.depth + 1}")
+                tell(f"{deepest.depth + 1} turns ahead")
         except Late:
             pass
         finally:

@@ -1,12 +1,17 @@
 """The command line of the package: files among the words, JSON, search by time, statuses."""
+import importlib.util
 import json
+import os
 import subprocess
+import tempfile
+import time
 import tomllib
 import unittest
 from collections.abc import Sequence
+from pathlib import Path
 
 import gdlsolve
-from tests import SAYS_NOTHING, TOP, known, package
+from tests import ENDLESS_RULES, SAYS_NOTHING, TOP, known, package
 
 PENNIES = TOP / "games/matching_pennies.kif"
 MARKS = TOP / "games/tic_tac_toe.kif"
@@ -87,6 +92,40 @@ class Time(unittest.TestCase):
 
     def test_refusals_are_told(self) -> None:
         self.assertEqual(command(["solve", "--role", "c", "--time", "1", PENNIES]), (2, "refused S1 NoSuchRole\n", ""))
+
+
+def with_lines() -> str:
+    """Where packages are that draw a line, or nothing where there are none."""
+    if any(map(importlib.util.find_spec, ("rich", "tqdm"))):
+        return str(TOP / "python")
+    debian = Path("/usr/lib/python3/dist-packages")
+    there = any((debian / name).is_dir() for name in ("rich", "tqdm"))
+    return f"{TOP / 'python'}:{debian}" if there else ""
+
+
+class Progress(unittest.TestCase):
+    @unittest.skipUnless(with_lines(), "no progress is drawn: there is neither rich nor tqdm")
+    def test_a_long_solve_tells_on_a_terminal_that_it_goes_on(self) -> None:
+        with tempfile.TemporaryDirectory() as room:
+            rules = Path(room) / "endless.kif"
+            rules.write_text(ENDLESS_RULES)
+            for more, want in ((["--depth", "40"], "solve looks ahead, "), (["--time", "600"], "turns ahead, ")):
+                with self.subTest(more=more):
+                    self.assertTrue(self.tells(["solve", "--role", "red", *more, rules], want))
+
+    def tells(self, words: Sequence[object], want: str) -> bool:
+        """Whether the command writes a text to a terminal. Then it is ended."""
+        ours, theirs = os.openpty()
+        told, until = "", time.monotonic() + 120
+        with subprocess.Popen(
+            package("gdlsolve", *words), stdout=subprocess.PIPE, stderr=theirs, env=known(PYTHONPATH=with_lines(), TERM="xterm", COLUMNS="80")
+        ) as run:
+            os.close(theirs)
+            while want not in told and time.monotonic() < until and run.poll() is None:
+                told += os.read(ours, 4096).decode(errors="replace")
+            run.kill()
+        os.close(ours)
+        return want in told
 
 
 if __name__ == "__main__":
