@@ -202,6 +202,7 @@ class OverDask(unittest.TestCase):
         started, told = self.command()
         until(lambda: ": value " in self.said(told) and self.solvers(), "first answers")
         kill()
+        self.be_quick()
         output, _ = started.communicate(timeout=2 * PATIENCE)
         said = self.said(told)
         self.assertEqual((started.returncode, output), (0, stored(MARKS)[1]), said)
@@ -209,8 +210,13 @@ class OverDask(unittest.TestCase):
         return said
 
     def be_slow(self) -> None:
+        """Has the program take long, so that it runs when something is killed."""
         self.slow.touch()
-        self.addCleanup(self.slow.unlink)
+        self.addCleanup(self.be_quick)
+
+    def be_quick(self) -> None:
+        """Has the program answer as soon as it can."""
+        self.slow.unlink(missing_ok=True)
 
     def assert_nothing_runs(self) -> None:
         until(lambda: not self.solvers(), "no program is left behind")
@@ -223,7 +229,16 @@ class OverDask(unittest.TestCase):
         self.assert_nothing_runs()
 
     def test_a_worker_is_killed(self) -> None:
-        self.killed_in(lambda: os.kill(self.solvers()[0][1], signal.SIGKILL))
+        orphans: list[int] = []
+
+        def kill() -> None:
+            _, worker = self.solvers()[0]
+            orphans.extend(children(worker))
+            os.kill(worker, signal.SIGKILL)
+
+        self.killed_in(kill)
+        self.assertTrue(orphans)
+        self.assertFalse(marked(str(self.room)) & set(orphans))
 
     def test_a_program_is_killed(self) -> None:
         said = self.killed_in(lambda: os.kill(self.solvers()[0][0], signal.SIGKILL))
@@ -241,6 +256,7 @@ class OverDask(unittest.TestCase):
         started.kill()
         started.wait()
         self.assert_nothing_runs()
+        self.be_quick()
         self.assertTrue(book.stat().st_size)
         sent = []
         for _ in range(2):

@@ -2,6 +2,7 @@
 
 import json
 import os
+import random
 import signal
 import socket
 import subprocess
@@ -22,6 +23,8 @@ HEXAPAWN = (TOP / "games/hexapawn.kif").read_text()
 MARKS = (TOP / "games/tic_tac_toe.kif").read_text()
 # A game that is not settled within some seconds, and the role that begins.
 RED = (ENDLESS, "red")
+# Longer than the clocks of tests by so much as a busy machine takes, in seconds.
+SOON = 10.0
 OPENINGS = gdlsolve.moves(HEXAPAWN).legal["white"]
 
 
@@ -167,29 +170,29 @@ class Messages(unittest.TestCase):
 
 
 class Clocks(unittest.TestCase):
-    """Times are those of a busy machine: what is to come by the clock comes soon behind it."""
+    """Times are those of a busy machine: what is to come by a clock comes soon behind it, and long before a solver that hangs goes on."""
 
     def setUp(self) -> None:
         self.held = Held(self)
         self.served = Served(self, self.held.command)
 
-    def timed(self, message: str, clock: float) -> str:
-        """The answer, which is there by the clock."""
+    def timed(self, message: str) -> str:
+        """The answer, which is there soon behind the clock."""
         begun = time.monotonic()
         told = self.served.says(message)
-        self.assertLess(time.monotonic() - begun, (clock + 2) * PACE)
+        self.assertLess(time.monotonic() - begun, SOON * PACE)
         return told
 
     def test_four_matches_at_once(self) -> None:
         names = [f"m{number}" for number in range(4)]
         openings = legal(ENDLESS_RULES, "red", [])
         with ThreadPoolExecutor(4) as threads:
-            starts = threads.map(lambda name: self.served.start(name, *RED, clocks(4, 2)), names)
+            starts = threads.map(lambda name: self.served.start(name, *RED, clocks(2, 1)), names)
             self.assertEqual(list(starts), ["ready"] * 4)
-            self.assertEqual(self.served.start("m4", *RED, clocks(4, 2)), "busy")
+            self.assertEqual(self.served.start("m4", *RED, clocks(2, 1)), "busy")
             begun = time.monotonic()
             found = list(threads.map(self.served.says, [f"(PLAY {name} NIL)" for name in names]))
-            self.assertLess(time.monotonic() - begun, 4 * PACE)
+            self.assertLess(time.monotonic() - begun, SOON * PACE)
         self.assertLessEqual(set(found), set(openings))
 
     def test_rules_that_hang_are_not_played(self) -> None:
@@ -197,50 +200,61 @@ class Clocks(unittest.TestCase):
             with self.subTest(command=command):
                 self.held.at(command)
                 message = f"(START m white {BOARD} {clocks(1, 1)})"
-                self.assertEqual(self.timed(message, 1), "busy")
+                self.assertEqual(self.timed(message), "busy")
         self.assertEqual(self.served.player.matches, {})
         self.held.at("")
         self.assertEqual(self.served.start("m", "hexapawn", "white", clocks(60, 1)), "ready")
 
     def test_a_search_that_hangs(self) -> None:
         self.held.at("solve")
-        self.assertEqual(self.timed(f"(START m white {BOARD} {clocks(3, 2)})", 3), "ready")
-        move = self.timed("(PLAY m NIL)", 2)
+        self.assertEqual(self.timed(f"(START m white {BOARD} {clocks(1.5, 1)})"), "ready")
+        move = self.timed("(PLAY m NIL)")
         self.assertIn(move, OPENINGS)
         turns = [(move, "noop")]
-        self.assertEqual(self.timed(f"(PLAY m ({move} noop))", 2), "noop")
+        self.assertEqual(self.timed(f"(PLAY m ({move} noop))"), "noop")
         reply = legal(HEXAPAWN, "black", turns)[0]
         self.assertIn(
-            self.timed(f"(PLAY m (noop {reply}))", 2),
+            self.timed(f"(PLAY m (noop {reply}))"),
             legal(HEXAPAWN, "white", [*turns, ("noop", reply)]),
         )
 
     def test_a_solver_that_hangs_at_all(self) -> None:
         self.held.at("solve")
-        self.assertEqual(self.timed(f"(START m black {BOARD} {clocks(3, 2)})", 3), "ready")
-        self.assertEqual(self.timed("(PLAY m NIL)", 2), "noop")
-        move = self.timed(f"(PLAY m ({OPENINGS[0]} noop))", 2)
+        self.assertEqual(self.timed(f"(START m black {BOARD} {clocks(1.5, 1)})"), "ready")
+        self.assertEqual(self.timed("(PLAY m NIL)"), "noop")
+        move = self.timed(f"(PLAY m ({OPENINGS[0]} noop))")
         self.held.at("check moves solve")
-        # Random play has been there, and so the legal moves are known.
         turns = [(OPENINGS[0], "noop"), ("noop", move)]
-        self.assertEqual(self.timed(f"(PLAY m (noop {move}))", 2), "noop")
+        self.assertEqual(self.timed(f"(PLAY m (noop {move}))"), "noop")
         other = legal(HEXAPAWN, "white", turns)[0]
-        self.timed(f"(PLAY m ({other} noop))", 2)
-        self.held.at("")
-        # What was not known is asked again with the next turn.
+        turns.append((other, "noop"))
+        here = gdlsolve.moves(HEXAPAWN, turns)
+        self.assertIn(self.timed(f"(PLAY m ({other} noop))"), here.legal.get("black", ("nil",)))
         self.assertEqual(len(self.served.player.matches["m"].turns), 3)
 
+    def test_a_match_is_played_to_its_end_without_the_solver(self) -> None:
+        self.assertEqual(self.served.start("m", "tic_tac_toe", "xplayer", clocks(3, 1)), "ready")
+        self.held.at("check moves solve")
+        dice, turns, behind = random.Random(3), list[tuple[str, str]](), "NIL"
+        while (here := gdlsolve.moves(MARKS, turns)).state is gdlsolve.State.OPEN:
+            move = self.timed(f"(PLAY m {behind})")
+            self.assertIn(move, here.legal["xplayer"])
+            turns.append((move, dice.choice(here.legal["oplayer"])))
+            behind = f"({' '.join(turns[-1])})"
+        self.assertEqual(self.timed(f"(PLAY m {behind})"), "nil")
+        self.assertEqual(self.timed("(PLAY m ((mark 9 9) noop))"), "nil")
+
     def test_a_solver_that_hangs_once_is_asked_again(self) -> None:
-        self.assertEqual(self.served.start("m", "hexapawn", "black", clocks(60, 6)), "ready")
+        self.assertEqual(self.served.start("m", "hexapawn", "black", clocks(60, 4)), "ready")
         self.served.says("(PLAY m NIL)")
         self.held.at("moves solve")
         threading.Timer(PACE, self.held.at, [""]).start()
-        move = self.timed(f"(PLAY m ({OPENINGS[0]} noop))", 6)
+        move = self.timed(f"(PLAY m ({OPENINGS[0]} noop))")
         self.assertIn(move, legal(HEXAPAWN, "black", [(OPENINGS[0], "noop")]))
 
     def test_a_solver_that_is_killed(self) -> None:
         served = Served(self)
-        self.assertEqual(served.start("m", *RED, clocks(3, 3)), "ready")
+        self.assertEqual(served.start("m", *RED, clocks(2, 1.5)), "ready")
         match = served.player.matches["m"]
 
         def kill() -> None:
@@ -251,7 +265,7 @@ class Clocks(unittest.TestCase):
         threading.Timer(0.5 * PACE, kill).start()
         begun = time.monotonic()
         opening = served.says("(PLAY m NIL)")
-        self.assertLess(time.monotonic() - begun, 5 * PACE)
+        self.assertLess(time.monotonic() - begun, SOON * PACE)
         turns = [(opening, "noop")]
         self.assertEqual(served.says(f"(PLAY m ({opening} noop))"), "noop")
         threading.Timer(0.5 * PACE, kill).start()
@@ -261,7 +275,7 @@ class Clocks(unittest.TestCase):
 
     def test_a_solver_that_always_ends(self) -> None:
         self.held.at("end")
-        self.assertEqual(self.timed(f"(START m white {BOARD} {clocks(2, 1)})", 2), "busy")
+        self.assertEqual(self.timed(f"(START m white {BOARD} {clocks(2, 1)})"), "busy")
 
 
 class Program(unittest.TestCase):

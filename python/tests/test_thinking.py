@@ -3,13 +3,14 @@
 import random
 import time
 import unittest
+from collections.abc import Callable
 
 import gdlsolve
 from gdlsolve.engine import Children, Engine, Turn
 from gdlsolve.simulation import Question
 from gdlsolve.thinking import Choice, Thinking
 from tests import TOP
-from tests.serving import PACE, Asking
+from tests.serving import LONG, Asking
 
 # One role, which loses at once or one turn later.
 LOST = """
@@ -28,16 +29,42 @@ SURE = """
 """
 
 
+Enough = Callable[[Thinking], bool]
+
+
+def later() -> float:
+    """A time that does not come while a test runs that passes."""
+    return time.monotonic() + 2 * LONG
+
+
+def never(thinking: Thinking) -> bool:
+    """It has to be settled."""
+    return False
+
+
+def thinks(depth: int, matches: int) -> Enough:
+    """Enough are a search to a depth, and so many matches at random."""
+
+    def enough(thinking: Thinking) -> bool:
+        deepest = thinking.search.deepest
+        return (deepest[0] if deepest else 0) >= depth and thinking.simulation.matches >= matches
+
+    return enough
+
+
 class Choices(Asking):
     def choice(
-        self, rules: str, role: str, seconds: float, turns: tuple[Turn, ...] = (), depth: int = 64
+        self, rules: str, role: str, enough: Enough, turns: tuple[Turn, ...] = (), depth: int = 64
     ) -> Choice:
-        """What is chosen within so many seconds, or once it is settled."""
+        """What is chosen once enough was thought, or it is settled."""
         deep, quick = self.engine(rules), self.engine(rules)
-        until = time.monotonic() + seconds * PACE
-        question = Question(role, turns, gdlsolve.moves(rules, turns), until, depth)
+        return self.thought(rules, Question(role, turns, gdlsolve.moves(rules, turns), later(), depth), enough, deep, quick)
+
+    def thought(self, rules: str, question: Question, enough: Enough, deep: Engine, quick: Engine) -> Choice:
+        """The same with engines that are given."""
         thinking = Thinking(question, deep, quick, random.Random(1))
-        thinking.wait(until)
+        while not (thinking.search.settled.wait(0.05) or enough(thinking)):
+            self.assertLess(time.monotonic(), question.until, "not enough was thought")
         found = thinking.choice()
         deep.close()
         quick.close()
@@ -54,9 +81,7 @@ class Choices(Asking):
         ]:
             with self.subTest(game=game):
                 rules = (TOP / f"games/{game}.kif").read_text()
-                begun = time.monotonic()
-                found = self.choice(rules, role, 60)
-                self.assertLess(time.monotonic() - begun, 50 * PACE)
+                found = self.choice(rules, role, never)
                 self.assertEqual((found.value, found.is_settled), (value, True))
                 best = gdlsolve.solve(rules, role, found.depth).value
                 self.assertEqual(best, value)
@@ -66,17 +91,17 @@ class Choices(Asking):
         for opening in ("(mark 1 1)", "(mark 2 2)", "(mark 1 2)"):
             with self.subTest(opening=opening):
                 first = (opening, "noop")
-                found = self.choice(rules, "oplayer", 3, (first,), 5)
+                found = self.choice(rules, "oplayer", thinks(5, 2000), (first,), 5)
                 self.assertEqual((found.value, found.is_settled), (50, False))
                 turns = [first, ("noop", found.move)]
                 self.assertEqual(gdlsolve.solve(rules, "xplayer", 7, after=turns).value, 50)
 
     def test_what_is_lost_is_held_out_longest(self) -> None:
-        found = self.choice(LOST, "a", 60)
+        found = self.choice(LOST, "a", never)
         self.assertEqual((found.move, found.value, found.is_settled), ("slow", 0, True))
 
     def test_more_than_half_for_sure_is_taken_where_nothing_is_settled(self) -> None:
-        found = self.choice(SURE, "a", 1)
+        found = self.choice(SURE, "a", thinks(4, 100))
         self.assertEqual((found.move, found.value, found.is_settled), ("take", 60, False))
 
     def test_a_search_that_never_answers_leaves_random_play(self) -> None:
@@ -84,15 +109,10 @@ class Choices(Asking):
         none = Children(1, ["false"], spare=0)
         self.addCleanup(none.close)
         quick = self.engine(rules)
-        until = time.monotonic() + 2 * PACE
-        question = Question("xplayer", (), gdlsolve.moves(rules), until)
-        thinking = Thinking(question, Engine(rules, none), quick, random.Random(1))
-        thinking.wait(until)
-        found = thinking.choice()
-        quick.close()
-        self.assertIn(found.move, question.legal)
+        question = Question("xplayer", (), gdlsolve.moves(rules), later())
+        found = self.thought(rules, question, thinks(0, 500), Engine(rules, none), quick)
         self.assertEqual((found.value, found.is_settled), (None, False))
-        self.assertGreater(found.tried, 0)
+        self.assertGreater(found.tried, 50)
 
 
 if __name__ == "__main__":

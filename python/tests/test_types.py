@@ -26,21 +26,14 @@ def scripts(folder: Path) -> list[str]:
 
 @unittest.skipUnless(MYPY, "types are not looked at: there is no mypy")
 class Types(unittest.TestCase):
-    def checked(self, *files: str, known: str) -> None:
-        """Asks mypy, strictly, with modules of a folder at hand."""
+    def test_all_of_python(self) -> None:
+        own = [str(TOP / "python" / part) for part in ("gdlsolve", "tests", "tests/run", "setup.py")]
+        others = [file for folder in ("examples", "bench", "tools") for file in scripts(TOP / folder)]
         with tempfile.TemporaryDirectory() as kept:
-            words = [str(MYPY), "--strict", "--scripts-are-modules", "--cache-dir", kept, *files]
-            env = {**os.environ, "MYPYPATH": known}
+            words = [str(MYPY), "--strict", "--scripts-are-modules", "--cache-dir", kept, *own, *others]
+            env = {**os.environ, "MYPYPATH": f"{TOP / 'python'}:{TOP / 'bench'}"}
             done = subprocess.run(words, cwd=TOP, env=env, capture_output=True, text=True)
         self.assertEqual(done.returncode, 0, done.stdout + done.stderr)
-
-    def test_the_package_and_its_tests(self) -> None:
-        parts = ["gdlsolve", "tests", "tests/run", "setup.py"]
-        own = [str(TOP / "python" / part) for part in parts]
-        self.checked(*own, *scripts(TOP / "examples"), known=str(TOP / "python"))
-
-    def test_the_scripts_beside_it(self) -> None:
-        self.checked(*scripts(TOP / "bench"), *scripts(TOP / "tools"), known=str(TOP / "bench"))
 
 
 if __name__ == "__main__":
