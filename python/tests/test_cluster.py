@@ -4,6 +4,7 @@ loopback in which things are killed.
 import contextlib
 import os
 import shlex
+import shutil
 import signal
 import socket
 import subprocess
@@ -49,9 +50,9 @@ def stored(game: Path) -> tuple[list[str], bytes]:
     return shlex.split(first.decode())[1:], answer
 
 
-def with_dask() -> str | None:
-    """A Python that has Dask, where there is one."""
-    seek = "import importlib.util as u, sys; sys.exit(u.find_spec('distributed') is None)"
+def with_package(name: str) -> str | None:
+    """A Python that has a package, where there is one."""
+    seek = f"import importlib.util as u, sys; sys.exit(u.find_spec({name!r}) is None)"
     for python in dict.fromkeys([sys.executable, "/usr/bin/python3"]):
         there = Path(python).exists()
         if there and not subprocess.run([python, "-c", seek], check=False).returncode:
@@ -126,22 +127,17 @@ class Here(unittest.TestCase):
             self.assertTrue(done.stderr)
 
 
-class OverDask(unittest.TestCase):
-    """One scheduler and three workers, each started again whenever it ends."""
+class Slow(unittest.TestCase):
+    """Runs of the command over a program that can be slow, in whose environment a folder stands."""
 
     python: str
     room: Path
     slow: Path
     known: dict[str, str]
-    address: str
-    scheduler: subprocess.Popen[bytes]
-    workers: list[subprocess.Popen[bytes]]
 
     @classmethod
-    def setUpClass(cls) -> None:
-        python = with_dask()
-        if python is None:
-            raise unittest.SkipTest("there is no Dask: Debian has it as python3-distributed")
+    def begin(cls, python: str) -> None:
+        """Makes the folder and the program, and holds that at the end no process is left."""
         cls.python = python
         room = tempfile.TemporaryDirectory()
         cls.addClassCleanup(room.cleanup)
@@ -153,6 +149,45 @@ class OverDask(unittest.TestCase):
         slowly.chmod(0o755)
         cls.known = environment(**{program.VARIABLE: str(slowly)})
         cls.addClassCleanup(until, lambda: not marked(str(cls.room)), "no process is left behind")
+
+    def started(self, *words: object, **more: str) -> tuple[subprocess.Popen[bytes], IO[bytes]]:
+        """Starts a command, and gives what it tells of."""
+        told = tempfile.TemporaryFile("w+b")
+        self.addCleanup(told.close)
+        known = {**self.known, **more}
+        started = subprocess.Popen(list(map(str, words)), env=known, stdout=subprocess.PIPE, stderr=told)
+        assert started.stdout is not None
+        self.addCleanup(started.stdout.close)
+        self.addCleanup(started.wait)
+        self.addCleanup(started.kill)
+        return started, told
+
+    def said(self, told: IO[bytes]) -> str:
+        return os.pread(told.fileno(), 1 << 20, 0).decode()
+
+    def be_slow(self) -> None:
+        """Has the program take long, so that it runs when something is killed."""
+        self.slow.touch()
+        self.addCleanup(self.be_quick)
+
+    def be_quick(self) -> None:
+        """Has the program answer as soon as it can."""
+        self.slow.unlink(missing_ok=True)
+
+
+class OverDask(Slow):
+    """One scheduler and three workers, each started again whenever it ends."""
+
+    address: str
+    scheduler: subprocess.Popen[bytes]
+    workers: list[subprocess.Popen[bytes]]
+
+    @classmethod
+    def setUpClass(cls) -> None:
+        python = with_package("distributed")
+        if python is None:
+            raise unittest.SkipTest("there is no Dask: Debian has it as python3-distributed")
+        cls.begin(python)
         with socket.socket() as free:
             free.bind(("127.0.0.1", 0))
             port = str(free.getsockname()[1])
@@ -178,18 +213,7 @@ class OverDask(unittest.TestCase):
         """Starts the command for tic-tac-toe, and what it has told of."""
         options, _ = stored(MARKS)
         words = ["-m", "gdlsolve.cluster", "--scheduler", self.address, "--verbose", *options]
-        told = tempfile.TemporaryFile("w+b")
-        self.addCleanup(told.close)
-        command = [self.python, *map(str, [*words, *more, MARKS])]
-        started = subprocess.Popen(command, env=self.known, stdout=subprocess.PIPE, stderr=told)
-        assert started.stdout is not None
-        self.addCleanup(started.stdout.close)
-        self.addCleanup(started.wait)
-        self.addCleanup(started.kill)
-        return started, told
-
-    def said(self, told: IO[bytes]) -> str:
-        return os.pread(told.fileno(), 1 << 20, 0).decode()
+        return self.started(self.python, *words, *more, MARKS)
 
     def solvers(self) -> list[tuple[int, int]]:
         """The programs that the workers run, each with the process that has started it."""
@@ -208,15 +232,6 @@ class OverDask(unittest.TestCase):
         self.assertEqual((started.returncode, output), (0, stored(MARKS)[1]), said)
         self.assert_nothing_runs()
         return said
-
-    def be_slow(self) -> None:
-        """Has the program take long, so that it runs when something is killed."""
-        self.slow.touch()
-        self.addCleanup(self.be_quick)
-
-    def be_quick(self) -> None:
-        """Has the program answer as soon as it can."""
-        self.slow.unlink(missing_ok=True)
 
     def assert_nothing_runs(self) -> None:
         until(lambda: not self.solvers(), "no program is left behind")
@@ -266,6 +281,62 @@ class OverDask(unittest.TestCase):
             sent.append(int(self.said(told).split("\nsent ")[1].split()[0]))
         self.assertGreater(sent[0], 0)
         self.assertEqual(sent[1], 0)
+
+
+class OverMpi(Slow):
+    """One process that asks and two that answer, started by MPI."""
+
+    @classmethod
+    def setUpClass(cls) -> None:
+        python = with_package("mpi4py")
+        if python is None or shutil.which("mpiexec") is None:
+            raise unittest.SkipTest("there is no MPI: Debian has it as python3-mpi4py")
+        cls.begin(python)
+
+    def command(self, *more: object) -> tuple[subprocess.Popen[bytes], IO[bytes]]:
+        """Starts the command for tic-tac-toe, and what it has told of."""
+        options, _ = stored(MARKS)
+        words = [self.python, "-m", "mpi4py.futures", "-m", "gdlsolve.cluster", "--mpi", "2", "--verbose", *options]
+        own = {"OMPI_ALLOW_RUN_AS_ROOT": "1", "OMPI_ALLOW_RUN_AS_ROOT_CONFIRM": "1", "OMPI_MCA_rmaps_base_oversubscribe": "1"}
+        return self.started("mpiexec", "-n", 3, *words, *more, MARKS, **own)
+
+    def test_the_answer_is_that_of_one_machine_also_where_a_program_is_killed(self) -> None:
+        self.be_slow()
+        started, told = self.command()
+        until(lambda: ": value " in self.said(told) and self.programs(), "first answers")
+        os.kill(self.programs()[0], signal.SIGKILL)
+        self.be_quick()
+        output, _ = started.communicate(timeout=2 * PATIENCE)
+        said = self.said(told)
+        self.assertEqual((started.returncode, output), (0, stored(MARKS)[1]), said)
+        self.assertIn("failed: ", said)
+
+    def test_a_process_that_is_killed_ends_all_and_the_journal_goes_on(self) -> None:
+        book = self.room / "journal"
+        self.be_slow()
+        started, told = self.command("--journal", book)
+        until(lambda: ": value " in self.said(told) and self.programs(), "first answers")
+        worker = int(Path(f"/proc/{self.programs()[0]}/stat").read_text().rsplit(")", 1)[1].split()[1])
+        os.kill(worker, signal.SIGKILL)
+        started.communicate(timeout=2 * PATIENCE)
+        self.assertNotEqual(started.returncode, 0)
+        until(lambda: not marked(str(self.room)), "no process is left behind")
+        self.be_quick()
+        kept = book.stat().st_size
+        started, told = self.command("--journal", book)
+        output, _ = started.communicate(timeout=2 * PATIENCE)
+        self.assertEqual((started.returncode, output), (0, stored(MARKS)[1]), self.said(told))
+        self.assertGreater(kept, 0)
+
+    def programs(self) -> list[int]:
+        """The programs that answer a question now."""
+        found = []
+        for pid in marked(str(self.room)):
+            with contextlib.suppress(OSError):
+                words = Path(f"/proc/{pid}/cmdline").read_bytes().split(b"\0")
+                if str(self.room / "slowly").encode() in words and b"--window" in words:
+                    found.append(pid)
+        return found
 
 
 if __name__ == "__main__":

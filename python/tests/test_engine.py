@@ -166,16 +166,19 @@ class Processes(unittest.TestCase):
             "engine.check(Limit(time.monotonic() + 60))\n"
             "print(engine.child.process.pid, flush=True)\n"
             "open(sys.argv[2], 'w').write('moves')\n"
+            "threading.Timer(0.3, print, ['asks'], {'flush': True}).start()\n"
             "engine.moves([], Limit(time.monotonic() + 600))\n"
         )
         with tempfile.NamedTemporaryFile() as held:
             words = [sys.executable, "-c", text, str(HANGING), held.name]
             with subprocess.Popen(words, stdout=subprocess.PIPE, env=known()) as asker:
-                assert asker.stdout is not None
-                child = int(asker.stdout.readline())
-                time.sleep(0.3)
-                self.assertTrue(is_alive(child))
-                asker.kill()
+                try:
+                    assert asker.stdout is not None
+                    child = int(asker.stdout.readline())
+                    self.assertEqual(asker.stdout.readline(), b"asks\n")
+                    self.assertTrue(is_alive(child))
+                finally:
+                    asker.kill()
             self.assertTrue(wait_for_end(child))
 
 

@@ -18,8 +18,8 @@ from gdlsolve.page.server import Desk, Server
 from tests import ENDLESS, ENDLESS_RULES, TOP, known, package
 
 MARKS = (TOP / "games/tic_tac_toe.kif").read_bytes()
-# So deep a question takes long, so that processes are at one at nearly any time.
-DEEP = 12
+# A question that is deeper takes long enough that processes are at one at nearly any time.
+DEEP = 8
 UNSAFE = "(role a) ; one\n(base p)\n  (<= (next p) (not (true ?x)))\n"
 
 
@@ -48,7 +48,7 @@ def turns(*moves: str) -> list[list[str]]:
     return [["noop", move] if place % 2 else [move, "noop"] for place, move in pairs]
 
 
-def until(test: Any, seconds: float = 60.0) -> bool:
+def until(test: Any, seconds: float = 180.0) -> bool:
     """Waits so long for something to be."""
     end = time.monotonic() + seconds
     while not test() and time.monotonic() < end:
@@ -293,13 +293,16 @@ class Ends(unittest.TestCase):
                 self.subTest(signal=number),
                 subprocess.Popen(words, env=known(), stdout=pipe, text=True) as server,
             ):
-                assert server.stdout is not None
-                port = int(server.stdout.readline().rsplit(":", 1)[1].strip("/\n"))
-                self.begin_long_look(port)
-                below = children(server.pid)
-                self.assertTrue(below)
-                server.send_signal(number)
-                self.assertEqual(server.wait(60), status)
+                try:
+                    assert server.stdout is not None
+                    port = int(server.stdout.readline().rsplit(":", 1)[1].strip("/\n"))
+                    self.begin_long_look(port)
+                    below = children(server.pid)
+                    self.assertTrue(below)
+                    server.send_signal(number)
+                    self.assertEqual(server.wait(60), status)
+                finally:
+                    server.kill()
                 self.assertTrue(until(lambda: not alive(below)), alive(below))
 
     def begin_long_look(self, port: int) -> None:
