@@ -3,13 +3,13 @@
 
     PYTHONPATH=python examples/referee.py games/tic_tac_toe.kif --depth 4 --seed 7
 
-It prints a table of the turns, and the goals. The same seed gives the same match."""
+It prints a table of the turns, and the goals. The same seed gives the same match. All is asked in one session of the program, which
+reads the rules once."""
 import argparse
 import random
 from pathlib import Path
 
-import gdlsolve
-from gdlsolve import Position, State
+from gdlsolve import Position, Refusal, Session, State
 
 Turn = tuple[str, ...]
 
@@ -25,24 +25,22 @@ def options() -> argparse.Namespace:
     return words.parse_args()
 
 
-def chosen(
-    rules: bytes, role: str, position: Position, played: list[Turn], given: argparse.Namespace, dice: random.Random
-) -> str:
+def chosen(session: Session, role: str, position: Position, played: list[Turn], given: argparse.Namespace, dice: random.Random) -> str:
     """The move of a role."""
     if role != given.role:
         return dice.choice(position.legal[role])
-    found = gdlsolve.solve(rules, role, given.depth, at_bound=given.at_bound, after=played)
+    found = session.solve(role, given.depth, at_bound=given.at_bound, after=played)
     return found.move or position.legal[role][0]
 
 
-def play(rules: bytes, given: argparse.Namespace) -> tuple[list[Turn], Position]:
+def play(session: Session, given: argparse.Namespace) -> tuple[list[Turn], Position]:
     """The turns of a match, and how it stands behind them."""
     dice = random.Random(given.seed)
     played: list[Turn] = []
-    position = gdlsolve.moves(rules)
+    position = session.moves()
     while position.state is State.OPEN and len(played) < given.turns:
-        played.append(tuple(chosen(rules, role, position, played, given, dice) for role in position.legal))
-        position = gdlsolve.moves(rules, played)
+        played.append(tuple(chosen(session, role, position, played, given, dice) for role in position.legal))
+        position = session.moves(played)
     return played, position
 
 
@@ -55,12 +53,12 @@ def print_table(rows: list[list[str]]) -> None:
 
 def main() -> None:
     given = options()
-    rules = given.rules.read_bytes()
-    roles = gdlsolve.check(rules).roles
-    given.role = given.role or roles[0]
-    if given.role not in roles:
-        raise SystemExit(f"{given.role} is none of the roles {', '.join(roles)}")
-    played, position = play(rules, given)
+    with Session(given.rules.read_bytes()) as session:
+        roles = session.check().roles
+        given.role = given.role or roles[0]
+        if given.role not in roles:
+            raise SystemExit(f"{given.role} is none of the roles {', '.join(roles)}")
+        played, position = play(session, given)
     heads = [f"{role} (solver)" if role == given.role else f"{role} (random)" for role in roles]
     print_table([["turn", *heads], *([str(turn), *moves] for turn, moves in enumerate(played, 1))])
     match position.state:
@@ -75,5 +73,5 @@ def main() -> None:
 if __name__ == "__main__":
     try:
         main()
-    except gdlsolve.Refusal as refusal:
-        raise SystemExit(str(refusal))
+    except (Refusal, FileNotFoundError) as fault:
+        raise SystemExit(str(fault))

@@ -41,7 +41,8 @@ FAREWELL = 5.0
 
 @dataclass
 class Record:
-    """A match as JSON tells it. Errors are texts, empty where the role's own move was played."""
+    """A match as JSON tells it, with the names that the repository of GGP matches has for them. Errors are texts, empty where the role's
+    own move was played. Each state is the text of what holds there, and there is one more than turns; times are milliseconds."""
 
     matchId: str
     game: str
@@ -54,7 +55,11 @@ class Record:
     moves: list[list[str]] = field(default_factory=list)
     errors: list[list[str]] = field(default_factory=list)
     seconds: list[list[float]] = field(default_factory=list)
+    states: list[str] = field(default_factory=list)
+    stateTimes: list[int] = field(default_factory=list)
+    playerNamesFromHost: list[str] = field(default_factory=list)
     isCompleted: bool = False
+    isAborted: bool = False
     state: str = State.OPEN.value
     goalValues: list[int] = field(default_factory=list)
 
@@ -70,13 +75,18 @@ class Record:
         """The record in a file."""
         try:
             told = json.loads(file.read_text())
-            found = cls(**{name: told[name] for name in cls.__dataclass_fields__})
+            found = cls(**{name: told[name] for name in cls.__dataclass_fields__ if name in told})
         except (KeyError, TypeError, ValueError) as fault:
             raise ValueError(f"{file} is no record of a match: {fault!r}") from None
         lengths = {len(found.moves), len(found.errors), len(found.seconds)}
         if len(lengths) != 1 or len(found.players) != len(found.roles):
             raise ValueError(f"{file} is no record of a match: its lists differ in length")
         return found
+
+
+def now() -> int:
+    """Milliseconds since 1970."""
+    return time.time_ns() // 1_000_000
 
 
 @dataclass(frozen=True)
@@ -140,11 +150,20 @@ class Referee:
         self.here: Position = gdlsolve.moves(record.rules, self.turns)
         # The players that were not ready, and why.
         self.failed: list[str] = []
+        self.observe()
 
     @property
     def turns(self) -> list[Turn]:
         """The turns so far."""
         return [tuple(moves) for moves in self.record.moves]
+
+    def observe(self) -> None:
+        """Puts down the states that are not in the record yet."""
+        record = self.record
+        while len(record.states) <= len(record.moves):
+            holds = gdlsolve.state(record.rules, self.turns[: len(record.states)]).holds
+            record.states.append(f"({' '.join(f'(true {each})' for each in holds)})")
+            record.stateTimes.append(now())
 
     def tell(self, message: Callable[[str], str], seconds: float) -> list[Told]:
         """What each player says to the message to its role; those at random are not asked."""
@@ -202,6 +221,7 @@ class Referee:
         record.errors.append([error for _, error in found])
         record.seconds.append([one.seconds for one in told])
         self.here = gdlsolve.moves(record.rules, self.turns)
+        self.observe()
 
     def note(self) -> None:
         """Puts down how the match stands."""
@@ -213,9 +233,13 @@ class Referee:
     def play(self, most_turns: int) -> Record:
         """Plays to the end, or to so many turns."""
         self.failed = self.start()
+        self.record.isAborted = False
         self.note()
         while self.here.state is State.OPEN and len(self.record.moves) < most_turns:
             self.turn()
+            self.note()
+        if self.here.state is State.OPEN:
+            self.record.isAborted = True
             self.note()
         self.tell_turn("STOP", self.turns, FAREWELL)
         return self.record
@@ -228,10 +252,10 @@ def made(given: argparse.Namespace) -> Record:
     if len(given.player) > len(roles):
         raise ValueError(f"there are {len(given.player)} players, and {len(roles)} roles")
     players = given.player + [RANDOM] * (len(roles) - len(given.player))
-    now = time.time_ns()
-    name = given.id or f"{given.rules.stem}.{now // 1_000_000}"
+    begun = now()
+    name = given.id or f"{given.rules.stem}.{begun}"
     clocks = float(given.start), float(given.play)
-    return Record(name, given.rules.name, rules, roles, players, *clocks, now // 1_000_000)
+    return Record(name, given.rules.name, rules, roles, players, *clocks, begun, playerNamesFromHost=list(players))
 
 
 def resumed(given: argparse.Namespace) -> Record:
@@ -245,6 +269,7 @@ def resumed(given: argparse.Namespace) -> Record:
         if len(given.player) != len(record.roles):
             raise ValueError(f"there are {len(record.roles)} roles: name a player for each")
         record.players = given.player
+        record.playerNamesFromHost = list(given.player)
     record.matchId = given.id or f"{record.matchId}.{len(record.moves)}"
     return record
 

@@ -4,14 +4,14 @@ import subprocess
 import sys
 import unittest
 
-from tests import TOP, known
+from tests import PROGRAM, TOP, known, needs_program
 
 
-def ran(example: str, words: list[str], typed: str) -> tuple[int, list[str], str]:
+def ran(example: str, words: list[str], typed: str, **more: str) -> tuple[int, list[str], str]:
     """The exit status of an example, the lines that it writes, and what it says of faults."""
     command = [sys.executable, "-B", str(TOP / "examples" / example), *words]
     done = subprocess.run(
-        command, input=typed, capture_output=True, env=known(), check=False, text=True
+        command, input=typed, capture_output=True, env=known(**more), check=False, text=True
     )
     return done.returncode, done.stdout.splitlines(), done.stderr
 
@@ -41,12 +41,20 @@ class Play(unittest.TestCase):
         self.assertTrue(errors.startswith("refused K"))
 
 
+@needs_program
 class Referee(unittest.TestCase):
     def test_a_match(self) -> None:
         words = [str(TOP / "games/nim.kif"), "--depth", "7", "--seed", "1"]
-        status, lines, errors = ran("referee.py", words, "")
+        status, lines, errors = ran("referee.py", words, "", GDLSOLVE_PROGRAM=" ".join(PROGRAM))
         self.assertEqual((status, errors), (0, ""))
         self.assertEqual([line.split() for line in lines[-2:]], [["first", "100"], ["second", "0"]])
+
+    def test_faults_are_told(self) -> None:
+        program = " ".join(PROGRAM)
+        for words, want in [([str(TOP / "games/nim.kif"), "--role", "third"], "third is none"), ([str(TOP / "examples/solve.c")], "refused K")]:
+            status, _, errors = ran("referee.py", words, "", GDLSOLVE_PROGRAM=program)
+            self.assertEqual(status, 1)
+            self.assertTrue(errors.startswith(want), errors)
 
 
 if __name__ == "__main__":

@@ -16,6 +16,7 @@ from typing import Any
 import gdlsolve
 from gdlsolve import State
 from gdlsolve.manager import Record, Referee, made, options, resumed
+from gdlsolve.page import records
 from tests import TOP, known, package
 from tests.serving import PACE, Served
 
@@ -170,6 +171,26 @@ class Records(unittest.TestCase):
         told = json.loads(self.file.read_text())
         self.assertEqual(told["roles"], ["first", "second"])
         self.assertEqual(len(told["moves"]), len(told["seconds"]))
+        self.assertEqual(len(told["moves"]) + 1, len(told["states"]))
+        self.assertEqual(told["playerNamesFromHost"], ["random", "random"])
+        holds = gdlsolve.state(record.rules, record.moves).holds
+        self.assertEqual(records.canonical(told["states"][-1]), [f"({' '.join(f'(true {each})' for each in holds)})"])
+        self.assertEqual((told["isCompleted"], told["isAborted"]), (True, False))
+
+    def test_the_page_steps_through_a_record(self) -> None:
+        record = played([game("nim"), "--record", str(self.file)])
+        found = records.record(self.file.read_text())
+        self.assertEqual((found.game, found.rules, found.turns), ("nim", record.rules, record.moves))
+
+    def test_a_record_with_less_in_it_is_read(self) -> None:
+        played([game("nim"), "--record", str(self.file), "--turns", "2"])
+        told = json.loads(self.file.read_text())
+        self.assertEqual((told["isCompleted"], told["isAborted"]), (False, True))
+        for name in ("states", "stateTimes", "playerNamesFromHost", "isAborted"):
+            del told[name]
+        self.file.write_text(json.dumps(told))
+        whole = played(["--resume", str(self.file)])
+        self.assertEqual((whole.state, len(whole.states), whole.isAborted), ("ended", len(whole.moves) + 1, False))
 
     def test_a_match_goes_on(self) -> None:
         served = Served(self)
