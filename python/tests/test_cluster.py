@@ -15,12 +15,13 @@ import unittest
 from collections.abc import Callable
 from concurrent.futures import ProcessPoolExecutor
 from pathlib import Path
-from typing import IO
+from typing import IO, TypeVar
 
 from gdlsolve import cluster
 from gdlsolve.cluster import program
 from tests import GAMES, PROGRAM, TOP, known, package
 
+T = TypeVar("T")
 MARKS = TOP / "games/tic_tac_toe.kif"
 WORKERS = 3
 # So long a test waits for what has to happen at some time, in seconds.
@@ -66,13 +67,14 @@ def environment(**more: str) -> dict[str, str]:
     return known(**{**named, **more})
 
 
-def until(true: Callable[[], object], what: str) -> None:
-    """Waits until something is so."""
+def until(true: Callable[[], T], what: str) -> T:
+    """Waits until something is so, and gives what is found then."""
     end = time.monotonic() + PATIENCE
-    while not true():
+    while not (found := true()):
         if time.monotonic() > end:
             raise AssertionError(f"not within {PATIENCE} s: {what}")
         time.sleep(0.05)
+    return found
 
 
 def children(pid: int) -> list[int]:
@@ -148,7 +150,7 @@ class Slow(unittest.TestCase):
         slowly.write_text(SLOWLY.format(command=command, slow=cls.slow))
         slowly.chmod(0o755)
         cls.known = environment(**{program.VARIABLE: str(slowly)})
-        cls.addClassCleanup(until, lambda: not marked(str(cls.room)), "no process is left behind")
+        cls.addClassCleanup(lambda: until(lambda: not marked(str(cls.room)), "no process is left behind"))
 
     def started(self, *words: object, **more: str) -> tuple[subprocess.Popen[bytes], IO[bytes]]:
         """Starts a command, and gives what it tells of."""
@@ -220,6 +222,10 @@ class OverDask(Slow):
         workers = [each for kept in self.workers for each in children(kept.pid)]
         return [(each, worker) for worker in workers for each in children(worker)]
 
+    def solver(self) -> tuple[int, int]:
+        """One of these, as soon as there is one."""
+        return until(self.solvers, "a program runs")[0]
+
     def killed_in(self, kill: Callable[[], None]) -> str:
         """Kills something once answers are there and programs run, and gives what was told."""
         self.be_slow()
@@ -247,7 +253,7 @@ class OverDask(Slow):
         orphans: list[int] = []
 
         def kill() -> None:
-            _, worker = self.solvers()[0]
+            _, worker = self.solver()
             orphans.extend(children(worker))
             os.kill(worker, signal.SIGKILL)
 
@@ -256,7 +262,7 @@ class OverDask(Slow):
         self.assertFalse(marked(str(self.room)) & set(orphans))
 
     def test_a_program_is_killed(self) -> None:
-        said = self.killed_in(lambda: os.kill(self.solvers()[0][0], signal.SIGKILL))
+        said = self.killed_in(lambda: os.kill(self.solver()[0], signal.SIGKILL))
         self.assertIn("failed: ", said)
 
     def test_the_scheduler_is_killed(self) -> None:
@@ -304,7 +310,7 @@ class OverMpi(Slow):
         self.be_slow()
         started, told = self.command()
         until(lambda: ": value " in self.said(told) and self.programs(), "first answers")
-        os.kill(self.programs()[0], signal.SIGKILL)
+        os.kill(self.asked(), signal.SIGKILL)
         self.be_quick()
         output, _ = started.communicate(timeout=2 * PATIENCE)
         said = self.said(told)
@@ -316,7 +322,7 @@ class OverMpi(Slow):
         self.be_slow()
         started, told = self.command("--journal", book)
         until(lambda: ": value " in self.said(told) and self.programs(), "first answers")
-        worker = int(Path(f"/proc/{self.programs()[0]}/stat").read_text().rsplit(")", 1)[1].split()[1])
+        worker = int(Path(f"/proc/{self.asked()}/stat").read_text().rsplit(")", 1)[1].split()[1])
         os.kill(worker, signal.SIGKILL)
         started.communicate(timeout=2 * PATIENCE)
         self.assertNotEqual(started.returncode, 0)
@@ -327,6 +333,10 @@ class OverMpi(Slow):
         output, _ = started.communicate(timeout=2 * PATIENCE)
         self.assertEqual((started.returncode, output), (0, stored(MARKS)[1]), self.said(told))
         self.assertGreater(kept, 0)
+
+    def asked(self) -> int:
+        """A program that answers a question, as soon as there is one."""
+        return until(self.programs, "a program runs")[0]
 
     def programs(self) -> list[int]:
         """The programs that answer a question now."""

@@ -97,7 +97,7 @@ class Limits(unittest.TestCase):
         begun = time.monotonic()
         with self.assertRaises(Late):
             self.engine.moves([], soon(0.3))
-        self.assertLess(time.monotonic() - begun, 5)
+        self.assertLess(time.monotonic() - begun, LONG)
         self.assertFalse(is_alive(hung.process.pid))
         self.held.write_text("")
         self.assertEqual(self.engine.moves([], soon()), gdlsolve.moves(MARKS))
@@ -109,7 +109,7 @@ class Limits(unittest.TestCase):
         begun = time.monotonic()
         with self.assertRaises(Late):
             self.engine.moves([], Limit(begun + LONG, given_up))
-        self.assertLess(time.monotonic() - begun, 10)
+        self.assertLess(time.monotonic() - begun, LONG / 2)
 
     def test_an_engine_that_is_asked_keeps_the_limit_of_another_question(self) -> None:
         self.held.write_text("moves")
@@ -121,7 +121,8 @@ class Limits(unittest.TestCase):
 
         other = threading.Thread(target=ask)
         other.start()
-        time.sleep(0.2)
+        while not self.engine.lock.locked():
+            time.sleep(0.01)
         with self.assertRaises(Late):
             self.engine.check(soon(0.2))
         other.join()
