@@ -6,12 +6,15 @@
 from __future__ import annotations
 
 import ctypes
+import errno
 import os
 import shlex
+import shutil
 import signal
 import subprocess
 from collections.abc import Callable, Mapping, Sequence
 from dataclasses import dataclass
+from functools import cache
 from pathlib import Path
 
 VARIABLE = "GDLSOLVE_PROGRAM"
@@ -77,6 +80,31 @@ def dies_with(parent: int) -> Callable[[], None]:
     return begin
 
 
+@cache
+def _setpriv() -> tuple[str, ...]:
+    """The words that have a command killed when the one who started it ends, where the system has such. A fork of a large process, which
+    is the other way, takes several times as long as the start of a program."""
+    found = shutil.which("setpriv")
+    words = (str(found), "--pdeathsig", "KILL", "--")
+    if found and subprocess.run([*words, "true"], capture_output=True, check=False).returncode == 0:
+        return words
+    return ()
+
+
+def started(command: Sequence[str], known: Mapping[str, str] | None) -> subprocess.Popen[bytes]:
+    """A child that ends with this process."""
+    if shutil.which(command[0]) is None:
+        raise FileNotFoundError(errno.ENOENT, "there is no such program", command[0])
+    return subprocess.Popen(
+        [*_setpriv(), *command],
+        stdin=subprocess.PIPE,
+        stdout=subprocess.PIPE,
+        stderr=subprocess.PIPE,
+        env=known,
+        preexec_fn=None if _setpriv() else dies_with(os.getpid()),
+    )
+
+
 def _outputs(
     child: subprocess.Popen[bytes], rules: bytes, stopped: Callable[[], bool] | None
 ) -> tuple[bytes, bytes]:
@@ -103,14 +131,7 @@ def run(
 ) -> Ran:
     """A run of a command with these words, in an environment, which ends with this process, or
     where it is stopped."""
-    with subprocess.Popen(
-        [*command, *words],
-        stdin=subprocess.PIPE,
-        stdout=subprocess.PIPE,
-        stderr=subprocess.PIPE,
-        env=known,
-        preexec_fn=dies_with(os.getpid()),
-    ) as child:
+    with started([*command, *words], known) as child:
         try:
             output, errors = _outputs(child, rules, stopped)
         except BaseException:
