@@ -28,9 +28,14 @@ WORKERS = 3
 PATIENCE = 180.0
 # Starts a command again whenever it ends, as what looks after a cluster does.
 AGAIN = 'trap \'kill $child; exit\' TERM; while :; do "$@" & child=$!; wait $child; sleep 0.2; done'
-# The program, slow enough that something can be killed while it runs, as long as a file is there.
+# The program, slow enough that something can be killed while it runs, as long as a file is there. The whole question, which has an empty
+# history, is slowest.
 SLOWLY = """#!/bin/sh
-case "$*" in *"--depth 0 "*) ;; solve*) [ ! -e '{slow}' ] || sleep 0.7 ;; esac
+case "$*" in
+  *"--depth 0 "*) ;;
+  solve*"--after ") while [ -e '{slow}' ]; do sleep 0.5; done ;;
+  solve*) [ ! -e '{slow}' ] || sleep 0.7 ;;
+esac
 exec {command} "$@"
 """
 

@@ -167,6 +167,33 @@ def gives(outcome: Outcome) -> Always:
     return Always(lambda future, call, question: future.set_result(outcome))
 
 
+class Whole(Toys):
+    """The whole question is asked beside its parts, and either tells the answer."""
+
+    def test_either_is_enough(self) -> None:
+        for is_whole in (True, False):
+            for seed in range(12):
+
+                def answer(future: Future[Outcome], call: Call, question: Question) -> None:
+                    if (question.after == "") is is_whole:
+                        future.set_result(call(question))
+
+                with self.subTest(seed=seed, is_whole=is_whole):
+                    executor = Always(answer)
+                    self.assertEqual(self.found(seed, executor, 40)[1], self.want(seed))
+
+    def test_few_workers_are_asked_for_parts_alone(self) -> None:
+        asked: list[str] = []
+
+        def answer(future: Future[Outcome], call: Call, question: Question) -> None:
+            asked.append(question.after)
+            future.set_result(call(question))
+
+        self.assertEqual(self.found(2, Always(answer), 2)[1], self.want(2))
+        self.assertTrue(asked)
+        self.assertNotIn("", asked)
+
+
 class Faults(Toys):
     def test_what_fails_is_tried_three_times(self) -> None:
         executor = gives(Outcome(End.FAILED, ("status -9",)))

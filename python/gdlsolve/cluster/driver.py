@@ -29,6 +29,7 @@ from gdlsolve.cluster.tree import (
     text,
     turn_of,
     value_needs,
+    whole,
     widest,
 )
 from gdlsolve.replies import Position, State
@@ -36,6 +37,9 @@ from gdlsolve.terms import terms
 
 # So often a question is asked of a program or an engine that fails.
 TRIES = 3
+# An engine that can work at so many questions is asked for the whole as well, beside its parts: one
+# program keeps what it finds, and may be ahead of several that know nothing of each other.
+WITH_WHOLE = 3
 # So often the driver looks whether a question should be split, in seconds.
 BEAT = 0.1
 # So long it waits after something was lost, in seconds.
@@ -150,7 +154,11 @@ class Driver:
         root = Node((), self.sought.depth)
         self._stops = Path(tempfile.mkdtemp(prefix="gdlsolve-"))
         try:
-            self._look_at(root)
+            self._recall(root)
+            if not root.moves:
+                self._look_at(root)
+            if self.engine.width() >= WITH_WHOLE and any(value_needs(root)):
+                self._send(whole(root))
             self._finish(lambda: value_needs(root))
             self.manner.log(f"value {root.low}")
             self._finish(lambda: line_needs(root))
@@ -365,6 +373,8 @@ class Driver:
     def _lines(self, root: Node) -> bytes:
         """The reply, once all of it is known."""
         value, node = root.low, root
+        if root.told is not None:
+            return "".join(f"{line}\n" for line in (f"value {value}", *root.told)).encode()
         turns: list[Iterable[str]] = []
         move, _ = turn_of(root, value)
         while node.told is None:

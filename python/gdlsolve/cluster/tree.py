@@ -129,9 +129,22 @@ def under(move: Move, low: int, high: int, group: int | None) -> Iterator[Need]:
         yield from within(reply, low, min(high, _ceiling(move.high)), group)
 
 
+def whole(root: Node) -> Need:
+    """The value of a state with its line, in one answer."""
+    return Need(root, *OPEN, None)
+
+
 def value_needs(root: Node) -> Iterator[Need]:
-    """What is needed for the value of a state and for the first move that has it. A later move has
-    to pass an earlier one. Of the first move all replies are asked for at once."""
+    """What is needed for the value of a state and for the first move that has it: the whole, where
+    that is out, or its parts."""
+    if root.told is None:
+        parts = list(part_needs(root))
+        yield from [whole(root), *parts] if parts else []
+
+
+def part_needs(root: Node) -> Iterator[Need]:
+    """The parts of the value of a state and of the first move that has it. A later move has to pass
+    an earlier one. Of the first move all replies are asked for at once."""
     attained = False
     for place, move in enumerate(root.moves):
         low = root.low if attained else root.low - 1
