@@ -66,7 +66,8 @@ def _client(patience: float, **where: Any) -> Any:
     logging.getLogger("tornado.application").setLevel(logging.CRITICAL)
     try:
         return distributed.Client(timeout=patience, set_as_default=False, **where)
-    except OSError as fault:
+    except (OSError, TypeError, ValueError, RuntimeError) as fault:
+        # All but the first are of an address that is none, or one of TLS without its files.
         raise Lost(f"no scheduler: {fault}") from None
 
 
