@@ -9,13 +9,15 @@ Where no file is named the rules come on standard input. The exit statuses are t
 from __future__ import annotations
 
 import json
+import os
 import sys
 from collections.abc import Callable, Sequence
 from dataclasses import asdict, dataclass
 from enum import Enum
 from pathlib import Path
-from typing import Any
+from typing import Any, NoReturn
 
+from gdlsolve import program
 from gdlsolve.calls import ASKS_FOR_HELP, Ended, Misuse, Refusal, Reply, Status, lines_of, reply
 from gdlsolve.deepening import Deepest, deepen
 from gdlsolve.engine import Broken
@@ -80,6 +82,17 @@ def parse(words: Sequence[str]) -> Line:
     return Line(left, game, as_json, seconds)
 
 
+def findings(lines: Sequence[str]) -> list[dict[str, Any]]:
+    """What `lint` finds: each with its line and column."""
+    parts = [line.split(":", 2) for line in lines]
+    return [{"line": int(line), "column": int(column), "found": found.strip()} for line, column, found in parts]
+
+
+def is_linted(line: Line, found: Reply) -> bool:
+    """Whether a reply has findings of `lint`, and is no refusal."""
+    return line.words[:1] == ["lint"] and not found.output.startswith(b"refused ")
+
+
 def told(command: str, output: bytes) -> Any:
     """An answer as what JSON can tell."""
     lines = lines_of(output)
@@ -118,6 +131,8 @@ def write(line: Line, found: Reply) -> int:
     if not line.as_json:
         sys.stdout.buffer.write(found.output)
         sys.stdout.buffer.flush()
+    elif is_linted(line, found):
+        write_json({"findings": findings(lines_of(found.output))})
     elif found.status == Status.REFUSED:
         refusal = Refusal(lines_of(found.output)[0])
         write_json({"refused": refusal.code, "name": refusal.name, "values": refusal.values})
@@ -152,9 +167,21 @@ def answered(line: Line, rules: bytes) -> Reply:
         return reply(line.words, rules)
 
 
+def serve(line: Line) -> NoReturn:
+    """Becomes the program, which answers requests until its input ends."""
+    if line.as_json or line.game is not None or line.seconds is not None:
+        raise Misuse("serve takes requests alone")
+    command = program.words()
+    if not command:
+        raise ImportError(f"serve is answered by the program alone: ./gdlsolve --prove builds it, or {program.VARIABLE} names one")
+    os.execvp(command[0], [*command, *line.words])
+
+
 def run(words: Sequence[str]) -> int:
     """Does what the words ask for, and gives the exit status."""
     line = parse(words)
+    if line.words[:1] == ["serve"] and not ASKS & set(line.words):
+        serve(line)
     rules = rules_of(line)
     if line.seconds is None:
         return write(line, answered(line, rules))

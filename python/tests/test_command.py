@@ -11,7 +11,7 @@ from collections.abc import Sequence
 from pathlib import Path
 
 import gdlsolve
-from tests import ENDLESS_RULES, SAYS_NOTHING, TOP, known, package
+from tests import ENDLESS_RULES, PROGRAM, SAYS_NOTHING, TOP, known, needs_program, package, ran
 
 PENNIES = TOP / "games/matching_pennies.kif"
 MARKS = TOP / "games/tic_tac_toe.kif"
@@ -43,6 +43,15 @@ class Words(unittest.TestCase):
             self.assertEqual((status, output), (1, ""))
             self.assertTrue(errors)
 
+    @needs_program
+    def test_requests_are_answered_by_the_program(self) -> None:
+        asked = known(GDLSOLVE_PROGRAM=" ".join(PROGRAM))
+        rules = b"(role a)"
+        requests = b"rules %d\n" % len(rules) + rules + b"check\nnet\n"
+        for words, want in (["serve"], ran(["serve"], requests)), (["serve", "--json"], (1, b"", b"serve takes requests alone\n")):
+            done = subprocess.run(package("gdlsolve", *words), input=requests, capture_output=True, env=asked, check=False)
+            self.assertEqual((done.returncode, done.stdout, done.stderr), want)
+
     def test_help_is_an_answer(self) -> None:
         status, output, errors = command(["--help"])
         self.assertEqual((status, errors), (0, ""))
@@ -64,6 +73,15 @@ class Json(unittest.TestCase):
         self.assertEqual(self.told(["check", PENNIES]), {"items": 16, "alternatives": 16, "relations": 7, "roles": ["a", "b"]})
         self.assertEqual(self.told(["moves", PENNIES]), {"state": "open", "goals": {}, "legal": {"a": ["h", "t"], "b": ["h", "t"]}})
         self.assertEqual(self.told(["solve", "--role", "a", "--depth", "1", PENNIES]), {"value": 0, "move": "h", "line": [["h", "t"]]})
+
+    def test_findings(self) -> None:
+        found = {"line": 1, "column": 1, "found": "no item states `terminal`"}
+        status, output, _ = command(["lint", "--json"], b"(role a)(base p)(input a go)(legal a go)(goal a 5)")
+        self.assertEqual(status, 2)
+        self.assertIn(found, json.loads(output)["findings"])
+        self.assertEqual(self.told(["lint", PENNIES]), {"findings": []})
+        status, output, _ = command(["lint", "--json"], b"(role a")
+        self.assertEqual((status, json.loads(output)), (2, {"refused": "K4", "name": "Unclosed", "values": [0]}))
 
     def test_refusals(self) -> None:
         words = ["moves", "--after", "(h x)", PENNIES]
