@@ -204,10 +204,13 @@ def by_program(command: Sequence[str], words: Sequence[str], rules: bytes) -> Re
 
 
 def reply(words: Sequence[str], rules: bytes | str) -> Reply:
-    """The reply to the words of the program, over these rules. It raises `MemoryError` for want of memory alone."""
+    """The reply to the words of the program, over these rules. It raises `MemoryError` for want of memory alone. The library has no
+    `lint`, which the program of the package or of the clone answers in its place."""
     _check(words)
     text = rules.encode() if isinstance(rules, str) else bytes(rules)
     found = answers()
+    if words[:1] == ["lint"] and isinstance(found, Path):
+        found = program.words() or found
     return by_library(found, words, text) if isinstance(found, Path) else by_program(found, words, text)
 
 

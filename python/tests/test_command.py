@@ -17,9 +17,13 @@ PENNIES = TOP / "games/matching_pennies.kif"
 MARKS = TOP / "games/tic_tac_toe.kif"
 
 
-def command(words: Sequence[object], rules: bytes = b"") -> tuple[int, str, str]:
+# Where it is the program that has to answer.
+BY_PROGRAM = {"GDLSOLVE_PROGRAM": " ".join(PROGRAM)}
+
+
+def command(words: Sequence[object], rules: bytes = b"", **more: str) -> tuple[int, str, str]:
     """What the command does: its exit status, its output, and what it says to people."""
-    done = subprocess.run(package("gdlsolve", *words), input=rules, capture_output=True, env=known(), check=False)
+    done = subprocess.run(package("gdlsolve", *words), input=rules, capture_output=True, env=known(**more), check=False)
     # A program says more beside a refusal than the library does.
     errors = done.stderr.decode() if SAYS_NOTHING or done.returncode != 2 else ""
     return done.returncode, done.stdout.decode(), errors
@@ -45,7 +49,7 @@ class Words(unittest.TestCase):
 
     @needs_program
     def test_requests_are_answered_by_the_program(self) -> None:
-        asked = known(GDLSOLVE_PROGRAM=" ".join(PROGRAM))
+        asked = known(**BY_PROGRAM)
         rules = b"(role a)"
         requests = b"rules %d\n" % len(rules) + rules + b"check\nnet\n"
         for words, want in (["serve"], ran(["serve"], requests)), (["serve", "--json"], (1, b"", b"serve takes requests alone\n")):
@@ -74,13 +78,14 @@ class Json(unittest.TestCase):
         self.assertEqual(self.told(["moves", PENNIES]), {"state": "open", "goals": {}, "legal": {"a": ["h", "t"], "b": ["h", "t"]}})
         self.assertEqual(self.told(["solve", "--role", "a", "--depth", "1", PENNIES]), {"value": 0, "move": "h", "line": [["h", "t"]]})
 
+    @needs_program
     def test_findings(self) -> None:
         found = {"line": 1, "column": 1, "found": "no item states `terminal`"}
-        status, output, _ = command(["lint", "--json"], b"(role a)(base p)(input a go)(legal a go)(goal a 5)")
+        status, output, _ = command(["lint", "--json"], b"(role a)(base p)(input a go)(legal a go)(goal a 5)", **BY_PROGRAM)
         self.assertEqual(status, 2)
         self.assertIn(found, json.loads(output)["findings"])
-        self.assertEqual(self.told(["lint", PENNIES]), {"findings": []})
-        status, output, _ = command(["lint", "--json"], b"(role a")
+        self.assertEqual(command(["lint", "--json", PENNIES], b"", **BY_PROGRAM)[:2], (0, '{"findings": []}\n'))
+        status, output, _ = command(["lint", "--json"], b"(role a", **BY_PROGRAM)
         self.assertEqual((status, json.loads(output)), (2, {"refused": "K4", "name": "Unclosed", "values": [0]}))
 
     def test_refusals(self) -> None:
