@@ -53,6 +53,12 @@ def is_alive(process: int) -> bool:
         return False
 
 
+def started_by(process: int) -> list[int]:
+    """The processes that a process has started."""
+    lists = Path(f"/proc/{process}/task").glob("*/children")
+    return [int(child) for text in lists for child in text.read_text().split()]
+
+
 def wait_for_end(process: int, seconds: float = LONG) -> bool:
     """Whether a process ends in time."""
     until = time.monotonic() + seconds

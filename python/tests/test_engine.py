@@ -13,8 +13,8 @@ from pathlib import Path
 import gdlsolve
 from gdlsolve import Misuse, Refusal
 from gdlsolve.engine import Broken, Child, Children, Engine, Late, Limit
-from tests import GAMES, TOP, known
-from tests.serving import HANGING, LONG, Asking, is_alive, wait_for_end
+from tests import ENDLESS_RULES, GAMES, TOP, known, needs_program
+from tests.serving import HANGING, LONG, SESSIONS, Asking, is_alive, started_by, wait_for_end
 
 MARKS = (TOP / "games/tic_tac_toe.kif").read_text()
 
@@ -131,6 +131,18 @@ class Limits(unittest.TestCase):
         os.kill(self.child().process.pid, signal.SIGKILL)
         self.assertEqual(self.engine.moves([], soon()), gdlsolve.moves(MARKS))
 
+    @needs_program
+    def test_a_killed_program_of_a_session_is_replaced(self) -> None:
+        children = Children(1, SESSIONS, spare=0)
+        self.addCleanup(children.close)
+        asked = Engine(MARKS, children)
+        self.addCleanup(asked.close)
+        asked.check(soon())
+        assert asked.child is not None
+        [program] = started_by(asked.child.process.pid)
+        os.kill(program, signal.SIGKILL)
+        self.assertEqual(asked.moves([], soon()), gdlsolve.moves(MARKS))
+
     def test_a_solver_that_always_ends_is_told(self) -> None:
         self.held.write_text("end")
         with self.assertRaises(Broken):
@@ -181,6 +193,30 @@ class Processes(unittest.TestCase):
                 finally:
                     asker.kill()
             self.assertTrue(wait_for_end(child))
+
+
+    @needs_program
+    def test_a_program_that_searches_ends_with_who_asked(self) -> None:
+        text = (
+            "import sys, time\n"
+            "from gdlsolve.engine import Children, Engine, Limit\n"
+            "engine = Engine(sys.stdin.read(), Children(1, sys.argv[1:], spare=0))\n"
+            "engine.check(Limit(time.monotonic() + 60))\n"
+            "print(engine.child.process.pid, flush=True)\n"
+            "engine.solve('red', 40, [], 50, Limit(time.monotonic() + 600))\n"
+        )
+        words = [sys.executable, "-c", text, *SESSIONS]
+        with subprocess.Popen(words, stdin=subprocess.PIPE, stdout=subprocess.PIPE, env=known(), text=True) as asker:
+            try:
+                assert asker.stdin is not None and asker.stdout is not None
+                asker.stdin.write(ENDLESS_RULES)
+                asker.stdin.close()
+                child = int(asker.stdout.readline())
+                [program] = started_by(child)
+            finally:
+                asker.kill()
+        self.assertTrue(wait_for_end(child))
+        self.assertTrue(wait_for_end(program))
 
 
 if __name__ == "__main__":

@@ -16,7 +16,7 @@ from pathlib import Path
 
 import gdlsolve
 from tests import ENDLESS, ENDLESS_RULES, TOP, known, package
-from tests.serving import PACE, Held, Served, clocks, post, rules_of, wait_for_end
+from tests.serving import PACE, Held, Served, clocks, post, rules_of, started_by, wait_for_end
 
 BOARD = rules_of("hexapawn")
 HEXAPAWN = (TOP / "games/hexapawn.kif").read_text()
@@ -291,8 +291,7 @@ class Program(unittest.TestCase):
                 start = f"(START m a {rules_of('matching_pennies')} 30 1)"
                 self.assertEqual(post(f"http://{where}", start), (200, "ready"))
                 self.assertEqual(post(f"http://{where}", "(PLAY m NIL)"), (200, "h"))
-                lists = Path(f"/proc/{player.pid}/task").glob("*/children")
-                left = [child for text in lists for child in text.read_text().split()]
+                left = started_by(player.pid)
                 self.assertTrue(left)
                 player.terminate()
                 _, errors = player.communicate(timeout=60)
@@ -300,7 +299,7 @@ class Program(unittest.TestCase):
                 player.kill()
         self.assertEqual(player.returncode, 0)
         self.assertEqual(json.loads(errors.splitlines()[0])["move"], "h")
-        self.assertTrue(all(wait_for_end(int(child)) for child in left))
+        self.assertTrue(all(map(wait_for_end, left)))
 
     def test_words_that_are_none(self) -> None:
         for words in (["--depth", "0"], ["--depth", "65"], ["--matches", "0"], ["--margin", "-1"]):
