@@ -12,7 +12,6 @@ import time
 import unittest
 from collections.abc import Sequence
 from concurrent.futures import ThreadPoolExecutor
-from pathlib import Path
 
 import gdlsolve
 from tests import ENDLESS, ENDLESS_RULES, TOP, known, package
