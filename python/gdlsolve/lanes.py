@@ -19,8 +19,8 @@ from gdlsolve.terms import terms, trees
 Turn = tuple[str, ...]
 # The bits of a state: for each base proposition in which matches it holds.
 Bits = tuple[int, ...]
-# So many states behind histories are kept.
-MOST_STATES = 4096
+# So many bits of states behind histories are kept.
+MOST_BITS = 1_000_000
 # So many instances stand in a line of code, and so long it may take to find them all, in seconds.
 LONGEST = 32
 PATIENCE = 2.0
@@ -128,7 +128,7 @@ class Lanes:
         bits = self.states[turns[:known]] if known else self.start
         for count in range(known, len(turns)):
             bits = self.played(bits, turns[count])
-            if len(self.states) < MOST_STATES:
+            if len(self.states) * len(bits) < MOST_BITS:
                 self.states[turns[: count + 1]] = bits
         return bits
 

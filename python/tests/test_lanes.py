@@ -65,7 +65,7 @@ class Play(unittest.TestCase):
                 found = Grounding(game.read_text(), time.monotonic() + LONG)
                 self.assertEqual(len(found.instances), gdlsolve.net(game.read_bytes()).instances)
 
-    def test_every_end_of_nim_is_met_at_random(self) -> None:
+    def test_goals_at_random_are_fair(self) -> None:
         rules = (TOP / "games/matching_pennies.kif").read_text()
         goals = lanes(rules).playouts((), 4000, 9, 50, random.Random(1))
         self.assertEqual(sum(goals.values()), 400_000)
@@ -81,6 +81,14 @@ class Play(unittest.TestCase):
         with self.assertRaises(TooLarge):
             lanes(rules)
         self.assertEqual(Rehearsal().reply(["legal"], rules.encode()).status, Status.MISUSE)
+
+    def test_what_takes_too_long(self) -> None:
+        numbers = "".join(f"(n {number})" for number in range(200))
+        rules = f"(role a) {numbers} (<= (p ?w) (n ?w) (n ?x) (n ?y) (n ?z) (m ?z)) (m none)"
+        begun = time.monotonic()
+        with self.assertRaises(TooLarge):
+            Grounding(rules, begun + 0.2)
+        self.assertLess(time.monotonic() - begun, LONG)
 
 
 class Asked(Asking):
