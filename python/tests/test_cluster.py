@@ -172,6 +172,15 @@ class Slow(unittest.TestCase):
     def said(self, told: IO[bytes]) -> str:
         return os.pread(told.fileno(), 1 << 20, 0).decode()
 
+    def fail_one(self, told: IO[bytes], running: Callable[[], int]) -> None:
+        """Kills programs until one was killed before it had answered."""
+        while "failed: " not in self.said(told):
+            with contextlib.suppress(ProcessLookupError):
+                os.kill(running(), signal.SIGKILL)
+            end = time.monotonic() + 2
+            while "failed: " not in self.said(told) and time.monotonic() < end:
+                time.sleep(0.05)
+
     def be_slow(self) -> None:
         """Has the program take long, so that it runs when something is killed."""
         self.slow.touch()
@@ -231,12 +240,12 @@ class OverDask(Slow):
         """One of these, as soon as there is one."""
         return until(self.solvers, "a program runs")[0]
 
-    def killed_in(self, kill: Callable[[], None]) -> str:
+    def killed_in(self, kill: Callable[[IO[bytes]], None]) -> str:
         """Kills something once answers are there and programs run, and gives what was told."""
         self.be_slow()
         started, told = self.command()
         until(lambda: ": value " in self.said(told) and self.solvers(), "first answers")
-        kill()
+        kill(told)
         self.be_quick()
         output, _ = started.communicate(timeout=2 * PATIENCE)
         said = self.said(told)
@@ -257,7 +266,7 @@ class OverDask(Slow):
     def test_a_worker_is_killed(self) -> None:
         orphans: list[int] = []
 
-        def kill() -> None:
+        def kill(told: IO[bytes]) -> None:
             _, worker = self.solver()
             orphans.extend(children(worker))
             os.kill(worker, signal.SIGKILL)
@@ -267,11 +276,10 @@ class OverDask(Slow):
         self.assertFalse(marked(str(self.room)) & set(orphans))
 
     def test_a_program_is_killed(self) -> None:
-        said = self.killed_in(lambda: os.kill(self.solver()[0], signal.SIGKILL))
-        self.assertIn("failed: ", said)
+        self.killed_in(lambda told: self.fail_one(told, lambda: self.solver()[0]))
 
     def test_the_scheduler_is_killed(self) -> None:
-        said = self.killed_in(lambda: os.kill(children(self.scheduler.pid)[0], signal.SIGKILL))
+        said = self.killed_in(lambda told: os.kill(children(self.scheduler.pid)[0], signal.SIGKILL))
         self.assertIn("lost", said)
 
     def test_the_one_who_asks_is_killed(self) -> None:
@@ -315,12 +323,11 @@ class OverMpi(Slow):
         self.be_slow()
         started, told = self.command()
         until(lambda: ": value " in self.said(told) and self.programs(), "first answers")
-        os.kill(self.asked(), signal.SIGKILL)
+        self.fail_one(told, self.asked)
         self.be_quick()
         output, _ = started.communicate(timeout=2 * PATIENCE)
         said = self.said(told)
         self.assertEqual((started.returncode, output), (0, stored(MARKS)[1]), said)
-        self.assertIn("failed: ", said)
 
     def test_a_process_that_is_killed_ends_all_and_the_journal_goes_on(self) -> None:
         book = self.room / "journal"
