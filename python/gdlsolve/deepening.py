@@ -43,7 +43,8 @@ def _ask(pool: Pool, words: Sequence[str], rules: bytes, until: float) -> Reply:
 
 
 def depths(pool: Pool, words: Sequence[str], rules: bytes, until: float) -> Iterator[Deepest]:
-    """The answers depth by depth, until one is settled, the greatest depth, or the time. That of one turn is waited for."""
+    """The answers depth by depth, until one is settled, the greatest depth, or the time. That of one turn is waited for. A program that
+    deepens in one run would stand in for this function alone."""
     for depth in range(1, MOST_TURNS + 1):
         asked = [*words, "--depth", str(depth), "--unfinished"]
         sure = _ask(pool, [*asked, "0"], rules, until if depth > 1 else math.inf)

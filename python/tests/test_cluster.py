@@ -208,7 +208,7 @@ class OverDask(Slow):
             free.bind(("127.0.0.1", 0))
             port = str(free.getsockname()[1])
         cls.address = f"tcp://127.0.0.1:{port}"
-        at = ["--host", "127.0.0.1", "--port", port, "--no-dashboard"]
+        at = ["--host", "127.0.0.1", "--port", port, "--no-dashboard", "--scheduler-file", str(cls.room / "scheduler.json")]
         cls.scheduler = cls.keep("distributed.cli.dask_scheduler", *at)
         worker = [cls.address, "--nthreads", "1", "--no-nanny", "--no-dashboard"]
         worker += ["--local-directory", str(cls.room), "--death-timeout", "60"]
@@ -262,6 +262,14 @@ class OverDask(Slow):
         done = subprocess.run(command, capture_output=True, text=True, env=self.known, check=False)
         self.assertEqual(done.stdout, f"same {len(GAMES)}\n", done.stderr)
         self.assert_nothing_runs()
+
+    def test_engines_by_name(self) -> None:
+        options, answer = stored(MARKS)
+        for engine in (["--scheduler-file", self.room / "scheduler.json"], ["--local", 2]):
+            with self.subTest(engine=engine):
+                started, told = self.started(self.python, "-m", "gdlsolve.cluster", *engine, *options, MARKS)
+                output, _ = started.communicate(timeout=2 * PATIENCE)
+                self.assertEqual((started.returncode, output), (0, answer), self.said(told))
 
     def test_a_worker_is_killed(self) -> None:
         orphans: list[int] = []
