@@ -17,7 +17,7 @@ import threading
 import time
 from collections.abc import Iterator, Sequence
 from contextlib import contextmanager
-from dataclasses import dataclass
+from dataclasses import asdict, dataclass
 
 from gdlsolve.answering import NO_REPLY
 from gdlsolve.calls import Misuse, Reply, Status
@@ -289,17 +289,18 @@ class Pool:
 
 @dataclass(frozen=True)
 class Playouts:
-    """So many random matches, of so many turns at most, behind which play is worth `unfinished`."""
+    """So many random matches, of so many turns at most, behind which play is worth `unfinished`. What
+    they need may take so many seconds to be made."""
 
     matches: int
     turns: int
     unfinished: int
     seed: int
+    seconds: float
 
     def words(self) -> list[str]:
         """The options that ask for them."""
-        numbers = {"matches": self.matches, "turns": self.turns, "unfinished": self.unfinished, "seed": self.seed}
-        return [word for name, number in numbers.items() for word in (f"--{name}", str(number))]
+        return [word for name, number in asdict(self).items() for word in (f"--{name}", str(number))]
 
 
 class Engine:
@@ -362,7 +363,8 @@ class Engine:
     def legal(self, turns: Sequence[Turn], limit: Limit) -> Position:
         """How play stands after a history, without the solver. `Misuse` tells that the rules are
         too large for that."""
-        lines = self.ask(["legal", *behind(turns)], limit)
+        seconds = f"{max(limit.left() / 2, 0):.3f}"
+        lines = self.ask(["legal", "--seconds", seconds, *behind(turns)], limit)
         with readable():
             return Position.of(lines)
 

@@ -21,9 +21,11 @@ Turn = tuple[str, ...]
 Bits = tuple[int, ...]
 # So many bits of states behind histories are kept.
 MOST_BITS = 1_000_000
-# So many instances stand in a line of code, and so long it may take to find them all, in seconds.
+# So many instances stand in a line of code, and so many heads in a function.
 LONGEST = 32
-PATIENCE = 2.0
+AT_ONCE = 256
+# What works out heads in the matches of which a number has a bit.
+Work = Callable[[list[int], int], None]
 
 
 class NotLegal(Exception):
@@ -42,6 +44,13 @@ class Seat:
 def is_goal(term: Term) -> bool:
     """Whether a term is the number of a goal."""
     return isinstance(term, str) and term.isascii() and term.isdigit() and term == str(min(int(term), 100))
+
+
+def made(lines: Sequence[str]) -> Work:
+    """A function that runs lines of code."""
+    known: dict[str, Work] = {}
+    exec("\n".join(["def work(v, full):", *lines]), known)
+    return known["work"]
 
 
 class Lanes:
@@ -104,11 +113,15 @@ class Lanes:
         parts = [" | ".join(left[start : start + LONGEST]) for start in range(0, len(left), LONGEST)]
         return "\n".join(f" {own} {'|' if place else ''}= {part}" for place, part in enumerate(parts))
 
-    def function(self, lines: Sequence[str]) -> Callable[[list[int], int], None]:
-        """The code that works out heads in the matches of which `full` has a bit."""
-        known: dict[str, Callable[[list[int], int], None]] = {}
-        exec("\n".join(["def work(v, full):", " pass", *lines]), known)
-        return known["work"]
+    def function(self, lines: Sequence[str]) -> Work:
+        """The code that works out heads in the matches of which `full` has a bit, made in parts, since one would take much memory."""
+        parts = [made(lines[start : start + AT_ONCE]) for start in range(0, len(lines), AT_ONCE)]
+
+        def work(values: list[int], full: int) -> None:
+            for part in parts:
+                part(values, full)
+
+        return work
 
     def seen(self, bits: Bits, full: int) -> list[int]:
         """What holds in states, before anything is chosen."""
@@ -209,22 +222,22 @@ class Rehearsal:
         self.rules: bytes | None = None
         self.lanes: Lanes | None = None
 
-    def standing(self, rules: bytes) -> Lanes | None:
-        """The gates of these rules, where they are not too many."""
+    def standing(self, rules: bytes, seconds: float) -> Lanes | None:
+        """The gates of these rules, where they are not too many to be found in so many seconds. That is tried once."""
         if self.rules is not rules:
             self.rules, self.lanes = rules, None
             try:
-                self.lanes = Lanes(Grounding(rules.decode("latin-1"), time.monotonic() + PATIENCE))
+                self.lanes = Lanes(Grounding(rules.decode("latin-1"), time.monotonic() + seconds))
             except (TooLarge, RecursionError, MemoryError, ValueError):
                 pass
         return self.lanes
 
     def reply(self, words: Sequence[str], rules: bytes) -> Reply:
         """The reply to words over rules. It is a misuse where the gates are too many."""
-        lanes = self.standing(rules)
+        options = dict(zip(words[1::2], words[2::2]))
+        lanes = self.standing(rules, float(options["--seconds"]))
         if lanes is None:
             return Reply(Status.MISUSE, b"the rules are too large\n")
-        options = dict(zip(words[1::2], words[2::2]))
         turns = tuple(tuple(terms(turn[1:-1])) for turn in trees(options.get("--after", "")))
         try:
             told = lanes.position(turns).told() if words[0] == "legal" else lanes.random_matches(turns, options)

@@ -34,7 +34,9 @@ QUICK, SLOW, TOO_SLOW = 0.002, 0.01, 0.5
 # first of these times, and half as many where it was slower than the second, in seconds.
 MOST_AT_ONCE = 16
 # So many matches are played behind a new position where the child process plays them by itself.
+# What it needs for that may take so long to be made, in seconds, and this part of the time.
 BY_CHILD = 32
+PATIENCE, PART = 4.0, 0.25
 QUICK_TURN, SLOW_TURN = 0.02, 0.2
 # So often the tree is gone through for a question, and so many positions are added, at most.
 MOST_PASSES = 20_000
@@ -177,7 +179,9 @@ class Simulation:
         """How play stands after these turns, and what matches bring that go on at random, where the
         child process plays them."""
         if self.by_child:
-            asked = Playouts(self.at_once, MOST_TURNS, UNFINISHED, self.dice.getrandbits(32))
+            left = max(self.question.until - time.monotonic(), 0)
+            seconds = min(left * PART, PATIENCE)
+            asked = Playouts(self.at_once, MOST_TURNS, UNFINISHED, self.dice.getrandbits(32), seconds)
             try:
                 here, goals = self.engine.played(turns, asked, self.limit(stop))
                 return here, Outcome(goals, self.at_once)

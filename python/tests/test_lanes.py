@@ -76,11 +76,11 @@ class Play(unittest.TestCase):
         self.assertEqual(lanes(MARKS).playouts((), 10, 3, 50, random.Random(1)), {"xplayer": 500, "oplayer": 500})
 
     def test_what_is_too_large(self) -> None:
-        numbers = "".join(f"(n {number})" for number in range(40))
+        numbers = "".join(f"(n {number})" for number in range(50))
         rules = f"(role a) {numbers} (<= (p ?x ?y ?z) (n ?x) (n ?y) (n ?z))"
         with self.assertRaises(TooLarge):
             lanes(rules)
-        self.assertEqual(Rehearsal().reply(["legal"], rules.encode()).status, Status.MISUSE)
+        self.assertEqual(Rehearsal().reply(["legal", "--seconds", "30"], rules.encode()).status, Status.MISUSE)
 
     def test_what_takes_too_long(self) -> None:
         numbers = "".join(f"(n {number})" for number in range(200))
@@ -101,7 +101,7 @@ class Asked(Asking):
                 engine.legal([turn], limit)
 
     def test_matches_at_random(self) -> None:
-        limit, asked = Limit(time.monotonic() + LONG), Playouts(32, 200, 50, 1)
+        limit, asked = Limit(time.monotonic() + LONG), Playouts(32, 200, 50, 1, 30)
         here, goals = self.engine(MARKS).played([], asked, limit)
         self.assertEqual(here, gdlsolve.moves(MARKS))
         self.assertEqual(sum(goals.values()), 3200)
@@ -110,7 +110,7 @@ class Asked(Asking):
         self.assertEqual((here, goals), (Position(State.ENDED, {"xplayer": 100, "oplayer": 0}, {}), {"xplayer": 3200, "oplayer": 0}))
 
     def test_hundreds_of_matches_a_second(self) -> None:
-        engine, asked = self.engine(MARKS), Playouts(32, 200, 50, 1)
+        engine, asked = self.engine(MARKS), Playouts(32, 200, 50, 1, 30)
         engine.played([], asked, Limit(time.monotonic() + LONG))
         took = []
         for _ in range(20):
