@@ -1,0 +1,8 @@
+mod CountedWays
+mod FindingLists
+mod KeptHeads
+mod KeyedLacks
+mod OwnerLists
+mod TellingLists
+mod NothingStated
+mod InputLists

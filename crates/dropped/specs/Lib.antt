@@ -1,0 +1,7 @@
+pub mod Effects
+pub mod Keyed
+pub mod Owners
+pub mod Telling
+pub mod Lacking
+pub mod Counting
+pub mod Findings
