@@ -4,7 +4,7 @@ use Rattle.statement.specs.Tree.{Tree, text}
 use Rattle.statement.specs.Clause.{Alternative, tree_of}
 use Rattle.statement.specs.Dependence.{IsAmong}
 use Rattle.statement.specs.Kept.{Kept}
-use Rattle.statement.specs.Listing.{Instance, listing}
+use Rattle.statement.specs.Listing.{listing}
 use Rattle.clauses.specs.Numbers.{NamesDiffer}
 use Rattle.keys.specs.KeyLists.{key_at}
 use Rattle.rules.specs.declared.rule_set.Keywords.{Keywords}
@@ -18,7 +18,7 @@ use Rattle.listing.specs.Contexts.{terms_named}
 use Rattle.listing.specs.Founds.{told, told_by}
 use Rattle.dropped.specs.declared.finding.Lack.{Lack}
 use Rattle.dropped.specs.Effects.{HasLackingHead}
-use Rattle.dropped.specs.Keyed.{Numbers, lacks_in}
+use Rattle.dropped.specs.Keyed.{lacks_in}
 use Rattle.dropped.proofs.KeyedLacks.{key_lacks}
 
 -- what stands at a place of one list has one of the other that maps to the same

@@ -29,7 +29,7 @@ use Rattle.std.proofs.Common.{
 use Rattle.std.specs.Prelude.{not}
 use Rattle.std.specs.List.{list_any}
 use Rattle.std.proofs.lemmas.Bool.Decides.{nat_tests}
-use Rattle.statement.specs.Tree.{Tree, name, list, Trees, no_trees, tree, trees_of, name_eq, tree_eq}
+use Rattle.statement.specs.Tree.{Tree, Trees, no_trees, tree, trees_of, name_eq, tree_eq}
 use Rattle.statement.specs.Clause.{Atom, Alternative, tree_of, tree_at}
 use Rattle.statement.specs.Words.{w_init, w_next, w_legal, w_goal}
 use Rattle.statement.specs.Profile.{is_tree_in}

@@ -1,4 +1,3 @@
-mod CountedWays
 mod FindingLists
 mod KeptHeads
 mod KeyedLacks

@@ -5,7 +5,7 @@ use Rattle.std.proofs.lemmas.List.Elements.{All-nil, All-cons}
 use Rattle.statement.specs.Tree.{Tree}
 use Rattle.statement.specs.Clause.{Alternative}
 use Rattle.statement.specs.Kept.{Kept}
-use Rattle.statement.specs.Listing.{base_list, input_list, role_list}
+use Rattle.statement.specs.Listing.{input_list, role_list}
 use Rattle.terms.specs.declared.naming.Named.{Named}
 use Rattle.terms.specs.Arena.{Held}
 use Rattle.terms.specs.Keys.{term_at, trees}

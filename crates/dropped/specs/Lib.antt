@@ -3,5 +3,4 @@ pub mod Keyed
 pub mod Owners
 pub mod Telling
 pub mod Lacking
-pub mod Counting
 pub mod Findings

@@ -1,7 +1,6 @@
 //! Heads of rules that have no effect on play: what is no base proposition, no input and no goal value, and which items state it.
 #![tactic(auto)]
 
-mod counts;
 mod dropping;
 mod effects;
 mod finding;

@@ -3,7 +3,7 @@ ghost use Rattle.std.specs.Prelude.{◌≡◌, ◌++◌, replicate, IfOk, OnOk};
 ghost use Rattle.kif.specs.View.{trees_in};
 ghost use Rattle.dropped.specs.Owners.{AreOwners};
 
-use crate::counts::{MOST_COUNTED, count_alternatives};
+use explain::{MOST_COUNTED, count_alternatives};
 use kif::Expr;
 use std::alloc::{AllocError, Allocator, Global};
 

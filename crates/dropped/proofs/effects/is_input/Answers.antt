@@ -1,4 +1,4 @@
-use Rattle.std.proofs.Common.{◌≡◌, ◌<◌, ◌∙◌, ap, length, nat_eq, get_or, rules, arith}
+use Rattle.std.proofs.Common.{◌≡◌, ◌<◌, ◌∙◌, ap, length, nat_eq, get_or, rules}
 use Rattle.std.specs.List.{list_any}
 use Rattle.statement.specs.Printed.{first_place}
 use Rattle.listing.specs.Contexts.{terms_named}

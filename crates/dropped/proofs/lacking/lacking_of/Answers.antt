@@ -1,4 +1,4 @@
-use Rattle.std.proofs.Common.{◌≡◌, ◌∙◌, ap, sym}
+use Rattle.std.proofs.Common.{◌∙◌, ap, sym}
 use Rattle.rules.specs.RuleSetView.{rules_in}
 use Rattle.kept.specs.Lists.{numbers_of_list}
 use Rattle.terms.specs.Vectors.{items_of}

@@ -1,7 +1,7 @@
-use Rattle.std.proofs.Common.{◌≡◌, sym, subst, arith}
+use Rattle.std.proofs.Common.{sym, subst, arith}
 use Rattle.std.specs.Prelude.{ℕ, ◌+◌, List}
 use Rattle.kif.specs.View.{trees_in}
-use Rattle.dropped.specs.Counting.{most_counted}
+use Rattle.explain.specs.Counting.{most_counted}
 use Rattle.dropped.proofs.OwnerLists.{IsOwned, owned_more}
 use Rattle.dropped.proofs.owners.owners_of.Goals as goal
 

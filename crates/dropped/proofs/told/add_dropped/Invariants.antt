@@ -1,8 +1,5 @@
-use Rattle.std.proofs.Common.{◌≡◌, take}
-use Rattle.std.specs.List.{FoldsTo}
+use Rattle.std.proofs.Common.{take}
 use Rattle.kif.specs.View.{trees_in}
-use Rattle.lint.specs.Pointing.{IsPointer}
-use Rattle.dropped.specs.Telling.{TellsOf}
 use Rattle.dropped.proofs.TellingLists.{IsTold}
 use Rattle.dropped.proofs.told.add_dropped.Given as goal
 
