@@ -1,0 +1,7 @@
+mod FindingLists
+mod KeptHeads
+mod KeyedLacks
+mod OwnerLists
+mod TellingLists
+mod NothingStated
+mod InputLists

@@ -1,0 +1,6 @@
+pub mod Effects
+pub mod Keyed
+pub mod Owners
+pub mod Telling
+pub mod Lacking
+pub mod Findings

@@ -1,46 +1,39 @@
 //! The heads without effect in a description.
-ghost use Rattle.std.specs.Prelude.{◌≤◌, IfOk};
+ghost use Rattle.std.specs.Prelude.{ℕ, ◌≡◌, ◌<◌, List, length, IfOk, IfErr, IfSome, OnOk};
+ghost use Rattle.std.specs.List.{All, AllPairs};
 ghost use Rattle.join.specs.Joining.{joined};
 ghost use Rattle.piecewise.specs.Matches.{AreMatched};
+ghost use Rattle.statement.specs.Tree.{Tree, text};
+ghost use Rattle.statement.specs.Items.{alternatives};
+ghost use Rattle.statement.specs.Limits.{excess_in};
 ghost use Rattle.statement.specs.Most.{limits};
+ghost use Rattle.kif.specs.View.{trees_in};
+ghost use Rattle.rules.specs.RuleSetView.{rules_in};
+ghost use Rattle.kept.specs.Lists.{AreLaid, numbers_of_list};
+ghost use Rattle.terms.specs.Keys.{term_at, trees};
+ghost use Rattle.terms.specs.Vectors.{items_of};
+ghost use Rattle.listing.specs.AllListed.{IsAllListed};
+ghost use Rattle.listing.specs.Progress.{IsFaultOf, limits_of};
+ghost use Rattle.listing.specs.SetWords.{words_of};
+ghost use Rattle.dropped.specs.Effects.{HasLackingHead, IsTrueDropped, IsBefore};
+ghost use Rattle.dropped.specs.Findings.{AreFindings};
+ghost use Rattle.dropped.specs.Owners.{AreOwners};
 
-use crate::effects::{Lack, Tables, is_dropped, tables_of};
+use crate::effects::{key_of, lack_of};
+use crate::finding::{Dropped, Lack};
 use crate::owners::owners_of;
-use crate::texts::write_term;
+use crate::searching::{Candidate, candidates};
 use ground::{BASE_LIMIT, INPUTS_LIMIT, INSTANCES_LIMIT};
-use indexmap::IndexSet;
-use kept::AlternativeRun;
 use kif::Expr;
-use lint::{has_open_goal, is_goal_number};
 use listing::{GroundFault, Listed, Most, list_all};
-use outline::{Relation, is_stated};
 use piecewise::{Body, Matched};
-use profile::Word;
-use rules::{Keywords, RuleSet};
+use rules::RuleSet;
 use std::alloc::{AllocError, Allocator, Global};
-use terms::{Arena, TEXT_LIMIT};
-
-/// The first head of an item that has no effect on play, as a text, what it lacks, and how many more different ones the item has.
-#[derive(Drop)]
-pub struct Dropped {
-    /// The place of the item in the list.
-    pub place: usize,
-    pub lack: Lack,
-    pub text: Vec<u8>,
-    pub more: usize,
-}
-
-/// What heads are looked at by.
-#[derive(Drop)]
-struct Looked<'a> {
-    rules: &'a RuleSet,
-    listed: &'a Listed,
-    tables: Tables,
-}
+use terms::TEXT_LIMIT;
 
 /// How much there may be in any instantiation.
 fn most_of_all() -> Most
-    ensures { result.text ≤ limits.text }
+    ensures { limits_of result ≡ limits }
 {
     Most {
         instances: INSTANCES_LIMIT,
@@ -51,198 +44,154 @@ fn most_of_all() -> Most
 }
 
 /// All that is listed of rules, on one thread.
-fn listed_of(alloc: Global, rules: &RuleSet) -> Result<Listed, GroundFault> {
+pub(crate) fn listed_of(alloc: Global, rules: &RuleSet) -> Result<Listed, GroundFault>
+    ensures listed { IfOk result (λ l. IsAllListed (rules_in rules.now) (words_of rules.now) l.arena l.atoms.keys (numbers_of_list l.found)
+        l.fixed_atoms
+        l.context.roles.items l.context.base.items (items_of l.context.inputs.items)) }
+    ensures laid { IfOk result (λ l. AreLaid l.found) }
+    ensures fault { IfErr result (IsFaultOf (excess_in (rules_in rules.now))) }
+{
     let matcher = |body: &Body<'_>, limit: usize| -> Result<Matched, AllocError>
         ensures { IfOk result (AreMatched limit (joined body.now.columns.now body.now.cells.now body.now.levels.now)) }
     { Ok(Matched::Declined) };
     list_all(alloc, rules, most_of_all(), &matcher)
 }
 
-/// The key of a term, if there is one with the number.
-fn key_of(arena: &Arena, number: usize) -> &[u32] {
-    if number < arena.len() {
-        return arena.key(number);
-    }
-    &[]
-}
-
-/// The name that a term is, if it is one.
-fn name_of<'a>(looked: &Looked<'a>, number: usize) -> &'a [u8] {
-    match key_of(&looked.listed.arena, number) {
-        [symbol] => {
-            let symbol = *symbol as usize;
-            if symbol < looked.rules.count_symbols() {
-                return looked.rules.symbol(symbol);
-            }
-            b""
-        }
-        _ => b"",
-    }
-}
-
-/// Whether a key is that of a `goal` of no role, or whose value is no number.
-fn lacks_goal(looked: &Looked, words: Keywords, key: &[u32]) -> bool {
-    match key {
-        [word, role, value] => {
-            *word as usize == words.goal
-                && (!looked.tables.roles.contains(&(*role as usize))
-                    || !is_goal_number(name_of(looked, *value as usize)))
-        }
-        _ => false,
-    }
-}
-
-/// What the atom of a number lacks to have an effect on play, if it lacks something.
-fn lack_of(looked: &Looked, atom: u32) -> Option<Lack> {
-    let words = looked.rules.keywords();
-    let arena = &looked.listed.arena;
-    let key = key_of(arena, atom as usize);
-    if lacks_goal(looked, words, key) {
-        return Some(Lack::Goal);
-    }
-    if !is_dropped(arena, words, &looked.tables, atom) {
-        return None;
-    }
-    if key.len() == 2 {
-        return Some(Lack::Base);
-    }
-    Some(Lack::Input)
-}
-
-/// Adds a head of an item to what was found.
-fn add(
+/// The text of a term.
+fn text_of(
     alloc: Global,
-    looked: &Looked,
-    place: usize,
+    rules: &RuleSet,
+    listed: &Listed,
     number: usize,
-    lack: Lack,
-    found: &mut [Option<Dropped>],
-) -> Result<(), AllocError> {
-    let Some(slot) = found.get_mut(place) else {
-        return Ok(());
-    };
-    if let Some(dropped) = slot {
-        dropped.more = dropped.more.saturating_add(1);
-        return Ok(());
-    }
+) -> Result<Vec<u8>, AllocError>
+    requires listed { IsAllListed (rules_in rules.now) (words_of rules.now) listed.now.arena listed.now.atoms.keys
+        (numbers_of_list listed.now.found) listed.now.fixed_atoms
+        listed.now.context.roles.items listed.now.context.base.items (items_of listed.now.context.inputs.items) }
+    requires number { number < length listed.now.arena.keys }
+    ensures { IfOk result (λ bytes. bytes.items ≡ text (term_at (trees (words_of rules.now) listed.now.arena.keys) number)) }
+{
     let mut text = Vec::new(alloc);
-    write_term(alloc, looked.rules, &looked.listed.arena, number, &mut text)?;
-    *slot = Some(Dropped {
-        place,
+    let mut pending = Vec::new(alloc);
+    listed
+        .arena
+        .write_term(rules, number, &mut text, &mut pending)?;
+    Ok(text)
+}
+
+/// The alternative of a kept instance, and what its head lacks and its text, if it lacks something.
+fn head_at(
+    alloc: Global,
+    rules: &RuleSet,
+    listed: &Listed,
+    index: usize,
+) -> Result<Option<(usize, Lack, Vec<u8>)>, AllocError>
+    requires listed { IsAllListed (rules_in rules.now) (words_of rules.now) listed.now.arena listed.now.atoms.keys
+        (numbers_of_list listed.now.found) listed.now.fixed_atoms
+        listed.now.context.roles.items listed.now.context.base.items (items_of listed.now.context.inputs.items) }
+    requires laid { AreLaid listed.now.found }
+    ensures { IfOk result (λ found. IfSome found (λ head. HasLackingHead (rules_in rules.now) head.0 head.1 head.2.items)) }
+{
+    if index >= listed.found.count() {
+        return Ok(None);
+    }
+    let head = listed.found.head(index) as usize;
+    let alternative = listed.found.alternative(index) as usize;
+    if head >= listed.arena.len() {
+        return Ok(None);
+    }
+    let Some(lack) = lack_of(rules, listed, key_of(&listed.arena, head)) else {
+        return Ok(None);
+    };
+    let text = text_of(alloc, rules, listed, head)?;
+    Ok(Some((alternative, lack, text)))
+}
+
+/// What is found of an instance of an item, if it is one of it and its head has no effect on play.
+fn finding_at(
+    alloc: Global,
+    rules: &RuleSet,
+    listed: &Listed,
+    owners: &[usize],
+    candidate: Candidate,
+) -> Result<Option<Dropped>, AllocError>
+    requires listed { IsAllListed (rules_in rules.now) (words_of rules.now) listed.now.arena listed.now.atoms.keys
+        (numbers_of_list listed.now.found) listed.now.fixed_atoms
+        listed.now.context.roles.items listed.now.context.base.items (items_of listed.now.context.inputs.items) }
+    requires laid { AreLaid listed.now.found }
+    ensures truth { IfOk result (λ found. IfSome found (λ d. (ts : List Tree) → AreOwners ts owners.now → rules_in rules.now ≡ alternatives ts
+        → IsTrueDropped ts d)) }
+    ensures place { IfOk result (λ found. IfSome found (λ d. d.place ≡ candidate.place)) }
+{
+    let Some((alternative, lack, text)) = head_at(alloc, rules, listed, candidate.index)? else {
+        return Ok(None);
+    };
+    if alternative >= owners.len() || owners[alternative] != candidate.place {
+        return Ok(None);
+    }
+    Ok(Some(Dropped {
+        place: candidate.place,
         lack,
         text,
-        more: 0,
-    });
+        more: candidate.more,
+    }))
+}
+
+/// What is found, and the place of the first item behind those of which something is.
+#[derive(Drop)]
+struct Findings {
+    found: Vec<Dropped>,
+    next: usize,
+}
+
+/// Adds what is found of an instance of an item, if the item stands behind those of which something is found.
+fn add_finding(
+    alloc: Global,
+    rules: &RuleSet,
+    listed: &Listed,
+    owners: &[usize],
+    candidate: Candidate,
+    findings: &mut Findings,
+) -> Result<(), AllocError>
+    requires listed { IsAllListed (rules_in rules.now) (words_of rules.now) listed.now.arena listed.now.atoms.keys
+        (numbers_of_list listed.now.found) listed.now.fixed_atoms
+        listed.now.context.roles.items listed.now.context.base.items (items_of listed.now.context.inputs.items) }
+    requires laid { AreLaid listed.now.found }
+    requires findings { AreFindings (rules_in rules.now) owners.now findings.old.next findings.old.found.items }
+    ensures { OnOk result (AreFindings (rules_in rules.now) owners.now findings.new.next findings.new.found.items) }
+{
+    if candidate.place < findings.next || candidate.place == usize::MAX {
+        return Ok(());
+    }
+    let Some(dropped) = finding_at(alloc, rules, listed, owners, candidate)? else {
+        return Ok(());
+    };
+    findings.next = candidate.place + 1;
+    findings.found.push(dropped)?;
     Ok(())
 }
 
-/// Whether items state anything of a word.
-fn state<A: Allocator>(items: &[Expr<A>], word: Word) -> bool {
-    let relation = Relation {
-        word: word.name(),
-        arity: word.arity(),
-    };
-    is_stated(items, &relation)
-}
-
-/// Of which lacks heads are told. Where no item states `base`, or `input`, that is found by itself, and no head is told for it.
-#[derive(Clone, Copy)]
-struct Wanted {
-    base: bool,
-    input: bool,
-}
-
-/// Whether a lack of an item is told: a goal whose value stands in the item itself is found by itself.
-fn is_told<A: Allocator>(items: &[Expr<A>], wanted: Wanted, place: usize, lack: Lack) -> bool {
-    let Some(item) = items.get(place) else {
-        return false;
-    };
-    match lack {
-        Lack::Base => wanted.base,
-        Lack::Input => wanted.input,
-        Lack::Goal => has_open_goal(item),
-    }
-}
-
-/// The alternative of each kept instance in turn, by the runs of the list.
-#[derive(Clone, Copy)]
-struct Runs<'a> {
-    left: &'a [AlternativeRun],
-}
-
-impl Runs<'_> {
-    /// The alternative of an instance, where all before it were asked for.
-    fn at(&mut self, place: usize) -> Option<usize> {
-        for _ in 0..self.left.len() {
-            let Some((_, rest)) = self.left.split_first() else {
-                break;
-            };
-            match rest.first() {
-                Some(next) if next.first as usize <= place => self.left = rest,
-                _ => break,
-            }
-        }
-        let first = self.left.first()?;
-        Some(first.alternative as usize)
-    }
-}
-
-/// The place of the item of an alternative, or none that there is.
-fn owner_of(owners: &[usize], alternative: Option<usize>) -> usize {
-    let Some(alternative) = alternative else {
-        return usize::MAX;
-    };
-    match owners.get(alternative) {
-        Some(place) => *place,
-        None => usize::MAX,
-    }
-}
-
-/// The heads without effect, by the places of their items.
-fn found_by_place<A: Allocator>(
+/// What is found of instances of items, of which each stands behind those before.
+fn findings_of(
     alloc: Global,
-    items: &[Expr<A>],
-    looked: &Looked,
-) -> Result<Vec<Option<Dropped>>, AllocError> {
-    let mut found = Vec::new(alloc);
-    for _ in items {
-        found.push(None)?;
-    }
-    let owners = owners_of(alloc, items, looked.rules.alternatives().len())?;
-    let instances = &looked.listed.found;
-    let mut runs = Runs {
-        left: &instances.runs,
+    rules: &RuleSet,
+    listed: &Listed,
+    owners: &[usize],
+    candidates: &[Candidate],
+) -> Result<Vec<Dropped>, AllocError>
+    requires listed { IsAllListed (rules_in rules.now) (words_of rules.now) listed.now.arena listed.now.atoms.keys
+        (numbers_of_list listed.now.found) listed.now.fixed_atoms
+        listed.now.context.roles.items listed.now.context.base.items (items_of listed.now.context.inputs.items) }
+    requires laid { AreLaid listed.now.found }
+    ensures { IfOk result (λ found. (next : ℕ) × AreFindings (rules_in rules.now) owners.now next found.items) }
+{
+    let mut findings = Findings {
+        found: Vec::new(alloc),
+        next: 0,
     };
-    let wanted = Wanted {
-        base: state(items, Word::Base),
-        input: state(items, Word::Input),
-    };
-    let mut seen: IndexSet<(usize, u32)> = IndexSet::new(alloc);
-    for (index, entry) in instances.entries.iter().enumerate() {
-        let place = owner_of(&owners, runs.at(index));
-        if let Some(lack) = lack_of(looked, entry.head) {
-            if is_told(items, wanted, place, lack) && seen.insert((place, entry.head))? {
-                add(alloc, looked, place, entry.head as usize, lack, &mut found)?;
-            }
-        }
+    for candidate in candidates {
+        add_finding(alloc, rules, listed, owners, *candidate, &mut findings)?;
     }
-    Ok(found)
-}
-
-/// The heads without effect, in the order of their items.
-fn found_in<A: Allocator>(
-    alloc: Global,
-    items: &[Expr<A>],
-    looked: &Looked,
-) -> Result<Vec<Dropped>, AllocError> {
-    let by_place = found_by_place(alloc, items, looked)?;
-    let mut found = Vec::new(alloc);
-    for slot in by_place {
-        if let Some(dropped) = slot {
-            found.push(dropped)?;
-        }
-    }
-    Ok(found)
+    Ok(findings.found)
 }
 
 /// The heads that have no effect on play, of each item the first with the number of further ones, in the order of the items. Where no item
@@ -252,14 +201,15 @@ pub fn dropped_heads<A: Allocator>(
     alloc: Global,
     items: &[Expr<A>],
     rules: &RuleSet,
-) -> Result<Vec<Dropped>, GroundFault> {
+) -> Result<Vec<Dropped>, GroundFault>
+    ensures each { rules_in rules.now ≡ alternatives (trees_in items.now)
+        → IfOk result (λ found. All (IsTrueDropped (trees_in items.now)) found.items) }
+    ensures once { IfOk result (λ found. AllPairs IsBefore found.items) }
+    ensures fault { IfErr result (IsFaultOf (excess_in (rules_in rules.now))) }
+{
     let listed = listed_of(alloc, rules)?;
-    let tables = tables_of(alloc, &listed.context)?;
-    let looked = Looked {
-        rules,
-        listed: &listed,
-        tables,
-    };
-    let found = found_in(alloc, items, &looked)?;
+    let owners = owners_of(alloc, items, rules.alternatives().len())?;
+    let candidates = candidates(alloc, items, rules, &listed, &owners)?;
+    let found = findings_of(alloc, rules, &listed, &owners, &candidates)?;
     Ok(found)
 }

@@ -1,67 +1,140 @@
-//! Whether an atom has an effect on play.
-use indexmap::IndexSet;
-use listing::ContextTerms;
-use rules::Keywords;
-use std::alloc::{AllocError, Global};
-use terms::{Arena, Named, count_dropped};
+//! What heads lack to have an effect on play.
+ghost use Rattle.std.specs.Prelude.{◌≡◌, nat_eq, true, map, IfSome};
+ghost use Rattle.std.specs.List.{list_any};
+ghost use Rattle.statement.specs.Printed.{first_place};
+ghost use Rattle.keys.specs.KeyLists.{key_at};
+ghost use Rattle.rules.specs.RuleSetView.{keywords_in};
+ghost use Rattle.terms.specs.Vectors.{items_of};
+ghost use Rattle.terms.specs.Dropping.{is_input_in, misses_base_in, misses_input_in};
+ghost use Rattle.listing.specs.Contexts.{terms_named};
+ghost use Rattle.listing.specs.SetWords.{words_of};
+ghost use Rattle.dropped.specs.Keyed.{is_goal_key, misses_goal_in, lacks_in, numbers_of};
 
-/// What an atom without effect on play lacks.
-#[derive(Clone, Copy, Debug, PartialEq, Eq)]
-pub enum Lack {
-    /// It is an `init` or a `next` of what is no base proposition.
-    Base,
-    /// It is a `legal` of what is no input of a role.
-    Input,
-    /// It is a `goal` of no role, or whose value is no number from 0 to 100.
-    Goal,
-}
+use crate::finding::Lack;
+use lint::is_goal_number;
+use listing::{ContextTerms, Listed};
+use rules::{Keywords, RuleSet};
+use terms::{Arena, Named};
 
-/// The terms that are base propositions, roles, and the inputs of each role.
-#[derive(Drop)]
-pub(crate) struct Tables {
-    pub(crate) base: IndexSet<usize>,
-    pub(crate) roles: IndexSet<usize>,
-    pub(crate) inputs: Vec<IndexSet<usize>>,
-}
-
-/// The terms that are named.
-fn set_of(alloc: Global, named: &[Named]) -> Result<IndexSet<usize>, AllocError> {
-    let mut set = IndexSet::new(alloc);
+/// Whether a term is one of those that are named.
+fn is_named(named: &[Named], term: usize) -> bool
+    ensures { result ≡ list_any (nat_eq term) (terms_named named.now) }
+{
     for one in named {
-        set.insert(one.term)?;
+        if one.term == term {
+            return true;
+        }
     }
-    Ok(set)
+    false
 }
 
-/// The base propositions, the roles and the inputs of a context of play.
-pub(crate) fn tables_of(alloc: Global, context: &ContextTerms) -> Result<Tables, AllocError> {
-    let base = set_of(alloc, &context.base)?;
-    let roles = set_of(alloc, &context.roles)?;
-    let mut inputs = Vec::new(alloc);
-    for named in &context.inputs {
-        inputs.push(set_of(alloc, named)?)?;
+/// The place of a term among those that are named; how many there are, if it is none of them.
+fn place_of(named: &[Named], term: usize) -> usize
+    ensures { result ≡ first_place (nat_eq term) (terms_named named.now) }
+{
+    for (place, one) in named.iter().enumerate() {
+        if one.term == term {
+            return place;
+        }
     }
-    Ok(Tables {
-        base,
-        roles,
-        inputs,
-    })
+    named.len()
 }
 
-/// Whether the atom of a number is an `init`, a `next` or a `legal` that has no effect on play: it is counted as dropped.
-pub(crate) fn is_dropped(arena: &Arena, words: Keywords, tables: &Tables, atom: u32) -> bool {
-    if atom as usize >= arena.len() {
+/// Whether a term is an input of a role.
+fn is_input(context: &ContextTerms, role: usize, input: usize) -> bool
+    ensures { result ≡ is_input_in (terms_named context.now.roles.items) (map terms_named (items_of context.now.inputs.items)) role input }
+{
+    let place = place_of(&context.roles, role);
+    if place >= context.inputs.len() {
         return false;
     }
-    if tables.inputs.len() != tables.roles.len() {
-        return false;
+    is_named(&context.inputs[place], input)
+}
+
+/// Whether a word and a part are those of an `init` or a `next` of what is no base proposition.
+fn misses_base(context: &ContextTerms, words: Keywords, word: usize, part: usize) -> bool
+    ensures { result ≡ misses_base_in words (terms_named context.now.base.items) word part }
+{
+    (word == words.init || word == words.next) && !is_named(&context.base, part)
+}
+
+/// Whether a word and two parts are those of a `legal` of no role, or of what is no input of it.
+fn misses_input(
+    context: &ContextTerms,
+    words: Keywords,
+    word: usize,
+    role: usize,
+    input: usize,
+) -> bool
+    ensures { result ≡ misses_input_in words (terms_named context.now.roles.items) (map terms_named (items_of context.now.inputs.items))
+        word role input }
+{
+    word == words.legal && !is_input(context, role, input)
+}
+
+/// The key of a term; an empty one if there is no term of the number.
+pub(crate) fn key_of(arena: &Arena, number: usize) -> &[u32]
+    ensures { result.now ≡ key_at arena.now.keys number }
+{
+    if number < arena.len() {
+        return arena.key(number);
     }
-    count_dropped(
-        arena,
-        words,
-        &tables.base,
-        &tables.roles,
-        &tables.inputs,
-        &[atom],
-    ) > 0
+    &[]
+}
+
+/// Whether a key is that of a name that is a goal value.
+fn is_goal_key(rules: &RuleSet, key: &[u32]) -> bool
+    ensures { result ≡ is_goal_key (words_of rules.now) key.now }
+{
+    match key {
+        [symbol] => {
+            let symbol = *symbol as usize;
+            symbol < rules.count_symbols() && is_goal_number(rules.symbol(symbol))
+        }
+        _ => false,
+    }
+}
+
+/// Whether a word and two parts are those of a `goal` of no role, or whose value is no number from 0 to 100.
+fn misses_goal(
+    rules: &RuleSet,
+    listed: &Listed,
+    words: Keywords,
+    word: usize,
+    role: usize,
+    value: usize,
+) -> bool
+    ensures { result ≡ misses_goal_in (words_of rules.now) listed.now.arena.keys words (terms_named listed.now.context.roles.items)
+        word role value }
+{
+    word == words.goal
+        && !(is_named(&listed.context.roles, role)
+            && is_goal_key(rules, key_of(&listed.arena, value)))
+}
+
+/// What the atom of a key lacks to have an effect on play, if it lacks something.
+pub(crate) fn lack_of(rules: &RuleSet, listed: &Listed, key: &[u32]) -> Option<Lack>
+    ensures { IfSome result (λ lack. lacks_in (numbers_of rules.now listed.now) lack key.now ≡ true) }
+{
+    let words = rules.keywords();
+    let context = &listed.context;
+    match key {
+        [word, part] => {
+            if misses_base(context, words, *word as usize, *part as usize) {
+                return Some(Lack::Base);
+            }
+            None
+        }
+        [word, role, part] => {
+            let (word, role, part) = (*word as usize, *role as usize, *part as usize);
+            if misses_input(context, words, word, role, part) {
+                return Some(Lack::Input);
+            }
+            if misses_goal(rules, listed, words, word, role, part) {
+                return Some(Lack::Goal);
+            }
+            None
+        }
+        _ => None,
+    }
 }

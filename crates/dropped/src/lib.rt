@@ -3,12 +3,15 @@
 
 mod dropping;
 mod effects;
+mod finding;
+mod lacking;
 mod owners;
+mod searching;
 #[cfg(test)]
 mod tests;
-mod texts;
 mod told;
 
-pub use dropping::{Dropped, dropped_heads};
-pub use effects::Lack;
+pub use dropping::dropped_heads;
+pub use finding::{Dropped, Lack};
+pub use lacking::{Lacking, lacking_of};
 pub use told::add_dropped;

@@ -1,10 +1,20 @@
 //! The lines that tell of heads without effect.
-use crate::dropping::Dropped;
-use crate::effects::Lack;
+ghost use Rattle.std.specs.Prelude.{◌≡◌, ◌++◌, OnOk};
+ghost use Rattle.std.specs.List.{FoldsTo};
+ghost use Rattle.kif.specs.View.{trees_in};
+ghost use Rattle.clauses.specs.Numbers.{BeginsWith};
+ghost use Rattle.lint.specs.Pointing.{IsPointer};
+ghost use Rattle.dropped.specs.Telling.{place_start, TellsOf};
+
+use crate::finding::{Dropped, Lack};
 use kif::Expr;
 use lint::Pointer;
+use places::Place;
 use std::alloc::{AllocError, Allocator, Global};
 use std::io::Write;
+
+/// How many bytes of a head are told.
+const SHOWN: usize = 400;
 
 /// What a head lacks.
 fn words_of(lack: Lack) -> &'static str {
@@ -16,22 +26,80 @@ fn words_of(lack: Lack) -> &'static str {
     }
 }
 
+/// Adds the text of a head. Of a long one the beginning is told.
+fn add_head(text: &[u8], output: &mut Vec<u8>) -> Result<(), AllocError>
+    ensures { OnOk result (BeginsWith output.old.items output.new.items) }
+{
+    let Some(front) = text.get(..SHOWN) else {
+        output.extend_from_slice(text)?;
+        return Ok(());
+    };
+    output.extend_from_slice(front)?;
+    output.extend_from_slice(b" ..")?;
+    Ok(())
+}
+
+/// Adds how many more heads an item has, if it has any.
+fn add_more(more: usize, output: &mut Vec<u8>) -> Result<(), AllocError>
+    ensures { OnOk result (BeginsWith output.old.items output.new.items) }
+{
+    if more == 0 {
+        return Ok(());
+    }
+    write!(output, "; and {more} more of this item").map_err(|_| AllocError)
+}
+
 /// Adds what is told of a head without effect, and ends the line.
-fn add_words(dropped: &Dropped, output: &mut Vec<u8>) -> Result<(), AllocError> {
+fn add_words(dropped: &Dropped, output: &mut Vec<u8>) -> Result<(), AllocError>
+    ensures { OnOk result (BeginsWith output.old.items output.new.items) }
+{
     output.push(b'`')?;
-    output.extend_from_slice(&dropped.text)?;
+    add_head(&dropped.text, output)?;
     output.extend_from_slice(b"` has no effect: ")?;
     output.extend_from_slice(words_of(dropped.lack).as_bytes())?;
-    let more = dropped.more;
-    if more > 0 {
-        write!(output, "; and {more} more of this item").map_err(|_| AllocError)?;
-    }
+    add_more(dropped.more, output)?;
     output.push(b'\n')?;
     Ok(())
 }
 
-/// Adds a line for each of the first heads without effect, so many: what stands before the place, line and column, what stands behind it,
-/// and which head it is.
+/// Adds what stands before a place, the place, line and column, and what stands behind it.
+fn add_place(
+    place: Place,
+    before: &str,
+    behind: &str,
+    output: &mut Vec<u8>,
+) -> Result<(), AllocError>
+    ensures { OnOk result (output.new.items ≡ output.old.items ++ place_start before.now place behind.now) }
+{
+    let line = place.line;
+    let column = place.column;
+    write!(output, "{before}{line}:{column}: {behind}").map_err(|_| AllocError)
+}
+
+/// Adds a line for a head without effect, unless the pointer has passed its item.
+fn add_line<A: Allocator>(
+    pointer: &mut Pointer,
+    items: &[Expr<A>],
+    dropped: &Dropped,
+    before: &str,
+    behind: &str,
+    output: &mut Vec<u8>,
+) -> Result<(), AllocError>
+    requires { IsPointer (trees_in items.now) pointer.old }
+    ensures text { pointer.new.text.now ≡ pointer.old.text.now }
+    ensures pointer { IsPointer (trees_in items.now) pointer.new }
+    ensures told { OnOk result (TellsOf pointer.old.text.now (trees_in items.now) before.now behind.now
+        output.old.items dropped.now output.new.items) }
+{
+    let Some(place) = pointer.item_place(items, dropped.place) else {
+        return Ok(());
+    };
+    add_place(place, before, behind, output)?;
+    add_words(dropped, output)
+}
+
+/// Adds a line for each of some heads without effect: what stands before the place, line and column of its item, what stands behind it, and
+/// which head it is.
 pub fn add_dropped<A: Allocator>(
     text: &[u8],
     items: &[Expr<A>],
@@ -39,15 +107,13 @@ pub fn add_dropped<A: Allocator>(
     before: &str,
     behind: &str,
     output: &mut Vec<u8>,
-) -> Result<(), AllocError> {
+) -> Result<(), AllocError>
+    ensures { OnOk result (FoldsTo (TellsOf text.now (trees_in items.now) before.now behind.now)
+        output.old.items found.now output.new.items) }
+{
     let mut pointer = Pointer::new(text);
     for dropped in found {
-        if let Some(place) = pointer.item_place(items, dropped.place) {
-            let line = place.line;
-            let column = place.column;
-            write!(output, "{before}{line}:{column}: {behind}").map_err(|_| AllocError)?;
-            add_words(dropped, output)?;
-        }
+        add_line(&mut pointer, items, dropped, before, behind, output)?;
     }
     Ok(())
 }

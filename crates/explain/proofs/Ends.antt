@@ -1,5 +1,5 @@
 -- The last of a list.
-use Rattle.std.proofs.Common.{ℕ, zero, suc, Bool, false, ◌≡◌, ◌-◌, List, [], ◌∷◌, length, refl, sym, ap, ◌∙◌, arith}
+use Rattle.std.proofs.Common.{ℕ, zero, suc, Bool, false, ◌≡◌, ◌-◌, List, [], ◌∷◌, length, ap, arith}
 use Rattle.std.specs.Prelude.{Option, Some, None, map, slice_get}
 use Rattle.statement.specs.Clause.{Relation, relation_eq}
 use Rattle.explain.specs.Ways.{ends_with}

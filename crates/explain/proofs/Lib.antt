@@ -1,2 +1,3 @@
+mod CountedWays
 mod Ends
 mod Targets

@@ -2,3 +2,4 @@ pub mod Offsets
 pub mod Spots
 pub mod Unbound
 pub mod Ways
+pub mod Counting

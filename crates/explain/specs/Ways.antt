@@ -1,6 +1,6 @@
 -- This crate's own: what `run` promises does not rest on it.
 -- Ways from relation to relation.
-use Rattle.std.specs.Prelude.{ℕ, ◌≡◌, Bool, true, false, ◌&&◌, List, [], ◌∷◌}
+use Rattle.std.specs.Prelude.{◌≡◌, Bool, true, false, ◌&&◌, List, [], ◌∷◌}
 use Rattle.statement.specs.Tree.{Tree}
 use Rattle.statement.specs.Clause.{Relation, relation_eq, relation_of}
 use Rattle.statement.specs.Items.{item_head}

@@ -19,9 +19,9 @@ mod variables;
 mod ways;
 mod wording;
 
-pub use counts::count_alternatives;
+pub use counts::{MOST_COUNTED, count_alternatives};
 pub use marked::add_marked_line;
-pub use refusals::PlayFault;
+pub use refusals::{PlayFault, rule_fault_in};
 pub use spots::{Spot, item_spot, text_spot, word_spot};
 pub use told_play::{
     Before, explain_history, explain_limit, explain_role, explain_unread_history, is_legal_line,

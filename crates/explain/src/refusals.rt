@@ -1,4 +1,5 @@
-//! The line of a refusal of what was asked of rules, taken apart.
+//! The line of a refusal, taken apart.
+use profile::{RuleExcess, RuleFault};
 
 /// The fault of a history, as the line of its refusal names it.
 #[derive(Clone, Copy)]
@@ -47,6 +48,35 @@ fn leading_number(bytes: &[u8]) -> usize {
             .saturating_add(usize::from(byte & 15));
     }
     number
+}
+
+/// What an item has too many of, by the word that a line has for it.
+fn excess_named(word: &[u8]) -> Option<RuleExcess> {
+    match word {
+        b"rules" => Some(RuleExcess::Rules),
+        b"variables" => Some(RuleExcess::Variables),
+        b"alternatives" => Some(RuleExcess::Alternatives),
+        b"roles" => Some(RuleExcess::Roles),
+        _ => None,
+    }
+}
+
+/// The fault of rules that the line of a refusal names, if it names one.
+pub fn rule_fault_in(line: &[u8]) -> Option<RuleFault> {
+    let number = leading_number(behind_words(line, 3));
+    match line.get(8..10)? {
+        b"G1" => Some(RuleFault::BadForm(number)),
+        b"G2" => Some(RuleFault::BadKeyword(number)),
+        b"G3" => Some(RuleFault::Unsafe(number)),
+        b"G4" => Some(RuleFault::Recursive(number)),
+        b"G5" => Some(RuleFault::BadDependence(number)),
+        b"G6" => Some(RuleFault::NoRole),
+        b"G7" => {
+            let excess = excess_named(without_end(behind_words(line, 4)))?;
+            Some(RuleFault::TooMany(number, excess))
+        }
+        _ => None,
+    }
 }
 
 impl<'a> PlayFault<'a> {

@@ -1,9 +1,9 @@
 //! Worked notices: of each fault, at the ends of texts, with tabs, comments and bytes above 127.
 use crate::{
     Before, PlayFault, Source, explain_history, explain_limit, explain_role, explain_rules,
-    explain_text,
+    explain_text, rule_fault_in,
 };
-use kif::{KifFault, read};
+use kif::{KifFault, add_refusal, read};
 use profile::{RuleExcess, RuleFault};
 use std::alloc::{AllocError, Global};
 use std::str::from_utf8;
@@ -16,7 +16,7 @@ fn told_text(alloc: Global, text: &[u8], fault: KifFault) -> Result<Vec<u8>, All
     Ok(output)
 }
 
-/// What is told of the fault of rules.
+/// What is told of the fault of rules, by the line of its refusal.
 fn told_rules(alloc: Global, text: &[u8], fault: RuleFault) -> Result<Vec<u8>, AllocError> {
     let Ok(items) = read(alloc, text) else {
         return Err(AllocError);
@@ -26,8 +26,13 @@ fn told_rules(alloc: Global, text: &[u8], fault: RuleFault) -> Result<Vec<u8>, A
         text,
         items: &items,
     };
+    let mut line = Vec::new(alloc);
+    add_refusal(&fault, &mut line)?;
+    let Some(named) = rule_fault_in(&line) else {
+        return Err(AllocError);
+    };
     let mut output = Vec::new(alloc);
-    explain_rules(alloc, &source, &fault, &mut output)?;
+    explain_rules(alloc, &source, &named, &mut output)?;
     Ok(output)
 }
 

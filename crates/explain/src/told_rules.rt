@@ -1,5 +1,5 @@
 //! What is told of the fault of rules.
-use crate::counts::count_alternatives;
+use crate::counts::{MOST_COUNTED, count_alternatives};
 use crate::forms::flaw_of_item;
 use crate::halves::half_bound_variable;
 use crate::marked::add_marked_line;
@@ -205,14 +205,19 @@ fn tell_excess<A: Allocator>(
                 output,
             )
         }
-        RuleExcess::Alternatives => add_count(
-            count_alternatives(item),
-            "alternatives",
-            ALTERNATIVES_LIMIT as usize,
-            output,
-        ),
+        RuleExcess::Alternatives => add_alternatives(count_alternatives(item), output),
         RuleExcess::Roles => add_limit("roles", ROLES_LIMIT, output),
     }
+}
+
+/// Adds a line that says how many alternatives an item has, of which a very large number is not counted out.
+fn add_alternatives(count: usize, output: &mut Vec<u8>) -> Result<(), AllocError> {
+    let what = if count < MOST_COUNTED {
+        "alternatives"
+    } else {
+        "alternatives or more"
+    };
+    add_count(count, what, ALTERNATIVES_LIMIT as usize, output)
 }
 
 /// What an item is one too many of, or has too many of.

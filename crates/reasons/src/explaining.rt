@@ -7,7 +7,7 @@ use crate::passing::item_over;
 use bumpalo::Bump;
 use explain::{
     Before, PlayFault, Source, explain_history, explain_limit, explain_role, explain_rules,
-    explain_text, explain_unread_history, item_spot,
+    explain_text, explain_unread_history, item_spot, rule_fault_in,
 };
 use kif::{Expr, KifFault, read};
 use replies::reply_alone;
@@ -124,15 +124,16 @@ fn explain_items<G: GroundGame, T: AllocGlobal, A: Allocator>(
     refusal: &[u8],
     output: &mut Vec<u8>,
 ) -> Result<(), AllocError> {
+    if let Some(fault) = rule_fault_in(refusal) {
+        return explain_rules(rt.alloc(), source, &fault, output);
+    }
+    let Command::Ask(inquiry) = command else {
+        return Ok(());
+    };
     match RuleSet::check(rt.alloc(), source.items) {
-        Ok(rules) => match command {
-            Command::Ask(inquiry) => {
-                explain_inquiry::<G, T, A>(rt, inquiry, source, &rules, refusal, output)
-            }
-            Command::Show | Command::Check => Ok(()),
-        },
+        Ok(rules) => explain_inquiry::<G, T, A>(rt, inquiry, source, &rules, refusal, output),
         Err(RuleFault::NoMemory) => Err(AllocError),
-        Err(fault) => explain_rules(rt.alloc(), source, &fault, output),
+        Err(_) => Ok(()),
     }
 }
 

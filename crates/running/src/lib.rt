@@ -11,7 +11,6 @@ mod linting;
 mod program;
 mod runs;
 mod sizes;
-mod starting;
 mod warning;
 mod working;
 

@@ -2,7 +2,10 @@
 ghost use Rattle.std.specs.Prelude.{◌≡◌, ◌≢◌, ℕ, List, IfOk, IfErr, Ok};
 ghost use Rattle.std.specs.Io.KnownBytes.{Appends, Keeps};
 ghost use Rattle.kif.specs.Written.{AppendsFront};
+ghost use Rattle.statement.specs.Tree.{trees_of};
+ghost use Rattle.statement.specs.Reading.{Reads};
 ghost use Rattle.statement.specs.Answers.{Reply};
+ghost use Rattle.kif.specs.View.{trees_in};
 ghost use Rattle.replies.specs.Replies.{reply_of};
 ghost use Rattle.running.specs.Input.{IsReadFrom};
 ghost use Rattle.running.specs.Ran.{ended_of};
@@ -15,16 +18,17 @@ use crate::explained::explain_ran;
 use crate::fault::RunFault;
 use crate::input::read_input;
 use crate::runs::{Ran, ended, write_out};
-use crate::starting::add_start;
 use bumpalo::Bump;
 use dropped::{add_dropped, dropped_heads};
-use ground::GroundFault;
-use kif::Expr;
+use ground::{GroundFault, instantiate_flat_alone};
+use kif::{Expr, KifFault};
 use lint::finding_lines;
+use netgame::NetGame;
+use opening::{add_openings, openings_of};
 use replies::check;
-use rules::RuleSet;
+use rules::{RuleFault, RuleSet};
 use statement::Status;
-use std::alloc::{AllocError, Allocator};
+use std::alloc::{AllocError, Allocator, Global};
 use std::io::{Read, Write};
 use std::thread::Threads;
 use words::Command;
@@ -36,6 +40,24 @@ fn status_of_lines(lines: &[u8]) -> Status
     match lines {
         [] => Status::Answer,
         _ => Status::Refused,
+    }
+}
+
+/// Adds what is found of how play stands at the start. Where the rules pass a limit nothing is added.
+fn add_start<T: AllocGlobal, A: Allocator>(
+    rt: &T,
+    bytes: &[u8],
+    items: &[Expr<A>],
+    rules: &RuleSet,
+    output: &mut Vec<u8>,
+) -> Result<(), AllocError> {
+    match instantiate_flat_alone(rt, rules) {
+        Ok(ground) => {
+            let found = openings_of::<NetGame>(rt.alloc(), ground)?;
+            add_openings(bytes, items, rules, &found, output)
+        }
+        Err(GroundFault::TooMany(_)) => Ok(()),
+        Err(GroundFault::NoMemory) => Err(AllocError),
     }
 }
 
@@ -51,46 +73,68 @@ fn add_found_in_play<T: AllocGlobal, A: Allocator>(
     match dropped_heads(rt.alloc(), items, rules) {
         Ok(found) => {
             add_dropped(bytes, items, &found, "", "", output)?;
-            add_start(rt, bytes, rules, output)
+            add_start(rt, bytes, items, rules, output)
         }
         Err(GroundFault::TooMany(_)) => Ok(()),
         Err(GroundFault::NoMemory) => Err(AllocError),
     }
 }
 
-/// The lines of findings in bytes that are a description without a fault.
-fn lines_found<T: AllocGlobal>(rt: &T, bytes: &[u8]) -> Result<Vec<u8>, AllocError> {
-    let alloc = rt.alloc();
-    let arena = Bump::new(alloc);
-    let Ok(items) = kif::read(&arena, bytes) else {
-        return Err(AllocError);
-    };
-    let mut output = finding_lines(alloc, bytes, &items)?;
-    let Ok(rules) = RuleSet::check(alloc, &items) else {
-        return Err(AllocError);
-    };
-    add_found_in_play(rt, bytes, &items, &rules, &mut output)?;
-    Ok(output)
-}
-
-/// The findings in bytes that are a description without a fault.
-fn found<T: AllocGlobal>(rt: &T, bytes: &[u8]) -> Result<replies::Reply, AllocError>
+/// The findings in the items that bytes are read as, which have no fault.
+fn found<T: AllocGlobal, A: Allocator>(
+    rt: &T,
+    bytes: &[u8],
+    items: &[Expr<A>],
+    rules: &RuleSet,
+) -> Result<replies::Reply, AllocError>
     ensures { IfOk result (λ reply. reply.status ≡ status_of_lines reply.output.items) }
 {
-    let output = lines_found(rt, bytes)?;
+    let mut output = finding_lines(rt.alloc(), bytes, items)?;
+    add_found_in_play(rt, bytes, items, rules, &mut output)?;
     let status = status_of_lines(&output);
     Ok(replies::Reply { output, status })
+}
+
+/// The reply of `check` to bytes that it refuses. What it does not refuse is told to have no findings.
+fn refused(alloc: Global, bytes: &[u8]) -> Result<replies::Reply, AllocError>
+    ensures { IfOk result (λ reply. IsLintReply bytes.now (reply_of reply)) }
+{
+    let checked = check(alloc, bytes)?;
+    match checked.status {
+        Status::Refused => Ok(checked),
+        Status::Answer => Ok(replies::Reply {
+            output: Vec::new(alloc),
+            status: Status::Answer,
+        }),
+    }
+}
+
+/// The reply to `lint` over bytes that are read as items.
+fn reply_to_items<T: AllocGlobal, A: Allocator>(
+    rt: &T,
+    bytes: &[u8],
+    items: &[Expr<A>],
+) -> Result<replies::Reply, AllocError>
+    requires { Reads bytes.now (trees_of (trees_in items.now)) }
+    ensures { IfOk result (λ reply. IsLintReply bytes.now (reply_of reply)) }
+{
+    match RuleSet::check(rt.alloc(), items) {
+        Ok(rules) => found(rt, bytes, items, &rules),
+        Err(RuleFault::NoMemory) => Err(AllocError),
+        Err(_) => refused(rt.alloc(), bytes),
+    }
 }
 
 /// The reply to `lint` over the bytes of the input: the refusal that `check` writes, or the lines of findings.
 pub fn lint_reply<T: AllocGlobal>(rt: &T, bytes: &[u8]) -> Result<replies::Reply, AllocError>
     ensures { IfOk result (λ reply. IsLintReply bytes.now (reply_of reply)) }
 {
-    let checked = check(rt.alloc(), bytes)?;
-    let Status::Answer = checked.status else {
-        return Ok(checked);
-    };
-    found(rt, bytes)
+    let arena = Bump::new(rt.alloc());
+    match kif::read(&arena, bytes) {
+        Ok(items) => reply_to_items(rt, bytes, &items),
+        Err(KifFault::NoMemory) => Err(AllocError),
+        Err(_) => refused(rt.alloc(), bytes),
+    }
 }
 
 /// Reads the rules, writes the findings in them and nothing else, and keeps both.

@@ -1,29 +1,46 @@
 //! What warns of an answer that is lawful and most likely not meant.
 use crate::sizes::Sizes;
 use bumpalo::Bump;
-use dropped::{add_dropped, dropped_heads};
-use kif::read;
+use dropped::{add_dropped, dropped_heads, lacking_of};
+use kif::{Expr, read};
 use rules::RuleSet;
-use std::alloc::{AllocError, Global};
+use std::alloc::{AllocError, Allocator, Global};
 use std::io::Write;
 
 /// Of how many items the heads without effect are told.
 const SHOWN: usize = 3;
 
+/// Adds lines that tell of what rules state none.
+fn add_lacking(alloc: Global, rules: &RuleSet, output: &mut Vec<u8>) -> Result<(), AllocError> {
+    let Ok(lacking) = lacking_of(alloc, rules) else {
+        return Err(AllocError);
+    };
+    if lacking.base {
+        output.extend_from_slice(
+            b"<input>: warning: there is no base proposition, so nothing holds in any state: state them by `base`\n",
+        )?;
+    }
+    if lacking.inputs {
+        output.extend_from_slice(
+            b"<input>: warning: there is no input, so no role has a legal move: state them by `input`\n",
+        )?;
+    }
+    Ok(())
+}
+
 /// Adds lines that tell of heads without effect, of the first few items.
-fn add_heads(alloc: Global, bytes: &[u8], output: &mut Vec<u8>) -> Result<(), AllocError> {
-    let arena = Bump::new(alloc);
-    let Ok(items) = read(&arena, bytes) else {
-        return Err(AllocError);
-    };
-    let Ok(rules) = RuleSet::check(alloc, &items) else {
-        return Err(AllocError);
-    };
-    let Ok(found) = dropped_heads(alloc, &items, &rules) else {
+fn add_heads<A: Allocator>(
+    alloc: Global,
+    bytes: &[u8],
+    items: &[Expr<A>],
+    rules: &RuleSet,
+    output: &mut Vec<u8>,
+) -> Result<(), AllocError> {
+    let Ok(found) = dropped_heads(alloc, items, rules) else {
         return Err(AllocError);
     };
     let shown = found.get(..SHOWN).unwrap_or(found.as_slice());
-    add_dropped(bytes, &items, shown, "<input>:", "warning: ", output)?;
+    add_dropped(bytes, items, shown, "<input>:", "warning: ", output)?;
     let more = found.len().saturating_sub(SHOWN);
     if more > 0 {
         return writeln!(output, "  and of {more} more items: `lint` tells all").map_err(
@@ -33,21 +50,25 @@ fn add_heads(alloc: Global, bytes: &[u8], output: &mut Vec<u8>) -> Result<(), Al
     Ok(())
 }
 
-/// What warns of rules of these sizes: that there are no base propositions or no inputs, and which heads have no effect.
+/// What warns of the rules of bytes: that there are no base propositions or no inputs, and which heads have no effect. Whether there is
+/// something to warn of their sizes tell, and what it is is looked for anew.
 pub(crate) fn warnings(alloc: Global, bytes: &[u8], sizes: &Sizes) -> Result<Vec<u8>, AllocError> {
     let mut output = Vec::new(alloc);
-    if !sizes.has_base {
-        output.extend_from_slice(
-            b"<input>: warning: there is no base proposition, so nothing holds in any state: state them by `base`\n",
-        )?;
+    if sizes.has_base && sizes.has_inputs && sizes.dropped == 0 {
+        return Ok(output);
     }
-    if !sizes.has_inputs {
-        output.extend_from_slice(
-            b"<input>: warning: there is no input, so no role has a legal move: state them by `input`\n",
-        )?;
+    let arena = Bump::new(alloc);
+    let Ok(items) = read(&arena, bytes) else {
+        return Err(AllocError);
+    };
+    let Ok(rules) = RuleSet::check(alloc, &items) else {
+        return Err(AllocError);
+    };
+    if !sizes.has_base || !sizes.has_inputs {
+        add_lacking(alloc, &rules, &mut output)?;
     }
     if sizes.dropped > 0 {
-        add_heads(alloc, bytes, &mut output)?;
+        add_heads(alloc, bytes, &items, &rules, &mut output)?;
     }
     Ok(output)
 }

@@ -1,6 +1,5 @@
 use Rattle.std.proofs.Common.{arith}
-use Rattle.kif.specs.View.{tree_of}
-use Rattle.profile.proofs.Facts.{tree_is_slice, part_smaller}
+use Rattle.profile.proofs.Facts.{part_smaller}
 use Rattle.explain.proofs.variables.+gathering.Goals as goal
 
 pub gather_all-gather-requires : goal.gather_all-gather-requires
