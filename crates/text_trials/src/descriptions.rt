@@ -2,10 +2,10 @@
 ghost use Rattle.std.specs.Prelude.{◌<◌, length};
 ghost use Rattle.rules.specs.RuleSetView.{lists_of_set};
 
-use crate::rule_set::RuleSet;
 use bumpalo::Bump;
 use kif::{Expr, read};
 use linked_list_allocator::LocalHeap;
+use rules::RuleSet;
 use std::alloc::{Allocator, Global};
 use std::io::Write;
 use std::process::Abort;
@@ -21,7 +21,7 @@ fn answer_to<A: Allocator>(alloc: Global, trees: &[Expr<A>]) -> Result<Vec<u8>, 
     Ok(out)
 }
 
-const ROWS: [(&[u8], &[u8]); 13] = [
+const ROWS: [(&[u8], &[u8]); 14] = [
     (b"(role a)", b"accepted"),
     (b"(role a)(base q)(<= (next q) (true q))", b"accepted"),
     // Each fault, and which one comes first.
@@ -41,6 +41,8 @@ const ROWS: [(&[u8], &[u8]); 13] = [
     (b"(<= (p ?x) (not (q ?x)))", b"G3 Unsafe 1"),
     (b"(role a)(<= (p ?x) (p ?x))(<= (q ?x) r)", b"G3 Unsafe 3"),
     (b"(<= p q)(<= q p)", b"G4 Recursive 1"),
+    // The first leads to the others, which rest on each other.
+    (b"(<= p q)(<= q r)(<= r q)", b"G4 Recursive 2"),
     (
         b"(role a)(<= p (does a b))(<= terminal p)",
         b"G5 BadDependence 3",

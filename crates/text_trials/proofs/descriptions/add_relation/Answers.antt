@@ -1,7 +1,7 @@
 use Rattle.std.proofs.Common.{sym, subst, ◌<◌, ℕ, length}
 use Rattle.clauses.specs.declared.signatures.Signature.{Signature}
 use Rattle.rules.specs.RuleSetView.{lists_of_set}
-use Rattle.rules.proofs.check.tests.add_relation.Goals as goal
+use Rattle.text_trials.proofs.descriptions.add_relation.Goals as goal
 
 pub symbol-requires : goal.symbol-requires
 symbol-requires c =

@@ -1,6 +1,6 @@
 //! Worked places: lines that end as they may, tabs, comments, and bytes above 127.
-use crate::{Line, Place, TokenKind, Tokens, item_start, line_around, place_of, word_start};
 use kif::read;
+use places::{Line, Place, TokenKind, Tokens, item_start, line_around, place_of, word_start};
 use std::test::Fail;
 
 /// Offsets of texts, with the line and the column.

@@ -1,6 +1,6 @@
 //! The printed order of worked trees, over each allocator.
-use crate::{Expr, order, read, text_is};
 use bumpalo::Bump;
+use kif::{Expr, order, read, text_is};
 use linked_list_allocator::LocalHeap;
 use std::alloc::Allocator;
 use std::cmp::Ordering;

@@ -1,11 +1,10 @@
 //! Links and entries that are worked out by hand.
-use crate::dependences::graph_of;
-use crate::item_links::{Bound, Links, first_bad_dependence, first_recursive};
-use crate::order_of_relations::{Ranked, numbers_in_order};
+use rules::item_links::{Bound, Links, first_bad_dependence};
+use rules::order_of_relations::{Ranked, numbers_in_order};
 use std::test::Fail;
 
 #[test]
-fn names_the_first_item_that_leads_back(rt: HostRuntime) -> Result<(), Fail> {
+fn names_the_first_item_that_rests_on_what_it_may_not(rt: HostRuntime) -> Result<(), Fail> {
     // 0 rests on 1, and 1 and 2 rest on each other
     let links = [
         Links {
@@ -21,8 +20,6 @@ fn names_the_first_item_that_leads_back(rt: HostRuntime) -> Result<(), Fail> {
             body: vec![in rt.alloc(); 1]?,
         },
     ];
-    let graph = graph_of(rt.alloc(), 3, &links)?;
-    assert_eq!(rt; first_recursive(&graph, rt.alloc(), &links)?, Some(2));
     let bounds = [Bound::Free, Bound::FixedOnly, Bound::NoMove];
     let on_moves = [false, true, false];
     let moving = [false, false, false];

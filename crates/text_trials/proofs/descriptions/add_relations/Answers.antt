@@ -2,7 +2,7 @@ use Rattle.std.proofs.Common.{ℕ, List, ◌<◌, length, subst, sym}
 use Rattle.std.specs.Prelude.{All}
 use Rattle.std.proofs.lemmas.List.Elements.{All-get_or}
 use Rattle.rules.specs.RuleSetView.{lists_of_set}
-use Rattle.rules.proofs.check.tests.add_relations.Goals as goal
+use Rattle.text_trials.proofs.descriptions.add_relations.Goals as goal
 
 pub add_relation-requires : goal.add_relation-requires
 add_relation-requires c =
