@@ -1,5 +1,5 @@
 //! Literals and instances with numbers of their own.
-use crate::{AtomLiteral, FoundList, push_instance};
+use kept::{AtomLiteral, FoundList, push_instance};
 use std::test::Fail;
 
 #[test]
