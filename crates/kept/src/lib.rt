@@ -7,8 +7,6 @@ mod entry;
 mod found_list;
 mod leaving_out;
 mod runs;
-#[cfg(test)]
-mod tests;
 
 pub use atom_literal::AtomLiteral;
 pub use entry::{AlternativeRun, Entry};

@@ -11,6 +11,8 @@ mod grounds;
 #[cfg(test)]
 mod networks;
 #[cfg(test)]
+mod nodes;
+#[cfg(test)]
 mod numbers;
 #[cfg(test)]
 mod plays;

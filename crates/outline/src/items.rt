@@ -47,18 +47,6 @@ pub fn is_stated<A: Allocator>(items: &[Expr<A>], relation: &Relation) -> bool
     false
 }
 
-/// Whether a literal of some item's body has a relation.
-pub fn is_asked<A: Allocator>(items: &[Expr<A>], relation: &Relation) -> bool
-    ensures { result ≡ some_item (asks_it (relation_in relation.now)) (trees_in items.now) }
-{
-    for item in items {
-        if asks(item, relation) {
-            return true;
-        }
-    }
-    false
-}
-
 /// Whether an item heads the first relation and asks the second.
 fn links<A: Allocator>(item: &Expr<A>, from: &Relation, to: &Relation) -> bool
     ensures { result ≡ links_them (relation_in from.now) (relation_in to.now) (tree_of item.now) }

@@ -9,7 +9,7 @@ mod relation;
 mod sets;
 
 pub use asked::asked_by;
-pub use items::{asks, binds, heads, is_asked, is_stated, leads_to};
+pub use items::{asks, binds, heads, is_stated, leads_to};
 pub use probe::has_variable;
 pub use relation::{Relation, head_of, is_same, split_atom};
 pub use sets::{RelationSet, asked_in, stated_in};

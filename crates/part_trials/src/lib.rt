@@ -1,4 +1,5 @@
-//! Worked cases of the parts that know no rules: graphs of numbers, histories, windows and choices, joins in another order, and cuts of the work.
+//! Worked cases of the parts that know no rules: graphs of numbers, literals, histories, windows and choices, joins in another order, and cuts
+//! of the work.
 #![tactic(auto)]
 
 #[cfg(test)]
@@ -7,6 +8,8 @@ mod cuts;
 mod graphs;
 #[cfg(test)]
 mod histories;
+#[cfg(test)]
+mod literals;
 #[cfg(test)]
 mod orders;
 #[cfg(test)]

@@ -3,8 +3,6 @@
 
 mod line;
 mod place;
-#[cfg(test)]
-mod tests;
 mod tokens;
 mod trees;
 mod walk;

@@ -20,8 +20,6 @@ mod nodes;
 mod pushing;
 mod slot;
 mod sourcing;
-#[cfg(test)]
-mod tests;
 mod wide;
 mod words;
 

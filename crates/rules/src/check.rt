@@ -116,6 +116,3 @@ pub fn count_rules<A: Allocator>(alloc: Global, items: &[Expr<A>]) -> Result<Cou
         roles: all.roles,
     })
 }
-
-#[cfg(test)]
-mod tests;

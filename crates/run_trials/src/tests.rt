@@ -1,31 +1,75 @@
 //! Worked texts, through runs and through words, over readers and writers in memory.
+//!
+//! Most are rows of tables: words, a description, and what is to be told.
 mod beginnings;
 mod bounds;
 mod broken;
 mod checks;
+mod commands;
 mod cubes;
 mod cuts;
 mod devices;
 mod games;
 mod helps;
 mod lines;
+mod misuses;
 mod moves;
 mod nets;
 mod starved;
 mod states;
 mod tables;
+mod texts;
 mod windows;
 mod workers;
 
-use devices::{Full, Silent, Slow, Torn};
 use oracle::run_rules;
-use running::{RunFault, main_with, run};
+use running::{main_with, run};
 use statement::Status;
 use std::alloc::{AllocError, Global};
-use std::io::{Read, Write};
-use std::test::Fail;
 use std::thread::Threads;
-use words::Command;
+use words::{Command, Request, request_of};
+
+/// A description, what is written for it, and the exit status.
+type Text<'a> = (&'a [u8], &'a [u8], u8);
+
+/// The words of a command with a bar between each two, what is written, and the exit status.
+type Row<'a> = (&'a str, &'a [u8], u8);
+
+/// A description, and what words answer to it.
+type Played<'a> = (&'a [u8], &'a [Row<'a>]);
+
+/// Texts, each so often, one behind the other.
+type Pieces<'a> = &'a [(&'a [u8], usize)];
+
+/// The words of a command, a description and what is written for it, both in pieces, and the exit status.
+type Built<'a> = (&'a str, Pieces<'a>, Pieces<'a>, u8);
+
+/// The words of a line.
+fn words_of(alloc: Global, line: &str) -> Result<Vec<&str>, AllocError> {
+    let mut words = Vec::new(alloc);
+    for word in line.split('|') {
+        words.push(word)?;
+    }
+    Ok(words)
+}
+
+/// The text of pieces.
+fn joined(alloc: Global, pieces: Pieces) -> Result<Vec<u8>, AllocError> {
+    let mut text = Vec::new(alloc);
+    for place in 0..pieces.len() {
+        let (piece, count) = pieces[place];
+        add_often(piece, count, &mut text)?;
+    }
+    Ok(text)
+}
+
+/// Adds a text so often.
+fn add_often(piece: &[u8], count: usize, text: &mut Vec<u8>) -> Result<(), AllocError> {
+    for _ in 0..count {
+        text.extend_from_slice(piece)?;
+    }
+    Ok(())
+}
 
 /// What the command line answers: the exit status, the output and the errors.
 fn told<T: Threads + Sync + AllocGlobal>(
@@ -40,214 +84,143 @@ fn told<T: Threads + Sync + AllocGlobal>(
     (status, output, errors)
 }
 
-/// Whether a command, by a run of either player and by these words, answers a text with these bytes and this exit status.
-fn replies<T: Threads + Sync + AllocGlobal>(
+/// Whether words answer a text with these bytes and this exit status.
+fn is_by_words<T: Threads + Sync + AllocGlobal>(
     rt: &T,
-    command: &Command,
     words: &[&str],
     text: &[u8],
     want: &[u8],
     exit: u8,
 ) -> bool {
-    let wanted = if exit == 0 {
+    let (status, output, errors) = told(rt, words, text);
+    status == exit && output.as_slice() == want && errors.is_empty()
+}
+
+/// The status of a run that belongs to an exit status.
+fn status_of(exit: u8) -> Status {
+    if exit == 0 {
         Status::Answer
     } else {
         Status::Refused
-    };
+    }
+}
+
+/// Whether a run over the network answers a text with these bytes and this status.
+fn is_by_network<T: Threads + Sync + AllocGlobal>(
+    rt: &T,
+    command: &Command,
+    text: &[u8],
+    want: &[u8],
+    status: Status,
+) -> bool {
     let mut input = text;
     let mut output = Vec::new(rt.alloc());
     let ended = run(rt, command, &mut input, &mut output);
-    let by_network = ended == Ok(wanted) && output.as_slice() == want;
+    ended == Ok(status) && output.as_slice() == want
+}
+
+/// The same of a run over the kept instances.
+fn is_by_rules<T: Threads + Sync + AllocGlobal>(
+    rt: &T,
+    command: &Command,
+    text: &[u8],
+    want: &[u8],
+    status: Status,
+) -> bool {
     let mut input = text;
     let mut output = Vec::new(rt.alloc());
     let ended = run_rules(rt, command, &mut input, &mut output);
-    let by_rules = ended == Ok(wanted) && output.as_slice() == want;
-    let (status, output, errors) = told(rt, words, text);
-    by_network && by_rules && status == exit && output.as_slice() == want && errors.is_empty()
+    ended == Ok(status) && output.as_slice() == want
 }
 
-/// Whether `show` answers a text with these bytes and this exit status.
-fn shows<T: Threads + Sync + AllocGlobal>(rt: &T, text: &[u8], want: &[u8], exit: u8) -> bool {
-    replies(rt, &Command::Show, &["show"], text, want, exit)
-}
-
-/// Whether `check` answers a text with these bytes and this exit status.
-fn is_checked<T: Threads + Sync + AllocGlobal>(rt: &T, text: &[u8], want: &[u8], exit: u8) -> bool {
-    replies(rt, &Command::Check, &["check"], text, want, exit)
-}
-
-/// Runs `show`.
-fn show<T: Threads + Sync + AllocGlobal, R: Read, W: Write>(
+/// Whether words, and the command that they make, by a run of either player, answer a text with these bytes and this exit status.
+fn is_answered<T: Threads + Sync + AllocGlobal>(
     rt: &T,
-    input: &mut R,
-    output: &mut W,
-) -> Result<Status, RunFault> {
-    run(rt, &Command::Show, input, output)
+    words: &[&str],
+    text: &[u8],
+    want: &[u8],
+    exit: u8,
+) -> bool {
+    let Ok(Request::Run(command)) = request_of(rt.alloc(), words) else {
+        return false;
+    };
+    let status = status_of(exit);
+    is_by_network(rt, &command, text, want, status)
+        && is_by_rules(rt, &command, text, want, status)
+        && is_by_words(rt, words, text, want, exit)
 }
 
-/// So many times a byte, and then as often another.
-fn nested(alloc: Global, count: usize) -> Result<Vec<u8>, AllocError> {
-    let mut text = Vec::new(alloc);
-    for _ in 0..count {
-        text.push(b'(')?;
+/// Whether the words of a line, and the command that they make, answer a text with these bytes and this exit status.
+fn is_told<T: Threads + Sync + AllocGlobal>(
+    rt: &T,
+    line: &str,
+    text: &[u8],
+    want: &[u8],
+    exit: u8,
+) -> bool {
+    let Ok(words) = words_of(rt.alloc(), line) else {
+        return false;
+    };
+    is_answered(rt, &words, text, want, exit)
+}
+
+/// The place of the first text to which a line does not answer so.
+fn first_unlike<T: Threads + Sync + AllocGlobal>(
+    rt: &T,
+    line: &str,
+    texts: &[Text],
+) -> Option<usize> {
+    for place in 0..texts.len() {
+        let (text, want, exit) = texts[place];
+        if !is_told(rt, line, text, want, exit) {
+            return Some(place);
+        }
     }
-    for _ in 0..count {
-        text.push(b')')?;
+    None
+}
+
+/// The place of the first row that is not told of a description.
+fn first_row<T: Threads + Sync + AllocGlobal>(rt: &T, text: &[u8], rows: &[Row]) -> Option<usize> {
+    for place in 0..rows.len() {
+        let (line, want, exit) = rows[place];
+        if !is_told(rt, line, text, want, exit) {
+            return Some(place);
+        }
     }
-    Ok(text)
+    None
 }
 
-/// So many times a byte.
-fn repeated(alloc: Global, byte: u8, count: usize) -> Result<Vec<u8>, AllocError> {
-    let mut text = Vec::new(alloc);
-    for _ in 0..count {
-        text.push(byte)?;
+/// The places of the first description and of its first row that is not told.
+fn first_untold<T: Threads + Sync + AllocGlobal>(
+    rt: &T,
+    games: &[Played],
+) -> Option<(usize, usize)> {
+    for place in 0..games.len() {
+        let (text, rows) = games[place];
+        if let Some(row) = first_row(rt, text, rows) {
+            return Some((place, row));
+        }
     }
-    Ok(text)
+    None
 }
 
-/// A text, what `show` writes for it, and the exit status.
-const SHOWN: [(&[u8], &[u8], u8); 12] = [
-    (b"", b"", 0),
-    (b"(ROLE A)(role a)", b"(role a)\n(role a)\n", 0),
-    (b"(role a", b"refused K4 Unclosed 0\n", 2),
-    (b"(role a))", b"refused K5 Unopened 8\n", 2),
-    (b"(a \"", b"refused K2 BadByte 3\n", 2),
-    (b"(p)(a (b", b"refused K4 Unclosed 3\n", 2),
-    (b";\xc3\xa9\n(a)", b"(a)\n", 0),
-    (b"a;b\nc(d())", b"a\nc\n(d ())\n", 0),
-    (b"(a\x09b\x0bc\x0cd\x0de)", b"(a b c d e)\n", 0),
-    (b"(a ;b)\r\x0cc\n)", b"(a)\n", 0),
-    (b"(m (a)) ; (", b"(m (a))\n", 0),
-    (b"a|b", b"refused K2 BadByte 1\n", 2),
-];
+/// Whether a row in pieces is told.
+fn is_built<T: Threads + Sync + AllocGlobal>(rt: &T, row: Built) -> Result<bool, AllocError> {
+    let (line, text, want, exit) = row;
+    let text = joined(rt.alloc(), text)?;
+    let want = joined(rt.alloc(), want)?;
+    Ok(is_told(rt, line, &text, &want, exit))
+}
 
-#[test]
-fn worked_texts_are_shown(rt: HostRuntime) {
-    for (text, want, exit) in SHOWN {
-        assert!(rt; shows(&rt, text, want, exit), "at {text:?}");
+/// The place of the first row in pieces that is not told.
+fn first_unbuilt<T: Threads + Sync + AllocGlobal>(
+    rt: &T,
+    rows: &[Built],
+) -> Result<Option<usize>, AllocError> {
+    for place in 0..rows.len() {
+        if !is_built(rt, rows[place])? {
+            return Ok(Some(place));
+        }
     }
-}
-
-#[test]
-fn a_hundred_lists_may_be_open(rt: HostRuntime) -> Result<(), Fail> {
-    let deep = nested(rt.alloc(), 100)?;
-    let mut line = nested(rt.alloc(), 100)?;
-    line.push(b'\n')?;
-    assert!(rt; shows(&rt, &deep, &line, 0));
-    let deeper = nested(rt.alloc(), 101)?;
-    assert!(rt; shows(&rt, &deeper, b"refused K3 TooDeep 100\n", 2));
-    Ok(())
-}
-
-#[test]
-fn a_name_has_at_most_255_bytes(rt: HostRuntime) -> Result<(), Fail> {
-    let long = repeated(rt.alloc(), b'a', 255)?;
-    let mut line = repeated(rt.alloc(), b'a', 255)?;
-    line.push(b'\n')?;
-    assert!(rt; shows(&rt, &long, &line, 0));
-    let mut longer = repeated(rt.alloc(), b'a', 256)?;
-    longer.push(b')')?;
-    assert!(rt; shows(&rt, &longer, b"refused K6 NameTooLong 0\n", 2));
-    Ok(())
-}
-
-#[test]
-fn a_text_has_at_most_1048576_bytes(rt: HostRuntime) -> Result<(), Fail> {
-    let mut spaces = repeated(rt.alloc(), b' ', 1_048_576)?;
-    assert!(rt; shows(&rt, &spaces, b"", 0));
-    spaces.push(b' ')?;
-    assert!(rt; shows(&rt, &spaces, b"refused K1 TooLong\n", 2));
-    spaces.push(b'(')?;
-    let mut input = spaces.as_slice();
-    let mut output = Vec::new(rt.alloc());
-    assert!(rt; show(&rt, &mut input, &mut output) == Ok(Status::Refused));
-    assert!(rt; output.as_slice() == b"refused K1 TooLong\n".as_slice());
-    assert!(rt;
-        input == b"(".as_slice(),
-        "what is behind the limit stays unread"
-    );
-    Ok(())
-}
-
-#[test]
-fn words_that_are_no_command_are_told(rt: HostRuntime) {
-    let none: [&str; 0] = [];
-    let lists: [&[&str]; 5] = [
-        &none,
-        &["list"],
-        &["show", "it"],
-        &["show", "--all"],
-        &["--all", "show"],
-    ];
-    for words in lists {
-        let (status, output, errors) = told(&rt, words, b"(a)");
-        assert!(rt;
-            status == 1 && output.is_empty() && !errors.is_empty(),
-            "at {words:?}"
-        );
-    }
-}
-
-#[test]
-fn a_reader_that_fails_is_told(rt: HostRuntime) {
-    for reads in 0..3 {
-        let mut input = Torn::new(b"(a) (b)", reads);
-        let mut output = Vec::new(rt.alloc());
-        let ended = show(&rt, &mut input, &mut output);
-        assert!(rt;
-            ended == Err(RunFault::Read) && output.is_empty(),
-            "after {reads}"
-        );
-        let mut input = Torn::new(b"(a) (b)", reads);
-        let mut errors = Vec::new(rt.alloc());
-        let status = main_with(&rt, &["show"], &mut input, &mut output, &mut errors);
-        assert!(rt;
-            status == 4 && output.is_empty() && errors.as_slice() == b"read fault\n".as_slice()
-        );
-    }
-}
-
-#[test]
-fn a_reader_of_single_bytes_gives_the_same(rt: HostRuntime) {
-    for (text, want, exit) in SHOWN {
-        let mut output = Vec::new(rt.alloc());
-        let mut errors = Vec::new(rt.alloc());
-        let status = main_with(&rt, &["show"], &mut Slow(text), &mut output, &mut errors);
-        assert!(rt; status == exit && output.as_slice() == want, "at {text:?}");
-    }
-}
-
-#[test]
-fn a_writer_that_fails_is_told(rt: HostRuntime) {
-    let line = b"(a)\n(b c)\n";
-    for room in 0..10 {
-        let mut output = Full::new(rt.alloc(), room, false);
-        let mut input = b"(a) (b c)".as_slice();
-        let mut errors = Vec::new(rt.alloc());
-        let status = main_with(&rt, &["show"], &mut input, &mut output, &mut errors);
-        assert!(rt;
-            status == 4 && errors.as_slice() == b"write fault\n".as_slice(),
-            "at {room}"
-        );
-        assert!(rt;
-            output.taken() == &line[..room],
-            "a beginning is written, at {room}"
-        );
-    }
-    let mut output = Full::new(rt.alloc(), 10, false);
-    let mut input = b"(a) (b c)".as_slice();
-    assert!(rt; show(&rt, &mut input, &mut output) == Ok(Status::Answer));
-    assert!(rt; output.taken() == line.as_slice());
-}
-
-#[test]
-fn a_flush_that_fails_is_told(rt: HostRuntime) {
-    let mut input = b"(a)".as_slice();
-    let ended = show(&rt, &mut input, &mut Silent);
-    assert!(rt; ended == Err(RunFault::Write));
-    let mut input = b"(a)".as_slice();
-    let mut errors = Vec::new(rt.alloc());
-    let status = main_with(&rt, &["--help"], &mut input, &mut Silent, &mut errors);
-    assert!(rt; status == 4 && errors.as_slice() == b"write fault\n".as_slice());
+    Ok(None)
 }

@@ -1,14 +1,11 @@
 //! Games cut after each byte. Each beginning is answered, through a run and through the command line.
 use super::games::{FOUR, MARKS, MATCH};
-use super::told;
-use cut::Cut;
-use game::AtBound;
+use super::{status_of, told, words_of};
 use running::run;
-use statement::Status;
 use std::alloc::{AllocError, Global};
 use std::io::Write;
 use std::thread::Threads;
-use words::{Command, Inquiry, Sought};
+use words::{Command, Request, request_of};
 
 /// What a beginning of a text without comments ends in, and how many whole trees it has.
 #[derive(Drop)]
@@ -69,106 +66,100 @@ fn answers<T: Threads + Sync + AllocGlobal>(
     front: &[u8],
     exit: u8,
 ) -> bool {
-    let wanted = if exit == 0 {
-        Status::Answer
-    } else {
-        Status::Refused
-    };
     let mut input = text;
     let mut output = Vec::new(rt.alloc());
     let ended = run(rt, command, &mut input, &mut output);
     let (status, bytes, errors) = told(rt, words, text);
-    ended == Ok(wanted)
+    ended == Ok(status_of(exit))
         && begins_with(&output, front)
         && status == exit
         && bytes == output
         && errors.is_empty()
 }
 
-/// The first beginning of a game that a command does not answer, whose answers begin with a word.
+/// Words with a bar between each two, a game, and the word that answers begin with.
+type Beginning<'a> = (&'a str, &'a [u8], &'a str);
+
+/// The first beginning of a game that words do not answer.
 fn first_unanswered<T: Threads + Sync + AllocGlobal>(
     rt: &T,
-    command: &Command,
     words: &[&str],
     game: &[u8],
     word: &str,
 ) -> Result<Option<usize>, AllocError> {
+    let Request::Run(command) = request_of(rt.alloc(), words)? else {
+        return Ok(Some(0));
+    };
     for end in 0..game.len() {
         let text = &game[..end];
         let (front, exit) = front_of(rt.alloc(), &cutting_of(text), word)?;
-        if !answers(rt, command, words, text, &front, exit) {
+        if !answers(rt, &command, words, text, &front, exit) {
             return Ok(Some(end));
         }
     }
     Ok(None)
 }
 
-/// The games, and a role of each.
-const GAMES: [(&[u8], &str); 3] = [(MATCH, "a"), (FOUR, "a"), (MARKS, "xplayer")];
-
-/// The same by `check`.
-fn first_unchecked<T: Threads + Sync + AllocGlobal>(
+/// Whether each beginning is answered of the game of each row.
+fn all_are_answered<T: Threads + Sync + AllocGlobal>(
     rt: &T,
-    game: &[u8],
-) -> Result<Option<usize>, AllocError> {
-    first_unanswered(rt, &Command::Check, &["check"], game, "items")
+    rows: &[Beginning],
+) -> Result<bool, AllocError> {
+    for place in 0..rows.len() {
+        let (line, game, word) = rows[place];
+        let words = words_of(rt.alloc(), line)?;
+        if first_unanswered(rt, &words, game, word)?.is_some() {
+            return Ok(false);
+        }
+    }
+    Ok(true)
 }
+
+const CHECKED: [Beginning; 3] = [
+    ("check", MATCH, "items"),
+    ("check", FOUR, "items"),
+    ("check", MARKS, "items"),
+];
 
 #[test]
 fn each_beginning_is_checked(rt: HostRuntime) -> Result<(), AllocError> {
-    for (game, _) in GAMES {
-        let first = first_unchecked(&rt, game)?;
-        assert!(rt; first.is_none(), "at {first:?} of {game:?}");
-    }
+    assert!(rt; all_are_answered(&rt, &CHECKED)?);
     Ok(())
 }
+
+const COUNTED: [Beginning; 3] = [
+    ("net", MATCH, "base "),
+    ("net", FOUR, "base "),
+    ("net", MARKS, "base "),
+];
 
 #[test]
 fn each_beginning_is_counted(rt: HostRuntime) -> Result<(), AllocError> {
-    for (game, _) in GAMES {
-        let first = first_unanswered(&rt, &Command::Ask(Inquiry::Net), &["net"], game, "base ")?;
-        assert!(rt; first.is_none(), "at {first:?} of {game:?}");
-    }
+    assert!(rt; all_are_answered(&rt, &COUNTED)?);
     Ok(())
 }
+
+const PLAYED: [Beginning; 3] = [
+    ("moves", MATCH, "state "),
+    ("moves", FOUR, "state "),
+    ("moves", MARKS, "state "),
+];
 
 #[test]
 fn each_beginning_is_played(rt: HostRuntime) -> Result<(), AllocError> {
-    for (game, _) in GAMES {
-        let command = Command::Ask(Inquiry::Moves { after: "" });
-        let first = first_unanswered(&rt, &command, &["moves"], game, "state ")?;
-        assert!(rt; first.is_none(), "at {first:?} of {game:?}");
-    }
+    assert!(rt; all_are_answered(&rt, &PLAYED)?);
     Ok(())
 }
 
-/// The first beginning of a game that `solve` does not answer for a role.
-fn first_unsolved<T: Threads + Sync + AllocGlobal>(
-    rt: &T,
-    game: &[u8],
-    role: &str,
-) -> Result<Option<usize>, AllocError> {
-    let Some(cut) = Cut::parse(b"1") else {
-        return Ok(Some(0));
-    };
-    let command = Command::Ask(Inquiry::Solve(Sought {
-        role,
-        depth: 1,
-        at_bound: AtBound::Zero,
-        cut,
-        table: 1,
-        after: "",
-    }));
-    let words = ["solve", "--role", role, "--depth", "1"];
-    first_unanswered(rt, &command, &words, game, "value ")
-}
+const SOLVED: [Beginning; 3] = [
+    ("solve|--role|a|--depth|1", MATCH, "value "),
+    ("solve|--role|a|--depth|1", FOUR, "value "),
+    ("solve|--role|xplayer|--depth|1", MARKS, "value "),
+];
 
 #[test]
 fn each_beginning_is_solved(rt: HostRuntime) -> Result<(), AllocError> {
-    for (game, role) in GAMES {
-        let first = first_unsolved(&rt, game, role)?;
-        assert!(rt; first.is_none(), "at {first:?} of {game:?}");
-    }
+    assert!(rt; all_are_answered(&rt, &SOLVED)?);
     Ok(())
 }
 
@@ -209,7 +200,7 @@ fn first_unshown<T: Threads + Sync + AllocGlobal>(
 
 #[test]
 fn each_beginning_is_shown(rt: HostRuntime) -> Result<(), AllocError> {
-    for (game, _) in GAMES {
+    for game in [MATCH, FOUR, MARKS] {
         let first = first_unshown(&rt, game)?;
         assert!(rt; first.is_none(), "at {first:?} of {game:?}");
     }

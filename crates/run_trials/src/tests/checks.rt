@@ -1,12 +1,10 @@
-//! Descriptions and what `check` answers, through a run and through the command line.
+//! Descriptions and what `check` answers, through runs and through the command line.
 use super::games::{MARKS, MATCH};
-use super::{is_checked, nested};
-use std::alloc::{AllocError, Global};
-use std::io::Write;
-use std::test::Fail;
+use super::{Built, Pieces, Text, first_unbuilt, first_unlike};
+use std::alloc::AllocError;
 
-/// A description, what `check` writes for it, and the exit status.
-const CHECKED: [(&[u8], &[u8], u8); 34] = [
+/// Descriptions, and what `check` tells of them.
+const CHECKED: [Text; 34] = [
     (b"", b"refused G6 NoRole\n", 2),
     (
         b"(ROLE A)(role a)",
@@ -149,192 +147,216 @@ const CHECKED: [(&[u8], &[u8], u8); 34] = [
 
 #[test]
 fn worked_descriptions_are_checked(rt: HostRuntime) {
-    for (text, want, exit) in CHECKED {
-        assert!(rt; is_checked(&rt, text, want, exit), "at {text:?}");
-    }
+    assert_eq!(rt; first_unlike(&rt, "check", &CHECKED), None);
 }
+
+/// What is told of a role and an item.
+const TWO: &[u8] = b"items 2\nalternatives 2\nrelations 2\nroles a\n";
 
 /// The words of the language with their own number of arguments, where they may stand.
-const WELL_USED: [&[u8]; 22] = [
-    b"(base p)",
-    b"(input a m)",
-    b"(init p)",
-    b"(next p)",
-    b"(legal a m)",
-    b"(goal a 1)",
-    b"terminal",
-    b"(terminal)",
-    b"(<= q (role a))",
-    b"(<= q (base p))",
-    b"(<= q (input a m))",
-    b"(<= q (true p))",
-    b"(<= q (does a m))",
-    b"(<= q (legal a m))",
-    b"(<= q (goal a 1))",
-    b"(<= q terminal)",
-    b"(<= q (terminal))",
-    b"(<= q (distinct a b))",
-    b"(<= q (not (true p)))",
-    b"(<= q (not (does a m)))",
-    b"(<= (base p) (input a m))",
-    b"(<= (init p) (base p))",
+const WELL_USED: [Text; 22] = [
+    (b"(role a)(base p)", TWO, 0),
+    (b"(role a)(input a m)", TWO, 0),
+    (b"(role a)(init p)", TWO, 0),
+    (b"(role a)(next p)", TWO, 0),
+    (b"(role a)(legal a m)", TWO, 0),
+    (b"(role a)(goal a 1)", TWO, 0),
+    (b"(role a)terminal", TWO, 0),
+    (b"(role a)(terminal)", TWO, 0),
+    (b"(role a)(<= q (role a))", TWO, 0),
+    (b"(role a)(<= q (base p))", TWO, 0),
+    (b"(role a)(<= q (input a m))", TWO, 0),
+    (b"(role a)(<= q (true p))", TWO, 0),
+    (b"(role a)(<= q (does a m))", TWO, 0),
+    (b"(role a)(<= q (legal a m))", TWO, 0),
+    (b"(role a)(<= q (goal a 1))", TWO, 0),
+    (b"(role a)(<= q terminal)", TWO, 0),
+    (b"(role a)(<= q (terminal))", TWO, 0),
+    (b"(role a)(<= q (distinct a b))", TWO, 0),
+    (b"(role a)(<= q (not (true p)))", TWO, 0),
+    (b"(role a)(<= q (not (does a m)))", TWO, 0),
+    (b"(role a)(<= (base p) (input a m))", TWO, 0),
+    (b"(role a)(<= (init p) (base p))", TWO, 0),
 ];
 
 #[test]
-fn words_of_the_language_stand_where_they_may(rt: HostRuntime) -> Result<(), Fail> {
-    let counts = b"items 2\nalternatives 2\nrelations 2\nroles a\n";
-    for item in WELL_USED {
-        let text = behind_a_role(rt.alloc(), item)?;
-        assert!(rt; is_checked(&rt, &text, counts, 0), "at {item:?}");
-    }
-    Ok(())
+fn words_of_the_language_stand_where_they_may(rt: HostRuntime) {
+    assert_eq!(rt; first_unlike(&rt, "check", &WELL_USED), None);
 }
+
+/// What is told of the second item.
+const MISUSED: &[u8] = b"refused G2 BadKeyword 2\n";
 
 /// The words of the language with another number of arguments, or elsewhere.
-const BADLY_USED: [&[u8]; 47] = [
-    b"role",
-    b"(role a b)",
-    b"base",
-    b"(base p q)",
-    b"input",
-    b"(input a)",
-    b"(input a m n)",
-    b"init",
-    b"(init p q)",
-    b"(true p)",
-    b"(true p q)",
-    b"(does a m)",
-    b"(does a)",
-    b"next",
-    b"(next p q)",
-    b"(legal a)",
-    b"(legal a m n)",
-    b"(goal a)",
-    b"(goal a 1 2)",
-    b"(terminal a)",
-    b"(distinct a b)",
-    b"(distinct a)",
-    b"(<= (role b) q)",
-    b"(<= (role ?x) (q ?x))",
-    b"(role ?x)",
-    b"(<= q role)",
-    b"(<= q (role a b))",
-    b"(<= q base)",
-    b"(<= q (base p q))",
-    b"(<= q (input a))",
-    b"(<= q (input a m n))",
-    b"(<= q (init p))",
-    b"(<= q (not (init p)))",
-    b"(<= q true)",
-    b"(<= q (true p q))",
-    b"(<= q (does a))",
-    b"(<= q (does a m n))",
-    b"(<= q (next p))",
-    b"(<= q (or (true p) (next p)))",
-    b"(<= q (legal a))",
-    b"(<= q (legal a m n))",
-    b"(<= q (goal a))",
-    b"(<= q (goal a 1 2))",
-    b"(<= q (terminal a))",
-    b"(<= q distinct)",
-    b"(<= q (distinct a))",
-    b"(<= q (not (distinct a b c)))",
+const BADLY_USED: [Text; 47] = [
+    (b"(role a)role", MISUSED, 2),
+    (b"(role a)(role a b)", MISUSED, 2),
+    (b"(role a)base", MISUSED, 2),
+    (b"(role a)(base p q)", MISUSED, 2),
+    (b"(role a)input", MISUSED, 2),
+    (b"(role a)(input a)", MISUSED, 2),
+    (b"(role a)(input a m n)", MISUSED, 2),
+    (b"(role a)init", MISUSED, 2),
+    (b"(role a)(init p q)", MISUSED, 2),
+    (b"(role a)(true p)", MISUSED, 2),
+    (b"(role a)(true p q)", MISUSED, 2),
+    (b"(role a)(does a m)", MISUSED, 2),
+    (b"(role a)(does a)", MISUSED, 2),
+    (b"(role a)next", MISUSED, 2),
+    (b"(role a)(next p q)", MISUSED, 2),
+    (b"(role a)(legal a)", MISUSED, 2),
+    (b"(role a)(legal a m n)", MISUSED, 2),
+    (b"(role a)(goal a)", MISUSED, 2),
+    (b"(role a)(goal a 1 2)", MISUSED, 2),
+    (b"(role a)(terminal a)", MISUSED, 2),
+    (b"(role a)(distinct a b)", MISUSED, 2),
+    (b"(role a)(distinct a)", MISUSED, 2),
+    (b"(role a)(<= (role b) q)", MISUSED, 2),
+    (b"(role a)(<= (role ?x) (q ?x))", MISUSED, 2),
+    (b"(role a)(role ?x)", MISUSED, 2),
+    (b"(role a)(<= q role)", MISUSED, 2),
+    (b"(role a)(<= q (role a b))", MISUSED, 2),
+    (b"(role a)(<= q base)", MISUSED, 2),
+    (b"(role a)(<= q (base p q))", MISUSED, 2),
+    (b"(role a)(<= q (input a))", MISUSED, 2),
+    (b"(role a)(<= q (input a m n))", MISUSED, 2),
+    (b"(role a)(<= q (init p))", MISUSED, 2),
+    (b"(role a)(<= q (not (init p)))", MISUSED, 2),
+    (b"(role a)(<= q true)", MISUSED, 2),
+    (b"(role a)(<= q (true p q))", MISUSED, 2),
+    (b"(role a)(<= q (does a))", MISUSED, 2),
+    (b"(role a)(<= q (does a m n))", MISUSED, 2),
+    (b"(role a)(<= q (next p))", MISUSED, 2),
+    (b"(role a)(<= q (or (true p) (next p)))", MISUSED, 2),
+    (b"(role a)(<= q (legal a))", MISUSED, 2),
+    (b"(role a)(<= q (legal a m n))", MISUSED, 2),
+    (b"(role a)(<= q (goal a))", MISUSED, 2),
+    (b"(role a)(<= q (goal a 1 2))", MISUSED, 2),
+    (b"(role a)(<= q (terminal a))", MISUSED, 2),
+    (b"(role a)(<= q distinct)", MISUSED, 2),
+    (b"(role a)(<= q (distinct a))", MISUSED, 2),
+    (b"(role a)(<= q (not (distinct a b c)))", MISUSED, 2),
 ];
 
 #[test]
-fn words_of_the_language_elsewhere_are_refused(rt: HostRuntime) -> Result<(), Fail> {
-    for item in BADLY_USED {
-        let text = behind_a_role(rt.alloc(), item)?;
-        let want = b"refused G2 BadKeyword 2\n";
-        assert!(rt; is_checked(&rt, &text, want, 2), "at {item:?}");
-    }
-    Ok(())
+fn words_of_the_language_elsewhere_are_refused(rt: HostRuntime) {
+    assert_eq!(rt; first_unlike(&rt, "check", &BADLY_USED), None);
 }
 
-fn behind_a_role(alloc: Global, item: &[u8]) -> Result<Vec<u8>, AllocError> {
-    let mut text = Vec::from_slice(alloc, b"(role a)")?;
-    text.extend_from_slice(item)?;
-    Ok(text)
-}
+/// What is told of an item with too many alternatives.
+const SPREAD: Pieces = &[(b"refused G7 TooMany 2 alternatives\n", 1)];
 
-/// The front, so many times the middle, and the rest.
-fn repeated_between(
-    alloc: Global,
-    front: &[u8],
-    middle: &[u8],
-    times: usize,
-    rest: &[u8],
-) -> Result<Vec<u8>, AllocError> {
-    let mut text = Vec::from_slice(alloc, front)?;
-    for _ in 0..times {
-        text.extend_from_slice(middle)?;
-    }
-    text.extend_from_slice(rest)?;
-    Ok(text)
-}
+/// What is told of an item with too many variables.
+const VARIED: Pieces = &[(b"refused G7 TooMany 2 variables\n", 1)];
+
+const SIXTEEN: &[u8] = b" ?v1 ?v2 ?v3 ?v4 ?v5 ?v6 ?v7 ?v8 ?v9 ?v10 ?v11 ?v12 ?v13 ?v14 ?v15 ?v16";
+
+const SIXTEEN_MORE: &[u8] =
+    b" ?v17 ?v18 ?v19 ?v20 ?v21 ?v22 ?v23 ?v24 ?v25 ?v26 ?v27 ?v28 ?v29 ?v30 ?v31 ?v32";
+
+/// Items, alternatives and variables to their limits, and past them; and a text that cannot be read.
+const LIMITS: [Built; 11] = [
+    (
+        "check",
+        &[(b"(role a)", 4096)],
+        &[(b"items 4096\nalternatives 4096\nrelations 1\nroles a\n", 1)],
+        0,
+    ),
+    (
+        "check",
+        &[(b"(role a)", 4097)],
+        &[(b"refused G7 TooMany 4097 rules\n", 1)],
+        2,
+    ),
+    (
+        "check",
+        &[(b"(role a)(<= p", 1), (b"(or q r)", 6), (b")", 1)],
+        &[(b"items 2\nalternatives 65\nrelations 2\nroles a\n", 1)],
+        0,
+    ),
+    (
+        "check",
+        &[(b"(role a)(<= p", 1), (b"(or q r)", 7), (b")", 1)],
+        SPREAD,
+        2,
+    ),
+    (
+        "check",
+        &[(b"(role a)(<= p", 1), (b"(or q r)", 64), (b")", 1)],
+        SPREAD,
+        2,
+    ),
+    (
+        "check",
+        &[(b"(role a)(<= p", 1), (b"(or q r)", 4000), (b")", 1)],
+        SPREAD,
+        2,
+    ),
+    // So many variables in the head, and so many in the body.
+    (
+        "check",
+        &[
+            (b"(role a)(<= (p", 1),
+            (SIXTEEN, 1),
+            (b") (q", 1),
+            (SIXTEEN, 1),
+            (SIXTEEN_MORE, 1),
+            (b"))", 1),
+        ],
+        &[(TWO, 1)],
+        0,
+    ),
+    (
+        "check",
+        &[
+            (b"(role a)(<= (p", 1),
+            (SIXTEEN, 1),
+            (SIXTEEN_MORE, 1),
+            (b") (q", 1),
+            (SIXTEEN, 1),
+            (SIXTEEN_MORE, 1),
+            (b"))", 1),
+        ],
+        &[(TWO, 1)],
+        0,
+    ),
+    (
+        "check",
+        &[
+            (b"(role a)(<= (p", 1),
+            (SIXTEEN, 1),
+            (b") (q", 1),
+            (SIXTEEN, 1),
+            (SIXTEEN_MORE, 1),
+            (b" ?v33))", 1),
+        ],
+        VARIED,
+        2,
+    ),
+    (
+        "check",
+        &[
+            (b"(role a)(<= (p", 1),
+            (SIXTEEN, 1),
+            (SIXTEEN_MORE, 1),
+            (b" ?v33) (q", 1),
+            (SIXTEEN, 1),
+            (SIXTEEN_MORE, 1),
+            (b" ?v33))", 1),
+        ],
+        VARIED,
+        2,
+    ),
+    (
+        "check",
+        &[(b"(", 101), (b")", 101)],
+        &[(b"refused K3 TooDeep 100\n", 1)],
+        2,
+    ),
+];
 
 #[test]
-fn a_description_has_at_most_4096_items(rt: HostRuntime) -> Result<(), Fail> {
-    let most = repeated_between(rt.alloc(), b"", b"(role a)", 4096, b"")?;
-    let counts = b"items 4096\nalternatives 4096\nrelations 1\nroles a\n";
-    assert!(rt; is_checked(&rt, &most, counts, 0));
-    let more = repeated_between(rt.alloc(), b"", b"(role a)", 4097, b"")?;
-    let refusal = b"refused G7 TooMany 4097 rules\n";
-    assert!(rt; is_checked(&rt, &more, refusal, 2));
-    Ok(())
-}
-
-#[test]
-fn an_item_has_at_most_64_alternatives(rt: HostRuntime) -> Result<(), Fail> {
-    let front = b"(role a)(<= p";
-    let counts = b"items 2\nalternatives 65\nrelations 2\nroles a\n";
-    let most = repeated_between(rt.alloc(), front, b"(or q r)", 6, b")")?;
-    assert!(rt; is_checked(&rt, &most, counts, 0));
-    let refusal = b"refused G7 TooMany 2 alternatives\n";
-    for times in [7, 64, 4000] {
-        let more = repeated_between(rt.alloc(), front, b"(or q r)", times, b")")?;
-        assert!(rt; is_checked(&rt, &more, refusal, 2), "at {times}");
-    }
-    Ok(())
-}
-
-#[test]
-fn an_item_has_at_most_32_variables(rt: HostRuntime) -> Result<(), Fail> {
-    let counts = b"items 2\nalternatives 2\nrelations 2\nroles a\n";
-    let refusal = b"refused G7 TooMany 2 variables\n";
-    for in_head in [16, 32] {
-        let most = with_variables(rt.alloc(), in_head, 32)?;
-        assert!(rt; is_checked(&rt, &most, counts, 0), "at {in_head}");
-    }
-    for in_head in [16, 33] {
-        let more = with_variables(rt.alloc(), in_head, 33)?;
-        assert!(rt; is_checked(&rt, &more, refusal, 2), "at {in_head}");
-    }
-    Ok(())
-}
-
-/// An item with so many variables in the head, and so many in the body.
-fn with_variables(alloc: Global, in_head: usize, in_body: usize) -> Result<Vec<u8>, AllocError> {
-    let mut text = Vec::from_slice(alloc, b"(role a)(<= (p")?;
-    add_variables(in_head, &mut text)?;
-    text.extend_from_slice(b") (q")?;
-    add_variables(in_body, &mut text)?;
-    text.extend_from_slice(b"))")?;
-    Ok(text)
-}
-
-/// Adds the variables ?v1, ?v2 and so on, each with a space before it.
-fn add_variables(count: usize, text: &mut Vec<u8>) -> Result<(), AllocError> {
-    for before in 0..count {
-        let number = before + 1;
-        write!(text, " ?v{number}").map_err(|_| AllocError)?;
-    }
-    Ok(())
-}
-
-#[test]
-fn a_text_that_cannot_be_read_is_no_description(rt: HostRuntime) -> Result<(), Fail> {
-    let deep = nested(rt.alloc(), 101)?;
-    assert!(rt; is_checked(&rt, &deep, b"refused K3 TooDeep 100\n", 2));
+fn descriptions_are_checked_to_their_limits(rt: HostRuntime) -> Result<(), AllocError> {
+    assert_eq!(rt; first_unbuilt(&rt, &LIMITS)?, None);
     Ok(())
 }

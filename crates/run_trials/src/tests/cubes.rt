@@ -1,16 +1,11 @@
 //! What `solve` answers over a game of one turn, by hand.
-use cut::Cut;
-use game::AtBound;
+use super::{Played, Row, status_of, words_of};
 use netgame::NetGame;
 use oracle::RuleGame;
 use replies::reply_alone;
 use rulebook::GroundGame;
-use statement::Status;
 use std::alloc::{AllocError, AllocGlobal};
-use words::{Command, Inquiry, Sought};
-
-/// A role, a depth, a history, what is written, and whether it is an answer.
-type Row<'a> = (&'a str, u32, &'a str, &'a [u8], bool);
+use words::{Command, Request, request_of};
 
 /// Three roles choose a side of a cube at once, and so one of its eight cells. The row gets what the cell is worth, the other two what
 /// is left of 100. Behind a side of the row that does not end the game the layer has no move.
@@ -36,165 +31,192 @@ const DEAD_END: &[u8] = b"(ends one)
     (worth one one one 20 80)(worth one one two 20 80)(worth one two one 20 80)(worth one two two 20 80)
     (worth two one one 90 10)(worth two one two 90 10)(worth two two one 90 10)(worth two two two 90 10)";
 
-/// Whether `solve` over a cube, played by one thread, writes what the row says.
-fn solves_by<G: GroundGame, T: AllocGlobal>(
+const SOLVED: [Played; 3] = [
+    (
+        LEVEL,
+        &[
+            (
+                "solve|--role|row|--depth|1|--cut|2x2|--after|",
+                b"value 30\nmove two\nline 1 two one two\n",
+                0,
+            ),
+            (
+                "solve|--role|row|--depth|64|--cut|2x2|--after|",
+                b"value 30\nmove two\nline 1 two one two\n",
+                0,
+            ),
+            (
+                "solve|--role|row|--depth|0|--cut|2x2|--after|",
+                b"value 0\nmove none\n",
+                0,
+            ),
+            (
+                "solve|--role|column|--depth|1|--cut|2x2|--after|",
+                b"value 50\nmove one\nline 1 one one one\n",
+                0,
+            ),
+            (
+                "solve|--role|layer|--depth|2|--cut|2x2|--after|",
+                b"value 10\nmove one\nline 1 two two one\n",
+                0,
+            ),
+            (
+                "solve|--role| ROW ;\n|--depth|1|--cut|2x2|--after|",
+                b"value 30\nmove two\nline 1 two one two\n",
+                0,
+            ),
+            (
+                "solve|--role|row|--depth|1|--cut|2x2|--after|(two one two)",
+                b"value 30\nmove none\n",
+                0,
+            ),
+            (
+                "solve|--role|row|--depth|0|--cut|2x2|--after|(Two ONE two)",
+                b"value 30\nmove none\n",
+                0,
+            ),
+            (
+                "solve|--role|layer|--depth|64|--cut|2x2|--after|(two two two)",
+                b"value 5\nmove none\n",
+                0,
+            ),
+            // Faults of the role stand before those of the history.
+            (
+                "solve|--role||--depth|1|--cut|2x2|--after|",
+                b"refused S1 NoSuchRole\n",
+                2,
+            ),
+            (
+                "solve|--role|nobody|--depth|1|--cut|2x2|--after|",
+                b"refused S1 NoSuchRole\n",
+                2,
+            ),
+            (
+                "solve|--role|(row)|--depth|1|--cut|2x2|--after|",
+                b"refused S1 NoSuchRole\n",
+                2,
+            ),
+            (
+                "solve|--role|row column|--depth|1|--cut|2x2|--after|",
+                b"refused S1 NoSuchRole\n",
+                2,
+            ),
+            (
+                "solve|--role|row)|--depth|1|--cut|2x2|--after|",
+                b"refused S1 NoSuchRole\n",
+                2,
+            ),
+            (
+                "solve|--role|(row|--depth|1|--cut|2x2|--after|",
+                b"refused S1 NoSuchRole\n",
+                2,
+            ),
+            (
+                "solve|--role|ro\"w|--depth|1|--cut|2x2|--after|",
+                b"refused S1 NoSuchRole\n",
+                2,
+            ),
+            (
+                "solve|--role|nobody|--depth|1|--cut|2x2|--after|(one",
+                b"refused S1 NoSuchRole\n",
+                2,
+            ),
+            (
+                "solve|--role|row|--depth|1|--cut|2x2|--after|(one",
+                b"refused H1 BadForm 0\n",
+                2,
+            ),
+            (
+                "solve|--role|row|--depth|1|--cut|2x2|--after|(one)",
+                b"refused H1 BadForm 1\n",
+                2,
+            ),
+            (
+                "solve|--role|row|--depth|0|--cut|2x2|--after|(one one three)",
+                b"refused H2 NotLegal 1 layer\n",
+                2,
+            ),
+            (
+                "solve|--role|row|--depth|64|--cut|2x2|--after|(one one one) (one one one)",
+                b"refused H3 Over 2\n",
+                2,
+            ),
+        ],
+    ),
+    // The layer's `two` leaves the row 10, and so does the column's `two`. The column stands before the layer, so the reply in which it
+    // plays `one` is the first.
+    (
+        FIRST_SIDE,
+        &[(
+            "solve|--role|row|--depth|1|--cut|2x2|--after|",
+            b"value 10\nmove one\nline 1 one one two\n",
+            0,
+        )],
+    ),
+    // A state in which the layer has no move is worth nothing.
+    (
+        DEAD_END,
+        &[
+            (
+                "solve|--role|row|--depth|3|--cut|2x2|--after|",
+                b"value 20\nmove one\nline 1 one one one\n",
+                0,
+            ),
+            (
+                "solve|--role|row|--depth|3|--cut|2x2|--after|(two one one)",
+                b"value 0\nmove none\n",
+                0,
+            ),
+            (
+                "solve|--role|row|--depth|3|--cut|2x2|--after|(two one one) (one one one)",
+                b"refused H4 Stuck 2\n",
+                2,
+            ),
+        ],
+    ),
+];
+
+/// Whether a command over rules, played by one thread, writes these bytes with this exit status.
+fn is_told_by<G: GroundGame, T: AllocGlobal>(
     rt: &T,
-    cells: &[u8],
-    row: &Row,
+    command: &Command,
+    rules: &[u8],
+    want: &[u8],
+    exit: u8,
 ) -> Result<bool, AllocError> {
-    let (role, depth, after, want, answers) = *row;
-    let Some(cut) = Cut::parse(b"2x2") else {
+    let reply = reply_alone::<G, T>(rt, command, rules)?;
+    Ok(reply.output.as_slice() == want && reply.status == status_of(exit))
+}
+
+/// Whether both players write over rules what the row says.
+fn is_told<T: AllocGlobal>(rt: &T, rules: &[u8], row: Row) -> Result<bool, AllocError> {
+    let (line, want, exit) = row;
+    let words = words_of(rt.alloc(), line)?;
+    let Request::Run(command) = request_of(rt.alloc(), &words)? else {
         return Ok(false);
     };
+    Ok(
+        is_told_by::<NetGame, T>(rt, &command, rules, want, exit)?
+            && is_told_by::<RuleGame, T>(rt, &command, rules, want, exit)?,
+    )
+}
+
+/// Whether each row is told over a cube with these cells.
+fn all_are_told<T: AllocGlobal>(rt: &T, cells: &[u8], rows: &[Row]) -> Result<bool, AllocError> {
     let mut rules = Vec::from_slice(rt.alloc(), CUBE)?;
     rules.extend_from_slice(cells)?;
-    let command = Command::Ask(Inquiry::Solve(Sought {
-        role,
-        depth,
-        at_bound: AtBound::Zero,
-        cut,
-        table: 1,
-        after,
-    }));
-    let reply = reply_alone::<G, T>(rt, &command, &rules)?;
-    let wanted = if answers {
-        Status::Answer
-    } else {
-        Status::Refused
-    };
-    Ok(reply.output.as_slice() == want && reply.status == wanted)
+    for place in 0..rows.len() {
+        if !is_told(rt, &rules, rows[place])? {
+            return Ok(false);
+        }
+    }
+    Ok(true)
 }
-
-/// Whether both players write what the row says.
-fn solves<T: AllocGlobal>(rt: &T, cells: &[u8], row: &Row) -> Result<bool, AllocError> {
-    Ok(solves_by::<NetGame, T>(rt, cells, row)? && solves_by::<RuleGame, T>(rt, cells, row)?)
-}
-
-const SOLVED: [Row; 9] = [
-    (
-        "row",
-        1,
-        "",
-        b"value 30\nmove two\nline 1 two one two\n",
-        true,
-    ),
-    (
-        "row",
-        64,
-        "",
-        b"value 30\nmove two\nline 1 two one two\n",
-        true,
-    ),
-    ("row", 0, "", b"value 0\nmove none\n", true),
-    (
-        "column",
-        1,
-        "",
-        b"value 50\nmove one\nline 1 one one one\n",
-        true,
-    ),
-    (
-        "layer",
-        2,
-        "",
-        b"value 10\nmove one\nline 1 two two one\n",
-        true,
-    ),
-    (
-        " ROW ;\n",
-        1,
-        "",
-        b"value 30\nmove two\nline 1 two one two\n",
-        true,
-    ),
-    ("row", 1, "(two one two)", b"value 30\nmove none\n", true),
-    ("row", 0, "(Two ONE two)", b"value 30\nmove none\n", true),
-    ("layer", 64, "(two two two)", b"value 5\nmove none\n", true),
-];
 
 #[test]
 fn value_move_and_line_are_told(rt: HostRuntime) -> Result<(), AllocError> {
-    for row in SOLVED {
-        assert!(rt; solves(&rt, LEVEL, &row)?, "at {row:?}");
+    for (cells, rows) in SOLVED {
+        assert!(rt; all_are_told(&rt, cells, rows)?, "over {cells:?}");
     }
-    Ok(())
-}
-
-const REFUSED: [Row; 12] = [
-    ("", 1, "", b"refused S1 NoSuchRole\n", false),
-    ("nobody", 1, "", b"refused S1 NoSuchRole\n", false),
-    ("(row)", 1, "", b"refused S1 NoSuchRole\n", false),
-    ("row column", 1, "", b"refused S1 NoSuchRole\n", false),
-    ("row)", 1, "", b"refused S1 NoSuchRole\n", false),
-    ("(row", 1, "", b"refused S1 NoSuchRole\n", false),
-    ("ro\"w", 1, "", b"refused S1 NoSuchRole\n", false),
-    ("nobody", 1, "(one", b"refused S1 NoSuchRole\n", false),
-    ("row", 1, "(one", b"refused H1 BadForm 0\n", false),
-    ("row", 1, "(one)", b"refused H1 BadForm 1\n", false),
-    (
-        "row",
-        0,
-        "(one one three)",
-        b"refused H2 NotLegal 1 layer\n",
-        false,
-    ),
-    (
-        "row",
-        64,
-        "(one one one) (one one one)",
-        b"refused H3 Over 2\n",
-        false,
-    ),
-];
-
-#[test]
-fn faults_of_the_role_stand_before_those_of_the_history(rt: HostRuntime) -> Result<(), AllocError> {
-    for row in REFUSED {
-        assert!(rt; solves(&rt, LEVEL, &row)?, "at {row:?}");
-    }
-    Ok(())
-}
-
-// The layer's `two` leaves the row 10, and so does the column's `two`. The column stands before the layer, so the reply in which it
-// plays `one` is the first.
-#[test]
-fn first_least_reply_is_told(rt: HostRuntime) -> Result<(), AllocError> {
-    let line = (
-        "row",
-        1,
-        "",
-        b"value 10\nmove one\nline 1 one one two\n".as_slice(),
-        true,
-    );
-    assert!(rt; solves(&rt, FIRST_SIDE, &line)?);
-    Ok(())
-}
-
-#[test]
-fn stuck_state_is_worth_nothing(rt: HostRuntime) -> Result<(), AllocError> {
-    let start = (
-        "row",
-        3,
-        "",
-        b"value 20\nmove one\nline 1 one one one\n".as_slice(),
-        true,
-    );
-    assert!(rt; solves(&rt, DEAD_END, &start)?);
-    let stuck = (
-        "row",
-        3,
-        "(two one one)",
-        b"value 0\nmove none\n".as_slice(),
-        true,
-    );
-    assert!(rt; solves(&rt, DEAD_END, &stuck)?);
-    let further = (
-        "row",
-        3,
-        "(two one one) (one one one)",
-        b"refused H4 Stuck 2\n".as_slice(),
-        false,
-    );
-    assert!(rt; solves(&rt, DEAD_END, &further)?);
     Ok(())
 }

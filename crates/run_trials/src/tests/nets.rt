@@ -1,20 +1,11 @@
 //! Descriptions and what `net` answers, through runs and through the command line.
 use super::games::{MARKS, MATCH, SIXTEEN};
 use super::moves::UNBASED;
-use super::replies;
-use std::alloc::{AllocError, Global};
-use std::io::Write;
-use std::test::Fail;
-use std::thread::Threads;
-use words::{Command, Inquiry};
+use super::{Built, Text, first_unbuilt, first_unlike};
+use std::alloc::AllocError;
 
-/// Whether `net` answers a description with these bytes and this exit status.
-fn counts<T: Threads + Sync + AllocGlobal>(rt: &T, text: &[u8], want: &[u8], exit: u8) -> bool {
-    replies(rt, &Command::Ask(Inquiry::Net), &["net"], text, want, exit)
-}
-
-/// A description, what `net` writes for it, and the exit status.
-const COUNTED: [(&[u8], &[u8], u8); 7] = [
+/// Descriptions, and what `net` tells of them.
+const COUNTED: [Text; 7] = [
     (
         UNBASED,
         b"base 1\ninputs 1\ninstances 9\ndropped 2\nnodes 13\n",
@@ -42,128 +33,180 @@ const COUNTED: [(&[u8], &[u8], u8); 7] = [
 
 #[test]
 fn worked_descriptions_are_counted(rt: HostRuntime) {
-    for (text, want, exit) in COUNTED {
-        assert!(rt; counts(&rt, text, want, exit), "at {text:?}");
-    }
+    assert_eq!(rt; first_unlike(&rt, "net", &COUNTED), None);
 }
 
-/// A role, the facts `d` of the numbers of a range, and the rest.
-fn with_range(alloc: Global, from: usize, to: usize, rest: &[u8]) -> Result<Vec<u8>, AllocError> {
-    let mut text = Vec::from_slice(alloc, b"(role a)")?;
-    for number in from..to {
-        write!(text, "(d {number})").map_err(|_| AllocError)?;
-    }
-    text.extend_from_slice(rest)?;
-    Ok(text)
-}
+/// A role, and facts of the first eight numbers.
+const EIGHT: &[u8] = b"(role a)(d 0)(d 1)(d 2)(d 3)(d 4)(d 5)(d 6)(d 7)";
+
+/// Facts of the numbers from 9 to 15.
+const SEVEN_MORE: &[u8] = b"(d 9)(d 10)(d 11)(d 12)(d 13)(d 14)(d 15)";
 
 /// A base proposition for each four of the numbers.
 const FOURFOLD: &[u8] = b"(<= (base (n ?a ?b ?c ?d)) (d ?a) (d ?b) (d ?c) (d ?d))";
 
-#[test]
-fn base_propositions_are_counted_to_their_limit(rt: HostRuntime) -> Result<(), Fail> {
-    let rows: [(usize, &[u8], u8); 4] = [
-        (
-            8,
+/// Base propositions to their limit, and past it.
+const BASES: [Built; 4] = [
+    (
+        "net",
+        &[(EIGHT, 1), (FOURFOLD, 1)],
+        &[(
             b"base 4096\ninputs 0\ninstances 4105\ndropped 0\nnodes 8192\n",
-            0,
-        ),
-        (
-            9,
+            1,
+        )],
+        0,
+    ),
+    (
+        "net",
+        &[(EIGHT, 1), (b"(d 8)", 1), (FOURFOLD, 1)],
+        &[(
             b"base 6561\ninputs 0\ninstances 6571\ndropped 0\nnodes 13122\n",
-            0,
-        ),
-        (
-            16,
+            1,
+        )],
+        0,
+    ),
+    (
+        "net",
+        &[(EIGHT, 1), (b"(d 8)", 1), (SEVEN_MORE, 1), (FOURFOLD, 1)],
+        &[(
             b"base 65536\ninputs 0\ninstances 65553\ndropped 0\nnodes 131072\n",
-            0,
-        ),
-        (17, b"refused N1 TooMany base\n", 2),
-    ];
-    for (count, want, exit) in rows {
-        let text = with_range(rt.alloc(), 0, count, FOURFOLD)?;
-        assert!(rt; counts(&rt, &text, want, exit), "at {count}");
-    }
-    Ok(())
-}
+            1,
+        )],
+        0,
+    ),
+    (
+        "net",
+        &[
+            (EIGHT, 1),
+            (b"(d 8)", 1),
+            (SEVEN_MORE, 1),
+            (b"(d 16)", 1),
+            (FOURFOLD, 1),
+        ],
+        &[(b"refused N1 TooMany base\n", 1)],
+        2,
+    ),
+];
 
 #[test]
-fn inputs_are_counted_to_their_limit(rt: HostRuntime) -> Result<(), Fail> {
-    let rule = b"(<= (input a (n ?a ?b ?c ?d)) (d ?a) (d ?b) (d ?c) (d ?d))";
-    let most = with_range(rt.alloc(), 0, 8, rule)?;
-    let lines = b"base 0\ninputs 4096\ninstances 4105\ndropped 0\nnodes 4096\n";
-    assert!(rt; counts(&rt, &most, lines, 0));
-    let more = with_range(rt.alloc(), 0, 9, rule)?;
-    assert!(rt; counts(&rt, &more, b"refused N1 TooMany inputs\n", 2));
+fn base_propositions_are_counted_to_their_limit(rt: HostRuntime) -> Result<(), AllocError> {
+    assert_eq!(rt; first_unbuilt(&rt, &BASES)?, None);
     Ok(())
 }
+
+/// An input for each four of the numbers.
+const INPUTS: &[u8] = b"(<= (input a (n ?a ?b ?c ?d)) (d ?a) (d ?b) (d ?c) (d ?d))";
+
+/// A role, and facts of the numbers from 1 to 63.
+const RANGE: &[u8] =
+    b"(role a)(d 1)(d 2)(d 3)(d 4)(d 5)(d 6)(d 7)(d 8)(d 9)(d 10)(d 11)(d 12)(d 13)(d 14)(d 15)(d 16)(d 17)(d 18)(d 19)(d 20)(d 21)(d 22)(d 23)(d 24)(d 25)(d 26)(d 27)(d 28)(d 29)(d 30)(d 31)(d 32)(d 33)(d 34)(d 35)(d 36)(d 37)(d 38)(d 39)(d 40)(d 41)(d 42)(d 43)(d 44)(d 45)(d 46)(d 47)(d 48)(d 49)(d 50)(d 51)(d 52)(d 53)(d 54)(d 55)(d 56)(d 57)(d 58)(d 59)(d 60)(d 61)(d 62)(d 63)";
+
+/// Three, two and one of them.
+const RULES: &[u8] =
+    b"(<= (q ?a ?b ?c) (d ?a) (d ?b) (d ?c))(<= (s1 ?a ?b) (d ?a) (d ?b))(<= (s2 ?a ?b) (d ?a) (d ?b))(<= (s3 ?a ?b) (d ?a) (d ?b))(<= (t1 ?a) (d ?a))(<= (t2 ?a) (d ?a))";
+
+/// Inputs and instances to their limits, and past them.
+const INSTANCES: [Built; 5] = [
+    (
+        "net",
+        &[(EIGHT, 1), (INPUTS, 1)],
+        &[(
+            b"base 0\ninputs 4096\ninstances 4105\ndropped 0\nnodes 4096\n",
+            1,
+        )],
+        0,
+    ),
+    (
+        "net",
+        &[(EIGHT, 1), (b"(d 8)", 1), (INPUTS, 1)],
+        &[(b"refused N1 TooMany inputs\n", 1)],
+        2,
+    ),
+    (
+        "net",
+        &[
+            (EIGHT, 1),
+            (
+                b"(<= (q ?a ?b ?c ?d ?e ?f) (d ?a) (d ?b) (d ?c) (d ?d) (d ?e) (d ?f))",
+                1,
+            ),
+        ],
+        &[(b"refused N1 TooMany instances\n", 1)],
+        2,
+    ),
+    (
+        "net",
+        &[(RANGE, 1), (RULES, 1)],
+        &[(
+            b"base 0\ninputs 0\ninstances 262144\ndropped 0\nnodes 0\n",
+            1,
+        )],
+        0,
+    ),
+    (
+        "net",
+        &[(RANGE, 1), (RULES, 1), (b"(e 1)", 1)],
+        &[(b"refused N1 TooMany instances\n", 1)],
+        2,
+    ),
+];
 
 #[test]
-fn instances_of_a_rule_have_a_limit(rt: HostRuntime) -> Result<(), Fail> {
-    let rule = b"(<= (q ?a ?b ?c ?d ?e ?f) (d ?a) (d ?b) (d ?c) (d ?d) (d ?e) (d ?f))";
-    let more = with_range(rt.alloc(), 0, 8, rule)?;
-    assert!(rt; counts(&rt, &more, b"refused N1 TooMany instances\n", 2));
+fn inputs_and_instances_are_counted_to_their_limits(rt: HostRuntime) -> Result<(), AllocError> {
+    assert_eq!(rt; first_unbuilt(&rt, &INSTANCES)?, None);
     Ok(())
 }
+
+/// Rules that double a term nine times, from one relation to the next.
+const DOUBLED: &[u8] =
+    b"(role a)(p0 a)(<= (p1 (f ?x ?x)) (p0 ?x))(<= (p2 (f ?x ?x)) (p1 ?x))(<= (p3 (f ?x ?x)) (p2 ?x))(<= (p4 (f ?x ?x)) (p3 ?x))(<= (p5 (f ?x ?x)) (p4 ?x))(<= (p6 (f ?x ?x)) (p5 ?x))(<= (p7 (f ?x ?x)) (p6 ?x))(<= (p8 (f ?x ?x)) (p7 ?x))(<= (p9 (f ?x ?x)) (p8 ?x))";
+
+/// A space and a name of 255 letters.
+const NAME: &[u8] =
+    b" aaaaaaaaaaaaaaaaaaaaaaaaaaaaaaaaaaaaaaaaaaaaaaaaaaaaaaaaaaaaaaaaaaaaaaaaaaaaaaaaaaaaaaaaaaaaaaaaaaaaaaaaaaaaaaaaaaaaaaaaaaaaaaaaaaaaaaaaaaaaaaaaaaaaaaaaaaaaaaaaaaaaaaaaaaaaaaaaaaaaaaaaaaaaaaaaaaaaaaaaaaaaaaaaaaaaaaaaaaaaaaaaaaaaaaaaaaaaaaaaaaaaaaaaaaaaaaa";
+
+/// Doubled terms, and heads of fifteen names of 255 letters and a shorter one: texts to their limit, and past it.
+const TEXTS: [Built; 4] = [
+    (
+        "net",
+        &[(DOUBLED, 1)],
+        &[(b"base 0\ninputs 0\ninstances 11\ndropped 0\nnodes 0\n", 1)],
+        0,
+    ),
+    (
+        "net",
+        &[(DOUBLED, 1), (b"(<= (p10 (f ?x ?x)) (p9 ?x))", 1)],
+        &[(b"refused N1 TooMany text\n", 1)],
+        2,
+    ),
+    (
+        "net",
+        &[
+            (b"(role a)(p", 1),
+            (NAME, 15),
+            (b" ", 1),
+            (b"a", 252),
+            (b")", 1),
+        ],
+        &[(b"base 0\ninputs 0\ninstances 2\ndropped 0\nnodes 0\n", 1)],
+        0,
+    ),
+    (
+        "net",
+        &[
+            (b"(role a)(p", 1),
+            (NAME, 15),
+            (b" ", 1),
+            (b"a", 253),
+            (b")", 1),
+        ],
+        &[(b"refused N1 TooMany text\n", 1)],
+        2,
+    ),
+];
 
 #[test]
-fn instances_are_counted_to_their_limit(rt: HostRuntime) -> Result<(), Fail> {
-    let rules =
-        b"(<= (q ?a ?b ?c) (d ?a) (d ?b) (d ?c))(<= (s1 ?a ?b) (d ?a) (d ?b))(<= (s2 ?a ?b) (d ?a) (d ?b))(<= (s3 ?a ?b) (d ?a) (d ?b))(<= (t1 ?a) (d ?a))(<= (t2 ?a) (d ?a))";
-    let mut text = with_range(rt.alloc(), 1, 64, rules)?;
-    let lines = b"base 0\ninputs 0\ninstances 262144\ndropped 0\nnodes 0\n";
-    assert!(rt; counts(&rt, &text, lines, 0));
-    text.extend_from_slice(b"(e 1)")?;
-    assert!(rt; counts(&rt, &text, b"refused N1 TooMany instances\n", 2));
-    Ok(())
-}
-
-/// The rules that double a term, from one relation to the next.
-fn doubled(alloc: Global, times: usize) -> Result<Vec<u8>, AllocError> {
-    let mut text = Vec::from_slice(alloc, b"(role a)(p0 a)")?;
-    for number in 0..times {
-        let next = number + 1;
-        write!(text, "(<= (p{next} (f ?x ?x)) (p{number} ?x))").map_err(|_| AllocError)?;
-    }
-    Ok(text)
-}
-
-#[test]
-fn doubled_terms_pass_the_limit_of_text(rt: HostRuntime) -> Result<(), Fail> {
-    let most = doubled(rt.alloc(), 9)?;
-    let lines = b"base 0\ninputs 0\ninstances 11\ndropped 0\nnodes 0\n";
-    assert!(rt; counts(&rt, &most, lines, 0));
-    let more = doubled(rt.alloc(), 10)?;
-    assert!(rt; counts(&rt, &more, b"refused N1 TooMany text\n", 2));
-    Ok(())
-}
-
-/// A fact of fifteen names of 255 letters and one of so many.
-fn long_fact(alloc: Global, last: usize) -> Result<Vec<u8>, AllocError> {
-    let mut text = Vec::from_slice(alloc, b"(role a)(p")?;
-    for _ in 0..15 {
-        text.push(b' ')?;
-        add_letters(255, &mut text)?;
-    }
-    text.push(b' ')?;
-    add_letters(last, &mut text)?;
-    text.push(b')')?;
-    Ok(text)
-}
-
-fn add_letters(count: usize, text: &mut Vec<u8>) -> Result<(), AllocError> {
-    for _ in 0..count {
-        text.push(b'a')?;
-    }
-    Ok(())
-}
-
-#[test]
-fn text_of_a_head_has_at_most_4096_bytes(rt: HostRuntime) -> Result<(), Fail> {
-    let most = long_fact(rt.alloc(), 252)?;
-    let lines = b"base 0\ninputs 0\ninstances 2\ndropped 0\nnodes 0\n";
-    assert!(rt; counts(&rt, &most, lines, 0));
-    let more = long_fact(rt.alloc(), 253)?;
-    assert!(rt; counts(&rt, &more, b"refused N1 TooMany text\n", 2));
+fn texts_of_heads_have_a_limit(rt: HostRuntime) -> Result<(), AllocError> {
+    assert_eq!(rt; first_unbuilt(&rt, &TEXTS)?, None);
     Ok(())
 }

@@ -1,29 +1,20 @@
-//! The size of the table of positions: what is no size, and that no reply depends on it.
-use super::games::FOUR;
-use super::lines::MARKED;
-use super::told;
+//! No reply depends on the size of the table of positions.
+use super::games::MARKS;
+use super::lines::WHOLE;
+use super::{is_by_words, words_of};
+use std::alloc::AllocError;
+use std::thread::Threads;
 
-#[test]
-fn other_sizes_of_the_table_are_misuse(rt: HostRuntime) {
-    for word in ["65537", "-1", "", "64M", "0.5", "4294967296"] {
-        let words = ["solve", "--role", "a", "--depth", "1", "--table", word];
-        let (status, output, errors) = told(&rt, &words, FOUR);
-        assert!(rt;
-            status == 1 && output.is_empty() && !errors.is_empty(),
-            "at {word:?}"
-        );
-    }
+/// Whether words alone, with a table of this size, tell the whole game of marks.
+fn is_solved<T: Threads + Sync + AllocGlobal>(rt: &T, line: &str) -> Result<bool, AllocError> {
+    let words = words_of(rt.alloc(), line)?;
+    Ok(is_by_words(rt, &words, MARKS, WHOLE, 0))
 }
 
 #[test]
-fn the_size_of_the_table_changes_no_reply(rt: HostRuntime) {
-    let (rules, role, _, _, want, _) = MARKED[1];
-    for size in ["0", "1", "65536"] {
-        let words = ["solve", "--role", role, "--depth", "9", "--table", size];
-        let (status, output, errors) = told(&rt, &words, rules);
-        assert!(rt;
-            status == 0 && output.as_slice() == want && errors.is_empty(),
-            "at {size:?}"
-        );
-    }
+fn the_size_of_the_table_changes_no_reply(rt: HostRuntime) -> Result<(), AllocError> {
+    assert!(rt; is_solved(&rt, "solve|--role|xplayer|--depth|9|--table|0")?);
+    assert!(rt; is_solved(&rt, "solve|--role|xplayer|--depth|9|--table|1")?);
+    assert!(rt; is_solved(&rt, "solve|--role|xplayer|--depth|9|--table|65536")?);
+    Ok(())
 }

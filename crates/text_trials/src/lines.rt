@@ -1,0 +1,89 @@
+//! Worked places: lines that end as they may, tabs, comments, and bytes above 127.
+use kif::read;
+use places::{Line, Place, TokenKind, Tokens, item_start, line_around, place_of, word_start};
+use std::test::Fail;
+
+/// Offsets of texts, with the line and the column.
+const PLACES: [(&[u8], usize, usize, usize); 15] = [
+    (b"", 0, 1, 1),
+    (b"", 7, 1, 1),
+    (b"(a)", 0, 1, 1),
+    (b"(a)", 2, 1, 3),
+    (b"(a)", 3, 1, 4),
+    (b"(a)\n(b)", 3, 1, 4),
+    (b"(a)\n(b)", 4, 2, 1),
+    (b"(a)\n(b)\n", 8, 3, 1),
+    (b"(a)\r\n(b)\r\n(c)", 5, 2, 1),
+    (b"(a)\r\n(b)\r\n(c)", 11, 3, 2),
+    (b"\n\n\t(a)", 3, 3, 2),
+    // A letter of two bytes and one of three are a character each.
+    (b"; \xc3\xa9 \xe2\x82\xac (", 9, 1, 7),
+    (b"\xef\xbb\xbf(a)", 0, 1, 1),
+    (b"\xef\xbb\xbf(a)", 3, 1, 2),
+    (b"a\n\xc3\xa9\xc3", 4, 2, 2),
+];
+
+#[test]
+fn places_are_lines_and_columns(rt: HostRuntime) {
+    for (text, offset, line, column) in PLACES {
+        assert_eq!(rt; place_of(text, offset), Place { line, column });
+    }
+}
+
+#[test]
+fn lines_end_before_their_line_feed(rt: HostRuntime) {
+    let text = b"(a)\n(b) c\r\n\nd";
+    assert_eq!(rt; line_around(text, 0), Line { start: 0, end: 3 });
+    assert_eq!(rt; line_around(text, 3), Line { start: 0, end: 3 });
+    assert_eq!(rt; line_around(text, 4), Line { start: 4, end: 10 });
+    assert_eq!(rt; line_around(text, 11), Line { start: 11, end: 11 });
+    assert_eq!(rt; line_around(text, 99), Line { start: 12, end: 13 });
+}
+
+#[test]
+fn tokens_come_in_order(rt: HostRuntime) {
+    let mut tokens = Tokens::new(b" (ab;c)\n)\"x");
+    let wanted = [
+        (1, TokenKind::Opening),
+        (2, TokenKind::Word),
+        (8, TokenKind::Closing),
+        (9, TokenKind::Stray),
+        (10, TokenKind::Word),
+    ];
+    for (start, kind) in wanted {
+        let token = tokens.next();
+        assert_eq!(rt; token.map(|t| t.start), Some(start));
+        assert_eq!(rt; token.map(|t| t.kind), Some(kind));
+    }
+    assert_eq!(rt; tokens.next().map(|t| t.start), None);
+    assert_eq!(rt; tokens.next().map(|t| t.start), None);
+}
+
+/// Five trees in three lines.
+const TEXT: &[u8] = b"; (a)\n(p ?X (q x)) a\n (<= (r ?x)\n\t(p ?x Ax)) () end";
+
+#[test]
+fn trees_begin_where_they_are_read(rt: HostRuntime) -> Result<(), Fail> {
+    let items = read(rt.alloc(), TEXT)?;
+    assert_eq!(rt; items.len(), 5);
+    let starts = [6, 19, 22, 45, 48];
+    for (index, start) in starts.iter().enumerate() {
+        assert_eq!(rt; item_start(TEXT, &items, index), Some(*start));
+    }
+    assert_eq!(rt; item_start(TEXT, &items, 5), None);
+    Ok(())
+}
+
+#[test]
+fn names_are_found_in_their_tree(rt: HostRuntime) -> Result<(), Fail> {
+    let items = read(rt.alloc(), TEXT)?;
+    assert_eq!(rt; word_start(TEXT, &items, 0, b"?x"), Some(9));
+    assert_eq!(rt; word_start(TEXT, &items, 0, b"x"), Some(15));
+    assert_eq!(rt; word_start(TEXT, &items, 0, b"a"), Some(19));
+    assert_eq!(rt; word_start(TEXT, &items, 2, b"?x"), Some(29));
+    assert_eq!(rt; word_start(TEXT, &items, 1, b"ax"), Some(40));
+    assert_eq!(rt; word_start(TEXT, &items, 2, b"?y"), None);
+    assert_eq!(rt; word_start(TEXT, &items, 4, b"end"), Some(48));
+    assert_eq!(rt; word_start(TEXT, &items, 5, b"end"), None);
+    Ok(())
+}
