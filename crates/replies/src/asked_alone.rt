@@ -14,7 +14,7 @@ use crate::reply::{Reply, answered, refused};
 use crate::roles::role_named;
 use crate::search::bytes_in;
 use crate::windowed::lines_within;
-use crate::worths::lines_of_moves;
+use crate::worths::{lines_of_moves, moves_with_lines};
 use game::{Game, HistoryFault, Question};
 use maximin::Room;
 use statement::Window;
@@ -28,6 +28,8 @@ pub(crate) enum Wanted {
     Within(Window),
     /// What each legal move makes sure of.
     OfEachMove,
+    /// The same, and the line of play that begins with it.
+    LineOfEachMove,
 }
 
 /// What is wanted of a state, as lines. What is kept of states takes at most so many bytes.
@@ -48,6 +50,7 @@ fn lines_of<G: Game>(
     match wanted {
         Wanted::Within(window) => lines_within(alloc, g, asked, window, here, room),
         Wanted::OfEachMove => lines_of_moves(alloc, g, asked, here, room),
+        Wanted::LineOfEachMove => moves_with_lines(alloc, g, asked, here, room),
     }
 }
 

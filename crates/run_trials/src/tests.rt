@@ -5,6 +5,7 @@ mod broken;
 mod checks;
 mod cubes;
 mod cuts;
+mod deepenings;
 mod devices;
 mod games;
 mod helps;

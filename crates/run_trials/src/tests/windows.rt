@@ -78,15 +78,15 @@ fn values<T: Threads + Sync + AllocGlobal>(rt: &T, row: Row) -> Result<bool, All
 }
 
 /// One role picks one of four goals, of which the second and the last are greatest.
-const PICK: &[u8] =
+pub(crate) const PICK: &[u8] =
     b"(role a)(base (got p))(base (got q))(base (got r))(base (got s))(input a s)(input a r)(input a q)(input a p)(<= (legal a ?m) (input a ?m))(<= (next (got ?m)) (does a ?m))(<= terminal (true (got ?m)))(<= (goal a 10) (true (got p)))(<= (goal a 60) (true (got q)))(<= (goal a 30) (true (got r)))(<= (goal a 60) (true (got s)))";
 
 /// The first role picks a side, and the second how much of it the first gets.
-const SIDES: &[u8] =
+pub(crate) const SIDES: &[u8] =
     b"(role a)(role b)(base over)(base l)(base r)(base less)(input a l)(input a r)(input b less)(input b more)(<= (legal ?r ?m) (input ?r ?m))(next over)(<= (next l) (does a l))(<= (next r) (does a r))(<= (next less) (does b less))(<= terminal (true over))(<= (goal a 20) (true l) (true less))(<= (goal a 90) (true l) (not (true less)))(<= (goal a 40) (true r) (true less))(<= (goal a 35) (true r) (not (true less)))";
 
 /// The second role never has a move.
-const STUCK: &[u8] = b"(role a)(role b)(input a go)(legal a go)(goal a 40)";
+pub(crate) const STUCK: &[u8] = b"(role a)(role b)(input a go)(legal a go)(goal a 40)";
 
 const WINDOWS: [(Bounds, Row); 26] = [
     (

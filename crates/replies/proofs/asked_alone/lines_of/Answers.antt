@@ -5,3 +5,6 @@ returns-in-Within g c = rw c.in-Within.is c.lines_within.ensures
 
 pub returns-in-OfEachMove : goal.returns-in-OfEachMove
 returns-in-OfEachMove g c = rw c.in-OfEachMove.is c.lines_of_moves.ensures
+
+pub returns-in-LineOfEachMove : goal.returns-in-LineOfEachMove
+returns-in-LineOfEachMove g c = rw c.in-LineOfEachMove.is c.moves_with_lines.ensures
