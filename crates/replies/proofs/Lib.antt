@@ -36,4 +36,5 @@ mod OneDeepening
 mod Pieces
 mod Errs
 mod Held
+mod Over
 pub mod Facts

@@ -1,10 +1,11 @@
 //! The value of a state, the move that makes sure of it, and the line of play, as lines.
 ghost use Rattle.std.specs.Prelude.{◌≡◌, ◌≤◌, ◌<◌, ◌++◌, pos, IfOk, IfSome, OnOk};
 ghost use Rattle.statement.specs.Value.{value, choice_of};
-ghost use Rattle.maximin.specs.Room.{IsRoomOf, room_depth};
+ghost use Rattle.maximin.specs.Room.{IsRoomFor, IsRoomOf, room_depth};
 ghost use Rattle.replies.specs.Histories.{named};
 ghost use Rattle.statement.specs.Solving.{move_line, choice_text, solve_lines};
 
+use crate::alone::found_in;
 use crate::play::Play;
 use crate::writing::{write_choice, write_found};
 use game::{Game, Question};
@@ -50,6 +51,30 @@ pub(crate) fn value_lines<G: Game>(
         ≡ solve_lines (named (G.rules g.now) (G.role_name g.now) (G.move_name g.now)) asked.role asked.depth asked.at (G.state g.now here)) }
 {
     let mut play = Play::new(alloc, g, here, room)?;
+    let mut output = Vec::new(alloc);
+    let Ok(()) = write_found(g, asked, &found, &mut play, &mut output) else {
+        return Err(AllocError);
+    };
+    Ok(output)
+}
+
+/// The same of a state that stays, by one search in the room.
+pub(crate) fn best_lines<G: Game>(
+    alloc: Global,
+    g: &G,
+    asked: Question,
+    here: &G::Pos,
+    room: Room<G>,
+) -> Result<Vec<u8>, AllocError>
+    requires fits { G.fits g.now here.now }
+    requires room { IsRoomFor G.Game g.now asked.role asked.depth room }
+    ensures { IfOk result (λ output. output.items
+        ≡ solve_lines (named (G.rules g.now) (G.role_name g.now) (G.move_name g.now)) asked.role asked.depth asked.at (G.state g.now here.now)) }
+{
+    let start = g.fresh()?;
+    let mut play = Play::new(alloc, g, start, room)?;
+    let found = found_in(g, here, asked, &mut play.room);
+    play.stand(g, here);
     let mut output = Vec::new(alloc);
     let Ok(()) = write_found(g, asked, &found, &mut play, &mut output) else {
         return Err(AllocError);
