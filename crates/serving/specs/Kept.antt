@@ -10,7 +10,7 @@ use Rattle.ground.specs.declared.flat_ground.FlatGround.{FlatGround}
 use Rattle.ground.specs.GroundView.{IsGround}
 use Rattle.rulebook.specs.RuleState.{IsGameOver}
 use Rattle.requests.specs.declared.desk.Taken.{Taken}
-use Rattle.requests.specs.declared.desk.Taken.TheVariants.{Line, Rules, Starved, LastLine, Cut, Nothing}
+use Rattle.requests.specs.declared.desk.Taken.TheVariants.{Line, Rules as Stated, Starved, LastLine, Cut, Nothing}
 
 -- the bytes read as items without a fault, this is their instantiation, and the game with these rules and texts is made of it
 abbrev pub PlaysText : List ℕ → FlatGround → Rules → (ℕ → List ℕ) → (ℕ → ℕ → List ℕ) → Type 0
@@ -21,7 +21,7 @@ PlaysText bytes source rules role_name move_name =
 -- what is kept after this was taken: nothing, where other rules may stand
 abbrev pub kept_after : {X : Type 0} → Taken → Option X → Option X
 kept_after Line made = made
-kept_after Rules made = None
+kept_after Stated made = None
 kept_after Starved made = None
 kept_after LastLine made = made
 kept_after Cut made = None
