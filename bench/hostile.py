@@ -180,12 +180,26 @@ def is_standing(lines: list[bytes]) -> bool:
 
 
 def are_values(lines: list[bytes]) -> bool:
-    """Whether lines tell what each move makes sure of, or the value where there is no turn to come."""
+    """Whether lines tell what each move makes sure of, with or without the line behind it, or the value where there is no turn to come."""
     if len(lines) == 2 and lines[1] == b"move none":
         return is_solved(lines)
-    told = [re.fullmatch(rb"value (?:0|[1-9][0-9]?|100) (" + TREE + rb")", line) for line in lines]
+    rows = [line for line in lines if not line.startswith(b"line ")]
+    told = [re.fullmatch(rb"value (?:0|[1-9][0-9]?|100) (" + TREE + rb")", line) for line in rows]
     texts = [match[1] for match in told if match]
-    return len(lines) > 0 and all(told) and texts == sorted(set(texts))
+    number, behind = 0, True
+    for line in lines:
+        number = number + 1 if line.startswith(b"line ") else 0
+        behind = behind and (number == 0 or re.fullmatch(rb"line %d " % number + TREE, line) is not None)
+    return lines[:1] == rows[:1] != [] and behind and all(told) and texts == sorted(set(texts))
+
+
+def is_deepened(lines: list[bytes]) -> bool:
+    """Whether lines tell a value depth by depth, at the end perhaps that it is settled."""
+    told = lines[:-1] if lines[-1:] == [b"settled"] else lines
+    starts = [at for at, line in enumerate(told) if line.startswith(b"depth ")]
+    parts = [told[start:end] for start, end in zip(starts, [*starts[1:], len(told)])]
+    numbered = all(part[0] == b"depth %d" % number for number, part in enumerate(parts, 1))
+    return starts[:1] == ([0] if lines else []) and numbered and all(is_solved(part[1:]) for part in parts)
 
 
 def is_found(lines: list[bytes]) -> bool:
@@ -203,7 +217,7 @@ ANSWERS: dict[str, Callable[[list[bytes]], bool]] = {
     "net": is_counted,
     "moves": is_moved,
     "state": is_standing,
-    "solve": is_found,
+    "solve": lambda lines: is_found(lines) or is_deepened(lines),
     "values": are_values,
 }
 

@@ -33,8 +33,8 @@ _gdlsolve() {
           ;;
         show | check | lint | net | serve) words='--help' ;;
         moves | state) words='--after --help' ;;
-        solve) words='--role --depth --at-bound --unfinished --window --cut --table --after --help' ;;
-        values) words='--role --depth --at-bound --unfinished --cut --table --after --help' ;;
+        solve) words='--role --depth --at-bound --unfinished --window --deepen --cut --table --after --help' ;;
+        values) words='--role --depth --at-bound --unfinished --lines --cut --table --after --help' ;;
         help) words='show check lint net moves state solve values serve' ;;
       esac
       ;;

@@ -35,9 +35,11 @@ fn history_of<'a>(inquiry: &Inquiry<'a>) -> &'a str {
     match inquiry {
         Inquiry::Net => "",
         Inquiry::Moves { after } | Inquiry::State { after } => after,
-        Inquiry::Solve(sought) | Inquiry::SolveWithin(sought, _) | Inquiry::Values(sought) => {
-            sought.after
-        }
+        Inquiry::Solve(sought)
+        | Inquiry::SolveWithin(sought, _)
+        | Inquiry::Values(sought)
+        | Inquiry::ValuesWithLines(sought)
+        | Inquiry::Deepen(sought) => sought.after,
     }
 }
 

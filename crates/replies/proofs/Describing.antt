@@ -22,7 +22,7 @@ use Rattle.ground.specs.GroundView.{IsGround}
 use Rattle.rulebook.specs.RuleState.{named_rules_of}
 use Rattle.rulebook.proofs.Facts.{game_of_ground}
 use Rattle.words.specs.declared.command.Inquiry.{Inquiry}
-use Rattle.words.specs.declared.command.Inquiry.TheVariants.{Net, Moves, State, Solve, SolveWithin, Values}
+use Rattle.words.specs.declared.command.Inquiry.TheVariants.{Net, Moves, State, Solve, SolveWithin, Values, ValuesWithLines, Deepen}
 use Rattle.words.specs.Asked.{query_about}
 use Rattle.replies.specs.declared.reply.Reply as made
 use Rattle.replies.specs.Games.{IsItsGround}
@@ -68,6 +68,8 @@ no_game (State after) ts reply h = inl h
 no_game (Solve sought) ts reply h = inl h
 no_game (SolveWithin sought window) ts reply h = inl h
 no_game (Values sought) ts reply h = inl h
+no_game (ValuesWithLines sought) ts reply h = inl h
+no_game (Deepen sought) ts reply h = inl h
 
 -- a fault of the instantiation names the limit that the items pass
 passes_limit : (items : List Tree) (fault : GroundFault) (reply : made.Reply) → HasNoFault items

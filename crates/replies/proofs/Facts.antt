@@ -4,4 +4,4 @@
 pub use Rattle.replies.proofs.OneText.{one_text_fault}
 -- What is read and then asked is the reply, or that is told after the search.
 pub use Rattle.replies.proofs.ReadAndAsked.{read_and_asked}
-pub use Rattle.replies.proofs.Searches.{asked_reply, search_told}
+pub use Rattle.replies.proofs.Searches.{asked_reply, asked_search, asked_deepen, told_after}

@@ -11,7 +11,6 @@ mod Describing
 mod Leading
 mod OneTree
 mod LineLemmas
-mod Solved
 mod Lines
 mod OneSolve
 mod NoRole
@@ -27,4 +26,15 @@ mod OneState
 mod Placing
 mod MoveWorths
 mod Standings
+mod Deepened
+mod Turning
+mod Settles
+mod SameWorth
+mod BothWorths
+mod OneLines
+mod OneDeepening
+mod Pieces
+mod Errs
+mod Held
+mod Over
 pub mod Facts

@@ -7,6 +7,7 @@ use Rattle.statement.specs.NamedRules.{NamedRules}
 use Rattle.statement.specs.Rules.{Rules, State, is_stuck}
 use Rattle.statement.specs.Solving.{solve_lines}
 use Rattle.statement.specs.MoveValues.{worth_line, values_lines}
+use Rattle.statement.specs.MoveLines.{move_lines, moves_with_lines}
 use Rattle.game.proofs.Facts.{get_or_any}
 use Rattle.maximin.specs.Open.{IsOpen}
 use Rattle.replies.specs.Windows.{IsClosed}
@@ -34,6 +35,20 @@ values_closed g role zero at s h = refl
 values_closed g role (suc depth) at s (inl e) = absurd (omega arith)
 values_closed g role (suc depth) at s (inr (inl e)) = first_true (g.rules.ended s) (is_stuck g.rules s) _ _ e
 values_closed g role (suc depth) at s (inr (inr e)) = second_true (g.rules.ended s) (is_stuck g.rules s) _ _ e
+
+pub lines_open : (g : NamedRules) (role depth : ℕ) (at : AtBound) (s : State) → IsOpen g.rules depth s
+    → moves_with_lines g role depth at s ≡ flat_map (move_lines g role (depth - 1) at s) (g.rules.legal s role)
+lines_open g role zero at s h = absurd (h.turn refl)
+lines_open g role (suc depth) at s h =
+    let same : suc depth - 1 ≡ depth = omega arith in
+    rw same (either_false (g.rules.ended s) (is_stuck g.rules s) _ _ h.going h.free)
+
+pub lines_closed : (g : NamedRules) (role depth : ℕ) (at : AtBound) (s : State) → IsClosed g.rules depth s
+    → moves_with_lines g role depth at s ≡ solve_lines g role depth at s
+lines_closed g role zero at s h = refl
+lines_closed g role (suc depth) at s (inl e) = absurd (omega arith)
+lines_closed g role (suc depth) at s (inr (inl e)) = first_true (g.rules.ended s) (is_stuck g.rules s) _ _ e
+lines_closed g role (suc depth) at s (inr (inr e)) = second_true (g.rules.ended s) (is_stuck g.rules s) _ _ e
 
 -- a move at a place is among the moves
 pub among_moves : (xs : List ℕ) (place own : ℕ) → place < length xs → get_or xs place 0 ≡ own → Contains xs own

@@ -64,7 +64,7 @@ texts_alike g h same j turn =
     (λ q lt. same.move_names q (slice_index j q) lt (turn.each_known q lt)))
     ∙ ap (λ (n : ℕ). map (λ q. h.move_name q (slice_index j q)) (range_with_len 0 n)) same.roles
 
-turns_alike : (g h : NamedRules) → SamePlay g h → (number : ℕ) (js : List Turn) → All (IsTurn g.rules) js
+pub turns_alike : (g h : NamedRules) → SamePlay g h → (number : ℕ) (js : List Turn) → All (IsTurn g.rules) js
     → turn_lines g number js ≡ turn_lines h number js
 turns_alike g h same number [] all = refl
 turns_alike g h same number (j ∷ js) all =

@@ -15,7 +15,7 @@ use Rattle.replies.proofs.OneMoves.{flat_maps_alike}
 use Rattle.replies.proofs.OneSolve.{lines_alike}
 
 module _ (g h : NamedRules) (same : SamePlay g h) (role : ℕ) (lt : role < g.rules.roles) where
-  worth_alike : (depth : ℕ) (at : AtBound) (s : State) (own : ℕ) → own < g.rules.moves role
+  pub worth_alike : (depth : ℕ) (at : AtBound) (s : State) (own : ℕ) → own < g.rules.moves role
       → worth_line g role depth at s own ≡ worth_line h role depth at s own
   worth_alike depth at s own below =
       ap (λ (v : ℕ). codes "value " ++ decimal v ++ 32 ∷ g.move_name role own ++ 10 ∷ []) (worst_alike g h same role lt depth at s own below)

@@ -1,49 +1,63 @@
 -- Searches that are asked for, and the replies after them.
-use Rattle.std.proofs.Common.{◌≡◌, subst, sym}
+use Rattle.std.proofs.Common.{◌≡◌, subst, sym, ap, ◌∙◌}
 use Rattle.std.specs.Prelude.{Result, Ok, Err, IfOk}
 use Rattle.statement.specs.Answers.{Reply, answer}
 use Rattle.statement.specs.Solving.{solve_lines}
+use Rattle.statement.specs.Deepening.{deepen_lines}
 use Rattle.game.specs.declared.game.Game.{Ghosts}
 use Rattle.replies.specs.declared.asking.Asked.{Asked}
-use Rattle.replies.specs.declared.asking.Asked.TheVariants.{Told, ToSearch}
+use Rattle.replies.specs.declared.asking.Asked.TheVariants.{Told, ToSearch, ToDeepen}
 use Rattle.replies.specs.declared.reply.Reply as made
 use Rattle.replies.specs.declared.search.Search.{Search}
-use Rattle.replies.specs.Asking.{IsSearchOf, IsSearchOrReply, IsAsked, named_by}
+use Rattle.replies.specs.Asking.{LinesOf, IsSearchFor, IsSearchOrReply, IsAsked, named_by}
 use Rattle.replies.specs.Replies.{reply_of}
 
 -- where each reply of one kind is of another, so is a search after which there is one
 module _ {G P W M : Type 0} (of : Ghosts G P W M) (is other : Reply → Type 0) (f : (reply : Reply) → is reply → other reply) where
-  lift_search : (s : Search G P W M) → IsSearchOf of is s → IsSearchOf of other s
-  lift_search s h = record { fits = h.fits; role = h.role; reply = f _ h.reply }
+  lift_search : (lines : LinesOf) (s : Search G P W M) → IsSearchFor of lines is s → IsSearchFor of lines other s
+  lift_search lines s h = record { fits = h.fits; role = h.role; reply = f _ h.reply }
 
-  pub still_search : (r : Result (Search G P W M) made.Reply) (s : Search G P W M) → IsSearchOrReply of is r → r ≡ Ok s → IsSearchOf of other s
-  still_search r s h same = lift_search s (subst (IsSearchOrReply of is) same h)
+  pub still_search : (lines : LinesOf) (r : Result (Search G P W M) made.Reply) (s : Search G P W M) → IsSearchOrReply of lines is r → r ≡ Ok s
+      → IsSearchFor of lines other s
+  still_search lines r s h same = lift_search lines s (subst (IsSearchOrReply of lines is) same h)
 
-  pub still_reply : (r : Result (Search G P W M) made.Reply) (reply : made.Reply) → IsSearchOrReply of is r → r ≡ Err reply
+  pub still_reply : (lines : LinesOf) (r : Result (Search G P W M) made.Reply) (reply : made.Reply) → IsSearchOrReply of lines is r → r ≡ Err reply
       → other (reply_of reply)
-  still_reply r reply h same = f _ (subst (IsSearchOrReply of is) same h)
-
-  pub still_asked : {E : Type 0} (r : Result (Result (Search G P W M) made.Reply) E) → IfOk r (IsSearchOrReply of is)
-      → IfOk r (IsSearchOrReply of other)
-  still_asked (Ok (Ok s)) h = lift_search s h
-  still_asked (Ok (Err reply)) h = f _ h
-  still_asked (Err e) h = h
+  still_reply lines r reply h same = f _ (subst (IsSearchOrReply of lines is) same h)
 
   pub lift_asked : (a : Asked G P W M) → IsAsked of is a → IsAsked of other a
   lift_asked (Told reply) h = f _ h
-  lift_asked (ToSearch s) h = lift_search s h
+  lift_asked (ToSearch s) h = lift_search solve_lines s h
+  lift_asked (ToDeepen s) h = lift_search deepen_lines s h
 
   pub lift_asking : {E : Type 0} (r : Result (Asked G P W M) E) → IfOk r (IsAsked of is) → IfOk r (IsAsked of other)
   lift_asking (Ok a) h = lift_asked a h
   lift_asking (Err e) h = h
+
+-- the same, whatever is told after the search
+pub still_asked : {G P W M E : Type 0} (of : Ghosts G P W M) (is other : LinesOf → Reply → Type 0)
+    → ((lines : LinesOf) (reply : Reply) → is lines reply → other lines reply) → (r : Result (Result (Search G P W M) made.Reply) E)
+    → IfOk r (λ found. (lines : LinesOf) → IsSearchOrReply of lines (is lines) found)
+    → IfOk r (λ found. (lines : LinesOf) → IsSearchOrReply of lines (other lines) found)
+still_asked of is other f (Ok (Ok s)) h = λ lines. lift_search of (is lines) (other lines) (f lines) lines s (h lines)
+still_asked of is other f (Ok (Err reply)) h = λ lines. f lines _ (h lines)
+still_asked of is other f (Err e) h = h
 
 -- what is asked is a reply, or it is told after the search
 module _ {G P W M : Type 0} (of : Ghosts G P W M) (is : Reply → Type 0) (a : Asked G P W M) where
   pub asked_reply : (reply : made.Reply) → IsAsked of is a → a ≡ Told reply → is (reply_of reply)
   asked_reply reply h same = subst (IsAsked of is) same h
 
-  pub search_told : {E : Type 0} (s : Search G P W M) (r : Result made.Reply E) → IsAsked of is a → a ≡ ToSearch s
-      → IfOk r (λ told. reply_of told ≡ answer (solve_lines (named_by of s.game) s.asked.role s.asked.depth s.asked.at (of.state s.game s.here)))
-      → IfOk r (λ told. is (reply_of told))
-  search_told s (Ok told) h same e = subst is (sym e) (subst (IsAsked of is) same h).reply
-  search_told s (Err e) h same told = tt
+  pub asked_search : (s : Search G P W M) → IsAsked of is a → a ≡ ToSearch s → IsSearchFor of solve_lines is s
+  asked_search s h same = subst (IsAsked of is) same h
+
+  pub asked_deepen : (s : Search G P W M) → IsAsked of is a → a ≡ ToDeepen s → IsSearchFor of deepen_lines is s
+  asked_deepen s h same = subst (IsAsked of is) same h
+
+-- what tells the lines of a search is the reply after it
+pub told_after : {G P W M E : Type 0} (of : Ghosts G P W M) (lines : LinesOf) (is : Reply → Type 0) (s : Search G P W M) (r : Result made.Reply E)
+    → IsSearchFor of lines is s
+    → IfOk r (λ told. reply_of told ≡ answer (lines (named_by of s.game) s.asked.role s.asked.depth s.asked.at (of.state s.game s.here)))
+    → IfOk r (λ told. is (reply_of told))
+told_after of lines is s (Ok told) h e = subst is (sym e) h.reply
+told_after of lines is s (Err e) h told = tt

@@ -6,3 +6,5 @@ pub mod Asking
 pub mod Readings
 pub mod Windows
 pub mod Standing
+pub mod Settling
+pub mod Ready

@@ -1,19 +1,20 @@
 //! The reply to a command, with all the work done by the calling thread.
-ghost use Rattle.std.specs.Prelude.{◌≡◌, ◌<◌, pos, IfOk};
+ghost use Rattle.std.specs.Prelude.{◌≡◌, ◌<◌, IfOk};
 ghost use Rattle.maximin.specs.Room.{IsRoomFor, IsRoomKept};
-ghost use Rattle.statement.specs.Value.{value, choice_of};
 ghost use Rattle.statement.specs.Answers.{answer};
 ghost use Rattle.replies.specs.Histories.{named};
+ghost use Rattle.replies.specs.Play.{IsFoundOf};
 ghost use Rattle.replies.specs.Replies.{reply_of};
 ghost use Rattle.statement.specs.Replies.{IsReply};
 ghost use Rattle.words.specs.Asked.{query_about, query_of};
 ghost use Rattle.statement.specs.Solving.{solve_lines};
 
 use crate::asking::{Asked, ask};
+use crate::deepening::Deepening;
 use crate::reading::{Reading, check, read, show};
 use crate::reply::Reply;
 use crate::search::Search;
-use game::{Game, is_stuck};
+use game::{Game, Question, is_stuck};
 use ground::instantiate_flat_alone;
 use maximin::{Room, value_and_choice, value_in};
 use rulebook::GroundGame;
@@ -21,30 +22,24 @@ use share::Answer;
 use std::alloc::{AllocError, AllocGlobal, Global};
 use words::{Command, Inquiry};
 
-/// The value and the first best move of a search, which one search of the state tells.
-fn found_alone<G: Game + Drop>(search: &Search<G>, room: &mut Room<G>) -> Answer
-    requires fits { G.fits search.now.game search.now.here }
-    requires room { IsRoomFor G.Game search.now.game search.now.asked.role search.now.asked.depth room.old }
-    ensures value { result.value
-        ≡ pos (value (G.rules search.now.game) search.now.asked.role search.now.asked.depth search.now.asked.at (G.state search.now.game search.now.here)) }
-    ensures choice { result.choice
-        ≡ choice_of (G.rules search.now.game) search.now.asked.role search.now.asked.depth search.now.asked.at (G.state search.now.game search.now.here) }
-    ensures room { IsRoomKept G.Game search.now.game room.old room.new }
+/// The value of a state and the first best move, which one search of the state tells.
+pub(crate) fn found_in<G: Game>(g: &G, here: &G::Pos, asked: Question, room: &mut Room<G>) -> Answer
+    requires fits { G.fits g.now here.now }
+    requires room { IsRoomFor G.Game g.now asked.role asked.depth room.old }
+    ensures found { IsFoundOf (G.rules g.now) asked.role asked.depth asked.at (G.state g.now here.now) result }
+    ensures room { IsRoomKept G.Game g.now room.old room.new }
 {
-    let game = &search.game;
-    let here = &search.here;
-    let asked = search.asked;
-    if asked.depth == 0 || game.ended(here) || is_stuck(game, here) {
-        let value = value_in(game, here, asked, -1, 101, room);
+    if asked.depth == 0 || g.ended(here) || is_stuck(g, here) {
+        let value = value_in(g, here, asked, -1, 101, room);
         return Answer {
             value,
             choice: None,
         };
     }
-    let (value, place) = value_and_choice(game, here, asked, room);
+    let (value, place) = value_and_choice(g, here, asked, room);
     Answer {
         value,
-        choice: game.legal(here, asked.role, place),
+        choice: g.legal(here, asked.role, place),
     }
 }
 
@@ -57,7 +52,7 @@ pub fn told_alone<G: Game + Drop>(alloc: Global, search: Search<G>) -> Result<Re
         search.asked.role search.asked.depth search.asked.at (G.state search.game search.here))) }
 {
     let mut room = search.room(alloc)?;
-    let found = found_alone(&search, &mut room);
+    let found = found_in(&search.game, &search.here, search.asked, &mut room);
     search.told_in(alloc, found, room)
 }
 
@@ -79,6 +74,7 @@ fn inquired_alone<G: GroundGame, T: AllocGlobal>(
     match ask::<G>(alloc, inquiry, instantiated)? {
         Asked::Told(reply) => Ok(reply),
         Asked::ToSearch(search) => told_alone(alloc, search),
+        Asked::ToDeepen(search) => Deepening::new(alloc, search)?.told(alloc),
     }
 }
 

@@ -9,12 +9,14 @@ ghost use Rattle.replies.specs.Histories.{named};
 ghost use Rattle.replies.specs.Replies.{reply_of};
 ghost use Rattle.replies.specs.Windows.{wanted_lines};
 
+use crate::deepening::lines_by_depth;
 use crate::history::{position_after, refused_history};
 use crate::reply::{Reply, answered, refused};
 use crate::roles::role_named;
 use crate::search::bytes_in;
+use crate::solving::best_lines;
 use crate::windowed::lines_within;
-use crate::worths::lines_of_moves;
+use crate::worths::{lines_of_moves, moves_with_lines};
 use game::{Game, HistoryFault, Question};
 use maximin::Room;
 use statement::Window;
@@ -24,10 +26,26 @@ use words::Sought;
 /// What is wanted of a state for a role.
 #[derive(Clone, Copy)]
 pub(crate) enum Wanted {
+    /// Its value, the first best move and the line of play.
+    Whole,
     /// Its value within a window.
     Within(Window),
     /// What each legal move makes sure of.
     OfEachMove,
+    /// The same, and the line of play that begins with it.
+    LineOfEachMove,
+    /// Its value, the first best move and the line of play within one turn, within two and so on, until the value is settled.
+    OfEachDepth,
+}
+
+impl Wanted {
+    /// How many of these bytes the room of a search may have; the others are for what else is kept.
+    fn of_room(self, bytes: usize) -> usize {
+        match self {
+            Wanted::OfEachDepth => bytes / 2,
+            _ => bytes,
+        }
+    }
 }
 
 /// What is wanted of a state, as lines. What is kept of states takes at most so many bytes.
@@ -44,10 +62,21 @@ fn lines_of<G: Game>(
     ensures { IfOk result (λ output. output.items ≡ wanted_lines wanted (named (G.rules g.now) (G.role_name g.now) (G.move_name g.now))
         asked.role asked.depth asked.at (G.state g.now here.now)) }
 {
-    let room = Room::with_table(alloc, g, asked, bytes)?;
+    let ours = wanted.of_room(bytes);
+    let room = Room::with_table(alloc, g, asked, ours)?;
     match wanted {
+        Wanted::Whole => best_lines(alloc, g, asked, here, room),
         Wanted::Within(window) => lines_within(alloc, g, asked, window, here, room),
         Wanted::OfEachMove => lines_of_moves(alloc, g, asked, here, room),
+        Wanted::LineOfEachMove => moves_with_lines(alloc, g, asked, here, room),
+        Wanted::OfEachDepth => lines_by_depth(
+            alloc,
+            g,
+            asked,
+            here,
+            room,
+            bytes.saturating_sub(ours),
+        ),
     }
 }
 

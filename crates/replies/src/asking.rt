@@ -5,7 +5,7 @@ ghost use Rattle.replies.specs.Readings.{IsReplyOver};
 ghost use Rattle.words.specs.Asked.{query_about};
 
 use crate::asked_alone::Wanted;
-use crate::games::{ask_solve, reply_for_role, reply_to_moves, reply_to_state};
+use crate::games::{ask_deepen, ask_solve, reply_for_role, reply_to_moves, reply_to_state};
 use crate::reply::{Reply, refused};
 use crate::search::Search;
 use crate::sizes::reply_to_net;
@@ -22,6 +22,8 @@ pub enum Asked<G: Game + Drop> {
     Told(Reply),
     /// The search.
     ToSearch(Search<G>),
+    /// The search that is to be done turn by turn further.
+    ToDeepen(Search<G>),
 }
 
 /// What is asked of the ground of rules comes to this.
@@ -49,6 +51,13 @@ fn ask_ground<G: GroundGame>(
             sought,
             Wanted::OfEachMove,
         )?)),
+        Inquiry::ValuesWithLines(sought) => Ok(Asked::Told(reply_for_role::<G>(
+            alloc,
+            ground,
+            sought,
+            Wanted::LineOfEachMove,
+        )?)),
+        Inquiry::Deepen(sought) => ask_deepen(alloc, ground, sought),
     }
 }
 

@@ -5,8 +5,8 @@ ghost use Rattle.statement.specs.declared.history_fault.HistoryFault.{HistoryFau
 ghost use Rattle.replies.specs.Histories.{named};
 ghost use Rattle.statement.specs.Histories.{IsHistoryOf};
 ghost use Rattle.statement.specs.Moving.{history_reply};
-ghost use Rattle.replies.specs.Asking.{IsSearchOrReply};
-ghost use Rattle.statement.specs.Solving.{solve_lines, IsSolveReply};
+ghost use Rattle.replies.specs.Asking.{LinesOf, IsSearchOrReply};
+ghost use Rattle.statement.specs.ForRole.{IsRoleReply};
 
 use crate::history::{position_after, refused_history};
 use crate::reply::{Reply, refused};
@@ -24,11 +24,11 @@ fn search_after<G: Game + Drop>(
     sought: &Sought,
 ) -> Result<Result<Search<G>, Reply>, AllocError>
     requires { role < (G.rules game).roles }
-    ensures { IfOk result (IsSearchOrReply G.Game
+    ensures { IfOk result (λ found. (lines : LinesOf) → IsSearchOrReply G.Game lines
         (λ reply. (ended : Result State HistoryFault)
         × IsHistoryOf (named (G.rules game) (G.role_name game) (G.move_name game)) sought.now.after.now ended
         × (reply ≡ history_reply (named (G.rules game) (G.role_name game) (G.move_name game))
-        (solve_lines (named (G.rules game) (G.role_name game) (G.move_name game)) role sought.now.depth sought.now.at_bound) ended))) }
+        (lines (named (G.rules game) (G.role_name game) (G.move_name game)) role sought.now.depth sought.now.at_bound) ended)) found) }
 {
     match position_after(alloc, &game, sought.after) {
         Ok(here) => Ok(Ok(Search {
@@ -47,15 +47,17 @@ fn search_after<G: Game + Drop>(
     }
 }
 
-/// The search for the best play that is sought, or the reply that names the fault of the role or else of the history.
+/// The search for the best play that is sought, or the reply that names the fault of the role or else of the history. It does not
+/// depend on what is told after the search.
 pub(crate) fn search_for<G: Game + Drop>(
     alloc: Global,
     game: G,
     sought: &Sought,
 ) -> Result<Result<Search<G>, Reply>, AllocError>
-    ensures { IfOk result (IsSearchOrReply G.Game
-        (IsSolveReply (named (G.rules game) (G.role_name game) (G.move_name game))
-        sought.now.role.now sought.now.depth sought.now.at_bound sought.now.after.now)) }
+    ensures { IfOk result (λ found. (lines : LinesOf) → IsSearchOrReply G.Game lines
+        (IsRoleReply (named (G.rules game) (G.role_name game) (G.move_name game)) sought.now.role.now
+        (λ r. lines (named (G.rules game) (G.role_name game) (G.move_name game)) r sought.now.depth sought.now.at_bound)
+        sought.now.after.now) found) }
 {
     match role_named(alloc, &game, sought.role)? {
         Some(role) => search_after(alloc, game, role, sought),

@@ -5,6 +5,7 @@ ghost use Rattle.statement.specs.Moving.{IsMovesReply};
 ghost use Rattle.statement.specs.Items.{alternatives};
 ghost use Rattle.statement.specs.Solving.{IsSolveReply};
 ghost use Rattle.statement.specs.ForRole.{IsRoleReply};
+ghost use Rattle.statement.specs.Deepening.{IsDeepenReply};
 ghost use Rattle.statement.specs.Holding.{IsStateReply};
 ghost use Rattle.statement.specs.Games.{IsPlayReply};
 ghost use Rattle.replies.specs.Asking.{IsAsked};
@@ -76,6 +77,22 @@ pub(crate) fn ask_solve<G: GroundGame>(
     let game = G::over(alloc, ground)?;
     match search_for(alloc, game, sought)? {
         Ok(search) => Ok(Asked::ToSearch(search)),
+        Err(reply) => Ok(Asked::Told(reply)),
+    }
+}
+
+/// What `solve` turn by turn further over the ground of items comes to, for the best play that is sought.
+pub(crate) fn ask_deepen<G: GroundGame>(
+    alloc: Global,
+    ground: FlatGround,
+    sought: &Sought,
+) -> Result<Asked<G>, AllocError>
+    ensures { IfOk result (IsAsked G.Game (λ reply. (items : List Tree) → IsItsGround items ground → IsPlayReply items
+        (λ g. IsDeepenReply g sought.now.role.now sought.now.depth sought.now.at_bound sought.now.after.now) reply)) }
+{
+    let game = G::over(alloc, ground)?;
+    match search_for(alloc, game, sought)? {
+        Ok(search) => Ok(Asked::ToDeepen(search)),
         Err(reply) => Ok(Asked::Told(reply)),
     }
 }

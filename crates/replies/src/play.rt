@@ -1,8 +1,9 @@
 //! The memory of a search, and of the line of play that it finds.
-ghost use Rattle.std.specs.Prelude.{◌≡◌, ◌<◌, ◌≤◌, ◌-◌, pos, IfOk, Some};
-ghost use Rattle.statement.specs.Value.{value, choice_of};
+ghost use Rattle.std.specs.Prelude.{◌≡◌, ◌-◌, pos, IfOk, Some, Contains};
+ghost use Rattle.statement.specs.Value.{value, worst, choice_of};
+ghost use Rattle.maximin.specs.Open.{IsOpen};
 ghost use Rattle.maximin.specs.Room.{IsRoomOf, room_depth};
-ghost use Rattle.replies.specs.Play.{IsPlayOf, IsTurnOf};
+ghost use Rattle.replies.specs.Play.{IsPlayOf, IsPlayFor, IsPlayKept, IsTurnOf};
 
 use game::{Game, Joint, Question, new_joint};
 use maximin::{Room, reply_by_value};
@@ -42,18 +43,15 @@ impl<G: Game> Play<G> {
         })
     }
 
-    /// Plays one turn, in which the role plays its choice and all others the first reply that leaves the least value. The value of
-    /// the state, which is `worth`, stays.
-    pub(crate) fn turn(&mut self, g: &G, asked: Question, own: u32, worth: i16)
-        requires role { asked.role < (G.rules g.now).roles }
-        requires play { IsPlayOf G.Game g.now self.old }
-        requires deep { asked.depth ≤ room_depth self.old.room }
-        requires own { choice_of (G.rules g.now) asked.role asked.depth asked.at (G.state g.now self.old.here) ≡ Some own }
-        requires worth { worth ≡ pos (value (G.rules g.now) asked.role asked.depth asked.at (G.state g.now self.old.here)) }
+    /// Plays one turn, in which the role plays `own` and all others the first reply that leaves the least value, which is `worth`.
+    pub(crate) fn own_turn(&mut self, g: &G, asked: Question, own: u32, worth: i16)
+        requires play { IsPlayFor G.Game g.now asked.role asked.depth self.old }
+        requires open { IsOpen (G.rules g.now) asked.depth (G.state g.now self.old.here) }
+        requires own { Contains ((G.rules g.now).legal (G.state g.now self.old.here) asked.role) own }
+        requires worth { worth ≡ pos (worst (G.rules g.now) asked.role (asked.depth - 1) asked.at (G.state g.now self.old.here) own) }
         ensures turn { IsTurnOf (G.rules g.now) asked.role (asked.depth - 1) asked.at (G.state g.now self.old.here) own worth self.new.joint.items
             (G.state g.now self.new.here) }
-        ensures play { IsPlayOf G.Game g.now self.new }
-        ensures deep { room_depth self.new.room ≡ room_depth self.old.room }
+        ensures play { IsPlayKept G.Game g.now self.old self.new }
     {
         reply_by_value(
             g,
@@ -66,5 +64,28 @@ impl<G: Game> Play<G> {
         );
         g.step(&self.here, &self.joint, &mut self.next);
         mem::swap(&mut self.here, &mut self.next);
+    }
+
+    /// Plays one turn, in which the role plays its choice and all others the first reply that leaves the least value. The value of
+    /// the state, which is `worth`, stays.
+    pub(crate) fn turn(&mut self, g: &G, asked: Question, own: u32, worth: i16)
+        requires play { IsPlayFor G.Game g.now asked.role asked.depth self.old }
+        requires own { choice_of (G.rules g.now) asked.role asked.depth asked.at (G.state g.now self.old.here) ≡ Some own }
+        requires worth { worth ≡ pos (value (G.rules g.now) asked.role asked.depth asked.at (G.state g.now self.old.here)) }
+        ensures turn { IsTurnOf (G.rules g.now) asked.role (asked.depth - 1) asked.at (G.state g.now self.old.here) own worth self.new.joint.items
+            (G.state g.now self.new.here) }
+        ensures play { IsPlayKept G.Game g.now self.old self.new }
+    {
+        self.own_turn(g, asked, own, worth);
+    }
+
+    /// Play that stands at another state, with the same memory.
+    pub(crate) fn stand(&mut self, g: &G, at: &G::Pos)
+        requires fits { G.fits g.now at.now }
+        requires play { IsPlayOf G.Game g.now self.old }
+        ensures here { G.state g.now self.new.here ≡ G.state g.now at.now }
+        ensures play { IsPlayKept G.Game g.now self.old self.new }
+    {
+        g.copy(at, &mut self.here);
     }
 }

@@ -1,16 +1,19 @@
 //! What each legal move of a role makes sure of, as lines.
-ghost use Rattle.std.specs.Prelude.{◌≡◌, true, false, ◌-◌, ◌<◌, ◌∷◌, [], ◌++◌, codes, IfOk, OnOk};
+ghost use Rattle.std.specs.Prelude.{◌≡◌, true, false, ◌-◌, ◌<◌, ◌∷◌, [], ◌++◌, codes, IfOk, OnOk, Contains};
 ghost use Rattle.std.specs.Fmt.{decimal};
 ghost use Rattle.std.specs.List.{flat_map};
 ghost use Rattle.statement.specs.Solving.{solve_lines};
 ghost use Rattle.statement.specs.MoveValues.{worth_line, values_lines};
+ghost use Rattle.statement.specs.MoveLines.{move_lines, moves_with_lines};
 ghost use Rattle.maximin.specs.Open.{IsOpen};
 ghost use Rattle.maximin.specs.Room.{IsRoomFor};
 ghost use Rattle.replies.specs.Histories.{named};
+ghost use Rattle.replies.specs.Play.{IsPlayFor, IsPlayKept};
 ghost use Rattle.replies.specs.Windows.{IsClosed};
 
-use crate::solving::unsigned;
+use crate::play::Play;
 use crate::windowed::lines_of_value;
+use crate::writing::{unsigned, write_behind};
 use game::{Game, Question, is_stuck};
 use maximin::{Room, move_worth, value_in};
 use std::alloc::{AllocError, Global};
@@ -39,7 +42,7 @@ fn add_worth<G: Game>(
     g: &G,
     role: usize,
     own: u32,
-    worth: usize,
+    worth: u64,
     output: &mut Vec<u8>,
 ) -> Result<(), AllocError>
     requires role { role < (G.rules g.now).roles }
@@ -114,5 +117,78 @@ pub(crate) fn lines_of_moves<G: Game>(
     }
     let mut output = Vec::new(alloc);
     add_worths(g, asked, here, &mut room, &mut output)?;
+    Ok(output)
+}
+
+/// Adds the line of a move and what it makes sure of, and the lines of the turns that begin with it. After an error the output may have a
+/// beginning of them.
+fn add_move_lines<G: Game>(
+    g: &G,
+    asked: Question,
+    here: &G::Pos,
+    own: u32,
+    play: &mut Play<G>,
+    output: &mut Vec<u8>,
+) -> Result<(), AllocError>
+    requires fits { G.fits g.now here.now }
+    requires turn { IsOpen (G.rules g.now) asked.depth (G.state g.now here.now) }
+    requires own { Contains ((G.rules g.now).legal (G.state g.now here.now) asked.role) own }
+    requires known { own < (G.rules g.now).moves asked.role }
+    requires play { IsPlayFor G.Game g.now asked.role asked.depth play.old }
+    ensures lines { OnOk result (output.new.items ≡ output.old.items
+        ++ move_lines (named (G.rules g.now) (G.role_name g.now) (G.move_name g.now)) asked.role (asked.depth - 1) asked.at (G.state g.now here.now) own) }
+    ensures play { OnOk result (IsPlayKept G.Game g.now play.old play.new) }
+{
+    let worth = move_worth(g, here, asked, own, &mut play.room);
+    add_worth(g, asked.role, own, unsigned(worth), output)?;
+    play.stand(g, here);
+    let Ok(()) = write_behind(g, asked, own, worth, play, output) else {
+        return Err(AllocError);
+    };
+    Ok(())
+}
+
+/// Adds the lines of the legal moves of a role, with the line of play behind each. After an error the output may have a beginning of them.
+fn add_each<G: Game>(
+    g: &G,
+    asked: Question,
+    here: &G::Pos,
+    play: &mut Play<G>,
+    output: &mut Vec<u8>,
+) -> Result<(), AllocError>
+    requires fits { G.fits g.now here.now }
+    requires turn { IsOpen (G.rules g.now) asked.depth (G.state g.now here.now) }
+    requires play { IsPlayFor G.Game g.now asked.role asked.depth play.old }
+    ensures { OnOk result (output.new.items ≡ output.old.items
+        ++ flat_map (move_lines (named (G.rules g.now) (G.role_name g.now) (G.move_name g.now)) asked.role (asked.depth - 1) asked.at (G.state g.now here.now))
+        ((G.rules g.now).legal (G.state g.now here.now) asked.role)) }
+{
+    let mut place = 0;
+    while let Some(own) = g.legal(here, asked.role, place) {
+        add_move_lines(g, asked, here, own, play, output)?;
+        place += 1;
+    }
+    Ok(())
+}
+
+/// What each legal move of a role makes sure of, with the line of play behind it; where there is no turn to come, what the role gets.
+pub(crate) fn moves_with_lines<G: Game>(
+    alloc: Global,
+    g: &G,
+    asked: Question,
+    here: &G::Pos,
+    room: Room<G>,
+) -> Result<Vec<u8>, AllocError>
+    requires fits { G.fits g.now here.now }
+    requires room { IsRoomFor G.Game g.now asked.role asked.depth room }
+    ensures { IfOk result (λ output. output.items
+        ≡ moves_with_lines (named (G.rules g.now) (G.role_name g.now) (G.move_name g.now)) asked.role asked.depth asked.at (G.state g.now here.now)) }
+{
+    if is_closed(g, here, asked.depth) {
+        return whole_lines(alloc, g, asked, here, room);
+    }
+    let mut play = Play::new(alloc, g, g.fresh()?, room)?;
+    let mut output = Vec::new(alloc);
+    add_each(g, asked, here, &mut play, &mut output)?;
     Ok(output)
 }

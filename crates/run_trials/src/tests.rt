@@ -8,6 +8,7 @@ mod checks;
 mod commands;
 mod cubes;
 mod cuts;
+mod deepenings;
 mod devices;
 mod games;
 mod helps;

@@ -4,3 +4,4 @@ mod Filling
 mod Findings
 mod Telling
 mod WholeInput
+mod Works

@@ -9,21 +9,20 @@ use Rattle.statement.specs.Queries.{Query}
 use Rattle.statement.specs.Input.{RepliesTo}
 use Rattle.statement.specs.declared.status.Status.{Status}
 use Rattle.statement.specs.declared.status.Status.TheVariants.{Answer, Refused}
-use Rattle.replies.specs.Replies.{reply_of}
 use Rattle.running.specs.declared.fault.RunFault.{RunFault}
 use Rattle.running.specs.declared.fault.RunFault.TheVariants.{Memory, Read, Write}
 use Rattle.running.specs.declared.runs.Ran.{Ran}
 use Rattle.running.specs.Ran.{ended_of}
-use Rattle.running.specs.Exits.{exit_status, HasWritten}
+use Rattle.running.specs.Exits.{exit_status, HasWritten, RepliedTo}
 use Rattle.running.specs.Explained.{TellsMore, IsReplied, IsAnswered}
 
 -- what a run wrote that keeps its reply
 pub written : (query : Query) (r : Result Ran RunFault) (input left before after : Option (List ℕ))
-    → IfOk r (λ ran. RepliesTo query input left (reply_of ran.reply) × Appends before after ran.reply.output.items)
+    → IfOk r (λ ran. RepliedTo query ran.reply.status input left before after)
     → IfErr r (λ fault. fault ≢ Write → Keeps before after)
     → IfErr r (λ fault. fault ≡ Write → (reply : Reply) × RepliesTo query input left reply × AppendsFront before after reply.output)
     → HasWritten query (ended_of r) input left before after
-written query (Ok ran) input left before after ok silent broken = (ran.reply.output.items, ok.0, ok.1)
+written query (Ok ran) input left before after ok silent broken = ok
 written query (Err Memory) input left before after ok silent broken = silent (λ e. cc)
 written query (Err Read) input left before after ok silent broken = silent (λ e. cc)
 written query (Err Write) input left before after ok silent broken = broken refl
@@ -47,9 +46,9 @@ replied_is_answered ended kept status is same (inr e) = inr (is ∙ ap exit_stat
 
 -- what is told of how a run ended that keeps its reply
 pub replied : (query : Query) (r : Result Ran RunFault) (result : Result Status RunFault) (input left before after : Option (List ℕ)) → result ≡ ended_of r
-    → IfOk r (λ ran. RepliesTo query input left (reply_of ran.reply) × Appends before after ran.reply.output.items)
+    → IfOk r (λ ran. RepliedTo query ran.reply.status input left before after)
     → IfOk result (λ status. (output : List ℕ) × RepliesTo query input left (record { output = output; status = status }) × Appends before after output)
-replied query (Ok ran) result input left before after is ok = rw is (ran.reply.output.items, ok.0, ok.1)
+replied query (Ok ran) result input left before after is ok = rw is ok
 replied query (Err fault) result input left before after is ok = rw is tt
 
 pub failed : (P : RunFault → Type 0) (r : Result Ran RunFault) (result : Result Status RunFault) → result ≡ ended_of r → IfErr r P → IfErr result P

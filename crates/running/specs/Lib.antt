@@ -5,3 +5,4 @@ pub mod Fulfilling
 pub mod Ran
 pub mod Explained
 pub mod Linted
+pub mod Work

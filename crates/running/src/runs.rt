@@ -3,19 +3,26 @@ ghost use Rattle.std.specs.Prelude.{◌≡◌, ◌≢◌, ℕ, List, IfOk, IfErr
 ghost use Rattle.std.specs.Io.KnownBytes.{Appends, Keeps};
 ghost use Rattle.kif.specs.Written.{AppendsFront};
 ghost use Rattle.statement.specs.Answers.{Reply};
+ghost use Rattle.statement.specs.declared.status.Status.TheVariants.{Refused};
 ghost use Rattle.replies.specs.Replies.{reply_of};
+ghost use Rattle.replies.specs.Ready.{IsReady, lines_to_write};
 ghost use Rattle.running.specs.Ran.{ended_of};
+ghost use Rattle.running.specs.Exits.{RepliedTo};
+ghost use Rattle.running.specs.Work.{CanBeWritten, reply_by};
 ghost use Rattle.statement.specs.Input.{RepliesTo};
 ghost use Rattle.words.specs.Asked.{query_of};
 
 use crate::fault::RunFault;
 use crate::input::read_input;
 use crate::sizes::Sizes;
-use crate::working::reply_noting;
+use crate::working::{Work, work_of};
+use game::Game;
 use kif::write_bytes;
 use netgame::NetGame;
+use replies::Deepening;
 use rulebook::GroundGame;
 use statement::Status;
+use std::alloc::Global;
 use std::io::{Read, Write};
 use std::thread::Threads;
 use words::Command;
@@ -32,13 +39,60 @@ pub fn write_out<W: Write>(output: &mut W, bytes: &[u8]) -> Result<(), RunFault>
     Ok(())
 }
 
-/// A run that ended with its reply: the bytes that were read, the reply that was written, and the sizes of the instantiation, if there was
-/// one.
+/// A run that ended with its reply.
 #[derive(Drop)]
 pub(crate) struct Ran {
+    /// The bytes that were read.
     pub(crate) bytes: Vec<u8>,
+    /// The reply that was written. Of an answer that was written as it was found the status alone is kept.
     pub(crate) reply: replies::Reply,
+    /// The sizes of the instantiation, if there was one.
     pub(crate) sizes: Option<Sizes>,
+}
+
+/// Writes what a command comes to, and what is kept of it.
+fn write_work<G: Game + Drop, W: Write>(
+    alloc: Global,
+    work: Work<G>,
+    output: &mut W,
+) -> Result<replies::Reply, RunFault>
+    requires { CanBeWritten G.Game work }
+    ensures whole { IfOk result (λ kept. (kept.status ≡ (reply_by G.Game work).status)
+        × Appends (W.contents output.old) (W.contents output.new) (reply_by G.Game work).output) }
+    ensures refused { IfOk result (λ kept. kept.status ≡ Refused → kept.output.items ≡ (reply_by G.Game work).output) }
+    ensures front { OnErr result (AppendsFront (W.contents output.old) (W.contents output.new) (reply_by G.Game work).output) }
+    ensures fault { IfErr result (λ fault. fault ≡ RunFault.Write) }
+{
+    match work {
+        Work::Told(reply) => {
+            write_out(output, &reply.output)?;
+            Ok(reply)
+        }
+        Work::ToWrite(deepening) => {
+            write_as_found(deepening, output)?;
+            Ok(replies::Reply {
+                output: Vec::new(alloc),
+                status: Status::Answer,
+            })
+        }
+    }
+}
+
+/// Writes an answer as it is found.
+fn write_as_found<G: Game + Drop, W: Write>(
+    deepening: Deepening<G>,
+    output: &mut W,
+) -> Result<(), RunFault>
+    requires { IsReady G.Game deepening }
+    ensures whole { OnOk result (Appends (W.contents output.old) (W.contents output.new) (lines_to_write G.Game deepening)) }
+    ensures front { OnErr result (AppendsFront (W.contents output.old) (W.contents output.new) (lines_to_write G.Game deepening)) }
+    ensures fault { IfErr result (λ fault. fault ≡ RunFault.Write) }
+{
+    let mut deepening = deepening;
+    let Ok(()) = deepening.write(output) else {
+        return Err(RunFault::Write);
+    };
+    Ok(())
 }
 
 /// Reads the rules, writes the reply to the command and nothing else, and keeps both. The type `G` says who plays their game.
@@ -48,8 +102,10 @@ pub(crate) fn run_keeping<G: GroundGame, T: Threads + Sync + AllocGlobal, R: Rea
     input: &mut R,
     output: &mut W,
 ) -> Result<Ran, RunFault>
-    ensures answers { IfOk result (λ ran.
-        RepliesTo (query_of command.now) (R.remaining input.old) (R.remaining input.new) (reply_of ran.reply)
+    ensures answers { IfOk result (λ ran. RepliedTo (query_of command.now) ran.reply.status
+        (R.remaining input.old) (R.remaining input.new) (W.contents output.old) (W.contents output.new)) }
+    ensures refused { IfOk result (λ ran. ran.reply.status ≡ Refused
+        → RepliesTo (query_of command.now) (R.remaining input.old) (R.remaining input.new) (reply_of ran.reply)
         × Appends (W.contents output.old) (W.contents output.new) ran.reply.output.items) }
     ensures silent { IfErr result (λ fault. fault ≢ RunFault.Write → Keeps (W.contents output.old) (W.contents output.new)) }
     ensures broken { IfErr result (λ fault. fault ≡ RunFault.Write → (reply : Reply)
@@ -58,10 +114,10 @@ pub(crate) fn run_keeping<G: GroundGame, T: Threads + Sync + AllocGlobal, R: Rea
 {
     let bytes = read_input(rt.alloc(), input)?;
     let mut sizes = None;
-    let Ok(reply) = reply_noting::<G, T>(rt, command, &bytes, &mut sizes) else {
+    let Ok(work) = work_of::<G, T>(rt, command, &bytes, &mut sizes) else {
         return Err(RunFault::Memory);
     };
-    write_out(output, &reply.output)?;
+    let reply = write_work(rt.alloc(), work, output)?;
     Ok(Ran {
         bytes,
         reply,

@@ -1,4 +1,4 @@
-//! The reply to a command, with its search shared by workers.
+//! What a command comes to: its reply, with its search shared by workers, or a search turn by turn that writes it.
 ghost use Rattle.std.specs.Prelude.{◌≡◌, ◌<◌, IfOk};
 ghost use Rattle.statement.specs.Answers.{answer};
 ghost use Rattle.replies.specs.Histories.{named};
@@ -6,11 +6,12 @@ ghost use Rattle.replies.specs.Replies.{reply_of};
 ghost use Rattle.statement.specs.Replies.{IsReply};
 ghost use Rattle.words.specs.Asked.{query_about, query_of};
 ghost use Rattle.statement.specs.Solving.{solve_lines};
+ghost use Rattle.running.specs.Work.{IsWork};
 
 use crate::sizes::{Sizes, sizes_of};
 use game::Game;
 use ground::instantiate_flat;
-use replies::{Asked, Reading, Reply, Search, ask, check, read, show, told_alone};
+use replies::{Asked, Deepening, Reading, Reply, Search, ask, check, read, show, told_alone};
 use rulebook::GroundGame;
 use share::{Gate, solve_with};
 use std::alloc::AllocError;
@@ -51,43 +52,53 @@ pub fn told_by_workers<T: Threads + Sync + AllocGlobal, G: Game + Drop>(
     search.told(rt.alloc(), found)
 }
 
-/// The reply to an inquiry over the bytes of the input. Where they are instantiated the sizes of that are noted.
-fn inquired_by_workers<G: GroundGame, T: Threads + Sync + AllocGlobal>(
+/// What a command comes to.
+#[derive(Drop)]
+pub(crate) enum Work<G: Game + Drop> {
+    /// The reply.
+    Told(Reply),
+    /// A search turn by turn, which writes an answer as it is found.
+    ToWrite(Deepening<G>),
+}
+
+/// What an inquiry over the bytes of the input comes to. Where they are instantiated the sizes of that are noted.
+fn work_about<G: GroundGame, T: Threads + Sync + AllocGlobal>(
     rt: &T,
     inquiry: &Inquiry,
     bytes: &[u8],
     sizes: &mut Option<Sizes>,
-) -> Result<Reply, AllocError>
-    ensures { IfOk result (λ reply. IsReply (query_about inquiry.now) bytes.now (reply_of reply)) }
+) -> Result<Work<G>, AllocError>
+    ensures { IfOk result (IsWork G.Game (IsReply (query_about inquiry.now) bytes.now)) }
 {
     let alloc = rt.alloc();
     let rules = match read(alloc, bytes)? {
         Reading::Rules(rules) => rules,
-        Reading::Refused(reply) => return Ok(reply),
+        Reading::Refused(reply) => return Ok(Work::Told(reply)),
     };
     let instantiated = instantiate_flat(rt, &rules);
     drop(rules);
     *sizes = sizes_of(&instantiated);
     match ask::<G>(alloc, inquiry, instantiated)? {
-        Asked::Told(reply) => Ok(reply),
-        Asked::ToSearch(search) => told_by_workers(rt, search),
+        Asked::Told(reply) => Ok(Work::Told(reply)),
+        Asked::ToSearch(search) => Ok(Work::Told(told_by_workers(rt, search)?)),
+        Asked::ToDeepen(search) => Ok(Work::ToWrite(Deepening::new(alloc, search)?)),
     }
 }
 
-/// The reply to a command over the bytes of the input. It fails only for want of memory. Where the rules are instantiated the sizes of that
-/// are noted.
-pub(crate) fn reply_noting<G: GroundGame, T: Threads + Sync + AllocGlobal>(
+/// What a command over the bytes of the input comes to. All its memory is taken here. It fails only for want of memory. Where the rules
+/// are instantiated the sizes of that are noted.
+pub(crate) fn work_of<G: GroundGame, T: Threads + Sync + AllocGlobal>(
     rt: &T,
     command: &Command,
     bytes: &[u8],
     sizes: &mut Option<Sizes>,
-) -> Result<Reply, AllocError>
-    ensures { IfOk result (λ reply. IsReply (query_of command.now) bytes.now (reply_of reply)) }
+) -> Result<Work<G>, AllocError>
+    ensures { IfOk result (IsWork G.Game (IsReply (query_of command.now) bytes.now)) }
 {
     match command {
-        Command::Show => show(rt.alloc(), bytes),
-        Command::Check => check(rt.alloc(), bytes),
-        Command::Ask(inquiry) => inquired_by_workers::<G, T>(rt, inquiry, bytes, sizes),
+        Command::Show => Ok(Work::Told(show(rt.alloc(), bytes)?)),
+        Command::Check => Ok(Work::Told(check(rt.alloc(), bytes)?)),
+        Command::Ask(inquiry) => work_about::<G, T>(rt, inquiry, bytes, sizes),
     }
 }
 
@@ -100,5 +111,8 @@ pub fn reply_by_workers<G: GroundGame, T: Threads + Sync + AllocGlobal>(
     ensures { IfOk result (λ reply. IsReply (query_of command.now) bytes.now (reply_of reply)) }
 {
     let mut sizes = None;
-    reply_noting::<G, T>(rt, command, bytes, &mut sizes)
+    match work_of::<G, T>(rt, command, bytes, &mut sizes)? {
+        Work::Told(reply) => Ok(reply),
+        Work::ToWrite(deepening) => deepening.told(rt.alloc()),
+    }
 }

@@ -3,3 +3,4 @@ mod Requests
 mod Standing
 mod Turning
 mod Holding
+mod Keeping

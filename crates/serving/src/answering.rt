@@ -1,12 +1,14 @@
 //! What is told of a line.
-ghost use Rattle.std.specs.Prelude.{◌≡◌, IfOk, Ok};
+ghost use Rattle.std.specs.Prelude.{◌≡◌, IfOk, IfSome, Ok};
 ghost use Rattle.running.specs.Exits.{exit_status};
 ghost use Rattle.serving.specs.Telling.{IsToldOf, IsTold};
+ghost use Rattle.serving.specs.Kept.{PlaysText};
 
+use crate::game_kept::replied;
 use crate::splitting::words_in;
-use netgame::NetGame;
 use replies::Reply;
-use running::{lint_reply, reply_by_workers};
+use rulebook::GroundGame;
+use running::lint_reply;
 use statement::Status;
 use std::alloc::{AllocError, Global};
 use std::thread::Threads;
@@ -54,16 +56,19 @@ fn told_text(alloc: Global, status: u8, text: &str) -> Result<Told, AllocError>
 }
 
 /// What is told of a request, over the rules.
-fn told_of<T: Threads + Sync + AllocGlobal>(
+fn told_of<G: GroundGame, T: Threads + Sync + AllocGlobal>(
     rt: &T,
     request: &Request,
     rules: &[u8],
+    made: &mut Option<G>,
 ) -> Result<Told, AllocError>
-    ensures { IfOk result (λ told. IsToldOf request.now rules.now told.status told.bytes.items) }
+    requires { IfSome made.old (λ g. PlaysText rules.now (G.source g) (G.rules g) (G.role_name g) (G.move_name g)) }
+    ensures told { IfOk result (λ told. IsToldOf request.now rules.now told.status told.bytes.items) }
+    ensures made { IfSome made.new (λ g. PlaysText rules.now (G.source g) (G.rules g) (G.role_name g) (G.move_name g)) }
 {
     match request {
         Request::Run(command) => {
-            let reply = reply_by_workers::<NetGame, T>(rt, command, rules)?;
+            let reply = replied::<G, T>(rt, command, rules, made)?;
             Ok(told_by(reply))
         }
         Request::Help(text) => told_text(rt.alloc(), ANSWERED, text.as_str()),
@@ -80,32 +85,38 @@ fn is_lint(words: &[&str]) -> bool {
 }
 
 /// What is told of words, over the rules.
-fn told_of_words<T: Threads + Sync + AllocGlobal>(
+fn told_of_words<G: GroundGame, T: Threads + Sync + AllocGlobal>(
     rt: &T,
     words: &[&str],
     rules: &[u8],
+    made: &mut Option<G>,
 ) -> Result<Told, AllocError>
-    ensures { IfOk result (λ told. IsTold rules.now told.status told.bytes.items) }
+    requires { IfSome made.old (λ g. PlaysText rules.now (G.source g) (G.rules g) (G.role_name g) (G.move_name g)) }
+    ensures told { IfOk result (λ told. IsTold rules.now told.status told.bytes.items) }
+    ensures made { IfSome made.new (λ g. PlaysText rules.now (G.source g) (G.rules g) (G.role_name g) (G.move_name g)) }
 {
     if is_lint(words) {
         let reply = lint_reply(rt, rules)?;
         return Ok(told_by(reply));
     }
     let request = request_of(rt.alloc(), words)?;
-    told_of(rt, &request, rules)
+    told_of(rt, &request, rules, made)
 }
 
 /// What is told of a line, over the rules. It fails only for want of memory.
-pub(crate) fn told_of_line<T: Threads + Sync + AllocGlobal>(
+pub(crate) fn told_of_line<G: GroundGame, T: Threads + Sync + AllocGlobal>(
     rt: &T,
     line: &[u8],
     rules: &[u8],
+    made: &mut Option<G>,
 ) -> Result<Told, AllocError>
-    ensures { IfOk result (λ told. IsTold rules.now told.status told.bytes.items) }
+    requires { IfSome made.old (λ g. PlaysText rules.now (G.source g) (G.rules g) (G.role_name g) (G.move_name g)) }
+    ensures told { IfOk result (λ told. IsTold rules.now told.status told.bytes.items) }
+    ensures made { IfSome made.new (λ g. PlaysText rules.now (G.source g) (G.rules g) (G.role_name g) (G.move_name g)) }
 {
     let Some(words) = words_in(rt.alloc(), line)? else {
         let fault = Request::Misuse(format!(in rt.alloc(); "a word is no UTF-8\n")?);
-        return told_of(rt, &fault, rules);
+        return told_of(rt, &fault, rules, made);
     };
-    told_of_words(rt, &words, rules)
+    told_of_words(rt, &words, rules, made)
 }

@@ -1,13 +1,15 @@
 //! The frames that answer requests.
-ghost use Rattle.std.specs.Prelude.{◌≡◌, ◌++◌, ◌∷◌, [], IfOk, OnOk};
+ghost use Rattle.std.specs.Prelude.{◌≡◌, ◌++◌, ◌∷◌, [], IfOk, IfSome, OnOk};
 ghost use Rattle.std.specs.Fmt.{decimal};
 ghost use Rattle.requests.specs.Frames.{frame};
 ghost use Rattle.requests.specs.Sessions.{Answers};
-ghost use Rattle.requests.specs.Desks.{IsDesk, IsFrameOf, AnswersDesk};
+ghost use Rattle.requests.specs.Desks.{IsDesk, IsFrameOf, AnswersDesk, rules_kept};
 ghost use Rattle.serving.specs.Telling.{IsTold, frame_bytes};
+ghost use Rattle.serving.specs.Kept.{PlaysText};
 
 use crate::answering::{Told, told_of_line};
 use requests::{Desk, Taken};
+use rulebook::GroundGame;
 use std::alloc::{AllocError, Global};
 use std::io::Write;
 use std::thread::Threads;
@@ -63,45 +65,68 @@ fn framed(alloc: Global, told: &Told) -> Result<Vec<u8>, AllocError>
 }
 
 /// The frame of what is told of a line, over the rules, where there is memory for it.
-fn told_frame<T: Threads + Sync + AllocGlobal>(
+fn told_frame<G: GroundGame, T: Threads + Sync + AllocGlobal>(
     rt: &T,
     line: &[u8],
     rules: &[u8],
+    made: &mut Option<G>,
 ) -> Result<Vec<u8>, AllocError>
-    ensures { IfOk result (λ out. Answers IsTold rules.now out.items) }
+    requires { IfSome made.old (λ g. PlaysText rules.now (G.source g) (G.rules g) (G.role_name g) (G.move_name g)) }
+    ensures frame { IfOk result (λ out. Answers IsTold rules.now out.items) }
+    ensures made { IfSome made.new (λ g. PlaysText rules.now (G.source g) (G.rules g) (G.role_name g) (G.move_name g)) }
 {
-    let told = told_of_line(rt, line, rules)?;
+    let told = told_of_line(rt, line, rules, made)?;
     framed(rt.alloc(), &told)
 }
 
 /// The frame that answers a line over the rules.
-fn frame_of<T: Threads + Sync + AllocGlobal>(rt: &T, line: &[u8], rules: &[u8]) -> Frame
-    ensures { Answers IsTold rules.now (frame_bytes result) }
+fn frame_of<G: GroundGame, T: Threads + Sync + AllocGlobal>(
+    rt: &T,
+    line: &[u8],
+    rules: &[u8],
+    made: &mut Option<G>,
+) -> Frame
+    requires { IfSome made.old (λ g. PlaysText rules.now (G.source g) (G.rules g) (G.role_name g) (G.move_name g)) }
+    ensures frame { Answers IsTold rules.now (frame_bytes result) }
+    ensures made { IfSome made.new (λ g. PlaysText rules.now (G.source g) (G.rules g) (G.role_name g) (G.move_name g)) }
 {
-    match told_frame(rt, line, rules) {
+    match told_frame(rt, line, rules, made) {
         Ok(bytes) => Frame::Made(bytes),
         Err(AllocError) => Frame::Fixed(STARVED),
     }
 }
 
 /// The frame that answers the line of a desk.
-fn line_frame<T: Threads + Sync + AllocGlobal>(rt: &T, desk: &Desk) -> Frame
-    requires { IsDesk desk.now }
-    ensures { AnswersDesk IsTold desk.now (frame_bytes result) }
+fn line_frame<G: GroundGame, T: Threads + Sync + AllocGlobal>(
+    rt: &T,
+    desk: &Desk,
+    made: &mut Option<G>,
+) -> Frame
+    requires desk { IsDesk desk.now }
+    requires made { IfSome made.old (λ g. PlaysText (rules_kept desk.now) (G.source g) (G.rules g) (G.role_name g) (G.move_name g)) }
+    ensures frame { AnswersDesk IsTold desk.now (frame_bytes result) }
+    ensures made { IfSome made.new (λ g. PlaysText (rules_kept desk.now) (G.source g) (G.rules g) (G.role_name g) (G.move_name g)) }
 {
     let Some(line) = desk.line() else {
         return Frame::Fixed(LONG);
     };
-    frame_of(rt, line, desk.rules())
+    frame_of(rt, line, desk.rules(), made)
 }
 
 /// The frame that answers what was taken.
-pub(crate) fn frame_for<T: Threads + Sync + AllocGlobal>(rt: &T, desk: &Desk, taken: Taken) -> Frame
-    requires { IsDesk desk.now }
-    ensures { IsFrameOf IsTold taken desk.now (frame_bytes result) }
+pub(crate) fn frame_for<G: GroundGame, T: Threads + Sync + AllocGlobal>(
+    rt: &T,
+    desk: &Desk,
+    taken: Taken,
+    made: &mut Option<G>,
+) -> Frame
+    requires desk { IsDesk desk.now }
+    requires made { IfSome made.old (λ g. PlaysText (rules_kept desk.now) (G.source g) (G.rules g) (G.role_name g) (G.move_name g)) }
+    ensures frame { IsFrameOf IsTold taken desk.now (frame_bytes result) }
+    ensures made { IfSome made.new (λ g. PlaysText (rules_kept desk.now) (G.source g) (G.rules g) (G.role_name g) (G.move_name g)) }
 {
     match taken {
-        Taken::Line | Taken::LastLine => line_frame(rt, desk),
+        Taken::Line | Taken::LastLine => line_frame(rt, desk, made),
         Taken::Rules => Frame::Fixed(TAKEN),
         Taken::Starved => Frame::Fixed(STARVED),
         Taken::Cut => Frame::Fixed(CUT),

@@ -4,6 +4,7 @@
 
 mod answering;
 mod framing;
+mod game_kept;
 mod program;
 mod session;
 mod splitting;

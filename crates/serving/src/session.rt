@@ -1,34 +1,51 @@
 //! A session: requests from the input, and their frames to the output.
-ghost use Rattle.std.specs.Prelude.{◌≡◌};
+ghost use Rattle.std.specs.Prelude.{◌≡◌, IfSome, OnOk};
 ghost use Rattle.running.specs.Fulfilling.{streams};
 ghost use Rattle.requests.specs.Desks.{IsDesk, rules_kept, to_come};
+ghost use Rattle.serving.specs.Kept.{PlaysText, kept_after};
 ghost use Rattle.serving.specs.Turns.{IsTurn};
 ghost use Rattle.serving.specs.Serving.{HasServed, IsServed};
 
 use crate::framing::frame_for;
-use requests::Desk;
+use netgame::NetGame;
+use requests::{Desk, Taken};
+use rulebook::GroundGame;
 use running::{RunFault, status_of, write_out};
 use statement::Status;
 use std::io::{Read, Write};
 use std::thread::Threads;
 
+/// Forgets the game that is kept, where other rules may stand.
+fn forget<G: GroundGame>(taken: Taken, made: &mut Option<G>)
+    ensures { made.new ≡ kept_after taken made.old }
+{
+    match taken {
+        Taken::Line | Taken::LastLine => {}
+        Taken::Rules | Taken::Starved | Taken::Cut | Taken::Nothing => *made = None,
+    }
+}
+
 /// Takes a request and writes its frame, and answers whether there may be more requests.
-fn turn<T: Threads + Sync + AllocGlobal, R: Read, W: Write>(
+fn turn<G: GroundGame, T: Threads + Sync + AllocGlobal, R: Read, W: Write>(
     rt: &T,
     desk: &mut Desk,
+    made: &mut Option<G>,
     input: &mut R,
     output: &mut W,
 ) -> Result<bool, RunFault>
-    requires { IsDesk desk.old }
+    requires desk { IsDesk desk.old }
+    requires made { IfSome made.old (λ g. PlaysText (rules_kept desk.old) (G.source g) (G.rules g) (G.role_name g) (G.move_name g)) }
     ensures desk { IsDesk desk.new }
     ensures turn { IsTurn result (rules_kept desk.old) (rules_kept desk.new)
         (to_come desk.old (R.remaining input.old)) (to_come desk.new (R.remaining input.new))
         (W.contents output.old) (W.contents output.new) }
+    ensures made { OnOk result (IfSome made.new (λ g. PlaysText (rules_kept desk.new) (G.source g) (G.rules g) (G.role_name g) (G.move_name g))) }
 {
     let Ok(taken) = desk.take(rt.alloc(), input) else {
         return Err(RunFault::Read);
     };
-    let frame = frame_for(rt, desk, taken);
+    forget(taken, made);
+    let frame = frame_for(rt, desk, taken, made);
     let Ok(()) = write_out(output, frame.bytes()) else {
         return Err(RunFault::Write);
     };
@@ -36,7 +53,7 @@ fn turn<T: Threads + Sync + AllocGlobal, R: Read, W: Write>(
 }
 
 /// Answers all requests of the input.
-fn answer_all<T: Threads + Sync + AllocGlobal, R: Read, W: Write>(
+fn answer_all<G: GroundGame, T: Threads + Sync + AllocGlobal, R: Read, W: Write>(
     rt: &T,
     input: &mut R,
     output: &mut W,
@@ -46,9 +63,10 @@ fn answer_all<T: Threads + Sync + AllocGlobal, R: Read, W: Write>(
     let Ok(mut desk) = Desk::new(rt.alloc()) else {
         return Err(RunFault::Memory);
     };
+    let mut made: Option<G> = None;
     // A loop is proved to end, so this one counts its turns.
     for _ in 0..u64::MAX {
-        match turn(rt, &mut desk, input, output) {
+        match turn(rt, &mut desk, &mut made, input, output) {
             Ok(true) => {}
             Ok(false) => return Ok(Status::Answer),
             Err(fault) => return Err(fault),
@@ -75,6 +93,6 @@ pub fn serve<T: Threads + Sync + AllocGlobal, R: Read, W: Write, E: Write>(
         (streams (R.remaining input.old) (W.contents output.old) (E.contents errors.old))
         (streams (R.remaining input.new) (W.contents output.new) (E.contents errors.new)) }
 {
-    let ended = answer_all(rt, input, output);
+    let ended = answer_all::<NetGame, T, R, W>(rt, input, output);
     status_of(ended, errors)
 }

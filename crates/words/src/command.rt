@@ -35,6 +35,11 @@ pub enum Inquiry<'a> {
     SolveWithin(Sought<'a>, Window),
     /// Tells of each legal move of a role after a history what it makes sure of. The cut is of no account.
     Values(Sought<'a>),
+    /// Tells the same, and behind each move the line of play that begins with it. The cut is of no account.
+    ValuesWithLines(Sought<'a>),
+    /// Tells what `Solve` does, within one turn, two turns and so on, until no further turn can change the value. The cut is of no
+    /// account.
+    Deepen(Sought<'a>),
 }
 
 /// The best play that is sought.

@@ -116,6 +116,25 @@ fn window<'a>(alloc: Global) -> clap::Arg<'a> {
         )
 }
 
+/// The option for one depth after the other.
+fn deepen<'a>(alloc: Global) -> Result<clap::Arg<'a>, AllocError> {
+    clap::Arg::new(alloc, "deepen")
+        .long("deepen")
+        .action(clap::ArgAction::SetTrue)
+        .help(
+            "Answer for one turn, then for two, and so on, until no further turn can change the value",
+        )
+        .conflicts_with("window")
+}
+
+/// The option for the line of play behind each move.
+fn lines<'a>(alloc: Global) -> clap::Arg<'a> {
+    clap::Arg::new(alloc, "lines")
+        .long("lines")
+        .action(clap::ArgAction::SetTrue)
+        .help("Tell the line of play behind each move too")
+}
+
 /// The option for how many threads search.
 fn cut<'a>(alloc: Global) -> clap::Arg<'a> {
     clap::Arg::new(alloc, "cut")
@@ -189,6 +208,7 @@ fn values<'a>(alloc: Global) -> Result<clap::Command<'a>, AllocError> {
         .arg(depth(alloc))?
         .arg(at_bound(alloc))?
         .arg(unfinished(alloc)?)?
+        .arg(lines(alloc))?
         .arg(cut(alloc))?
         .arg(table(alloc))?
         .arg(history(alloc))
@@ -206,6 +226,7 @@ fn solve<'a>(alloc: Global) -> Result<clap::Command<'a>, AllocError> {
         .arg(at_bound(alloc))?
         .arg(unfinished(alloc)?)?
         .arg(window(alloc))?
+        .arg(deepen(alloc)?)?
         .arg(cut(alloc))?
         .arg(table(alloc))?
         .arg(history(alloc))
@@ -256,6 +277,47 @@ fn window_of(text: &str) -> Option<Window> {
     Window::of(Some(low.parse::<u8>().ok()?), high)
 }
 
+/// In what form a search tells what it finds.
+enum Form {
+    /// The value, the first best move and the line of play.
+    Whole,
+    /// The value, as far as it is between bounds.
+    Within(Window),
+    /// The same as the whole, one depth after the other.
+    ByDepth,
+    /// What each move makes sure of.
+    Moves,
+    /// The same, and the line of play behind each move.
+    MoveLines,
+}
+
+/// The form in which `values` with these options tells what it finds.
+fn form_of_values(options: &clap::ArgMatches) -> Form {
+    if options.get_flag("lines") {
+        return Form::MoveLines;
+    }
+    Form::Moves
+}
+
+/// The form in which `solve` with these options tells what it finds, if a window is one.
+fn form_of_solve(options: &clap::ArgMatches) -> Option<Form> {
+    if options.get_flag("deepen") {
+        return Some(Form::ByDepth);
+    }
+    match options.get_str("window") {
+        Some(text) => Some(Form::Within(window_of(text)?)),
+        None => Some(Form::Whole),
+    }
+}
+
+/// The form in which the command of this name, `solve` or `values`, with these options tells what it finds, if a window is one.
+fn form_of(name: &str, options: &clap::ArgMatches) -> Option<Form> {
+    match name {
+        "values" => Some(form_of_values(options)),
+        _ => form_of_solve(options),
+    }
+}
+
 /// The command of this name, `solve` or `values`, that the options make, or which of them has a text that it does not take.
 fn search_command<'a>(
     name: &str,
@@ -275,16 +337,17 @@ fn search_command<'a>(
         table: options.get_one("table")?,
         after: options.get_str("after").unwrap_or(""),
     };
-    if name == "values" {
-        return Some(Ok(Command::Ask(Inquiry::Values(sought))));
-    }
-    let Some(text) = options.get_str("window") else {
-        return Some(Ok(Command::Ask(Inquiry::Solve(sought))));
-    };
-    let Some(window) = window_of(text) else {
+    let Some(form) = form_of(name, options) else {
         return Some(Err("bad window"));
     };
-    Some(Ok(Command::Ask(Inquiry::SolveWithin(sought, window))))
+    let inquiry = match form {
+        Form::Whole => Inquiry::Solve(sought),
+        Form::Within(window) => Inquiry::SolveWithin(sought, window),
+        Form::ByDepth => Inquiry::Deepen(sought),
+        Form::Moves => Inquiry::Values(sought),
+        Form::MoveLines => Inquiry::ValuesWithLines(sought),
+    };
+    Some(Ok(Command::Ask(inquiry)))
 }
 
 /// The command that was matched, or why there is none.

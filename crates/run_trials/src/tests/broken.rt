@@ -7,13 +7,15 @@ use std::io::{Read, Write};
 use std::thread::Threads;
 
 /// The words of each command.
-const COMMANDS: [&[&str]; 6] = [
+const COMMANDS: [&[&str]; 8] = [
     &["show"],
     &["check"],
     &["net"],
     &["moves", "--after", "(h t)"],
     &["solve", "--role", "a", "--depth", "1"],
     &["solve", "--role", "b", "--depth", "1", "--cut", "2x2"],
+    &["solve", "--role", "a", "--depth", "2", "--deepen"],
+    &["values", "--role", "a", "--depth", "1", "--lines"],
 ];
 
 /// What the command line answers over these devices: the exit status and the errors.
@@ -88,7 +90,11 @@ fn is_written<T: Threads + Sync + AllocGlobal>(
 }
 
 /// Whether each write that fails, or takes nothing, is told, and a flush that fails.
-fn is_written_to_all<T: Threads + Sync + AllocGlobal>(rt: &T, words: &[&str], text: &[u8]) -> bool {
+pub(crate) fn is_written_to_all<T: Threads + Sync + AllocGlobal>(
+    rt: &T,
+    words: &[&str],
+    text: &[u8],
+) -> bool {
     let (_, want, _) = told(rt, words, text);
     for room in 0..text.len() {
         if !is_written(rt, words, text, room, false, &want)

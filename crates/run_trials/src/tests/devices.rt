@@ -90,3 +90,35 @@ impl Write for Silent {
         Err(Error::from(ErrorKind::Other))
     }
 }
+
+/// A writer that keeps how many bytes it had taken at each flush.
+#[derive(Drop)]
+pub struct Tides {
+    taken: usize,
+    flushed: Vec<usize>,
+}
+
+impl Tides {
+    pub(crate) fn new(alloc: Global) -> Tides {
+        Tides {
+            taken: 0,
+            flushed: Vec::new(alloc),
+        }
+    }
+
+    pub(crate) fn flushed(&self) -> &[usize] {
+        self.flushed.as_slice()
+    }
+}
+
+impl Write for Tides {
+    fn write(&mut self, buf: &[u8]) -> Result<usize> {
+        self.taken = self.taken.saturating_add(buf.len());
+        Ok(buf.len())
+    }
+
+    fn flush(&mut self) -> Result<()> {
+        self.flushed.push(self.taken)?;
+        Ok(())
+    }
+}

@@ -105,6 +105,7 @@ Options:
       --depth <TURNS>        How many turns to look ahead, from 0 to 64
       --at-bound <WORTH>     What a state is worth where these turns are over and play goes on: zero, or its goal [default: zero]
       --unfinished <NUMBER>  A worth for all these states, from 0 to 100, in place of --at-bound
+      --lines                Tell the line of play behind each move too
       --cut <LEVELS>         How many threads search, and those behind each of their moves, as 4 or 4x2 [default: 1]
       --table <MIB>          How much memory may keep what positions are worth, from 0 to 65536 [default: 64]
       --after <TEXT>         The turns that were played, each a list of a move for each role
@@ -125,6 +126,7 @@ Options:
       --at-bound <WORTH>     What a state is worth where these turns are over and play goes on: zero, or its goal [default: zero]
       --unfinished <NUMBER>  A worth for all these states, from 0 to 100, in place of --at-bound
       --window <LOW:HIGH>    Tell the value only where it is between these numbers, from -1 to 101, else which it does not pass
+      --deepen               Answer for one turn, then for two, and so on, until no further turn can change the value
       --cut <LEVELS>         How many threads search, and those behind each of their moves, as 4 or 4x2 [default: 1]
       --table <MIB>          How much memory may keep what positions are worth, from 0 to 65536 [default: 64]
       --after <TEXT>         The turns that were played, each a list of a move for each role

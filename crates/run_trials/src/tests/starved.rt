@@ -128,7 +128,7 @@ fn starved_beside<T: Threads + Sync + AllocGlobal>(
 }
 
 /// A text, and the words of a command.
-const COMMANDS: [(&[u8], &[&str]); 7] = [
+const COMMANDS: [(&[u8], &[&str]); 9] = [
     (MATCH, &["show"]),
     (MATCH, &["check"]),
     (MATCH, &["net"]),
@@ -138,6 +138,8 @@ const COMMANDS: [(&[u8], &[&str]); 7] = [
         MATCH,
         &["solve", "--role", "a", "--depth", "1", "--cut", "2x2"],
     ),
+    (MATCH, &["solve", "--role", "a", "--depth", "2", "--deepen"]),
+    (MATCH, &["values", "--role", "a", "--depth", "1", "--lines"]),
     (
         SIXTEEN,
         &["solve", "--role", "r16", "--depth", "1", "--cut", "2x2"],

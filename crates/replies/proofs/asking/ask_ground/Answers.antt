@@ -5,9 +5,10 @@ use Rattle.statement.specs.Moving.{IsMovesReply}
 use Rattle.statement.specs.Items.{alternatives}
 use Rattle.statement.specs.Solving.{IsSolveReply}
 use Rattle.statement.specs.ForRole.{IsRoleReply}
+use Rattle.statement.specs.Deepening.{IsDeepenReply}
 use Rattle.statement.specs.Holding.{IsStateReply}
 use Rattle.words.specs.Asked.{query_about}
-use Rattle.replies.specs.declared.asked_alone.Wanted.TheVariants.{Within, OfEachMove}
+use Rattle.replies.specs.declared.asked_alone.Wanted.TheVariants.{Within, OfEachMove, LineOfEachMove}
 use Rattle.replies.specs.Replies.{reply_of}
 use Rattle.replies.specs.Windows.{wanted_lines}
 use Rattle.replies.specs.Readings.{IsReplyOver}
@@ -49,6 +50,23 @@ returns-in_ok-reply_for_role-in-Values g c =
     (λ r. wanted_lines OfEachMove game r sought.depth sought.at_bound) sought.after.now) reply)
     (λ ts reply h. rw c.in-Values.is h)
     (reply_of c.in_ok-reply_for_role-in-Values.field-0) c.in_ok-reply_for_role-in-Values.ensures
+
+pub returns-in_ok-reply_for_role-in-ValuesWithLines : goal.returns-in_ok-reply_for_role-in-ValuesWithLines
+returns-in_ok-reply_for_role-in-ValuesWithLines g c =
+    let sought = c.in-ValuesWithLines.sought in
+    over_ground (query_about c.args.inquiry.now) c.args.ground
+    (λ items reply. IsPlayReply items (λ game. IsRoleReply game sought.role.now
+    (λ r. wanted_lines LineOfEachMove game r sought.depth sought.at_bound) sought.after.now) reply)
+    (λ ts reply h. rw c.in-ValuesWithLines.is h)
+    (reply_of c.in_ok-reply_for_role-in-ValuesWithLines.field-0) c.in_ok-reply_for_role-in-ValuesWithLines.ensures
+
+pub returns-in-Deepen : goal.returns-in-Deepen
+returns-in-Deepen g c =
+    let sought = c.in-Deepen.sought in
+    lift_asking g.G.Game _ (IsReplyOver (query_about c.args.inquiry.now) (Ok c.args.ground))
+    (λ reply h. over_ground (query_about c.args.inquiry.now) c.args.ground
+    (λ items reply. IsPlayReply items (λ game. IsDeepenReply game sought.role.now sought.depth sought.at_bound sought.after.now) reply)
+    (λ ts reply h. rw c.in-Deepen.is h) reply h) c.ask_deepen.result c.ask_deepen.ensures
 
 pub returns-in-Solve : goal.returns-in-Solve
 returns-in-Solve g c =

@@ -1,6 +1,7 @@
-use Rattle.std.proofs.Common.{◌≡◌, rules}
+use Rattle.std.proofs.Common.{◌≡◌, rules, sym, subst}
 use Rattle.std.specs.Prelude.{Result, Ok, Err, IfErr}
 use Rattle.statement.specs.Answers.{Reply}
+use Rattle.running.specs.Work.{reply_by}
 use Rattle.running.proofs.WholeInput.{replies_to}
 use Rattle.running.proofs.runs.run_keeping.Goals as goal
 
@@ -10,21 +11,31 @@ if_err (Err e) P f = f e
 
 pub returns-clause-answers : goal.returns-clause-answers
 returns-clause-answers g c =
-    let reply : Reply = record { output = c.in-Ok.reply.output.items; status = c.in-Ok.reply.status } in
+    let reply = reply_by g.G.Game c.in-Ok.work in
     let read : c.deref.result.now ≡ c.in_ok-bytes.bytes.items = search rules in
-    let made : c.deref-2.result.now ≡ c.in-Ok.reply.output.items = search rules in (
-      replies_to _ _ _ c.in_ok-bytes.bytes.items reply c.in_ok-bytes.ensures.whole (rw (← read) c.in-Ok.ensures),
-      rw (← made) c.in_ok-write_out.ensures.whole,
+    let told = c.in_ok-reply.ensures.whole in (
+      reply.output,
+      rw told.0 (replies_to _ _ _ c.in_ok-bytes.bytes.items reply c.in_ok-bytes.ensures.whole (rw (← read) c.in-Ok.ensures.reply)),
+      told.1,
     )
 
-pub returns-in_err-write_out-clause-broken : goal.returns-in_err-write_out-clause-broken
-returns-in_err-write_out-clause-broken g c =
-    let reply : Reply = record { output = c.in-Ok.reply.output.items; status = c.in-Ok.reply.status } in
+pub returns-in_err-reply-clause-broken : goal.returns-in_err-reply-clause-broken
+returns-in_err-reply-clause-broken g c =
+    let reply = reply_by g.G.Game c.in-Ok.work in
     let read : c.deref.result.now ≡ c.in_ok-bytes.bytes.items = search rules in
-    let made : c.deref-2.result.now ≡ c.in-Ok.reply.output.items = search rules in
-    if_err c.from_residual-in_err-write_out.result _
+    if_err c.from_residual-in_err-reply.result _
     (λ e is_write. (
       reply,
-      replies_to _ _ _ c.in_ok-bytes.bytes.items reply c.in_ok-bytes.ensures.whole (rw (← read) c.in-Ok.ensures),
-      rw (← made) c.in_err-write_out.ensures.front,
+      replies_to _ _ _ c.in_ok-bytes.bytes.items reply c.in_ok-bytes.ensures.whole (rw (← read) c.in-Ok.ensures.reply),
+      c.in_err-reply.ensures.front,
     ))
+
+pub returns-clause-refused : goal.returns-clause-refused
+returns-clause-refused g c = λ refused.
+    let reply = reply_by g.G.Game c.in-Ok.work in
+    let read : c.deref.result.now ≡ c.in_ok-bytes.bytes.items = search rules in
+    let told = c.in_ok-reply.ensures.whole in
+    let same = c.in_ok-reply.ensures.refused refused in (
+      rw (same, told.0) (replies_to _ _ _ c.in_ok-bytes.bytes.items reply c.in_ok-bytes.ensures.whole (rw (← read) c.in-Ok.ensures.reply)),
+      rw same told.1,
+    )

@@ -7,6 +7,7 @@ pub loop-init : goal.loop-init
 loop-init g c = (
   c.in-Ok.ensures.desk,
   held_at_first _ _ _ _ c.in-Ok.ensures.none (c.in-Ok.ensures.fresh (g.R.Read.remaining c.args.input.now)),
+  tt,
 )
 
 pub returns-in-Ok-false : goal.returns-in-Ok-false
@@ -23,7 +24,11 @@ pub loop-preserved : goal.loop-preserved
 loop-preserved g c = (
   c.turn.ensures.desk,
   held_further _ _ _ _ _ _ _ _ c.loop.invariant.1 (rw c.in-Ok-true.field-0-test at c.in-Ok-true.ensures.turn),
+  c.in-Ok-true.ensures.made,
 )
 
 pub returns : goal.returns
 returns g c = held_so_far _ _ _ _ _ (left_in c.loop.desk.feed) c.loop.invariant.1
+
+pub turn-requires-clause-made : goal.turn-requires-clause-made
+turn-requires-clause-made g c κs within = c.loop.invariant.2

@@ -1,0 +1,25 @@
+use Rattle.std.proofs.Common.{◌+◌, ◌-◌, ◌≤◌}
+use Rattle.replies.proofs.Held.{Written}
+use Rattle.statement.specs.Deepening.{deepen_lines}
+use Rattle.replies.specs.Histories.{named}
+use Rattle.replies.specs.Play.{IsPlayFor}
+use Rattle.replies.specs.Settling.{IsSettlingFor}
+use Rattle.replies.proofs.Deepened.{lines_from}
+use Rattle.replies.proofs.deepening.write_depths.Given as goal
+
+-- no depth to this one is settled, and their lines are written
+abbrev pub invariant-loop-depth : goal.invariant-loop-depth
+invariant-loop-depth g l =
+    let rules = g.G.Game.rules l.g in
+    let state = g.G.Game.state l.g l.root in
+    let game = named rules (g.G.Game.role_name l.g) (g.G.Game.move_name l.g) in
+    record {
+      within : l.depth ≤ l.asked.depth;
+      ahead : IsPlayFor g.G.Game l.g l.asked.role l.asked.depth l.play;
+      further : IsSettlingFor g.G.Game l.g l.asked.role l.asked.depth l.asked.at l.settling;
+      lines : Written (g.W.Write.contents l.fn.out) (g.W.Write.contents l.out) (deepen_lines game l.asked.role l.asked.depth l.asked.at state)
+          (lines_from game l.asked.role l.asked.at state (l.depth + 1) (l.asked.depth - l.depth));
+    }
+
+abbrev pub decreases-loop-depth : goal.decreases-loop-depth
+decreases-loop-depth g l = l.asked.depth - l.depth

@@ -1,0 +1,23 @@
+use Rattle.std.proofs.Common.{◌≡◌, ◌++◌, ◌≤◌, ◌-◌, length, take}
+use Rattle.std.specs.List.{flat_map}
+use Rattle.statement.specs.MoveLines.{move_lines}
+use Rattle.replies.specs.Histories.{named}
+use Rattle.replies.specs.Play.{IsPlayFor}
+use Rattle.replies.proofs.worths.add_each.Given as goal
+
+-- the lines of the moves before this place stand
+abbrev pub invariant-loop-own : goal.invariant-loop-own
+invariant-loop-own g l =
+    let game = g.G.Game in
+    let state = game.state l.g l.here in
+    let legal = (game.rules l.g).legal state l.asked.role in
+    let named_game = named (game.rules l.g) (game.role_name l.g) (game.move_name l.g) in
+    record {
+      play : IsPlayFor game l.g l.asked.role l.asked.depth l.play;
+      within : l.place ≤ length legal;
+      lines : l.output.items ≡ l.fn.output.items ++ flat_map (move_lines named_game l.asked.role (l.asked.depth - 1) l.asked.at state)
+          (take l.place legal);
+    }
+
+abbrev pub decreases-loop-own : goal.decreases-loop-own
+decreases-loop-own g l = length ((g.G.Game.rules l.g).legal (g.G.Game.state l.g l.here) l.asked.role) - l.place

@@ -1,0 +1,41 @@
+//! The reply to what is asked of a game that was made before.
+ghost use Rattle.std.specs.Prelude.{IfOk, Ok};
+ghost use Rattle.rulebook.specs.RuleState.{IsGameOver};
+ghost use Rattle.words.specs.Asked.{query_about};
+ghost use Rattle.replies.specs.Readings.{IsReplyOver};
+ghost use Rattle.replies.specs.Replies.{reply_of};
+
+use crate::asked_alone::{Wanted, role_reply};
+use crate::moving::moves_reply;
+use crate::reply::Reply;
+use crate::sizes::reply_to_net;
+use crate::standing::state_reply;
+use rulebook::GroundGame;
+use std::alloc::{AllocError, Global};
+use words::Inquiry;
+
+/// The reply to what is asked of the instantiation that a game is made of. The calling thread does all the work, whatever the cut; the game
+/// stays as it is. It fails only for want of memory.
+pub fn reply_over<G: GroundGame>(
+    alloc: Global,
+    inquiry: &Inquiry,
+    game: &G,
+) -> Result<Reply, AllocError>
+    requires { IsGameOver (G.source game.now) (G.rules game.now) (G.role_name game.now) (G.move_name game.now) }
+    ensures { IfOk result (λ reply. IsReplyOver (query_about inquiry.now) (Ok (G.source game.now)) (reply_of reply)) }
+{
+    match inquiry {
+        Inquiry::Net => reply_to_net(alloc, game.instantiation()),
+        Inquiry::Moves { after } => moves_reply(alloc, game, after),
+        Inquiry::State { after } => state_reply(alloc, game, after),
+        Inquiry::Solve(sought) => role_reply(alloc, game, sought, Wanted::Whole),
+        Inquiry::SolveWithin(sought, window) => {
+            role_reply(alloc, game, sought, Wanted::Within(*window))
+        }
+        Inquiry::Values(sought) => role_reply(alloc, game, sought, Wanted::OfEachMove),
+        Inquiry::ValuesWithLines(sought) => {
+            role_reply(alloc, game, sought, Wanted::LineOfEachMove)
+        }
+        Inquiry::Deepen(sought) => role_reply(alloc, game, sought, Wanted::OfEachDepth),
+    }
+}
