@@ -69,7 +69,7 @@ impl<G: Game + Drop> Search<G> {
     }
 
     /// The same, where there is a room for the search already. What the room keeps of states is of use to the line.
-    pub(crate) fn told_in(
+    pub fn told_in(
         self,
         alloc: Global,
         found: Answer,
