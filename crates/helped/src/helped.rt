@@ -4,7 +4,6 @@ ghost use Rattle.statement.specs.Value.{value, choice_of};
 ghost use Rattle.maximin.specs.Company.{company_game};
 ghost use Rattle.helped.specs.Found.{IsFound};
 
-use crate::alone::answer_in;
 use crate::helper::{Aid, help};
 use cut::Cut;
 use game::{Game, Question};
@@ -12,7 +11,7 @@ use maximin::{Company, Room};
 use std::alloc::Global;
 use std::sync::atomic::{AtomicU64, Ordering};
 use std::thread::{Threads, map_indices};
-use tasks::Node;
+use tasks::{Node, answer_in};
 
 /// With fewer turns to come the tasks of a board are shared, and nobody helps: a search is done too soon.
 const FEWEST_TURNS: u32 = 8;

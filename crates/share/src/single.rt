@@ -6,9 +6,8 @@ ghost use Rattle.share.specs.Desk.{HasRoom};
 use crate::desk::Desk;
 use crate::gate::Gate;
 use game::Game;
-use helped::answer_in;
 use maximin::open_room;
-use tasks::Node;
+use tasks::{Node, answer_in};
 
 /// The value of the node and the place of its first best move, by the calling thread at its desk. All its tasks pass the gate in
 /// their order, also those that are not searched in the end.

@@ -3,9 +3,9 @@ ghost use Rattle.std.specs.Prelude.{◌≡◌, ◌≤◌, pos, slice_get};
 ghost use Rattle.statement.specs.Value.{value, choice_of};
 ghost use Rattle.maximin.specs.Room.{IsRoomOf, IsRoomKept, room_depth};
 
+use crate::node::Node;
 use game::Game;
 use maximin::{Room, value_and_choice};
-use tasks::Node;
 
 /// The value of the node and the place of its first best move, by the calling thread in a room.
 pub fn answer_in<G: Game>(node: &Node<'_, G>, room: &mut Room<G>) -> (i16, u32)

@@ -1,6 +1,6 @@
 use Rattle.std.proofs.Common.{arith}
-use Rattle.tasks.proofs.Facts.{plan_free}
-use Rattle.helped.proofs.alone.answer_in.Goals as goal
+use Rattle.tasks.proofs.Plans.{plan_free}
+use Rattle.tasks.proofs.alone.answer_in.Goals as goal
 
 pub value_and_choice-value-requires-clause-turn : goal.value_and_choice-value-requires-clause-turn
 value_and_choice-value-requires-clause-turn g c κs within =
