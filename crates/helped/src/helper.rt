@@ -216,7 +216,8 @@ fn look_at_row<G: Game>(
     let mut left = span;
     let mut todo = Todo::new();
     for place in 0..ROW {
-        if !play_task(node, row.task(first.saturating_add(place as u32)), step) {
+        let place = place as u32;
+        if !play_task(node, row.task(first.saturating_add(place)), step) {
             return (left, todo);
         }
         let (least, most) = known_bounds(node.game, &step.position, next, room);
@@ -256,11 +257,7 @@ fn help_with_some<G: Game>(
         let Some(place) = todo.next() else {
             return left;
         };
-        if !play_task(
-            node,
-            row.task(first.saturating_add(place as u32)),
-            &mut step,
-        ) {
+        if !play_task(node, row.task(first.saturating_add(place)), &mut step) {
             return left;
         }
         let (least, most) = known_bounds(node.game, &step.position, next, &mut helper.room);

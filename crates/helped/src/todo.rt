@@ -1,5 +1,4 @@
 //! In which order a helper takes the states of a row.
-ghost use Rattle.std.specs.Prelude.{◌<◌, IfSome};
 
 /// A row has at most so many states.
 pub const ROW: usize = 64;
@@ -16,8 +15,8 @@ pub struct Todo {
 }
 
 /// The bit of a place.
-fn bit(place: usize) -> u64 {
-    if place >= ROW {
+fn bit(place: u32) -> u64 {
+    if place >= 64 {
         return 0;
     }
     1u64 << place
@@ -35,28 +34,30 @@ impl Todo {
     }
 
     /// Adds a place.
-    pub fn add(&mut self, place: usize, score: u64) {
-        if place < ROW {
+    pub fn add(&mut self, place: u32, score: u64) {
+        let at = place as usize;
+        if at < ROW {
             self.left |= bit(place);
-            self.scores[place] = score;
+            self.scores[at] = score;
         }
     }
 
     /// The first place of those that are left whose moves cut off most.
-    fn best(&self) -> Option<usize> {
+    fn best(&self) -> Option<u32> {
         let mut best = None;
         let mut most = 0;
-        for place in 0..ROW {
-            if self.left & bit(place) != 0 && (best.is_none() || self.scores[place] > most) {
+        for at in 0..ROW {
+            let place = at as u32;
+            if self.left & bit(place) != 0 && (best.is_none() || self.scores[at] > most) {
                 best = Some(place);
-                most = self.scores[place];
+                most = self.scores[at];
             }
         }
         best
     }
 
     /// Takes the next place: of those that were put off once no other is left.
-    pub fn next(&mut self) -> Option<usize> {
+    pub fn next(&mut self) -> Option<u32> {
         if self.left == 0 {
             self.left = self.later;
             self.later = 0;
@@ -68,7 +69,7 @@ impl Todo {
     }
 
     /// Puts a place off that was taken. The answer is false where it was put off before.
-    pub fn put_off(&mut self, place: usize) -> bool {
+    pub fn put_off(&mut self, place: u32) -> bool {
         if self.is_later {
             return false;
         }
