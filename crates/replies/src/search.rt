@@ -55,12 +55,7 @@ impl<G: Game + Drop> Search<G> {
 
     /// The reply that tells the value, the first best move and the line of play behind it, from the first two. The line is found by the
     /// calling thread in the room, and what the room keeps of states is of use to it. It fails only for want of memory.
-    pub fn told_in(
-        self,
-        alloc: Global,
-        found: Answer,
-        room: Room<G>,
-    ) -> Result<Reply, AllocError>
+    pub fn told_in(self, alloc: Global, found: Answer, room: Room<G>) -> Result<Reply, AllocError>
         requires fits { G.fits self.game self.here }
         requires role { self.asked.role < (G.rules self.game).roles }
         requires value { found.value ≡ pos (value (G.rules self.game) self.asked.role self.asked.depth self.asked.at (G.state self.game self.here)) }

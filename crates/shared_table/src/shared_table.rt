@@ -141,12 +141,7 @@ impl<G: Game> SharedTable<G> {
     }
 
     /// Tables for a question that take at most so many bytes, if these are enough for them and are not refused.
-    pub fn within(
-        alloc: Global,
-        game: &G,
-        asked: Question,
-        bytes: usize,
-    ) -> Option<SharedTable<G>>
+    pub fn within(alloc: Global, game: &G, asked: Question, bytes: usize) -> Option<SharedTable<G>>
         ensures { IfSome result (λ tables. game_of tables ≡ game.now) }
     {
         let entries = entries_within(bytes, game.key_words(), asked.depth);
