@@ -8,7 +8,6 @@ use Rattle.statement.specs.Rules.{Rules}
 use Rattle.game.specs.declared.game.Game.{Ghosts}
 use Rattle.maximin.specs.declared.children.Children.{Children}
 use Rattle.maximin.specs.declared.cursor.Cursor.{Cursor}
-use Rattle.maximin.specs.declared.history.History.{History}
 use Rattle.maximin.specs.declared.level.Level.{Level}
 use Rattle.maximin.specs.declared.memory.Memory.{Memory}
 use Rattle.maximin.specs.declared.moves.Moves.{Moves}
@@ -17,7 +16,6 @@ use Rattle.maximin.specs.declared.room.Room.{Room}
 use Rattle.maximin.specs.declared.tools.Tools.{Tools}
 use Rattle.maximin.specs.Children.{AreSameStates, children_capacities}
 use Rattle.maximin.specs.Cursor.{cursor_capacities}
-use Rattle.maximin.specs.History.{history_capacities}
 use Rattle.maximin.specs.Level.{IsLevelOf, level_capacities}
 use Rattle.maximin.specs.Memory.{IsMemoryOf, memory_capacities}
 use Rattle.maximin.specs.Moves.{AreLonger, HaveTurns, moves_capacities}
@@ -75,11 +73,11 @@ module _ {G P W M : Type 0} {of : Ghosts G P W M} {game : G} where
   pub same_states_then : {a b c : Children P M} → AreSameStates of game a b → AreSameStates of game b c → AreSameStates of game a c
   same_states_then h k = record { position = k.position; capacities = k.capacities ∙ h.capacities; many = k.many ∙ h.many }
 
-  pub kept_at_first : {role depth : ℕ} {tools : Tools W} {levels : List (Level P M)} → AreFit of game role depth tools levels
+  pub kept_at_first : {role depth : ℕ} {tools : Tools G P W M} {levels : List (Level P M)} → AreFit of game role depth tools levels
       → AreKept of game tools levels tools levels
   kept_at_first h = record { wide = h.wide; memory = h.memory; levels = h.levels; of_tools = refl; of_levels = refl }
 
-  pub kept_then : {a b c : Tools W} {xs ys zs : List (Level P M)} → AreKept of game a xs b ys → AreKept of game b ys c zs → AreKept of game a xs c zs
+  pub kept_then : {a b c : Tools G P W M} {xs ys zs : List (Level P M)} → AreKept of game a xs b ys → AreKept of game b ys c zs → AreKept of game a xs c zs
   kept_then h k = record {
     wide = k.wide;
     memory = k.memory;
@@ -89,33 +87,21 @@ module _ {G P W M : Type 0} {of : Ghosts G P W M} {game : G} where
   }
 
   -- what a search leaves that began with another memory, and to whose memory something was added
-  pub memory_kept : (old new : Tools W) (first last : Memory) (xs ys : List (Level P M)) → memory_capacities first ≡ memory_capacities old.memory
+  pub memory_kept : (old new : Tools G P W M) (first last : Memory G P W M) (xs ys : List (Level P M)) → memory_capacities first ≡ memory_capacities old.memory
       → memory_capacities last ≡ memory_capacities new.memory → IsMemoryOf of game last
-      → AreKept of game record { wide = old.wide; history = old.history; memory = first; judges = old.judges } xs new ys
-      → AreKept of game old xs record { wide = new.wide; history = new.history; memory = last; judges = new.judges } ys
+      → AreKept of game record { wide = old.wide; history = old.history; memory = first; sight = old.sight; judges = old.judges } xs new ys
+      → AreKept of game old xs record { wide = new.wide; history = new.history; memory = last; sight = new.sight; judges = new.judges } ys
   memory_kept old new first last xs ys before after is h = record {
     wide = h.wide;
     memory = is;
     levels = h.levels;
-    of_tools = ap (λ (m : List ℕ). history_capacities new.history ++ m ++ of.wide_capacities game new.wide) after ∙ h.of_tools
-        ∙ ap (λ (m : List ℕ). history_capacities old.history ++ m ++ of.wide_capacities game old.wide) before;
-    of_levels = h.of_levels;
-  }
-
-  -- what a search leaves that then noted a cut
-  pub history_kept : (old new : Tools W) (last : History) (xs ys : List (Level P M)) → history_capacities last ≡ history_capacities new.history
-      → AreKept of game old xs new ys
-      → AreKept of game old xs record { wide = new.wide; history = last; memory = new.memory; judges = new.judges } ys
-  history_kept old new last xs ys same h = record {
-    wide = h.wide;
-    memory = h.memory;
-    levels = h.levels;
-    of_tools = ap (λ (n : List ℕ). n ++ memory_capacities new.memory ++ of.wide_capacities game new.wide) same ∙ h.of_tools;
+    of_tools = ap (λ (m : List ℕ). m ++ of.wide_capacities game new.wide) after ∙ h.of_tools
+        ∙ ap (λ (m : List ℕ). m ++ of.wide_capacities game old.wide) before;
     of_levels = h.of_levels;
   }
 
   -- the first level and the rest, each of which is kept
-  pub all_levels_kept : {a b : Tools W} (all front rest new_rest : List (Level P M)) (x d : Level P M) → all ≡ front ++ rest → length front ≡ 1
+  pub all_levels_kept : {a b : Tools G P W M} (all front rest new_rest : List (Level P M)) (x d : Level P M) → all ≡ front ++ rest → length front ≡ 1
       → IsLevelOf of game x → level_capacities of game x ≡ level_capacities of game (get_or front 0 d) → AreKept of game a rest b new_rest
       → AreKept of game a all b (set front 0 x ++ new_rest)
   all_levels_kept all front rest new_rest x d whole one level same h = record {
@@ -128,7 +114,7 @@ module _ {G P W M : Type 0} {of : Ghosts G P W M} {game : G} where
 
 module _ {G P W M : Type 0} {of : Ghosts G P W M} {game : G} where
   -- what a search leaves of a room, whose levels it had as a slice
-  pub room_kept : (old : Room G P W M) (tools : Tools W) (levels new_levels : List (Level P M)) → levels ≡ old.levels.items
+  pub room_kept : (old : Room G P W M) (tools : Tools G P W M) (levels new_levels : List (Level P M)) → levels ≡ old.levels.items
       → AreKept of game old.tools levels tools new_levels → IsRoomKept of game old record { tools = tools; levels = with_items old.levels new_levels }
   room_kept old tools levels new_levels same h =
       let f = level_capacities of game in

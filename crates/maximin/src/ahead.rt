@@ -19,7 +19,7 @@ ghost use Rattle.table.specs.Worths.{IsWithin};
 use crate::children::Children;
 use crate::end::{greatest_of, least_of};
 use crate::level::Level;
-use crate::memory::{is_of, key_in};
+use crate::memory::{find_in, key_in, may_find};
 use crate::pack::{Pack, Part, Pick, pack_on};
 use crate::run::{LONGEST_RUN, Run};
 use crate::tools::Tools;
@@ -54,7 +54,7 @@ pub fn new_ahead(count: usize) -> Ahead
 pub fn look_back<G: Game>(
     game: &G,
     asked: Question,
-    tools: &mut Tools<G::Wide>,
+    tools: &mut Tools<G>,
     children: &mut Children<G::Pos, G::Many>,
 )
     requires tools { AreToolsOf G.Game game.now tools.old }
@@ -63,10 +63,7 @@ pub fn look_back<G: Game>(
     ensures children { AreLookedAt G.Game game.now asked children.new }
     ensures same { AreSameStates G.Game game.now children.old children.new }
 {
-    let Some(table) = &tools.memory.table else {
-        return;
-    };
-    if !is_of(table, asked) {
+    if !may_find(&tools.memory.positions, asked) {
         return;
     }
     let count = children.ahead.count;
@@ -74,7 +71,7 @@ pub fn look_back<G: Game>(
     game.write_keys(&children.many, count, tools.memory.keys.as_mut_slice());
     for place in 0..count {
         let key = key_in(&tools.memory.keys, words, place);
-        children.ahead.bounds[place] = table.find(key, asked.depth);
+        children.ahead.bounds[place] = find_in(game, &tools.memory.positions, key, asked);
     }
 }
 
@@ -191,7 +188,7 @@ fn note_worths<G: Game>(
     asked: Question,
     pack: &Pack,
     run: &Run,
-    tools: &mut Tools<G::Wide>,
+    tools: &mut Tools<G>,
     children: &mut Children<G::Pos, G::Many>,
 )
     requires last { IsOfLastTurn (G.rules game.now) asked }
@@ -223,7 +220,7 @@ fn look_on<G: Game>(
     game: &G,
     place: usize,
     asked: Question,
-    tools: &mut Tools<G::Wide>,
+    tools: &mut Tools<G>,
     children: &mut Children<G::Pos, G::Many>,
     level: &mut Level<G::Pos, G::Many>,
 )
@@ -252,7 +249,7 @@ pub fn look_ahead<G: Game>(
     game: &G,
     place: usize,
     asked: Question,
-    tools: &mut Tools<G::Wide>,
+    tools: &mut Tools<G>,
     children: &mut Children<G::Pos, G::Many>,
     levels: &mut [Level<G::Pos, G::Many>],
 )

@@ -31,7 +31,7 @@ fn reaches<G: Game>(
     asked: Question,
     own: u32,
     bound: u8,
-    tools: &mut Tools<G::Wide>,
+    tools: &mut Tools<G>,
     levels: &mut [Level<G::Pos, G::Many>],
 ) -> bool
     requires fits { G.fits game.now from.now }
@@ -53,7 +53,7 @@ pub fn first_reaching<G: Game>(
     from: &G::Pos,
     asked: Question,
     bound: u8,
-    tools: &mut Tools<G::Wide>,
+    tools: &mut Tools<G>,
     levels: &mut [Level<G::Pos, G::Many>],
 ) -> Option<u32>
     requires fits { G.fits game.now from.now }

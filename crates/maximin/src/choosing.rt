@@ -72,7 +72,7 @@ fn child_above<G: Game>(
     place: usize,
     asked: Question,
     best: i16,
-    tools: &mut Tools<G::Wide>,
+    tools: &mut Tools<G>,
     children: &mut Children<G::Pos, G::Many>,
     levels: &mut [Level<G::Pos, G::Many>],
 ) -> i16
@@ -102,7 +102,7 @@ fn best_among<G: Game>(
     game: &G,
     asked: Question,
     best: Best,
-    tools: &mut Tools<G::Wide>,
+    tools: &mut Tools<G>,
     children: &mut Children<G::Pos, G::Many>,
     levels: &mut [Level<G::Pos, G::Many>],
 ) -> Best
@@ -131,7 +131,7 @@ fn best_after<G: Game>(
     from: &G::Pos,
     asked: Question,
     best: Best,
-    tools: &mut Tools<G::Wide>,
+    tools: &mut Tools<G>,
     level: &mut Level<G::Pos, G::Many>,
     levels: &mut [Level<G::Pos, G::Many>],
 ) -> Best
@@ -157,7 +157,7 @@ fn best_alone<G: Game>(
     game: &G,
     from: &G::Pos,
     asked: Question,
-    tools: &mut Tools<G::Wide>,
+    tools: &mut Tools<G>,
     levels: &mut [Level<G::Pos, G::Many>],
 ) -> Best
     requires fits { G.fits game.now from.now }
@@ -196,7 +196,7 @@ fn worst_above<G: Game>(
     asked: Question,
     own: u32,
     best: i16,
-    tools: &mut Tools<G::Wide>,
+    tools: &mut Tools<G>,
     levels: &mut [Level<G::Pos, G::Many>],
 ) -> i16
     requires fits { G.fits game.now from.now }
@@ -223,7 +223,7 @@ fn best_of_each<G: Game>(
     game: &G,
     from: &G::Pos,
     asked: Question,
-    tools: &mut Tools<G::Wide>,
+    tools: &mut Tools<G>,
     levels: &mut [Level<G::Pos, G::Many>],
 ) -> Best
     requires fits { G.fits game.now from.now }
@@ -246,7 +246,7 @@ pub fn best_move<G: Game>(
     game: &G,
     from: &G::Pos,
     asked: Question,
-    tools: &mut Tools<G::Wide>,
+    tools: &mut Tools<G>,
     levels: &mut [Level<G::Pos, G::Many>],
 ) -> Best
     requires fits { G.fits game.now from.now }
@@ -273,7 +273,7 @@ pub fn choice_at<G: Game>(
     game: &G,
     from: &G::Pos,
     asked: Question,
-    tools: &mut Tools<G::Wide>,
+    tools: &mut Tools<G>,
     levels: &mut [Level<G::Pos, G::Many>],
 ) -> Option<u32>
     requires fits { G.fits game.now from.now }

@@ -19,7 +19,7 @@ pub fn choice_worth<G: Game>(
     from: &G::Pos,
     asked: Question,
     worth: i16,
-    tools: &mut Tools<G::Wide>,
+    tools: &mut Tools<G>,
     levels: &mut [Level<G::Pos, G::Many>],
 ) -> Option<u32>
     requires fits { G.fits game.now from.now }
@@ -69,7 +69,7 @@ pub fn reply_worth<G: Game>(
     from: &G::Pos,
     asked: Question,
     known: KnownMove,
-    tools: &mut Tools<G::Wide>,
+    tools: &mut Tools<G>,
     levels: &mut [Level<G::Pos, G::Many>],
     out: &mut Joint,
 )

@@ -1,8 +1,10 @@
 //! The memory of a search, and the calls that use it.
-ghost use Rattle.std.specs.Prelude.{◌≡◌, ◌-◌, ◌<◌, ◌≤◌, pos, length, slice_get, IfOk, Contains};
+ghost use Rattle.std.specs.Prelude.{◌≡◌, ◌-◌, ◌<◌, ◌≤◌, pos, length, slice_get, IfOk, Contains, All};
 ghost use Rattle.game.specs.Value.{Answers};
 ghost use Rattle.statement.specs.Value.{value, worst, choice_of, reply_of};
 ghost use Rattle.statement.specs.Within as within;
+ghost use Rattle.maximin.specs.Company.{company_game};
+ghost use Rattle.maximin.specs.Level.{IsLevelOf};
 ghost use Rattle.maximin.specs.Open.{IsOpen};
 ghost use Rattle.maximin.specs.Replies.{IsWritten};
 ghost use Rattle.maximin.specs.Room.{IsRoomOf, IsRoomFor, IsRoomKept, room_depth};
@@ -10,20 +12,41 @@ ghost use Rattle.maximin.specs.Tools.{IsWindow};
 
 use crate::bounded::first_reaching;
 use crate::choosing::{best_move, choice_at};
+use crate::company::Company;
+use crate::history::History;
 use crate::known::{KnownMove, choice_worth, reply_worth};
 use crate::level::{Level, new_level};
+use crate::memory::{new_memory, recall, shared_memory};
 use crate::search::{reply_at, value_within, worst_at};
+use crate::sight::{Sight, mark_state, unmark_state};
 use crate::tools::{Tools, new_tools};
 use crate::window::SearchWindow;
 use game::{AtBound, Game, Joint, Question};
 use std::alloc::{AllocError, Global};
+use table::hash_of;
 
 /// All the memory of a search: room to step many joint moves at once, what is remembered of moves, and for each turn that it looks
 /// ahead a run of joint moves, the states after them, and one state.
 #[derive(Drop)]
 pub struct Room<G: Game> {
-    tools: Tools<G::Wide>,
-    levels: Vec<Level<G::Pos, G::Many>>,
+    pub(crate) tools: Tools<G>,
+    pub(crate) levels: Vec<Level<G::Pos, G::Many>>,
+}
+
+/// So many levels for a game.
+fn new_levels<G: Game>(
+    alloc: Global,
+    g: &G,
+    depth: u32,
+) -> Result<Vec<Level<G::Pos, G::Many>>, AllocError>
+    ensures levels { IfOk result (λ levels. All (IsLevelOf G.Game g.now) levels.items) }
+    ensures count { IfOk result (λ levels. length levels.items ≡ depth) }
+{
+    let mut levels = Vec::new(alloc);
+    for _ in 0..depth {
+        levels.push(new_level(alloc, g)?)?;
+    }
+    Ok(levels)
 }
 
 impl<G: Game> Room<G> {
@@ -51,12 +74,59 @@ impl<G: Game> Room<G> {
         ensures room { IfOk result (λ room. IsRoomOf G.Game g.now room) }
         ensures depth { IfOk result (λ room. room_depth room ≡ asked.depth) }
     {
-        let mut levels = Vec::new(alloc);
-        for _ in 0..asked.depth {
-            levels.push(new_level(alloc, g)?)?;
-        }
-        let tools = new_tools(alloc, g, asked, bytes)?;
+        let levels = new_levels(alloc, g, asked.depth)?;
+        let history = History::new(alloc, g)?;
+        let memory = new_memory(alloc, g, asked, bytes)?;
+        let tools = new_tools(g, history, memory, Sight::alone())?;
         Ok(Room { tools, levels })
+    }
+
+    /// The same for the worker of this number, from 0 to 254, of a company: it keeps in their tables what it finds, and sees what the
+    /// others search.
+    pub fn in_company(
+        alloc: Global,
+        g: &G,
+        depth: u32,
+        company: &Company<G>,
+        worker: u8,
+    ) -> Result<Room<G>, AllocError>
+        requires { company_game company.now ≡ g.now }
+        ensures room { IfOk result (λ room. IsRoomOf G.Game g.now room) }
+        ensures depth { IfOk result (λ room. room_depth room ≡ depth) }
+    {
+        let levels = new_levels(alloc, g, depth)?;
+        let history = History::of(&company.history)?;
+        let memory = shared_memory(alloc, g, &company.tables)?;
+        let sight = Sight::among(&company.marks, worker)?;
+        let tools = new_tools(g, history, memory, sight)?;
+        Ok(Room { tools, levels })
+    }
+
+    /// Marks the state that was looked up last as being searched, for the other workers of a company, if many turns are left of it.
+    pub fn mark(&self, asked: Question) -> Option<u64> {
+        mark_state(&self.tools.memory, &self.tools.sight, asked)
+    }
+
+    /// Takes a mark away.
+    pub fn unmark(&self, mark: Option<u64>) {
+        unmark_state(&self.tools.sight, mark);
+    }
+
+    /// Whether another worker is searching the state that was looked up last.
+    pub fn is_in_hand(&self) -> bool {
+        self.tools
+            .sight
+            .is_marked_by_another(hash_of(&self.tools.memory.key))
+    }
+
+    /// How many states were marked here so far. It tells how long searches take.
+    pub fn marked(&self) -> u64 {
+        self.tools.sight.marked()
+    }
+
+    /// How much the moves of a joint move cut off.
+    pub fn score(&self, joint: &Joint) -> u64 {
+        self.tools.history.score(joint)
     }
 }
 
@@ -81,6 +151,18 @@ pub fn value_in<G: Game>(
     let levels = room.levels.as_mut_slice();
     let window = SearchWindow { low: a, high: b };
     value_within(g, p, asked, window, &mut room.tools, levels)
+}
+
+/// At least and at most what a state is worth to a role, by what is kept of it.
+pub fn known_bounds<G: Game>(g: &G, p: &G::Pos, asked: Question, room: &mut Room<G>) -> (u8, u8)
+    requires fits { G.fits g.now p.now }
+    requires room { IsRoomFor G.Game g.now asked.role asked.depth room.old }
+    ensures least { result.0 ≤ value (G.rules g.now) asked.role asked.depth asked.at (G.state g.now p.now) }
+    ensures most { value (G.rules g.now) asked.role asked.depth asked.at (G.state g.now p.now) ≤ result.1 }
+    ensures room { IsRoomKept G.Game g.now room.old room.new }
+{
+    let known = recall(g, p, asked, &mut room.tools.memory);
+    (known.lo, known.hi)
 }
 
 /// The value of a state for a role, where there is a turn to come, and the place of the first legal move of the role, in printed

@@ -23,6 +23,7 @@ use crate::moves::gather;
 use crate::narrow::{bounds_by, narrowed, settled};
 use crate::order::order_of;
 use crate::run::LONGEST_RUN;
+use crate::sight::{mark_state, unmark_state};
 use crate::told::{greatest_told, least_told, told_worth};
 use crate::tools::Tools;
 use crate::window::SearchWindow;
@@ -49,7 +50,7 @@ fn value_at<G: Game>(
     from: &G::Pos,
     asked: Question,
     window: SearchWindow,
-    tools: &mut Tools<G::Wide>,
+    tools: &mut Tools<G>,
     levels: &mut [Level<G::Pos, G::Many>],
 ) -> i16
     requires fits { G.fits game.now from.now }
@@ -98,7 +99,7 @@ pub fn worst_at<G: Game>(
     asked: Question,
     own: u32,
     window: SearchWindow,
-    tools: &mut Tools<G::Wide>,
+    tools: &mut Tools<G>,
     levels: &mut [Level<G::Pos, G::Many>],
 ) -> i16
     requires fits { G.fits game.now from.now }
@@ -136,7 +137,7 @@ fn least_after<G: Game>(
     from: &G::Pos,
     asked: Question,
     window: SearchWindow,
-    tools: &mut Tools<G::Wide>,
+    tools: &mut Tools<G>,
     level: &mut Level<G::Pos, G::Many>,
     levels: &mut [Level<G::Pos, G::Many>],
 ) -> i16
@@ -173,7 +174,7 @@ pub fn child_at<G: Game>(
     place: usize,
     asked: Question,
     window: SearchWindow,
-    tools: &mut Tools<G::Wide>,
+    tools: &mut Tools<G>,
     children: &mut Children<G::Pos, G::Many>,
     levels: &mut [Level<G::Pos, G::Many>],
 ) -> i16
@@ -207,7 +208,7 @@ pub fn known_at<G: Game>(
     from: &G::Pos,
     asked: Question,
     window: SearchWindow,
-    tools: &mut Tools<G::Wide>,
+    tools: &mut Tools<G>,
     levels: &mut [Level<G::Pos, G::Many>],
 ) -> i16
     requires fits { G.fits game.now from.now }
@@ -221,7 +222,9 @@ pub fn known_at<G: Game>(
     if left.low >= left.high {
         return settled(known, left.high);
     }
+    let mark = mark_state(&tools.memory, &tools.sight, asked);
     let answer = value_at(game, from, asked, left, tools, levels);
+    unmark_state(&tools.sight, mark);
     let found = bounds_by(window, answer);
     keep(game, from, asked, found, &mut tools.memory);
     answer
@@ -234,7 +237,7 @@ fn least_at<G: Game>(
     joints: &[Joint],
     asked: Question,
     window: SearchWindow,
-    tools: &mut Tools<G::Wide>,
+    tools: &mut Tools<G>,
     children: &mut Children<G::Pos, G::Many>,
     levels: &mut [Level<G::Pos, G::Many>],
 ) -> i16
@@ -282,7 +285,7 @@ fn best_at<G: Game>(
     from: &G::Pos,
     asked: Question,
     window: SearchWindow,
-    tools: &mut Tools<G::Wide>,
+    tools: &mut Tools<G>,
     levels: &mut [Level<G::Pos, G::Many>],
 ) -> i16
     requires fits { G.fits game.now from.now }
@@ -335,7 +338,7 @@ fn greatest_after<G: Game>(
     from: &G::Pos,
     asked: Question,
     window: SearchWindow,
-    tools: &mut Tools<G::Wide>,
+    tools: &mut Tools<G>,
     level: &mut Level<G::Pos, G::Many>,
     levels: &mut [Level<G::Pos, G::Many>],
 ) -> i16
@@ -372,7 +375,7 @@ fn greatest_at<G: Game>(
     joints: &[Joint],
     asked: Question,
     window: SearchWindow,
-    tools: &mut Tools<G::Wide>,
+    tools: &mut Tools<G>,
     children: &mut Children<G::Pos, G::Many>,
     levels: &mut [Level<G::Pos, G::Many>],
 ) -> i16
@@ -424,7 +427,7 @@ pub fn value_within<G: Game>(
     from: &G::Pos,
     asked: Question,
     window: SearchWindow,
-    tools: &mut Tools<G::Wide>,
+    tools: &mut Tools<G>,
     levels: &mut [Level<G::Pos, G::Many>],
 ) -> i16
     requires fits { G.fits game.now from.now }
@@ -447,7 +450,7 @@ pub fn reply_at<G: Game>(
     from: &G::Pos,
     asked: Question,
     own: u32,
-    tools: &mut Tools<G::Wide>,
+    tools: &mut Tools<G>,
     levels: &mut [Level<G::Pos, G::Many>],
     out: &mut Joint,
 )

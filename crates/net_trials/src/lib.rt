@@ -9,6 +9,8 @@ mod crowds;
 #[cfg(test)]
 mod grounds;
 #[cfg(test)]
+mod helped;
+#[cfg(test)]
 mod networks;
 #[cfg(test)]
 mod nodes;

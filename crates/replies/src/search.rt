@@ -54,27 +54,8 @@ impl<G: Game + Drop> Search<G> {
     }
 
     /// The reply that tells the value, the first best move and the line of play behind it, from the first two. The line is found by the
-    /// calling thread. It fails only for want of memory.
-    pub fn told(self, alloc: Global, found: Answer) -> Result<Reply, AllocError>
-        requires fits { G.fits self.game self.here }
-        requires role { self.asked.role < (G.rules self.game).roles }
-        requires value { found.value ≡ pos (value (G.rules self.game) self.asked.role self.asked.depth self.asked.at (G.state self.game self.here)) }
-        requires choice { found.choice ≡ choice_of (G.rules self.game) self.asked.role self.asked.depth self.asked.at (G.state self.game self.here) }
-        ensures { IfOk result (λ reply. reply_of reply ≡ answer (solve_lines
-            (named (G.rules self.game) (G.role_name self.game) (G.move_name self.game))
-            self.asked.role self.asked.depth self.asked.at (G.state self.game self.here))) }
-    {
-        let room = self.room(alloc)?;
-        self.told_in(alloc, found, room)
-    }
-
-    /// The same, where there is a room for the search already. What the room keeps of states is of use to the line.
-    pub(crate) fn told_in(
-        self,
-        alloc: Global,
-        found: Answer,
-        room: Room<G>,
-    ) -> Result<Reply, AllocError>
+    /// calling thread in the room, and what the room keeps of states is of use to it. It fails only for want of memory.
+    pub fn told_in(self, alloc: Global, found: Answer, room: Room<G>) -> Result<Reply, AllocError>
         requires fits { G.fits self.game self.here }
         requires role { self.asked.role < (G.rules self.game).roles }
         requires value { found.value ≡ pos (value (G.rules self.game) self.asked.role self.asked.depth self.asked.at (G.state self.game self.here)) }

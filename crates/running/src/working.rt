@@ -13,7 +13,7 @@ use game::Game;
 use ground::instantiate_flat;
 use replies::{Asked, Deepening, Reading, Reply, Search, ask, check, read, show, told_alone};
 use rulebook::GroundGame;
-use share::{Gate, solve_with};
+use share::{Gate, solve_in};
 use std::alloc::AllocError;
 use std::thread::Threads;
 use words::{Command, Inquiry};
@@ -40,7 +40,7 @@ pub fn told_by_workers<T: Threads + Sync + AllocGlobal, G: Game + Drop>(
     if search.cut.workers() == 1 {
         return told_alone(rt.alloc(), search);
     }
-    let found = solve_with(
+    let (found, room) = solve_in(
         rt,
         &search.game,
         &search.here,
@@ -49,7 +49,7 @@ pub fn told_by_workers<T: Threads + Sync + AllocGlobal, G: Game + Drop>(
         &Ungated,
         search.bytes(),
     )?;
-    search.told(rt.alloc(), found)
+    search.told_in(rt.alloc(), found, room)
 }
 
 /// What a command comes to.

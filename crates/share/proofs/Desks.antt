@@ -3,11 +3,11 @@ use Rattle.std.proofs.Common.{◌≡◌, ℕ, [], ◌∷◌, ◌++◌, ◌≤◌
 use Rattle.std.proofs.lemmas.List.Elements.{All-pop, All-push}
 use Rattle.std.specs.Prelude.{Some, All, vec_capacity}
 use Rattle.game.specs.declared.game.Game.{Ghosts}
-use Rattle.maximin.specs.Room.{IsRoomOf, room_depth}
-use Rattle.maximin.specs.declared.room.Room.{Room}
-use Rattle.share.specs.Step.{IsStepOf}
+use Rattle.maximin.specs.Plain.{IsPlainOf, plain_depth}
+use Rattle.maximin.specs.declared.plain.PlainRoom.{PlainRoom}
+use Rattle.tasks.specs.Step.{IsStepOf}
 use Rattle.share.specs.Desk.{IsDeskOf, IsDeskFor, IsOpenOf}
-use Rattle.share.specs.declared.step.Step.{Step}
+use Rattle.tasks.specs.declared.step.Step.{Step}
 use Rattle.share.specs.declared.desk.Desk.{Desk}
 use Rattle.share.specs.declared.desk.OpenDesk.{OpenDesk}
 
@@ -22,8 +22,8 @@ module _ {G P W M : Type 0} (of : Ghosts G P W M) (game : G) (depth : ℕ) where
       → d.steps.items ≡ e.steps.items ++ s ∷ []
       → vec_capacity e.steps ≡ vec_capacity d.steps → e.room ≡ d.room → e.depth ≡ d.depth → IsDeskOf of game depth m e
   opened_desk n m d e s more h is capacity room told = record {
-    room = subst (λ (r : Room G P W M). IsRoomOf of game r) (sym room) h.room;
-    deep = ap (λ (r : Room G P W M). room_depth r) room ∙ h.deep;
+    room = subst (λ (r : PlainRoom G P W M). IsPlainOf of game r) (sym room) h.room;
+    deep = ap (λ (r : PlainRoom G P W M). plain_depth r) room ∙ h.deep;
     told = told ∙ h.told;
     steps = (All-pop (IsStepOf of game) d.steps.items e.steps.items (Some s) is h.steps).0;
     count = omega (arith, h.count, ap length is, length-append e.steps.items (s ∷ []), more);
@@ -35,8 +35,8 @@ module _ {G P W M : Type 0} (of : Ghosts G P W M) (game : G) (depth : ℕ) where
       → d.steps.items ≡ e.steps.items ++ s ∷ []
       → vec_capacity d.steps ≡ vec_capacity e.steps → d.room ≡ e.room → d.depth ≡ e.depth → IsDeskOf of game depth n d
   closed_desk n m d e s more h step is capacity room told = record {
-    room = subst (λ (r : Room G P W M). IsRoomOf of game r) (sym room) h.room;
-    deep = ap (λ (r : Room G P W M). room_depth r) room ∙ h.deep;
+    room = subst (λ (r : PlainRoom G P W M). IsPlainOf of game r) (sym room) h.room;
+    deep = ap (λ (r : PlainRoom G P W M). plain_depth r) room ∙ h.deep;
     told = told ∙ h.told;
     steps = subst (All (IsStepOf of game)) (sym is) (All-push (IsStepOf of game) e.steps.items s h.steps step);
     count = omega (arith, h.count, ap length is, length-append e.steps.items (s ∷ []), more);

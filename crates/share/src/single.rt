@@ -5,9 +5,9 @@ ghost use Rattle.share.specs.Desk.{HasRoom};
 
 use crate::desk::Desk;
 use crate::gate::Gate;
-use crate::node::Node;
 use game::Game;
-use maximin::value_and_choice;
+use maximin::open_room;
+use tasks::{Node, answer_in};
 
 /// The value of the node and the place of its first best move, by the calling thread at its desk. All its tasks pass the gate in
 /// their order, also those that are not searched in the end.
@@ -22,7 +22,6 @@ pub fn answer_single<G: Game, K: Gate>(node: &Node<'_, G>, gate: &K, desk: Desk<
     for task in 0..node.plan.moves * node.plan.replies {
         gate.at(task as usize);
     }
-    let mut room = desk.room;
-    let (value, first) = value_and_choice(node.game, node.from, node.asked, &mut room);
-    (value, first as u32)
+    let mut room = open_room(node.game, desk.room);
+    answer_in(node, &mut room)
 }

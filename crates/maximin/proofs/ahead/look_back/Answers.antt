@@ -4,9 +4,8 @@ use Rattle.game.proofs.Facts.{row_fits}
 use Rattle.game.specs.Keys.{key_at}
 use Rattle.statement.specs.Rules.{State}
 use Rattle.statement.specs.Value.{value}
-use Rattle.table.specs.Tables.{IsTableOf}
 use Rattle.table.specs.Worths.{IsWithin}
-use Rattle.maximin.proofs.Packs.{note_more, some_is}
+use Rattle.maximin.proofs.Packs.{note_more}
 use Rattle.maximin.proofs.ahead.look_back.Goals as goal
 
 pub key_in-key-requires : goal.key_in-key-requires
@@ -38,15 +37,12 @@ loop-place-preserved g c =
     let key : c.key_in-key.result.now ≡ key_at new (g.G.Game.key_length c.args.game.now) place =
     c.key_in-key.ensures ∙ ap (λ (ws : List ℕ). key_at ws words place) whole ∙ ap (λ (w : ℕ). key_at new w place) c.key_words-words.ensures.length in
     let state : keyed c.key_in-key.result.now ≡ get_or states place [] = ap keyed key ∙ c.write_keys.ensures.keyed place c.loop-place-test.true in
-    let table = c.in-Some.table in
-    let own : IsTableOf rules keyed table.role table.at table = some_is (λ t. IsTableOf rules keyed t.role t.at t) c.args.tools.now.memory.table table c.in-Some.is c.requires.tools.memory.table in
-    let of = c.is_of.ensures c.if-not-is_of.false in
-    let found : IsWithin (worth (get_or states place [])) c.find.result = rw (of.0, of.1, state) at (c.find.ensures rules keyed table.role table.at own) in
+    let found : IsWithin (worth (get_or states place [])) c.find_in.result = rw state at c.find_in.ensures in
     record {
       known = record {
         many = is.known.many;
         position = is.known.position;
-        ahead = rw same (note_more states worth children.ahead _ place c.find.result room refl refl found known);
+        ahead = rw same (note_more states worth children.ahead _ place c.find_in.result room refl refl found known);
       };
       same = record { position = is.same.position; capacities = is.same.capacities; many = is.same.many };
       count = is.count;

@@ -62,7 +62,7 @@ use Rattle.maximin.proofs.OwnTurns.{alone_worst, own_worths, run_seen, run_most,
 use Rattle.maximin.specs.Open.{IsOpen}
 use Rattle.maximin.proofs.Values.{turn_known, value_open, worst_le_value, value_reached, value_ended, value_stuck, value_at_bound}
 use Rattle.maximin.proofs.Bounds.{value_at_most}
-use Rattle.maximin.proofs.Kept.{kept_at_first, kept_then, memory_kept, history_kept, all_levels_kept, level_kept, moves_kept, same_states_then}
+use Rattle.maximin.proofs.Kept.{kept_at_first, kept_then, memory_kept, all_levels_kept, level_kept, moves_kept, same_states_then}
 use Rattle.maximin.proofs.LeftWindows.{settled_answers, narrow_answers, narrow_window, lower_yet, higher_yet}
 use Rattle.maximin.proofs.Runs.{
   known_each,
@@ -1247,8 +1247,7 @@ pub value_at-returns-then-best-window-clause-kept : goal.value_at-returns-then-b
 value_at-returns-then-best-window-clause-kept g t c = kept_then c.loop-own.invariant.kept c.worst_at.ensures.kept
 
 pub least_at-returns-then-upper-window-3-clause-kept : goal.least_at-returns-then-upper-window-3-clause-kept
-least_at-returns-then-upper-window-3-clause-kept g t c = history_kept c.args.tools.now c.child_at.new.tools c.note_cut.new.self c.args.levels.now
-    c.child_at.new.levels c.note_cut.ensures (kept_then c.loop-place.invariant.kept c.child_at.ensures.kept)
+least_at-returns-then-upper-window-3-clause-kept g t c = kept_then c.loop-place.invariant.kept c.child_at.ensures.kept
 
 pub least_at-child_at-requires-clause-window : goal.least_at-child_at-requires-clause-window
 least_at-child_at-requires-clause-window g t c κs within =
@@ -1259,8 +1258,7 @@ least_at-child_at-requires-clause-window g t c κs within =
     rw ea record { low = c.requires.window.low; order = c.loop-place.invariant.above; high = omega (arith, ints) }
 
 pub greatest_at-returns-then-lower-window-3-clause-kept : goal.greatest_at-returns-then-lower-window-3-clause-kept
-greatest_at-returns-then-lower-window-3-clause-kept g t c = history_kept c.args.tools.now c.child_at.new.tools c.note_cut.new.self c.args.levels.now
-    c.child_at.new.levels c.note_cut.ensures (kept_then c.loop-place.invariant.kept c.child_at.ensures.kept)
+greatest_at-returns-then-lower-window-3-clause-kept g t c = kept_then c.loop-place.invariant.kept c.child_at.ensures.kept
 
 pub greatest_at-child_at-requires-clause-window : goal.greatest_at-child_at-requires-clause-window
 greatest_at-child_at-requires-clause-window g t c κs within =

@@ -1,0 +1,144 @@
+//! The search of a state by one worker and others who help it.
+ghost use Rattle.std.specs.Prelude.{◌≡◌, ◌<◌, pos, IfSome};
+ghost use Rattle.statement.specs.Value.{value, choice_of};
+ghost use Rattle.maximin.specs.Company.{company_game};
+ghost use Rattle.helped.specs.Found.{IsFound};
+
+use crate::helper::{Aid, help};
+use cut::Cut;
+use game::{Game, Question};
+use maximin::{Company, Room};
+use std::alloc::Global;
+use std::sync::atomic::{AtomicU64, Ordering};
+use std::thread::{Threads, map_indices};
+use tasks::{Node, answer_in};
+
+/// With fewer turns to come the tasks of a board are shared, and nobody helps: a search is done too soon.
+const FEWEST_TURNS: u32 = 8;
+
+/// What the workers of a search share, if there are to be several, who are to keep what states are worth, and if it can be had.
+pub fn company_of<G: Game>(
+    alloc: Global,
+    game: &G,
+    asked: Question,
+    cut: &Cut,
+    bytes: usize,
+) -> Option<Company<G>>
+    ensures { IfSome result (λ company. company_game company ≡ game.now) }
+{
+    if cut.workers() <= 1 || asked.depth < FEWEST_TURNS {
+        return None;
+    }
+    Company::within(alloc, game, asked, bytes)
+}
+
+/// The value of a node and the place of its first best move, found over the tables, where the memory for it can be had.
+fn answer_over_tables<G: Game>(aid: &Aid<'_, G>) -> Option<(i16, u32)>
+    requires fits { G.fits aid.now.node.now.game.now aid.now.node.now.from.now }
+    requires company { company_game aid.now.company.now ≡ aid.now.node.now.game.now }
+    ensures { IfSome result (λ r. IsFound (G.rules aid.now.node.now.game.now) aid.now.node.now.asked.role aid.now.node.now.asked.depth aid.now.node.now.asked.at
+        (G.state aid.now.node.now.game.now aid.now.node.now.from.now) r.0 r.1) }
+{
+    let node = aid.node;
+    let Ok(mut room) = Room::in_company(aid.alloc, node.game, node.asked.depth, aid.company, 0)
+    else {
+        return None;
+    };
+    Some(answer_in(node, &mut room))
+}
+
+/// The same, and then the word that says that it is done.
+fn answer_and_tell<G: Game>(aid: &Aid<'_, G>) -> Option<(i16, u32)>
+    requires fits { G.fits aid.now.node.now.game.now aid.now.node.now.from.now }
+    requires company { company_game aid.now.company.now ≡ aid.now.node.now.game.now }
+    ensures { IfSome result (λ r. IsFound (G.rules aid.now.node.now.game.now) aid.now.node.now.asked.role aid.now.node.now.asked.depth aid.now.node.now.asked.at
+        (G.state aid.now.node.now.game.now aid.now.node.now.from.now) r.0 r.1) }
+{
+    let found = answer_over_tables(aid);
+    aid.done.store(1, Ordering::Relaxed);
+    found
+}
+
+/// What the worker of a number does: the first answers, and the others help.
+fn take_part<G: Game>(aid: &Aid<'_, G>, worker: usize) -> Option<(i16, u32)>
+    requires fits { G.fits aid.now.node.now.game.now aid.now.node.now.from.now }
+    requires company { company_game aid.now.company.now ≡ aid.now.node.now.game.now }
+    ensures { IfSome result (λ r. IsFound (G.rules aid.now.node.now.game.now) aid.now.node.now.asked.role aid.now.node.now.asked.depth aid.now.node.now.asked.at
+        (G.state aid.now.node.now.game.now aid.now.node.now.from.now) r.0 r.1) }
+{
+    if worker > 0 {
+        help(aid, worker - 1);
+        return None;
+    }
+    answer_and_tell(aid)
+}
+
+/// What the first of so many workers answers, each in a thread of its own.
+fn answer_by_parts<R: Threads + Sync, G: Game>(
+    rt: &R,
+    aid: &Aid<'_, G>,
+    others: u32,
+) -> Option<(i16, u32)>
+    requires fits { G.fits aid.now.node.now.game.now aid.now.node.now.from.now }
+    requires company { company_game aid.now.company.now ≡ aid.now.node.now.game.now }
+    ensures { IfSome result (λ r. IsFound (G.rules aid.now.node.now.game.now) aid.now.node.now.asked.role aid.now.node.now.asked.depth aid.now.node.now.asked.at
+        (G.state aid.now.node.now.game.now aid.now.node.now.from.now) r.0 r.1) }
+{
+    let part = |worker: usize| -> Option<(i16, u32)>
+        requires { G.fits aid.now.node.now.game.now aid.now.node.now.from.now × (company_game aid.now.company.now ≡ aid.now.node.now.game.now) }
+        ensures { IfSome result (λ r. IsFound (G.rules aid.entry.now.node.now.game.now) aid.entry.now.node.now.asked.role aid.entry.now.node.now.asked.depth aid.entry.now.node.now.asked.at
+            (G.state aid.entry.now.node.now.game.now aid.entry.now.node.now.from.now) r.0 r.1) }
+    { take_part(aid, worker) };
+    let Ok(found) = map_indices(rt, aid.alloc, others as usize + 1, &part) else {
+        return None;
+    };
+    found[0]
+}
+
+/// The value of a node and the place of its first best move, by one thread, with so many others who help it. There is none where the
+/// memory for it is refused.
+fn answer_with_help<R: Threads + Sync, G: Game>(
+    rt: &R,
+    node: &Node<'_, G>,
+    company: &Company<G>,
+    others: u32,
+    alloc: Global,
+) -> Option<(i16, u32)>
+    requires fits { G.fits node.now.game.now node.now.from.now }
+    requires company { company_game company.now ≡ node.now.game.now }
+    ensures { IfSome result (λ r. IsFound (G.rules node.now.game.now) node.now.asked.role node.now.asked.depth node.now.asked.at
+        (G.state node.now.game.now node.now.from.now) r.0 r.1) }
+{
+    let done = AtomicU64::new(0);
+    let aid = Aid {
+        alloc,
+        node,
+        company,
+        done: &done,
+    };
+    answer_by_parts(rt, &aid, others)
+}
+
+/// The value of a state, and the first move of the role that attains it, by the calling thread, with so many others who help it. There
+/// is none where the state has no node, or where the memory for it is refused.
+pub fn answer_helped<R: Threads + Sync, G: Game>(
+    rt: &R,
+    alloc: Global,
+    game: &G,
+    from: &G::Pos,
+    asked: Question,
+    company: &Company<G>,
+    others: u32,
+) -> Option<(i16, Option<u32>)>
+    requires fits { G.fits game.now from.now }
+    requires role { asked.role < (G.rules game.now).roles }
+    requires company { company_game company.now ≡ game.now }
+    ensures value { IfSome result (λ r. r.0 ≡ pos (value (G.rules game.now) asked.role asked.depth asked.at (G.state game.now from.now))) }
+    ensures choice { IfSome result (λ r. r.1 ≡ choice_of (G.rules game.now) asked.role asked.depth asked.at (G.state game.now from.now)) }
+{
+    let Ok(Some(node)) = Node::new(alloc, game, from, asked) else {
+        return None;
+    };
+    let (value, first) = answer_with_help(rt, &node, company, others, alloc)?;
+    Some((value, game.legal(from, asked.role, first as usize)))
+}

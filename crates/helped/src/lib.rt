@@ -1,0 +1,8 @@
+//! The search of a state by one worker, whom others help over tables that all of them use.
+#![tactic(auto)]
+
+mod helped;
+mod helper;
+mod todo;
+
+pub use helped::{answer_helped, company_of};

@@ -1,0 +1,40 @@
+//! What the workers of a search share.
+ghost use Rattle.std.specs.Prelude.{◌≡◌, IfSome};
+ghost use Rattle.maximin.specs.Company.{company_game};
+
+use crate::history::new_counts;
+use game::{Game, Question};
+use hints::{Marks, SharedHistory};
+use shared_table::SharedTable;
+use std::alloc::Global;
+use std::sync::Arc;
+
+/// How many states can be marked at once.
+const MARKS: u32 = 16_384;
+
+/// What all workers of a search share: bounds of what states are worth, how much moves cut off, and which states are being searched.
+#[derive(Drop)]
+pub struct Company<G: Game> {
+    pub(crate) tables: Arc<SharedTable<G>>,
+    pub(crate) history: Arc<SharedHistory>,
+    pub(crate) marks: Arc<Marks>,
+}
+
+impl<G: Game> Company<G> {
+    /// For a question about a game, with tables that take at most so many bytes. There is none where these are too few or refused.
+    pub fn within(alloc: Global, game: &G, asked: Question, bytes: usize) -> Option<Company<G>>
+        ensures { IfSome result (λ company. company_game company ≡ game.now) }
+    {
+        let tables = SharedTable::within(alloc, game, asked, bytes)?;
+        let tables = Arc::new(alloc, tables).ok()?;
+        let history = new_counts(alloc, game).ok()?;
+        let history = Arc::new(alloc, history).ok()?;
+        let marks = Marks::new(alloc, MARKS).ok()?;
+        let marks = Arc::new(alloc, marks).ok()?;
+        Some(Company {
+            tables,
+            history,
+            marks,
+        })
+    }
+}

@@ -1,0 +1,87 @@
+//! Whole games, by one worker and by several who help it.
+use crate::plays::{game_of, new_tally};
+use cut::Cut;
+use game::{AtBound, Game, Question};
+use share::solve_with;
+use std::alloc::AllocGlobal;
+use std::process::Abort;
+use std::test::Fail;
+use std::thread::Threads;
+
+/// Six stones, of which the players take one to three in turn. Who takes the last one wins, so who leaves a multiple of four wins, and the
+/// first has to take two.
+const STONES: &[u8] = b"(role a) (role b) (s 0 1) (s 1 2) (s 2 3) (s 3 4) (s 4 5) (s 5 6)
+(<= (left ?n 1 ?m) (s ?m ?n))
+(<= (left ?n 2 ?m) (s ?k ?n) (s ?m ?k))
+(<= (left ?n 3 ?m) (s ?k ?n) (s ?l ?k) (s ?m ?l))
+(base (heap 6)) (<= (base (heap ?n)) (s ?n ?m)) (<= (base (control ?r)) (role ?r))
+(<= (input ?r (take ?k)) (role ?r) (left 6 ?k ?m)) (<= (input ?r noop) (role ?r))
+(init (heap 6)) (init (control a))
+(<= (legal ?r (take ?k)) (true (control ?r)) (true (heap ?n)) (left ?n ?k ?m))
+(<= (legal ?r noop) (role ?r) (not (true (control ?r))))
+(<= (next (heap ?m)) (does ?r (take ?k)) (true (heap ?n)) (left ?n ?k ?m))
+(<= (next (control a)) (true (control b))) (<= (next (control b)) (true (control a)))
+(<= terminal (true (heap 0)))
+(<= (goal a 100) (true (heap 0)) (true (control b)))
+(<= (goal a 0) (true (control a)))";
+
+/// A ring of eight fields, on which one role goes one or two on, so that states come again. On the fourth it wins, if the other has
+/// said yes as often as it liked.
+const RING: &[u8] =
+    b"(role a) (role b) (on 0 1) (on 1 2) (on 2 3) (on 3 4) (on 4 5) (on 5 6) (on 6 7) (on 7 0)
+(<= (base (at ?n)) (on ?n ?m)) (base yes)
+(input a one) (input a two) (input b yes) (input b no)
+(init (at 1))
+(legal a one) (legal a two) (legal b yes) (legal b no)
+(<= (next (at ?m)) (does a one) (true (at ?n)) (on ?n ?m))
+(<= (next (at ?m)) (does a two) (true (at ?n)) (on ?n ?k) (on ?k ?m))
+(<= (next yes) (does b yes))
+(<= terminal (true (at 4)) (true yes))
+(<= (goal a 80) (true (at 4)) (true yes))
+(<= (goal a 10) (not (true yes)))";
+
+/// Whether a game is worth so much to its first role from the start, and the move at a place is its choice, with tables of several sizes
+/// and whoever helps.
+fn agree<R: Threads + Abort + Sync + AllocGlobal>(
+    rt: &R,
+    text: &[u8],
+    depth: u32,
+    value: i16,
+    place: usize,
+) -> Result<(), Fail> {
+    let game = game_of(rt, text)?;
+    if game.roles() == 0 {
+        panic!(rt; "no role");
+    }
+    let start = game.fresh()?;
+    let choice = game.legal(&start, 0, place);
+    let asked = Question {
+        role: 0,
+        depth,
+        at: AtBound::Zero,
+    };
+    for bytes in [0, 1 << 12, 1 << 14, 1 << 20] {
+        for cut in ["1", "2", "4", "16x4", "2x2x2"] {
+            let Some(cut) = Cut::parse(cut.as_bytes()) else {
+                panic!(rt; "no cut")
+            };
+            let answer = solve_with(rt, &game, &start, asked, &cut, &new_tally(), bytes)?;
+            assert_eq!(rt; answer.value, value);
+            assert_eq!(rt; answer.choice, choice);
+        }
+    }
+    Ok(())
+}
+
+#[test]
+fn a_whole_game_is_worth_the_same_whoever_helps(rt: HostRuntime) -> Result<(), Fail> {
+    agree(&rt, STONES, 8, 100, 1)?;
+    agree(&rt, STONES, 12, 100, 1)
+}
+
+// The other never says yes, so nothing ends, and both moves are worth nothing.
+#[test]
+fn states_that_come_again_are_worth_the_same_whoever_helps(rt: HostRuntime) -> Result<(), Fail> {
+    agree(&rt, RING, 8, 0, 0)?;
+    agree(&rt, RING, 9, 0, 0)
+}

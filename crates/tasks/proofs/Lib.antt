@@ -1,0 +1,3 @@
+mod Picks
+mod Plans
+pub mod Facts

@@ -1,0 +1,4 @@
+pub mod Tasks
+pub mod Plan
+pub mod Step
+pub mod Node
