@@ -1,5 +1,5 @@
 -- Chains of arrows between numbers are chains of dependence.
-use Rattle.std.proofs.Common.{ℕ, zero, suc, Bool, true, false, cond, ◌≡◌, ◌<◌, ◌⊎◌, inl, inr, List, [], ◌∷◌, ◌++◌, map, length, get_or, refl, sym, ap, subst, ◌∙◌, arith}
+use Rattle.std.proofs.Common.{ℕ, zero, suc, Bool, true, false, cond, ◌≡◌, ◌<◌, ◌⊎◌, inl, inr, List, [], ◌∷◌, map, length, refl, sym, ap, subst, ◌∙◌, arith}
 use Rattle.statement.specs.Tree.{Tree}
 use Rattle.statement.specs.Clause.{Literal, Alternative, Relation, relation_of, atom_of}
 use Rattle.statement.specs.Items.{item_head}
@@ -7,7 +7,7 @@ use Rattle.statement.specs.Dependence.{IsAmong, is_among, is_distinct, DependsDi
 use Rattle.digraph.specs.declared.graph.Arrow.{Arrow}
 use Rattle.digraph.specs.Graph.{arrow_at, Leads, ReachesIn}
 use Rattle.rules.specs.Arrows.{arrows_from}
-use Rattle.outline.specs.Asking.{body_literals, asked_relations, relations_of}
+use Rattle.outline.specs.Asking.{body_literals, asked_relations}
 use Rattle.profile.proofs.Facts.{IsAmong-append, IsAmong-append_left, IsAmong-append_right}
 use Rattle.strata.specs.Numbering.{number_in, numbers_in, head_number, item_arrows, items_arrows}
 use Rattle.strata.specs.Resting.{rule_in, rules_in}

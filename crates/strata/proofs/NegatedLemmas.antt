@@ -1,6 +1,6 @@
 -- The relations of negated literals, in lists.
-use Rattle.std.proofs.Common.{ℕ, suc, zero, ◌≡◌, ◌<◌, ◌+◌, List, [], ◌∷◌, ◌++◌, drop, length, get_or, refl, sym, ap, ◌∙◌, append_assoc}
-use Rattle.statement.specs.Tree.{Tree, Trees, tree, name, list, trees_of}
+use Rattle.std.proofs.Common.{ℕ, ◌≡◌, ◌<◌, ◌+◌, List, [], ◌∷◌, ◌++◌, drop, length, get_or, refl, sym, ap, ◌∙◌, append_assoc}
+use Rattle.statement.specs.Tree.{Tree, name, list, trees_of}
 use Rattle.statement.specs.Clause.{Literal, positive, negative, Relation, relation_of}
 use Rattle.kif.specs.View.{tree_of, trees_in}
 use Rattle.kif.specs.declared.expr.Expr.{Expr}

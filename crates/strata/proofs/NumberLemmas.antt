@@ -1,5 +1,5 @@
 -- Relations by number: what has the number of a known relation is that relation.
-use Rattle.std.proofs.Common.{ℕ, zero, suc, Bool, true, false, cond, ◌≡◌, ◌<◌, ◌≤◌, ◌||◌, List, [], ◌∷◌, length, refl, sym, ap, ◌∙◌, arith}
+use Rattle.std.proofs.Common.{zero, suc, Bool, true, false, cond, ◌≡◌, ◌≤◌, ◌||◌, List, [], ◌∷◌, length, refl, sym, ◌∙◌, arith}
 use Rattle.statement.specs.Clause.{Relation, relation_eq}
 use Rattle.statement.specs.Dependence.{is_among}
 use Rattle.profile.proofs.Facts.{relation_eq_yes}

@@ -1,9 +1,8 @@
 -- Walks over items and relations: what is made so far, and what is left.
-use Rattle.std.proofs.Common.{ℕ, zero, suc, Bool, true, false, cond, ◌≡◌, ◌<◌, ◌+◌, List, [], ◌∷◌, ◌++◌, map, drop, length, get_or, refl, sym, ap, subst, ◌∙◌, append_assoc, arith}
+use Rattle.std.proofs.Common.{ℕ, zero, suc, Bool, true, false, cond, ◌≡◌, ◌<◌, ◌+◌, List, [], ◌∷◌, ◌++◌, map, drop, length, get_or, refl, sym, ap, ◌∙◌, append_assoc, arith}
 use Rattle.std.proofs.lemmas.List.{map-append}
 use Rattle.statement.specs.Tree.{Tree, trees_of}
 use Rattle.statement.specs.Clause.{Atom, Relation, relation_of}
-use Rattle.statement.specs.Items.{atom_in}
 use Rattle.statement.specs.Clause.{count_trees}
 use Rattle.statement.specs.Dependence.{is_distinct}
 use Rattle.digraph.specs.declared.graph.Arrow.{Arrow}

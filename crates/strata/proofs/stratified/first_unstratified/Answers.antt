@@ -1,4 +1,4 @@
-use Rattle.std.proofs.Common.{ℕ, ◌+◌, ◌≡◌, List, Option, length, sym, subst, ap, ◌∙◌}
+use Rattle.std.proofs.Common.{ℕ, List, sym, subst}
 use Rattle.std.specs.Prelude.{All}
 use Rattle.digraph.specs.declared.graph.Arrow.{Arrow}
 use Rattle.digraph.specs.GraphView.{arrows_of, nodes_of}
