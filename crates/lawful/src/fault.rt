@@ -22,12 +22,21 @@ pub enum UnrollFault {
 }
 
 impl fmt::Display for UnrollFault {
+    ghost use Rattle.std.specs.Prelude.{Some};
+    ghost use Rattle.lawful.specs.FaultTexts.{unroll_fault_words};
+
+    ghost output = { λ fault. Some (unroll_fault_words fault) };
+
     fn fmt<W: fmt::Write>(&self, f: &mut fmt::Formatter<W>) -> fmt::Result {
         match self {
             UnrollFault::Text(fault) => write!(f, "{fault}"),
             UnrollFault::Rules(fault) => write!(f, "{fault}"),
             UnrollFault::NotStratified(item) => write!(f, "U1 NotStratified {item}"),
-            UnrollFault::TooMany(excess) => write!(f, "U2 TooMany {excess}"),
+            UnrollFault::TooMany(Excess::Facts) => f.write_str("U2 TooMany facts"),
+            UnrollFault::TooMany(Excess::Instances) => f.write_str("U2 TooMany instances"),
+            UnrollFault::TooMany(Excess::Layers) => f.write_str("U2 TooMany layers"),
+            UnrollFault::TooMany(Excess::Text) => f.write_str("U2 TooMany text"),
+            UnrollFault::TooMany(Excess::Items) => f.write_str("U2 TooMany items"),
             UnrollFault::NoMemory => f.write_str("U9 NoMemory"),
         }
     }
