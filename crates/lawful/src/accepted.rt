@@ -1,0 +1,87 @@
+//! Whether a text is accepted, and has the roles of items.
+ghost use Rattle.std.specs.Prelude.{◌≡◌, [], ◌∷◌, List, IfOk, IfErr, OnOk, map};
+ghost use Rattle.std.specs.Bool.{OnTrue};
+ghost use Rattle.statement.specs.Tree.{Tree, text as canonical};
+ghost use Rattle.statement.specs.Profile.{roles};
+ghost use Rattle.kif.specs.View.{trees_in};
+ghost use Rattle.profile.specs.Stated.{role_stated, roles_at};
+ghost use Rattle.rules.specs.RuleSetView.{roles_in};
+ghost use Rattle.lawful.specs.Lawful.{IsAccepted, IsRefusal};
+
+use crate::fault::UnrollFault;
+use atoms::Excess;
+use kif::{Expr, KifFault, read, text_is};
+use profile::role_of;
+use rules::RuleSet;
+use statement::RuleFault;
+use std::alloc::Global;
+
+/// Whether the item at a place states a role of this text.
+fn is_role(items: &[Expr<Global>], place: usize, text: &[u8]) -> bool
+    ensures { OnTrue result (map canonical (role_stated (trees_in items.now) place) ≡ text.now ∷ []) }
+{
+    if place >= items.len() {
+        return false;
+    }
+    match role_of(&items[place]) {
+        Some(role) => text_is(role, text),
+        None => false,
+    }
+}
+
+/// Whether the roles at places of items have the texts of the roles of a rule set, in the same order.
+fn has_roles(items: &[Expr<Global>], places: &[usize], rules: &RuleSet) -> bool
+    ensures { OnTrue result (map canonical (roles_at (trees_in items.now) places.now) ≡ roles_in rules.now) }
+{
+    if places.len() != rules.roles() {
+        return false;
+    }
+    for (role, place) in places.iter().enumerate() {
+        if !is_role(items, *place, rules.role_text(role)) {
+            return false;
+        }
+    }
+    true
+}
+
+/// The rule set of what was written.
+fn written_rules(alloc: Global, out: &[u8]) -> Result<RuleSet, UnrollFault>
+    ensures accepted { IfOk result (λ rules. IsAccepted (roles_in rules) out.now) }
+    ensures fault { IfErr result (λ fault. (items : List Tree) → IsRefusal items fault) }
+{
+    let items = match read(alloc, out) {
+        Ok(items) => items,
+        Err(KifFault::NoMemory) => return Err(UnrollFault::NoMemory),
+        Err(_) => return Err(UnrollFault::TooMany(Excess::Text)),
+    };
+    match RuleSet::check(alloc, &items) {
+        Ok(rules) => Ok(rules),
+        Err(RuleFault::NoMemory) => Err(UnrollFault::NoMemory),
+        Err(_) => Err(UnrollFault::TooMany(Excess::Items)),
+    }
+}
+
+/// Whether what was written is accepted and has the roles of the items, which stand at these places. If not it is told as items that are
+/// too many.
+pub fn accept(
+    alloc: Global,
+    items: &[Expr<Global>],
+    places: &[usize],
+    out: &[u8],
+) -> Result<(), UnrollFault>
+    requires { roles_at (trees_in items.now) places.now ≡ roles (trees_in items.now) }
+    ensures accepted { OnOk result (IsAccepted (map canonical (roles (trees_in items.now))) out.now) }
+    ensures fault { IfErr result (IsRefusal (trees_in items.now)) }
+{
+    if places.is_empty() {
+        return Err(UnrollFault::Rules(RuleFault::NoRole));
+    }
+    let rules = match written_rules(alloc, out) {
+        Ok(rules) => rules,
+        Err(fault) => return Err(fault),
+    };
+    if has_roles(items, places, &rules) {
+        return Ok(());
+    }
+    Err(UnrollFault::TooMany(Excess::Items))
+}

@@ -1,0 +1,10 @@
+//! Whether a text is lawful in the whole language, and whether what is written for it is accepted.
+#![tactic(auto)]
+
+mod accepted;
+mod fault;
+mod items;
+
+pub use accepted::accept;
+pub use fault::UnrollFault;
+pub use items::{found_items, is_recursive, refuse_crossed, role_places};

@@ -1,0 +1,7 @@
+mod StrataLemmas
+mod RelationLemmas
+mod NumberLemmas
+mod ChainLemmas
+mod CrossedLemmas
+mod NegatedLemmas
+mod WalkLemmas

@@ -1,0 +1,3 @@
+pub mod Strata
+pub mod Numbering
+pub mod Resting
