@@ -79,7 +79,7 @@ fn joined(mut bytes: Vec<u8>, rest: &[u8]) -> Result<Vec<u8>, RunFault>
 
 /// Reads the input to its end, or to the limit. Room for a text of the common length comes first, and room for the longest only where
 /// that is full: a page of memory that is not written costs nothing. `Read` comes at the first read that fails.
-pub(crate) fn read_input<R: Read>(alloc: Global, input: &mut R) -> Result<Vec<u8>, RunFault>
+pub fn read_input<R: Read>(alloc: Global, input: &mut R) -> Result<Vec<u8>, RunFault>
     ensures whole { IfOk result (λ bytes. IsReadFrom (R.remaining input.old) (R.remaining input.new) bytes.items) }
     ensures faults { IfErr result (λ fault. fault ≢ RunFault.Write) }
 {

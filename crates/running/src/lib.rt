@@ -17,6 +17,7 @@ mod working;
 pub use commands::{fulfil, main_with, status_of};
 pub use explained::main_explained;
 pub use fault::RunFault;
+pub use input::read_input;
 pub use linting::lint_reply;
 pub use program::main_program;
 pub use runs::{run, run_with, write_out};

@@ -174,6 +174,20 @@ fn lint<'a>(alloc: Global) -> clap::Command<'a> {
     )
 }
 
+/// The command `unroll`, which is no request either.
+fn unroll<'a>(alloc: Global) -> Result<clap::Command<'a>, AllocError> {
+    clap::Command::new(alloc, "unroll")
+        .about(
+            "Write a game that is found with recursion, or without base and input, as rules that every command takes",
+        )
+        .arg(
+            clap::Arg::new(alloc, "tighten")
+                .long("tighten")
+                .action(clap::ArgAction::SetTrue)
+                .help("State only the base propositions and inputs that play can come to"),
+        )
+}
+
 /// The command `net`.
 fn net<'a>(alloc: Global) -> clap::Command<'a> {
     clap::Command::new(alloc, "net").about(
@@ -251,6 +265,7 @@ fn grammar<'a>(alloc: Global) -> Result<clap::Command<'a>, AllocError> {
         .subcommand(show(alloc))?
         .subcommand(check(alloc))?
         .subcommand(lint(alloc))?
+        .subcommand(unroll(alloc)?)?
         .subcommand(net(alloc))?
         .subcommand(moves(alloc)?)?
         .subcommand(state(alloc)?)?

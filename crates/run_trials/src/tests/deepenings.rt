@@ -2,278 +2,272 @@
 use super::broken::is_written_to_all;
 use super::devices::Tides;
 use super::games::{FOUR, LIVE, MARKS, MATCH};
-use super::lines::{OPEN, Row};
+use super::lines::OPEN;
 use super::windows::{PICK, SIDES, STUCK};
-use super::{replies, told};
-use cut::Cut;
-use game::AtBound;
+use super::{Played, first_untold, told};
 use running::main_with;
 use std::alloc::AllocError;
 use std::io::Write;
 use std::thread::Threads;
-use words::{Command, Inquiry, Sought};
-
-/// What a row seeks, with nothing for play that goes on.
-fn sought<'a>(row: &Row<'a>) -> Option<Sought<'a>> {
-    Some(Sought {
-        role: row.1,
-        depth: row.2,
-        at_bound: AtBound::Zero,
-        cut: Cut::parse(b"1")?,
-        table: 1,
-        after: row.3,
-    })
-}
-
-/// Whether a command, `solve` or `values`, with an option answers what the row says.
-fn tells<T: Threads + Sync + AllocGlobal>(
-    rt: &T,
-    name: &str,
-    option: &str,
-    row: Row,
-) -> Result<bool, AllocError> {
-    let (rules, role, depth, after, want, exit) = row;
-    let turns = format!(in rt.alloc(); "{depth}")?;
-    let Some(sought) = sought(&row) else {
-        return Ok(false);
-    };
-    let command = if name == "solve" {
-        Command::Ask(Inquiry::Deepen(sought))
-    } else {
-        Command::Ask(Inquiry::ValuesWithLines(sought))
-    };
-    let words = [
-        name,
-        option,
-        "--role",
-        role,
-        "--depth",
-        turns.as_str(),
-        "--after",
-        after,
-    ];
-    Ok(replies(rt, &command, &words, rules, want, exit))
-}
 
 /// The only role plays two turns, and then has 70.
 const TWO: &[u8] =
     b"(role a)(base one)(base two)(input a go)(legal a go)(<= (next one) (not (true one)))(<= (next two) (true one))(<= terminal (true two))(goal a 70)";
 
-const DEEPENED: [Row; 16] = [
+/// Games, and what `solve --deepen` tells of them.
+const DEEPENED: [Played; 7] = [
     (
         PICK,
-        "a",
-        3,
-        "",
-        b"depth 1\nvalue 60\nmove q\nline 1 q\nsettled\n",
-        0,
-    ),
-    (PICK, "a", 0, "", b"", 0),
-    (
-        PICK,
-        "a",
-        9,
-        "(r)",
-        b"depth 1\nvalue 30\nmove none\nsettled\n",
-        0,
+        &[
+            (
+                "solve|--deepen|--role|a|--depth|3|--after|",
+                b"depth 1\nvalue 60\nmove q\nline 1 q\nsettled\n",
+                0,
+            ),
+            ("solve|--deepen|--role|a|--depth|0|--after|", b"", 0),
+            (
+                "solve|--deepen|--role|a|--depth|9|--after|(r)",
+                b"depth 1\nvalue 30\nmove none\nsettled\n",
+                0,
+            ),
+        ],
     ),
     (
         SIDES,
-        "a",
-        2,
-        "",
-        b"depth 1\nvalue 35\nmove r\nline 1 r more\nsettled\n",
-        0,
+        &[(
+            "solve|--deepen|--role|a|--depth|2|--after|",
+            b"depth 1\nvalue 35\nmove r\nline 1 r more\nsettled\n",
+            0,
+        )],
     ),
     (
         MATCH,
-        "a",
-        64,
-        "",
-        b"depth 1\nvalue 0\nmove h\nline 1 h t\nsettled\n",
-        0,
+        &[
+            (
+                "solve|--deepen|--role|a|--depth|64|--after|",
+                b"depth 1\nvalue 0\nmove h\nline 1 h t\nsettled\n",
+                0,
+            ),
+            (
+                "solve|--deepen|--role|c|--depth|1|--after|(h x)",
+                b"refused S1 NoSuchRole\n",
+                2,
+            ),
+            (
+                "solve|--deepen|--role|a|--depth|1|--after|(h x)",
+                b"refused H2 NotLegal 1 b\n",
+                2,
+            ),
+            (
+                "solve|--deepen|--role|a|--depth|1|--after|(h t",
+                b"refused H1 BadForm 0\n",
+                2,
+            ),
+            (
+                "solve|--deepen|--role|a|--depth|0|--after|(h t) (h t)",
+                b"refused H3 Over 2\n",
+                2,
+            ),
+        ],
     ),
     (
         STUCK,
-        "a",
-        2,
-        "",
-        b"depth 1\nvalue 0\nmove none\nsettled\n",
-        0,
+        &[(
+            "solve|--deepen|--role|a|--depth|2|--after|",
+            b"depth 1\nvalue 0\nmove none\nsettled\n",
+            0,
+        )],
     ),
     (
         OPEN,
-        "a",
-        2,
-        "",
-        b"depth 1\nvalue 0\nmove stay\nline 1 stay\ndepth 2\nvalue 0\nmove stay\nline 1 stay\nline 2 stay\n",
-        0,
+        &[(
+            "solve|--deepen|--role|a|--depth|2|--after|",
+            b"depth 1\nvalue 0\nmove stay\nline 1 stay\ndepth 2\nvalue 0\nmove stay\nline 1 stay\nline 2 stay\n",
+            0,
+        )],
     ),
     (
         TWO,
-        "a",
-        1,
-        "",
-        b"depth 1\nvalue 0\nmove go\nline 1 go\n",
-        0,
+        &[
+            (
+                "solve|--deepen|--role|a|--depth|1|--after|",
+                b"depth 1\nvalue 0\nmove go\nline 1 go\n",
+                0,
+            ),
+            (
+                "solve|--deepen|--role|a|--depth|2|--after|",
+                b"depth 1\nvalue 0\nmove go\nline 1 go\ndepth 2\nvalue 70\nmove go\nline 1 go\nline 2 go\nsettled\n",
+                0,
+            ),
+            (
+                "solve|--deepen|--role|a|--depth|9|--after|",
+                b"depth 1\nvalue 0\nmove go\nline 1 go\ndepth 2\nvalue 70\nmove go\nline 1 go\nline 2 go\nsettled\n",
+                0,
+            ),
+            (
+                "solve|--deepen|--role|a|--depth|9|--after|(go)",
+                b"depth 1\nvalue 70\nmove go\nline 1 go\nsettled\n",
+                0,
+            ),
+        ],
     ),
     (
-        TWO,
-        "a",
-        2,
-        "",
-        b"depth 1\nvalue 0\nmove go\nline 1 go\ndepth 2\nvalue 70\nmove go\nline 1 go\nline 2 go\nsettled\n",
-        0,
+        b"(role a",
+        &[(
+            "solve|--deepen|--role|a|--depth|1|--after|",
+            b"refused K4 Unclosed 0\n",
+            2,
+        )],
     ),
-    (
-        TWO,
-        "a",
-        9,
-        "",
-        b"depth 1\nvalue 0\nmove go\nline 1 go\ndepth 2\nvalue 70\nmove go\nline 1 go\nline 2 go\nsettled\n",
-        0,
-    ),
-    (
-        TWO,
-        "a",
-        9,
-        "(go)",
-        b"depth 1\nvalue 70\nmove go\nline 1 go\nsettled\n",
-        0,
-    ),
-    (MATCH, "c", 1, "(h x)", b"refused S1 NoSuchRole\n", 2),
-    (MATCH, "a", 1, "(h x)", b"refused H2 NotLegal 1 b\n", 2),
-    (MATCH, "a", 1, "(h t", b"refused H1 BadForm 0\n", 2),
-    (MATCH, "a", 0, "(h t) (h t)", b"refused H3 Over 2\n", 2),
-    (b"(role a", "a", 1, "", b"refused K4 Unclosed 0\n", 2),
 ];
 
-const LINED: [Row; 12] = [
+/// Games, and what `values --lines` tells of their moves.
+const LINED: [Played; 6] = [
     (
         PICK,
-        "a",
-        1,
-        "",
-        b"value 10 p\nline 1 p\nvalue 60 q\nline 1 q\nvalue 30 r\nline 1 r\nvalue 60 s\nline 1 s\n",
-        0,
+        &[
+            (
+                "values|--lines|--role|a|--depth|1|--after|",
+                b"value 10 p\nline 1 p\nvalue 60 q\nline 1 q\nvalue 30 r\nline 1 r\nvalue 60 s\nline 1 s\n",
+                0,
+            ),
+            (
+                "values|--lines|--role|a|--depth|0|--after|",
+                b"value 0\nmove none\n",
+                0,
+            ),
+            (
+                "values|--lines|--role|a|--depth|2|--after|(r)",
+                b"value 30\nmove none\n",
+                0,
+            ),
+        ],
     ),
     (
         SIDES,
-        "a",
-        1,
-        "",
-        b"value 20 l\nline 1 l less\nvalue 35 r\nline 1 r more\n",
-        0,
-    ),
-    (
-        SIDES,
-        "b",
-        1,
-        "",
-        b"value 0 less\nline 1 l less\nvalue 0 more\nline 1 l more\n",
-        0,
+        &[
+            (
+                "values|--lines|--role|a|--depth|1|--after|",
+                b"value 20 l\nline 1 l less\nvalue 35 r\nline 1 r more\n",
+                0,
+            ),
+            (
+                "values|--lines|--role|b|--depth|1|--after|",
+                b"value 0 less\nline 1 l less\nvalue 0 more\nline 1 l more\n",
+                0,
+            ),
+        ],
     ),
     (
         MATCH,
-        "a",
-        3,
-        "",
-        b"value 0 h\nline 1 h t\nvalue 0 t\nline 1 t h\n",
-        0,
+        &[
+            (
+                "values|--lines|--role|a|--depth|3|--after|",
+                b"value 0 h\nline 1 h t\nvalue 0 t\nline 1 t h\n",
+                0,
+            ),
+            (
+                "values|--lines|--role|c|--depth|1|--after|(h x)",
+                b"refused S1 NoSuchRole\n",
+                2,
+            ),
+            (
+                "values|--lines|--role|a|--depth|1|--after|(h t) (h t)",
+                b"refused H3 Over 2\n",
+                2,
+            ),
+        ],
     ),
     (
         OPEN,
-        "a",
-        2,
-        "",
-        b"value 0 stay\nline 1 stay\nline 2 stay\nvalue 0 up\nline 1 up\nline 2 stay\n",
-        0,
+        &[(
+            "values|--lines|--role|a|--depth|2|--after|",
+            b"value 0 stay\nline 1 stay\nline 2 stay\nvalue 0 up\nline 1 up\nline 2 stay\n",
+            0,
+        )],
     ),
-    (TWO, "a", 1, "", b"value 0 go\nline 1 go\n", 0),
-    (TWO, "a", 3, "", b"value 70 go\nline 1 go\nline 2 go\n", 0),
-    (PICK, "a", 0, "", b"value 0\nmove none\n", 0),
-    (PICK, "a", 2, "(r)", b"value 30\nmove none\n", 0),
-    (STUCK, "a", 2, "", b"value 0\nmove none\n", 0),
-    (MATCH, "c", 1, "(h x)", b"refused S1 NoSuchRole\n", 2),
-    (MATCH, "a", 1, "(h t) (h t)", b"refused H3 Over 2\n", 2),
+    (
+        TWO,
+        &[
+            (
+                "values|--lines|--role|a|--depth|1|--after|",
+                b"value 0 go\nline 1 go\n",
+                0,
+            ),
+            (
+                "values|--lines|--role|a|--depth|3|--after|",
+                b"value 70 go\nline 1 go\nline 2 go\n",
+                0,
+            ),
+        ],
+    ),
+    (
+        STUCK,
+        &[(
+            "values|--lines|--role|a|--depth|2|--after|",
+            b"value 0\nmove none\n",
+            0,
+        )],
+    ),
 ];
 
 #[test]
-fn depths_are_told_until_one_is_settled(rt: HostRuntime) -> Result<(), AllocError> {
-    for row in DEEPENED {
-        assert!(rt; tells(&rt, "solve", "--deepen", row)?, "at {row:?}");
-    }
-    Ok(())
+fn depths_are_told_until_one_is_settled(rt: HostRuntime) {
+    assert_eq!(rt; first_untold(&rt, &DEEPENED), None);
 }
 
 #[test]
-fn moves_are_told_with_their_lines(rt: HostRuntime) -> Result<(), AllocError> {
-    for row in LINED {
-        assert!(rt; tells(&rt, "values", "--lines", row)?, "at {row:?}");
-    }
-    Ok(())
+fn moves_are_told_with_their_lines(rt: HostRuntime) {
+    assert_eq!(rt; first_untold(&rt, &LINED), None);
 }
 
-/// An option with its text, a description, a depth, and what is written.
-type Bound<'a> = (&'a str, &'a str, &'a [u8], &'a str, &'a [u8]);
-
-const BOUNDED: [Bound; 6] = [
+/// The same with worths at the bound, by a cut.
+const BOUNDED: [Played; 2] = [
     (
-        "--at-bound",
-        "goal",
         OPEN,
-        "2",
-        b"depth 1\nvalue 60\nmove up\nline 1 up\ndepth 2\nvalue 60\nmove stay\nline 1 stay\nline 2 up\n",
+        &[
+            (
+                "solve|--role|a|--depth|2|--deepen|--at-bound|goal|--cut|4",
+                b"depth 1\nvalue 60\nmove up\nline 1 up\ndepth 2\nvalue 60\nmove stay\nline 1 stay\nline 2 up\n",
+                0,
+            ),
+            (
+                "solve|--role|a|--depth|1|--deepen|--unfinished|37|--cut|4",
+                b"depth 1\nvalue 37\nmove stay\nline 1 stay\n",
+                0,
+            ),
+            (
+                "solve|--role|a|--depth|1|--deepen|--unfinished|100|--cut|4",
+                b"depth 1\nvalue 100\nmove stay\nline 1 stay\n",
+                0,
+            ),
+        ],
     ),
     (
-        "--at-bound",
-        "goal",
         TWO,
-        "3",
-        b"depth 1\nvalue 70\nmove go\nline 1 go\ndepth 2\nvalue 70\nmove go\nline 1 go\nline 2 go\nsettled\n",
-    ),
-    (
-        "--unfinished",
-        "37",
-        OPEN,
-        "1",
-        b"depth 1\nvalue 37\nmove stay\nline 1 stay\n",
-    ),
-    (
-        "--unfinished",
-        "100",
-        OPEN,
-        "1",
-        b"depth 1\nvalue 100\nmove stay\nline 1 stay\n",
-    ),
-    (
-        "--unfinished",
-        "100",
-        TWO,
-        "3",
-        b"depth 1\nvalue 100\nmove go\nline 1 go\ndepth 2\nvalue 70\nmove go\nline 1 go\nline 2 go\nsettled\n",
-    ),
-    (
-        "--unfinished",
-        "0",
-        TWO,
-        "1",
-        b"depth 1\nvalue 0\nmove go\nline 1 go\n",
+        &[
+            (
+                "solve|--role|a|--depth|3|--deepen|--at-bound|goal|--cut|4",
+                b"depth 1\nvalue 70\nmove go\nline 1 go\ndepth 2\nvalue 70\nmove go\nline 1 go\nline 2 go\nsettled\n",
+                0,
+            ),
+            (
+                "solve|--role|a|--depth|3|--deepen|--unfinished|100|--cut|4",
+                b"depth 1\nvalue 100\nmove go\nline 1 go\ndepth 2\nvalue 70\nmove go\nline 1 go\nline 2 go\nsettled\n",
+                0,
+            ),
+            (
+                "solve|--role|a|--depth|1|--deepen|--unfinished|0|--cut|4",
+                b"depth 1\nvalue 0\nmove go\nline 1 go\n",
+                0,
+            ),
+        ],
     ),
 ];
 
 #[test]
 fn a_value_is_settled_whatever_unfinished_play_is_worth(rt: HostRuntime) {
-    for (option, text, rules, turns, want) in BOUNDED {
-        let words = [
-            "solve", "--role", "a", "--depth", turns, "--deepen", option, text, "--cut", "4",
-        ];
-        let (status, output, errors) = told(&rt, &words, rules);
-        assert!(rt;
-            status == 0 && output.as_slice() == want && errors.is_empty(),
-            "at {words:?}"
-        );
-    }
+    assert_eq!(rt; first_untold(&rt, &BOUNDED), None);
 }
 
 /// What `solve` writes for a role within so many turns after a history, where unfinished play is worth so much.
