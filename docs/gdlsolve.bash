@@ -28,14 +28,15 @@ _gdlsolve() {
     *)
       case $command in
         '')
-          words='show check lint net moves state solve values serve help --help --version'
+          words='show check lint unroll net moves state solve values serve help --help --version'
           [ "${COMP_WORDS[0]}" = ./gdlsolve ] && words+=' --prove --proved'
           ;;
         show | check | lint | net | serve) words='--help' ;;
+        unroll) words='--tighten --help' ;;
         moves | state) words='--after --help' ;;
         solve) words='--role --depth --at-bound --unfinished --window --deepen --cut --table --after --help' ;;
         values) words='--role --depth --at-bound --unfinished --lines --cut --table --after --help' ;;
-        help) words='show check lint net moves state solve values serve' ;;
+        help) words='show check lint unroll net moves state solve values serve' ;;
       esac
       ;;
   esac
