@@ -5,8 +5,8 @@
 //! That it is played the same is tested, beside an interpreter of the whole language.
 #![tactic(auto)]
 
+mod command;
 mod replying;
-mod running_it;
 
+pub use command::run_unroll;
 pub use replying::unroll_reply;
-pub use running_it::run_unroll;
