@@ -233,7 +233,14 @@ class Looks(Served):
         game = self.opened(ENDLESS)
         look = self.ask("values", game=game, role="red", after=[], seconds=None)["look"]
         self.assertTrue(until(lambda: self.ask("news", look=look, seen=-1)["depth"] >= DEEP))
-        at_work = children(os.getpid())
+        at_work: set[int] = set()
+
+        def are_two() -> bool:
+            at_work.clear()
+            at_work.update(children(os.getpid()))
+            return len(at_work) > 1
+
+        self.assertTrue(until(are_two))
         self.ask("stop", look=look)
         self.assertEqual(self.ended(look)["ended"], "stopped")
         self.assertTrue(until(lambda: at_work - children(os.getpid())))

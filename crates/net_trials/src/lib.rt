@@ -9,7 +9,7 @@ mod crowds;
 #[cfg(test)]
 mod grounds;
 #[cfg(test)]
-mod helped;
+mod helping;
 #[cfg(test)]
 mod networks;
 #[cfg(test)]

@@ -37,35 +37,37 @@ const LEVEL: Table = Table {
 
 #[test]
 fn each_role_has_its_value_and_choice(rt: HostRuntime) -> Result<(), AllocError> {
-    let mut room = Room::new(rt.alloc(), &LEVEL, 1)?;
-    let start = LEVEL.fresh()?;
+    let table = LEVEL;
+    let mut room = Room::new(rt.alloc(), &table, 1)?;
+    let start = table.fresh()?;
     assert_eq!(rt;
-        value_in(&LEVEL, &start, ask(0, 1, Zero), -1, 101, &mut room),
+        value_in(&table, &start, ask(0, 1, Zero), -1, 101, &mut room),
         30
     );
-    assert_eq!(rt; choice(&LEVEL, &start, ask(0, 1, Zero), &mut room), Some(1));
+    assert_eq!(rt; choice(&table, &start, ask(0, 1, Zero), &mut room), Some(1));
     assert_eq!(rt;
-        value_in(&LEVEL, &start, ask(1, 1, Zero), -1, 101, &mut room),
+        value_in(&table, &start, ask(1, 1, Zero), -1, 101, &mut room),
         50
     );
-    assert_eq!(rt; choice(&LEVEL, &start, ask(1, 1, Zero), &mut room), Some(0));
+    assert_eq!(rt; choice(&table, &start, ask(1, 1, Zero), &mut room), Some(0));
     assert_eq!(rt;
-        value_in(&LEVEL, &start, ask(2, 1, Zero), -1, 101, &mut room),
+        value_in(&table, &start, ask(2, 1, Zero), -1, 101, &mut room),
         10
     );
-    assert_eq!(rt; choice(&LEVEL, &start, ask(2, 1, Zero), &mut room), Some(0));
+    assert_eq!(rt; choice(&table, &start, ask(2, 1, Zero), &mut room), Some(0));
     Ok(())
 }
 
 #[test]
 fn state_without_a_turn_is_worth_nothing(rt: HostRuntime) -> Result<(), AllocError> {
-    let mut room = Room::new(rt.alloc(), &LEVEL, 1)?;
-    let start = LEVEL.fresh()?;
+    let table = LEVEL;
+    let mut room = Room::new(rt.alloc(), &table, 1)?;
+    let start = table.fresh()?;
     assert_eq!(rt;
-        value_in(&LEVEL, &start, ask(0, 0, Zero), -1, 101, &mut room),
+        value_in(&table, &start, ask(0, 0, Zero), -1, 101, &mut room),
         0
     );
-    assert_eq!(rt; choice(&LEVEL, &start, ask(0, 0, Zero), &mut room), None);
+    assert_eq!(rt; choice(&table, &start, ask(0, 0, Zero), &mut room), None);
     Ok(())
 }
 
@@ -88,16 +90,17 @@ fn first_of_equal_moves_is_chosen(rt: HostRuntime) -> Result<(), AllocError> {
 // Of the row's first side both cell 1 and cell 2 are worth 10. The column's move changes slower than the layer's.
 #[test]
 fn first_of_equal_replies_is_told(rt: HostRuntime) -> Result<(), AllocError> {
-    let mut room = Room::new(rt.alloc(), &LEVEL, 1)?;
-    let start = LEVEL.fresh()?;
+    let table = LEVEL;
+    let mut room = Room::new(rt.alloc(), &table, 1)?;
+    let start = table.fresh()?;
     let mut reply = SmallVec::new(rt.alloc());
-    first_reply(&LEVEL, &start, ask(0, 1, Zero), 0, &mut room, &mut reply);
+    first_reply(&table, &start, ask(0, 1, Zero), 0, &mut room, &mut reply);
     assert_eq!(rt; reply.as_slice(), [0, 0, 1].as_slice());
-    first_reply(&LEVEL, &start, ask(0, 1, Zero), 1, &mut room, &mut reply);
+    first_reply(&table, &start, ask(0, 1, Zero), 1, &mut room, &mut reply);
     assert_eq!(rt; reply.as_slice(), [1, 0, 1].as_slice());
-    first_reply(&LEVEL, &start, ask(1, 1, Zero), 0, &mut room, &mut reply);
+    first_reply(&table, &start, ask(1, 1, Zero), 0, &mut room, &mut reply);
     assert_eq!(rt; reply.as_slice(), [0, 0, 0].as_slice());
-    first_reply(&LEVEL, &start, ask(2, 1, Zero), 0, &mut room, &mut reply);
+    first_reply(&table, &start, ask(2, 1, Zero), 0, &mut room, &mut reply);
     assert_eq!(rt; reply.as_slice(), [1, 1, 0].as_slice());
     Ok(())
 }
@@ -170,26 +173,27 @@ fn goal_counts_at_the_bound_where_it_is_asked(rt: HostRuntime) -> Result<(), All
 
 #[test]
 fn deep_search_of_a_short_game(rt: HostRuntime) -> Result<(), AllocError> {
-    let mut room = Room::new(rt.alloc(), &LEVEL, 64)?;
-    let start = LEVEL.fresh()?;
+    let table = LEVEL;
+    let mut room = Room::new(rt.alloc(), &table, 64)?;
+    let start = table.fresh()?;
     assert_eq!(rt;
-        value_in(&LEVEL, &start, ask(0, 64, Zero), -1, 101, &mut room),
+        value_in(&table, &start, ask(0, 64, Zero), -1, 101, &mut room),
         30
     );
     assert_eq!(rt;
-        choice(&LEVEL, &start, ask(0, 64, Zero), &mut room),
+        choice(&table, &start, ask(0, 64, Zero), &mut room),
         Some(1)
     );
     let over = Chosen { cell: 8 };
     assert_eq!(rt;
-        value_in(&LEVEL, &over, ask(0, 64, Zero), -1, 101, &mut room),
+        value_in(&table, &over, ask(0, 64, Zero), -1, 101, &mut room),
         95
     );
     assert_eq!(rt;
-        value_in(&LEVEL, &over, ask(0, 0, Zero), -1, 101, &mut room),
+        value_in(&table, &over, ask(0, 0, Zero), -1, 101, &mut room),
         95
     );
-    assert_eq!(rt; choice(&LEVEL, &over, ask(0, 64, Zero), &mut room), None);
+    assert_eq!(rt; choice(&table, &over, ask(0, 64, Zero), &mut room), None);
     Ok(())
 }
 

@@ -142,13 +142,16 @@ fn is_answered<T: Threads + Sync + AllocGlobal>(
     want: &[u8],
     exit: u8,
 ) -> bool {
-    let Ok(Request::Run(command)) = request_of(rt.alloc(), words) else {
-        return false;
-    };
+    let made = request_of(rt.alloc(), &*words);
     let status = status_of(exit);
-    is_by_network(rt, &command, text, want, status)
-        && is_by_rules(rt, &command, text, want, status)
-        && is_by_words(rt, words, text, want, exit)
+    match &made {
+        Ok(Request::Run(command)) => {
+            is_by_network(rt, command, text, want, status)
+                && is_by_rules(rt, command, text, want, status)
+                && is_by_words(rt, words, text, want, exit)
+        }
+        _ => false,
+    }
 }
 
 /// Whether the words of a line, and the command that they make, answer a text with these bytes and this exit status.

@@ -7,68 +7,91 @@ use std::test::Fail;
 use words::{Command, Inquiry, Request, Sought, request_of};
 
 /// Whether words make a command.
-fn make(alloc: Global, words: &[&str], command: Command) -> Result<bool, AllocError> {
-    let Request::Run(made) = request_of(alloc, words)? else {
+fn make(alloc: Global, words: &[&str], command: &Command) -> Result<bool, AllocError> {
+    let Request::Run(made) = request_of(alloc, &*words)? else {
         return Ok(false);
     };
-    Ok(made == command)
-}
-
-/// The same of what is asked.
-fn ask(alloc: Global, words: &[&str], inquiry: Inquiry) -> Result<bool, AllocError> {
-    make(alloc, words, Command::Ask(inquiry))
+    Ok(made == *command)
 }
 
 #[test]
 fn words_without_options_make_their_commands(rt: HostRuntime) -> Result<(), AllocError> {
     let alloc = rt.alloc();
-    assert!(rt; make(alloc, &["show"], Command::Show)?);
-    assert!(rt; make(alloc, &["check"], Command::Check)?);
-    assert!(rt; ask(alloc, &["net"], Inquiry::Net)?);
-    assert!(rt; ask(alloc, &["moves"], Inquiry::Moves { after: "" })?);
-    assert!(rt; ask(alloc, &["state"], Inquiry::State { after: "" })?);
+    assert!(rt; make(alloc, &["show"], &Command::Show)?);
+    assert!(rt; make(alloc, &["check"], &Command::Check)?);
+    assert!(rt; make(alloc, &["net"], &Command::Ask(Inquiry::Net))?);
+    assert!(rt;
+        make(
+            alloc,
+            &["moves"],
+            &Command::Ask(Inquiry::Moves { after: "" })
+        )?
+    );
+    assert!(rt;
+        make(
+            alloc,
+            &["state"],
+            &Command::Ask(Inquiry::State { after: "" })
+        )?
+    );
     Ok(())
 }
 
-/// What is sought by one thread within a turn, over a table of 64 MiB.
-fn sought_at(at_bound: AtBound) -> Option<Sought<'static>> {
-    Some(Sought {
-        role: "a",
+/// What is sought within a turn, over a table of 64 MiB.
+fn sought_by<'a>(role: &'a str, after: &'a str, at_bound: AtBound, cut: Cut) -> Sought<'a> {
+    Sought {
+        role,
         depth: 1,
         at_bound,
-        cut: Cut::parse(b"1")?,
+        cut,
         table: 64,
-        after: "",
-    })
+        after,
+    }
 }
 
 #[test]
 fn words_with_options_make_their_commands(rt: HostRuntime) -> Result<(), Fail> {
     let alloc = rt.alloc();
-    let sought = sought_at(AtBound::Zero).ok_or("no cut")?;
-    let goal = sought_at(AtBound::Goal).ok_or("no cut")?;
     let worth = Worth::of(37).ok_or("no worth")?;
-    let unfinished = sought_at(AtBound::Unfinished(worth)).ok_or("no cut")?;
+    let cut = Cut::parse(b"1").ok_or("no cut")?;
+    let whole = sought_by("a", "", AtBound::Zero, cut);
+    let each = sought_by("a", "", AtBound::Zero, cut);
+    let between = sought_by("a", "", AtBound::Zero, cut);
+    let near = sought_by("a", "", AtBound::Zero, cut);
+    let goal = sought_by("a", "", AtBound::Goal, cut);
+    let unfinished = sought_by("a", "", AtBound::Unfinished(worth), cut);
     let window = Window::of(None, 101).ok_or("no window")?;
     let narrow = Window::of(Some(59), 61).ok_or("no window")?;
     let after = Inquiry::Moves { after: "(h t)" };
     let state = Inquiry::State { after: "(h t)" };
     let words = ["moves", "--after", "(h t)"];
-    assert!(rt; ask(alloc, &words, after)?);
+    assert!(rt; make(alloc, &words, &Command::Ask(after))?);
     let words = ["state", "--after", "(h t)"];
-    assert!(rt; ask(alloc, &words, state)?);
+    assert!(rt; make(alloc, &words, &Command::Ask(state))?);
     let words = ["solve", "--role", "a", "--depth", "1"];
-    assert!(rt; ask(alloc, &words, Inquiry::Solve(sought))?);
+    assert!(rt; make(alloc, &words, &Command::Ask(Inquiry::Solve(whole)))?);
     let words = ["values", "--role", "a", "--depth", "1"];
-    assert!(rt; ask(alloc, &words, Inquiry::Values(sought))?);
+    assert!(rt; make(alloc, &words, &Command::Ask(Inquiry::Values(each)))?);
     let words = ["solve", "--role", "a", "--depth", "1", "--at-bound", "goal"];
-    assert!(rt; ask(alloc, &words, Inquiry::Solve(goal))?);
+    assert!(rt; make(alloc, &words, &Command::Ask(Inquiry::Solve(goal)))?);
     let words = ["solve", "--role", "a", "--depth", "1", "--unfinished", "37"];
-    assert!(rt; ask(alloc, &words, Inquiry::Solve(unfinished))?);
+    assert!(rt; make(alloc, &words, &Command::Ask(Inquiry::Solve(unfinished)))?);
     let words = ["solve", "--role", "a", "--depth", "1", "--window", "-1:101"];
-    assert!(rt; ask(alloc, &words, Inquiry::SolveWithin(sought, window))?);
+    assert!(rt;
+        make(
+            alloc,
+            &words,
+            &Command::Ask(Inquiry::SolveWithin(between, window))
+        )?
+    );
     let words = ["solve", "--role", "a", "--depth", "1", "--window", "59:61"];
-    assert!(rt; ask(alloc, &words, Inquiry::SolveWithin(sought, narrow))?);
+    assert!(rt;
+        make(
+            alloc,
+            &words,
+            &Command::Ask(Inquiry::SolveWithin(near, narrow))
+        )?
+    );
     Ok(())
 }
 
@@ -97,6 +120,6 @@ fn all_options_make_a_command(rt: HostRuntime) -> Result<(), Fail> {
         "--after",
         "(h t)",
     ];
-    assert!(rt; ask(rt.alloc(), &words, Inquiry::Solve(sought))?);
+    assert!(rt; make(rt.alloc(), &words, &Command::Ask(Inquiry::Solve(sought)))?);
     Ok(())
 }

@@ -343,24 +343,35 @@ const GAMES: [Game; 5] = [
     (LIVE, "b", 4, ""),
 ];
 
+/// Whether `solve --deepen` tells what `solve` does, depth by depth.
+fn is_deepened<T: Threads + Sync + AllocGlobal>(
+    rt: &T,
+    rules: &[u8],
+    role: &str,
+    depth: u32,
+    after: &str,
+) -> Result<bool, AllocError> {
+    let want = deepened(rt, rules, role, depth, after)?;
+    let turns = format!(in rt.alloc(); "{depth}")?;
+    let words = [
+        "solve",
+        "--role",
+        role,
+        "--depth",
+        turns.as_str(),
+        "--after",
+        after,
+        "--deepen",
+    ];
+    let (status, output, errors) = told(rt, &words, rules);
+    Ok(status == 0 && output == want && errors.is_empty())
+}
+
 #[test]
 fn each_depth_has_the_lines_of_solve(rt: HostRuntime) -> Result<(), AllocError> {
     for (rules, role, depth, after) in GAMES {
-        let want = deepened(&rt, rules, role, depth, after)?;
-        let turns = format!(in rt.alloc(); "{depth}")?;
-        let words = [
-            "solve",
-            "--role",
-            role,
-            "--depth",
-            turns.as_str(),
-            "--after",
-            after,
-            "--deepen",
-        ];
-        let (status, output, errors) = told(&rt, &words, rules);
         assert!(rt;
-            status == 0 && output == want && errors.is_empty(),
+            is_deepened(&rt, rules, role, depth, after)?,
             "of {role} after {after:?}"
         );
     }
