@@ -12,6 +12,7 @@ Commands:
   show    Write the canonical text of each tree, one a line
   check   Name the first fault of the rules, or count what they have
   lint    Find what is lawful in the rules and most likely wrong, and write a line for each finding
+  unroll  Write a game that is found with recursion, or without base and input, as rules that every command takes
   net     Count what the rules come to: propositions, inputs, instances, and nodes of their network
   moves   Tell how play stands after a history, with the goals of an ended game or the legal moves
   state   Tell how play stands after a history, and which base propositions hold
@@ -60,6 +61,16 @@ Usage: gdlsolve lint
 
 Options:
   -h, --help  Print help
+";
+
+const UNROLL: &str =
+    "Write a game that is found with recursion, or without base and input, as rules that every command takes
+
+Usage: gdlsolve unroll [OPTIONS]
+
+Options:
+      --tighten  State only the base propositions and inputs that play can come to
+  -h, --help     Print help
 ";
 
 const NET: &str =
@@ -138,13 +149,14 @@ Example:
 
 #[test]
 fn help_is_an_answer(rt: HostRuntime) {
-    let rows: [Row; 13] = [
+    let rows: [Row; 14] = [
         (&["--help"], PROGRAM),
         (&["-h"], PROGRAM),
         (&["help"], PROGRAM),
         (&["show", "--help"], SHOW),
         (&["check", "--help"], CHECK),
         (&["lint", "--help"], LINT),
+        (&["unroll", "--help"], UNROLL),
         (&["net", "--help"], NET),
         (&["moves", "--help"], MOVES),
         (&["state", "--help"], STATE),
