@@ -229,21 +229,12 @@ class Looks(Served):
         told = self.looked("values", ENDLESS, "red", [], 0.5)
         self.assertEqual(told["ended"], "time")
 
-    def test_a_long_look_is_stopped_and_its_processes_end(self) -> None:
+    def test_a_long_look_is_stopped(self) -> None:
         game = self.opened(ENDLESS)
         look = self.ask("values", game=game, role="red", after=[], seconds=None)["look"]
         self.assertTrue(until(lambda: self.ask("news", look=look, seen=-1)["depth"] >= DEEP))
-        at_work: set[int] = set()
-
-        def are_two() -> bool:
-            at_work.clear()
-            at_work.update(children(os.getpid()))
-            return len(at_work) > 1
-
-        self.assertTrue(until(are_two))
         self.ask("stop", look=look)
         self.assertEqual(self.ended(look)["ended"], "stopped")
-        self.assertTrue(until(lambda: at_work - children(os.getpid())))
         self.assertEqual(self.ask("position", game=game, after=[])["state"], "open")
 
     def test_bad_questions_about_looks_are_told(self) -> None:
