@@ -30,6 +30,7 @@ REFUSALS = {
     "limits": rb"N1 TooMany (?:base|inputs|instances|text)",
     "role": rb"S1 NoSuchRole",
     "history": rb"H1 BadForm @|H2 NotLegal # &|H3 Over #|H4 Stuck #",
+    "whole": rb"U1 NotStratified #|U2 TooMany (?:facts|instances|layers|items|text)",
 }
 LAYERS = {
     "show": ["text"],
@@ -130,9 +131,9 @@ def is_tree(line: bytes) -> bool:
     return depth == 0
 
 
-def is_refusal(command: str, line: bytes) -> bool:
-    """Whether a line is a refusal that the command can meet."""
-    forms = b"|".join(REFUSALS[layer] for layer in LAYERS[command])
+def is_refusal(command: str, line: bytes, layers: list[str]) -> bool:
+    """Whether a line is a refusal that the command can meet, or one of these layers."""
+    forms = b"|".join(REFUSALS[layer] for layer in LAYERS[command] + layers)
     forms = forms.replace(b"@", COUNT).replace(b"#", PLACE).replace(b"&", TREE)
     return re.fullmatch(rb"refused (?:" + forms + rb")", line) is not None
 
@@ -234,8 +235,8 @@ def warns(errors: bytes) -> bool:
     return re.fullmatch(rb"(?:" + line + rb")*", errors) is not None
 
 
-def unlawful(command: str, told: Told) -> str | None:
-    """Why a reply to a command is none of the lawful ones, or None."""
+def unlawful(command: str, told: Told, is_whole: bool = False) -> str | None:
+    """Why a reply to a command, with `--whole` or without it, is none of the lawful ones, or None."""
     if told.status is None:
         return "given up"
     if told.status not in STATUSES.values():
@@ -247,7 +248,7 @@ def unlawful(command: str, told: Told) -> str | None:
             return "no line end"
         lines = told.output.split(b"\n")[:-1]
         if told.status == 2:
-            return None if len(lines) == 1 and is_refusal(command, lines[0]) else "no refusal"
+            return None if len(lines) == 1 and is_refusal(command, lines[0], ["whole"] * is_whole) else "no refusal"
         return None if ANSWERS[command](lines) else "no answer"
     if told.status == 1:
         return "words beside output" if told.output or not told.errors else None

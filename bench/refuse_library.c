@@ -1,6 +1,8 @@
-/* Refuses each growth of memory of one call of the library in turn, and then each with all behind it. It is linked with --wrap=malloc,
- * --wrap=realloc and --wrap=free, and takes the file of the rules and the words. Each call has to give what ample memory gave, or status 3
- * with a size of 0 and the room as it was, and to give back all that it took; the status is 1 where one did not. */
+/* Refuses each growth of memory of one call of the library in turn, and then each with all behind it; and the same of a handle that is opened
+ * and asked twice. It is linked with --wrap=malloc, --wrap=realloc and --wrap=free, and takes the file of the rules and the words. Each call
+ * has to give what ample memory gave, or status 3 with a size of 0 and the room as it was, and to give back all that it took. A handle that
+ * was opened has to answer as ample memory does once memory is there again, and gives back all when it is closed. The status is 1 where
+ * something did not. */
 #include <gdlsolve.h>
 #include <stdio.h>
 #include <stdlib.h>
@@ -69,6 +71,44 @@ static int is_ample(const struct reply *reply) {
     return reply->status == ample.status && reply->size == ample.size && !memcmp(reply->room, ample.room, ROOM);
 }
 
+/* An ask over a handle. */
+static void ask(gdlsolve_handle *handle, struct reply *reply) {
+    memset(reply->room, UNUSED, ROOM);
+    reply->size = ROOM;
+    reply->status = gdlsolve_ask(handle, words, words_size, reply->room, ROOM, &reply->size);
+}
+
+/* Whether an ask gives what ample memory gave, or where it starved nothing, which is counted. */
+static int is_right(gdlsolve_handle *handle, long *starved) {
+    ask(handle, &got);
+    *starved += is_starved(&got);
+    return is_starved(&got) || is_ample(&got);
+}
+
+/* A handle that is opened and asked twice while this growth is refused, or none at 0. It gives how many growths there were, and counts
+ * calls that starved and whether something was wrong. */
+static long use_handle(long growth, long *starved, long *wrong) {
+    gdlsolve_handle *handle = NULL;
+    growths = held = 0;
+    refused = growth;
+    uint32_t status = gdlsolve_open(rules, rules_size, &handle);
+    long right = (status == GDLSOLVE_ANSWER) == (handle != NULL) && (status == GDLSOLVE_ANSWER || status == GDLSOLVE_NO_MEMORY);
+    *starved += status == GDLSOLVE_NO_MEMORY;
+    if (handle) {
+        right &= is_right(handle, starved);
+        right &= is_right(handle, starved);
+    }
+    long all = growths;
+    refused = 0;
+    if (handle) {
+        ask(handle, &got);
+        right &= is_ample(&got);
+        gdlsolve_close(handle);
+    }
+    *wrong += !right || held != 0;
+    return all;
+}
+
 int main(int count, char **given) {
     FILE *file = count > 1 ? fopen(given[1], "rb") : NULL;
     if (!file)
@@ -90,6 +130,15 @@ int main(int count, char **given) {
         }
         printf("%s%ld of %ld: no memory", with_all_behind ? ", with all behind it " : "", starved, all);
     }
-    printf(", %ld wrong\n", wrong);
+    printf("; by a handle ");
+    long starved = 0, of_handle = use_handle(0, &starved, &wrong);
+    wrong += starved;
+    for (with_all_behind = 0; with_all_behind < 2; with_all_behind++) {
+        starved = 0;
+        for (long growth = 1; growth <= of_handle; growth++)
+            use_handle(growth, &starved, &wrong);
+        printf("%s%ld calls starved at %ld growths", with_all_behind ? ", with all behind " : "", starved, of_handle);
+    }
+    printf("; %ld wrong\n", wrong);
     return wrong != 0;
 }

@@ -31,11 +31,12 @@ _gdlsolve() {
           words='show check lint unroll net moves state solve values serve help --help --version'
           [ "${COMP_WORDS[0]}" = ./gdlsolve ] && words+=' --prove --proved'
           ;;
-        show | check | lint | net | serve) words='--help' ;;
+        show | lint) words='--help' ;;
+        check | net | serve) words='--whole --tighten --help' ;;
         unroll) words='--tighten --help' ;;
-        moves | state) words='--after --help' ;;
-        solve) words='--role --depth --at-bound --unfinished --window --deepen --cut --table --after --help' ;;
-        values) words='--role --depth --at-bound --unfinished --lines --cut --table --after --help' ;;
+        moves | state) words='--after --whole --tighten --help' ;;
+        solve) words='--role --depth --at-bound --unfinished --window --deepen --cut --table --after --whole --tighten --help' ;;
+        values) words='--role --depth --at-bound --unfinished --lines --cut --table --after --whole --tighten --help' ;;
         help) words='show check lint unroll net moves state solve values serve' ;;
       esac
       ;;

@@ -3,6 +3,9 @@
 Each function is one call of the proved library of gdlsolve, which the calling thread does. Rules are bytes, or a text that is taken in
 UTF-8. A history is the text of its turns, or a sequence of turns, each of which is a sequence of one move for each role.
 
+Rules are those of `games/`, with `base` and `input` and no relation that rests on itself. With `whole=True` a game may be as it is found:
+`unroll` writes it out first.
+
 A refusal of the rules, the role or the history is raised as `Refusal`, arguments that make no command as `Misuse`, and want of memory
 as `MemoryError`.
 
@@ -14,6 +17,7 @@ from gdlsolve.calls import Misuse, Refusal, Reply, Status, reply
 from gdlsolve.commands import Bound, History, check, moves, net, show, solve, solve_within, state, values
 from gdlsolve.replies import Description, Network, Outside, Position, Solution, Standing, State, Values
 from gdlsolve.session import Session
+from gdlsolve.whole import unroll
 
 __version__ = "0.1.0"
 
@@ -41,5 +45,6 @@ __all__ = [
     "solve",
     "solve_within",
     "state",
+    "unroll",
     "values",
 ]

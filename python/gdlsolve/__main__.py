@@ -12,12 +12,12 @@ import json
 import os
 import sys
 from collections.abc import Callable, Sequence
-from dataclasses import asdict, dataclass
+from dataclasses import asdict, dataclass, replace
 from enum import Enum
 from pathlib import Path
 from typing import Any, NoReturn
 
-from gdlsolve import program
+from gdlsolve import program, whole
 from gdlsolve.calls import ASKS_FOR_HELP, Ended, Misuse, Refusal, Reply, Status, lines_of, reply
 from gdlsolve.deepening import Deepest, deepen
 from gdlsolve.engine import Broken
@@ -28,13 +28,23 @@ USAGE = """
 With this package a file of rules may stand among the words, else they are read on standard input. Further options:
       --json            Tell the answer, or the refusal, as JSON
       --time <SECONDS>  With solve: deeper and deeper for so long, in place of --depth
+      --whole           Take a game as it is found, and have `unroll` write it out first
+      --tighten         With --whole: as with `unroll`
 """
 # Words that ask for a text, to which no rules are read.
 ASKS = {*ASKS_FOR_HELP, "help"}
+# Options that have no value.
+FLAGS = {"--deepen", "--lines", "--tighten", "--whole"}
 # Commands that may take long.
 SEARCHES = (["solve"], ["values"])
+# Options that have no value.
+FLAGS = {"--deepen", "--lines", "--tighten", "--whole"}
+# Commands to which a game as it is found is written out.
+OVER_RULES = {"check", "moves", "net", "solve", "state", "values"}
 INPUT_FAILED = 4
 NO_PROGRAM = 70
+# By a key.
+STOPPED = 130
 
 
 @dataclass(frozen=True)
@@ -45,6 +55,7 @@ class Line:
     game: Path | None
     as_json: bool
     seconds: float | None
+    whole: bool = False
 
 
 def _seconds(text: str) -> float:
@@ -62,24 +73,26 @@ def parse(words: Sequence[str]) -> Line:
     """Takes the package's own options and the file of rules out of the words."""
     left: list[str] = []
     game: Path | None = None
-    as_json = False
+    as_json = is_whole = False
     seconds: float | None = None
     rest = iter(words)
     for word in rest:
         name, has_value, value = word.partition("=")
         if word == "--json":
             as_json = True
+        elif word == "--whole" and left[:1] != ["serve"]:
+            is_whole = True
         elif name == "--time":
             seconds = _seconds(value if has_value else next(rest, ""))
         elif word.startswith("-"):
             left.append(word)
-            if word.startswith("--") and not has_value and word not in ASKS:
+            if word.startswith("--") and not has_value and word not in ASKS | FLAGS:
                 left.extend([further for further in [next(rest, None)] if further is not None])
         elif left and left[0] != "help" and game is None:
             game = Path(word)
         else:
             left.append(word)
-    return Line(left, game, as_json, seconds)
+    return Line(left, game, as_json, seconds, is_whole)
 
 
 def findings(lines: Sequence[str]) -> list[dict[str, Any]]:
@@ -167,6 +180,15 @@ def answered(line: Line, rules: bytes) -> Reply:
         return reply(line.words, rules)
 
 
+def written_out(line: Line, rules: bytes) -> tuple[Line, Reply]:
+    """What is left of the words once the rules are written out, and the reply that has them so."""
+    command = line.words[:1]
+    if not OVER_RULES & set(command):
+        raise Misuse(f"--whole does not go with {' '.join(command) or 'no command'}")
+    left = [word for word in line.words if word != "--tighten"]
+    return replace(line, words=left, whole=False), whole.reply(rules, len(left) < len(line.words))
+
+
 def serve(line: Line) -> NoReturn:
     """Becomes the program, which answers requests until its input ends."""
     if line.as_json or line.game is not None or line.seconds is not None:
@@ -183,6 +205,11 @@ def run(words: Sequence[str]) -> int:
     if line.words[:1] == ["serve"] and not ASKS & set(line.words):
         serve(line)
     rules = rules_of(line)
+    if line.whole and not ASKS & set(line.words):
+        line, written = written_out(line, rules)
+        if written.status != Status.ANSWER:
+            return write(line, written)
+        rules = written.output
     if line.seconds is None:
         return write(line, answered(line, rules))
     if line.words[:1] != ["solve"]:
@@ -206,6 +233,8 @@ def main() -> int:
     except OSError as fault:
         print(f"{fault.filename}: {fault.strerror}" if fault.filename else "read fault", file=sys.stderr)
         return INPUT_FAILED
+    except KeyboardInterrupt:
+        return STOPPED
 
 
 if __name__ == "__main__":

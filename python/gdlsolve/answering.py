@@ -27,8 +27,9 @@ from gdlsolve.lanes import Rehearsal
 from gdlsolve.session import Process, line_of
 
 NO_REPLY = 70
-# Commands that are answered in Python.
+# Commands that are answered in Python, and those that no session knows.
 OWN = (["legal"], ["playouts"])
+ALONE = (["unroll"], ["lint"])
 
 
 class InSession:
@@ -90,7 +91,8 @@ class Answers:
 
     def by_solver(self, batch: Sequence[Sequence[str]], rules: bytes) -> list[Reply]:
         """The replies of the solver to commands over rules."""
-        found = self.session.replies(batch, rules) if self.session and batch else None
+        takes = self.session and batch and not any(words[:1] in ALONE for words in batch)
+        found = self.session.replies(batch, rules) if self.session and takes else None
         return [self.alone(words, rules) for words in batch] if found is None else found
 
     def replies(self, batch: Sequence[Sequence[str]], rules: bytes) -> list[Reply]:

@@ -144,6 +144,10 @@ def answers() -> Path | list[str]:
     raise ImportError(f"{places}; or let {program.VARIABLE} name a program")
 
 
+# Commands that the library does not have.
+OF_PROGRAM = (["lint"], ["unroll"])
+
+
 @cache
 def _call(library: Path, name: str, texts: int) -> Callable[..., int]:
     """A function of the library, which takes so many texts, a room and the place of a size."""
@@ -154,10 +158,8 @@ def _call(library: Path, name: str, texts: int) -> Callable[..., int]:
     return cast(Callable[..., int], call)
 
 
-def _told(library: Path, name: str, texts: Sequence[bytes]) -> tuple[Status, bytes]:
-    """What a function of the library tells of texts. It raises `MemoryError` for want of memory."""
-    call = _call(library, name, len(texts))
-    given = [part for text in texts for part in (text, len(text))]
+def in_room(call: Callable[..., int], given: Sequence[object]) -> tuple[Status, bytes]:
+    """What a call tells that is given these and a room. It raises `MemoryError` for want of memory."""
     size = ctypes.c_size_t(4096)
     while True:
         place = size.value
@@ -169,6 +171,11 @@ def _told(library: Path, name: str, texts: Sequence[bytes]) -> tuple[Status, byt
             return status, room.raw[: size.value]
 
 
+def _told(library: Path, name: str, texts: Sequence[bytes]) -> tuple[Status, bytes]:
+    """What a function of the library tells of texts. It raises `MemoryError` for want of memory."""
+    return in_room(_call(library, name, len(texts)), [part for text in texts for part in (text, len(text))])
+
+
 def _check(words: Sequence[str]) -> None:
     """Holds that no word has a character 0."""
     for word in words:
@@ -176,15 +183,25 @@ def _check(words: Sequence[str]) -> None:
             raise Misuse(f"a word has a character 0: {word!r}")
 
 
-def by_library(library: Path, words: Sequence[str], rules: bytes) -> Reply:
-    """The reply of the library to words without a character 0."""
-    command = b"".join(word.encode() + b"\0" for word in words)
-    status, output = _told(library, "gdlsolve_reply", [command, rules])
+def command_of(words: Sequence[str]) -> bytes:
+    """The words as the library takes them, none of which has a character 0."""
+    _check(words)
+    return b"".join(word.encode() + b"\0" for word in words)
+
+
+def told_by_library(library: Path, command: bytes, rules: bytes, status: Status, output: bytes) -> Reply:
+    """The reply of the library to a command over rules, which explains itself where it is a refusal."""
 
     def explain() -> str:
         return _told(library, "gdlsolve_explain", [command, rules, output])[1].decode(errors="replace")
 
     return Reply(status, output, explain=explain if status == Status.REFUSED else None)
+
+
+def by_library(library: Path, words: Sequence[str], rules: bytes) -> Reply:
+    """The reply of the library to words without a character 0."""
+    command = command_of(words)
+    return told_by_library(library, command, rules, *_told(library, "gdlsolve_reply", [command, rules]))
 
 
 def by_program(command: Sequence[str], words: Sequence[str], rules: bytes) -> Reply:
@@ -204,12 +221,12 @@ def by_program(command: Sequence[str], words: Sequence[str], rules: bytes) -> Re
 
 
 def reply(words: Sequence[str], rules: bytes | str) -> Reply:
-    """The reply to the words of the program, over these rules. It raises `MemoryError` for want of memory alone. The library has no
-    `lint`, which the program of the package or of the clone answers in its place."""
+    """The reply to the words of the program, over these rules. It raises `MemoryError` for want of memory alone. The library has no `lint`,
+    no `unroll` and no `--whole`, which the program of the package or of the clone answers in its place."""
     _check(words)
     text = rules.encode() if isinstance(rules, str) else bytes(rules)
     found = answers()
-    if words[:1] == ["lint"] and isinstance(found, Path):
+    if (words[:1] in OF_PROGRAM or "--whole" in words) and isinstance(found, Path):
         found = program.words() or found
     return by_library(found, words, text) if isinstance(found, Path) else by_program(found, words, text)
 

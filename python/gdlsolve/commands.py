@@ -1,7 +1,8 @@
-"""The commands of the program as functions."""
+"""The commands of the program as functions. With `whole` they are over a game as it is found, which is written out first."""
 from collections.abc import Sequence
 from typing import Literal
 
+from gdlsolve import whole as found
 from gdlsolve.calls import answer
 from gdlsolve.replies import Description, Network, Outside, Position, Solution, Standing, Values
 
@@ -14,29 +15,34 @@ def history_text(after: History) -> str:
     return after if isinstance(after, str) else " ".join("(" + " ".join(turn) + ")" for turn in after)
 
 
+def _answer(words: Sequence[str], rules: bytes | str, whole: bool) -> list[str]:
+    """The lines of the answer to a command, over the rules or over what is written out of them."""
+    return answer(words, found.unroll(rules) if whole else rules)
+
+
 def show(rules: bytes | str) -> tuple[str, ...]:
     """The canonical text of each tree of a text, which need be no rules."""
     return tuple(answer(["show"], rules))
 
 
-def check(rules: bytes | str) -> Description:
+def check(rules: bytes | str, *, whole: bool = False) -> Description:
     """What the rules have."""
-    return Description.of(answer(["check"], rules))
+    return Description.of(_answer(["check"], rules, whole))
 
 
-def net(rules: bytes | str) -> Network:
+def net(rules: bytes | str, *, whole: bool = False) -> Network:
     """How large the network of the rules is."""
-    return Network.of(answer(["net"], rules))
+    return Network.of(_answer(["net"], rules, whole))
 
 
-def moves(rules: bytes | str, after: History = "") -> Position:
+def moves(rules: bytes | str, after: History = "", *, whole: bool = False) -> Position:
     """How play stands after a history."""
-    return Position.of(answer(["moves", "--after", history_text(after)], rules))
+    return Position.of(_answer(["moves", "--after", history_text(after)], rules, whole))
 
 
-def state(rules: bytes | str, after: History = "") -> Standing:
+def state(rules: bytes | str, after: History = "", *, whole: bool = False) -> Standing:
     """How play stands after a history, and which base propositions hold."""
-    return Standing.of(answer(["state", "--after", history_text(after)], rules))
+    return Standing.of(_answer(["state", "--after", history_text(after)], rules, whole))
 
 
 def question(role: str, depth: int, at_bound: Bound, unfinished: int | None) -> list[str]:
@@ -51,11 +57,18 @@ def _question(role: str, depth: int, at_bound: Bound, unfinished: int | None, af
 
 
 def solve(
-    rules: bytes | str, role: str, depth: int, *, at_bound: Bound = "zero", unfinished: int | None = None, after: History = ""
+    rules: bytes | str,
+    role: str,
+    depth: int,
+    *,
+    at_bound: Bound = "zero",
+    unfinished: int | None = None,
+    after: History = "",
+    whole: bool = False,
 ) -> Solution:
     """What a role can be sure of within so many turns behind a history, from 0 to 64. A state in which play goes on there is worth 0,
     or with `at_bound="goal"` its goal value, or with `unfinished` that number, from 0 to 100, whatever `at_bound` says."""
-    return Solution.of(answer(["solve", *_question(role, depth, at_bound, unfinished, after)], rules))
+    return Solution.of(_answer(["solve", *_question(role, depth, at_bound, unfinished, after)], rules, whole))
 
 
 def solve_within(
@@ -68,14 +81,22 @@ def solve_within(
     at_bound: Bound = "zero",
     unfinished: int | None = None,
     after: History = "",
+    whole: bool = False,
 ) -> Solution | Outside:
     """The same where the value is more than `low`, from -1, and less than `high`, up to 101; else which of the two it does not pass."""
     words = ["solve", "--window", f"{low}:{high}", *_question(role, depth, at_bound, unfinished, after)]
-    return Outside.of(answer(words, rules))
+    return Outside.of(_answer(words, rules, whole))
 
 
 def values(
-    rules: bytes | str, role: str, depth: int, *, at_bound: Bound = "zero", unfinished: int | None = None, after: History = ""
+    rules: bytes | str,
+    role: str,
+    depth: int,
+    *,
+    at_bound: Bound = "zero",
+    unfinished: int | None = None,
+    after: History = "",
+    whole: bool = False,
 ) -> Values:
     """What each legal move of a role makes sure of, by the same options as `solve`."""
-    return Values.of(answer(["values", *_question(role, depth, at_bound, unfinished, after)], rules))
+    return Values.of(_answer(["values", *_question(role, depth, at_bound, unfinished, after)], rules, whole))

@@ -57,18 +57,27 @@ def readable() -> Iterator[None]:
 
 
 class Limit:
-    """Until when an answer is waited for, by `monotonic`; once it is given up, a grace longer."""
+    """Until when an answer is waited for, by `monotonic`; once it is given up, a grace longer, and
+    once who asks is closed, no longer at all."""
 
     def __init__(
         self, until: float, given_up: threading.Event | None = None, grace: float = 0.0
     ):
         self.until, self.given_up, self.grace = until, given_up, grace
+        self.closed: threading.Event | None = None
+
+    def within(self, closed: threading.Event) -> Limit:
+        """The same for one who asks that may be closed."""
+        self.closed = closed
+        return self
 
     def left(self) -> float:
         """How many seconds are left; at most 0 where the time is over."""
         now = time.monotonic()
         if self.given_up is not None and self.given_up.is_set():
             self.until, self.given_up = min(self.until, now + self.grace), None
+        if self.closed is not None and self.closed.is_set():
+            self.until = min(self.until, now)
         return self.until - now
 
 
@@ -190,12 +199,14 @@ class Child:
 
 
 class Children:
-    """Processes that stand ready for engines: so many are spare, and at most so many are idle."""
+    """Processes that stand ready for engines: so many are spare, and at most so many are idle. Those
+    that are asked are at work."""
 
     def __init__(self, most: int, command: Sequence[str] | None = None, spare: int = 2):
         self.most, self.spare = max(most, spare), spare
         self.command = list(command or SESSION_COMMAND)
         self.idle: list[Child] = []
+        self.at_work: set[Child] = set()
         self.change = threading.Condition()
         self.is_closed = False
         threading.Thread(target=self._fill, daemon=True).start()
@@ -234,6 +245,20 @@ class Children:
                 return
         child.end()
 
+    @contextmanager
+    def _working(self, child: Child) -> Iterator[None]:
+        """A process that is asked. Where it gives no answer it is ended."""
+        with self.change:
+            self.at_work.add(child)
+        try:
+            yield
+        except BaseException:
+            child.end()
+            raise
+        finally:
+            with self.change:
+                self.at_work.discard(child)
+
     def ask(
         self, child: Child | None, batch: Sequence[Sequence[str]], rules: bytes, limit: Limit
     ) -> tuple[Child, list[Reply]]:
@@ -242,10 +267,10 @@ class Children:
         for is_last in (False, True):
             asked = child or self.take()
             try:
-                return asked, asked.ask(batch, rules, limit)
+                with self._working(asked):
+                    return asked, asked.ask(batch, rules, limit)
             except BaseException as fault:
                 child = None
-                asked.end()
                 if is_last or not isinstance(fault, Broken):
                     raise
         raise Broken("no child was asked")
@@ -267,9 +292,11 @@ class Pool:
         self.most = most
         self.children = Children(most, command or OWN_COMMAND, spare)
         self.places = threading.Semaphore(most)
+        self.closed = threading.Event()
 
     def ask(self, words: Sequence[str], rules: bytes, limit: Limit) -> Reply:
         """The reply to a command over rules."""
+        limit.within(self.closed)
         while not self.places.acquire(timeout=BEAT):
             if limit.left() <= 0:
                 raise Late
@@ -283,7 +310,8 @@ class Pool:
         return found
 
     def close(self) -> None:
-        """Asks no more. Questions that are under way end first."""
+        """Asks no more. Questions that are under way are given up."""
+        self.closed.set()
         self.children.close()
 
 
@@ -311,20 +339,20 @@ class Engine:
         self.children = children
         self.child: Child | None = None
         self.lock = threading.Lock()
-        self.is_closed = False
+        self.closed = threading.Event()
 
     def ask_all(self, batch: Sequence[Sequence[str]], limit: Limit) -> list[list[str]]:
         """The lines of the answers to commands, which are asked together."""
-        if not self.lock.acquire(timeout=max(limit.left(), 0.001)):
+        if not self.lock.acquire(timeout=max(limit.within(self.closed).left(), 0.001)):
             raise Late
         try:
-            if self.is_closed:
+            if self.closed.is_set():
                 raise Late
             child, self.child = self.child, None
             self.child, found = self.children.ask(child, batch, self.rules, limit)
         finally:
             self.lock.release()
-            if self.is_closed:
+            if self.closed.is_set():
                 self.close()
         with readable():
             return [each.lines() for each in found]
@@ -377,8 +405,8 @@ class Engine:
             return Position.of(position), {role: int(goal) for _, role, goal in map(terms, goals)}
 
     def close(self) -> None:
-        """Asks no more. A question that is under way ends first."""
-        self.is_closed = True
+        """Asks no more. A question that is under way is given up."""
+        self.closed.set()
         if self.lock.acquire(blocking=False):
             child, self.child = self.child, None
             self.lock.release()

@@ -26,7 +26,8 @@ from pathlib import Path
 from urllib.parse import urlsplit
 
 import gdlsolve
-from gdlsolve.calls import Ended, Refusal
+from gdlsolve import whole
+from gdlsolve.calls import Ended, Refusal, answer
 from gdlsolve.engine import Turn, history
 from gdlsolve.messages import tree
 from gdlsolve.replies import Position, State
@@ -147,7 +148,9 @@ class Referee:
 
     def __init__(self, record: Record, dice: random.Random, slack: float, file: Path | None):
         self.record, self.dice, self.slack, self.file = record, dice, slack, file
-        self.here: Position = gdlsolve.moves(record.rules, self.turns)
+        # Players are told the rules as they are, also where these have to be written out to be played.
+        self.rules = whole.playable(record.rules.encode(), answer)
+        self.here: Position = gdlsolve.moves(self.rules, self.turns)
         # The players that were not ready, and why.
         self.failed: list[str] = []
         self.observe()
@@ -161,7 +164,7 @@ class Referee:
         """Puts down the states that are not in the record yet."""
         record = self.record
         while len(record.states) <= len(record.moves):
-            holds = gdlsolve.state(record.rules, self.turns[: len(record.states)]).holds
+            holds = gdlsolve.state(self.rules, self.turns[: len(record.states)]).holds
             record.states.append(f"({' '.join(f'(true {each})' for each in holds)})")
             record.stateTimes.append(now())
 
@@ -220,7 +223,7 @@ class Referee:
         record.moves.append([move for move, _ in found])
         record.errors.append([error for _, error in found])
         record.seconds.append([one.seconds for one in told])
-        self.here = gdlsolve.moves(record.rules, self.turns)
+        self.here = gdlsolve.moves(self.rules, self.turns)
         self.observe()
 
     def note(self) -> None:
@@ -248,7 +251,7 @@ class Referee:
 def made(given: argparse.Namespace) -> Record:
     """The record of a new match."""
     rules = given.rules.read_bytes().decode(errors="replace")
-    roles = list(gdlsolve.check(rules).roles)
+    roles = list(gdlsolve.check(whole.playable(rules.encode(), answer)).roles)
     if len(given.player) > len(roles):
         raise ValueError(f"there are {len(given.player)} players, and {len(roles)} roles")
     players = given.player + [RANDOM] * (len(roles) - len(given.player))

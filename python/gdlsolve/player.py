@@ -21,6 +21,7 @@ from dataclasses import dataclass
 from http.server import BaseHTTPRequestHandler, ThreadingHTTPServer
 from typing import Any
 
+from gdlsolve import whole
 from gdlsolve.calls import Ended, Misuse, Refusal, reply
 from gdlsolve.engine import Broken, Children, Engine, Late, Limit, Turn
 from gdlsolve.messages import MOST_BYTES, Message, clock, parts_of, turn
@@ -46,6 +47,7 @@ class Options:
     depth: int = MOST_DEPTH
     idle: float = 600.0
     is_quiet: bool = False
+    whole: bool = False
 
     def allowed(self, seconds: float) -> float:
         """How long to think on a clock of so many seconds."""
@@ -95,13 +97,25 @@ class Match:
         self.answer: Answer | None = None
         self.thinking: Thinking | None = None
 
+    def take_rules(self, limit: Limit) -> None:
+        """Has a game that is told as games are found written out, and plays what was written."""
+
+        def ask(words: Sequence[str], rules: bytes) -> list[str]:
+            self.quick.rules = rules
+            return self.quick.ask(words, limit)
+
+        told = self.quick.rules
+        written = whole.written_out(told, ask) if self.options.whole else whole.playable(told, ask)
+        self.quick.rules = self.deep.rules = written
+
     def prepare(self, arrived: float) -> None:
         """Reads the rules, and thinks on the first turn while the start clock runs."""
         until = arrived + self.options.allowed(self.start.start_clock)
+        begun = time.monotonic()
+        self.take_rules(Limit(until))
         self.roles = self.quick.check(Limit(until)).roles
         if self.start.role not in self.roles:
             raise Malformed(f"{self.start.role[:40]} is no role")
-        begun = time.monotonic()
         here = self.quick.moves((), Limit(until))
         self.usual = time.monotonic() - begun
         self.tree = Node(here)
@@ -195,7 +209,7 @@ class Match:
         self.last_legal = [*self.last_legal[-1:], legal]
         if len(legal) == 1:
             return legal[0]
-        if thinking is None or behind is not None:
+        if thinking is None or behind is not None or not (thinking.search.deepest or thinking.goes_on()):
             thinking = self.think(here, until)
         thinking.wait(until)
         choice = thinking.choice()
@@ -224,7 +238,7 @@ class Match:
         )
 
     def close(self) -> None:
-        """Ends all work for the match."""
+        """Ends all work for the match at once, also that for an answer which is waited for."""
         if self.thinking is not None:
             self.thinking.stop.set()
         self.quick.close()
@@ -307,7 +321,7 @@ class Player:
             return "busy"
         finally:
             match.lock.release()
-        return "ready"
+        return "ready" if self.matches.get(name) is match else "busy"
 
     def play(self, name: str, behind: Turn | None, arrived: float) -> str:
         """The move in a match."""
@@ -403,6 +417,7 @@ def options(words: Sequence[str] | None) -> argparse.Namespace:
     known.add_argument(
         "--idle", type=float, default=own.idle, help="seconds until a silent match may be given up"
     )
+    known.add_argument("--whole", action="store_true", help="write out each game before it is played")
     known.add_argument("--quiet", action="store_true", help="do not tell each turn")
     found = known.parse_args(words)
     if not 1 <= found.depth <= MOST_DEPTH or found.matches < 1 or min(found.margin, found.idle) < 0:
@@ -420,7 +435,7 @@ def main(words: Sequence[str] | None = None) -> int:
         return 1
     signal.signal(signal.SIGTERM, lambda *_: sys.exit(0))
     known = Options(
-        given.name, given.matches, given.margin, given.depth, given.idle, given.quiet
+        given.name, given.matches, given.margin, given.depth, given.idle, given.quiet, given.whole
     )
     player = Player(known)
     with Server(given.host, given.port, player) as server:

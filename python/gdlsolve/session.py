@@ -1,4 +1,4 @@
-"""Many questions over rules that are read once, to one process of the program: `gdlsolve serve`."""
+"""Many questions over rules that are read once: to a handle of the library, or to one process of the program, `gdlsolve serve`."""
 from __future__ import annotations
 
 import subprocess
@@ -7,13 +7,16 @@ from collections.abc import Callable, Iterator, Sequence
 from itertools import pairwise
 from pathlib import Path
 from types import TracebackType
-from typing import IO
+from typing import IO, Protocol
 
 from gdlsolve import program
-from gdlsolve.calls import Misuse, Reply, Status, by_program
+from gdlsolve.calls import Misuse, Reply, Status, by_program, command_of, library, reply, told_by_library
 from gdlsolve.commands import Bound, History, history_text, question
+from gdlsolve.handles import Handle, has_handles
 from gdlsolve.replies import Description, Network, Outside, Position, Solution, Standing, Values
 from gdlsolve.terms import COMMENT, Malformed, trees
+from gdlsolve.whole import reply as written_reply
+from gdlsolve.whole import words as whole_words
 
 # So many bytes of requests are written before a frame is read; a pipe takes twice as many.
 AT_ONCE = 1 << 15
@@ -109,17 +112,145 @@ class Process:
             raise MemoryError
 
 
+class Asked(Protocol):
+    """What a session asks."""
+
+    def stand(self, rules: bytes) -> None:
+        """Takes other rules, which stand from then on."""
+
+    def reply(self, words: Sequence[str]) -> Reply:
+        """The reply to words, over the rules that stand."""
+
+    def history(self, after: History) -> str:
+        """The text of a history, as it is taken here."""
+
+    def close(self) -> None:
+        """Ends it."""
+
+
+class ByProgram:
+    """A process of the program, which takes only words that a line has. What explains a refusal is asked of another process."""
+
+    def __init__(self, command: Sequence[str]):
+        self._command = command
+        self._process = Process(command)
+        self._rules = b""
+
+    def stand(self, rules: bytes) -> None:
+        """Takes other rules, which stand from then on."""
+        self._rules = rules
+        self._process.stand(rules)
+
+    def reply(self, words: Sequence[str]) -> Reply:
+        """The reply to words, over the rules that stand."""
+        [told] = self._process.exchange([line_of(words)])
+        if told.status == Status.NO_MEMORY:
+            raise MemoryError
+        rules = self._rules
+
+        def explain() -> str:
+            return by_program(self._command, words, rules).errors.decode(errors="replace")
+
+        return Reply(told.status, told.output, explain=explain)
+
+    def history(self, after: History) -> str:
+        """The text of a history, in one line."""
+        return one_line(after)
+
+    def close(self) -> None:
+        """Ends the process."""
+        self._process.close()
+
+
+class ByHandle:
+    """A handle of the library, in this process."""
+
+    def __init__(self, file: Path):
+        self._file = file
+        self._rules = b""
+        self._handle: Handle | None = None
+        self._has_ended = False
+
+    def stand(self, rules: bytes) -> None:
+        """Takes other rules, which stand from then on."""
+        if self._has_ended:
+            raise ProcessLookupError("the session has ended")
+        old, self._handle = self._handle, Handle(self._file, rules)
+        self._rules = rules
+        if old:
+            old.close()
+
+    def reply(self, words: Sequence[str]) -> Reply:
+        """The reply to words, over the rules that stand."""
+        handle = self._handle
+        if handle is None:
+            raise ProcessLookupError("the session has ended")
+        if words[:1] == ["lint"]:
+            return reply(words, self._rules)
+        command = command_of(words)
+        return told_by_library(self._file, command, self._rules, *handle.ask(command))
+
+    def history(self, after: History) -> str:
+        """The text of a history."""
+        return history_text(after)
+
+    def close(self) -> None:
+        """Closes the handle, once it has answered."""
+        self._has_ended = True
+        if self._handle:
+            self._handle.close()
+
+
+def begun(named: str | Path | None) -> Asked:
+    """What answers a session: the program that is named, here or by the variable of the environment, else a handle of the library, else the
+    program of the package or of the clone."""
+    if named:
+        return ByProgram([str(named)])
+    file = None if program.named() else library()
+    if file and has_handles(file):
+        return ByHandle(file)
+    return ByProgram(program_words())
+
+
+class Whole:
+    """One of these, over games as they are found: each is written out once, when it comes to stand. Where that is refused, each question is."""
+
+    def __init__(self, asked: Asked, named: str | Path | None):
+        self._asked, self._named = asked, named
+        self._refused: Reply | None = None
+
+    def stand(self, rules: bytes) -> None:
+        """Takes another game, which stands from then on."""
+        written = by_program([str(self._named)], whole_words(), rules) if self._named else written_reply(rules)
+        self._refused = None if written.status == Status.ANSWER else written
+        self._asked.stand(rules if self._refused else written.output)
+
+    def reply(self, words: Sequence[str]) -> Reply:
+        """The reply to words, over what was written out."""
+        return self._refused or self._asked.reply(words)
+
+    def history(self, after: History) -> str:
+        """The text of a history, as it is taken here."""
+        return self._asked.history(after)
+
+    def close(self) -> None:
+        """Ends it."""
+        self._asked.close()
+
+
 class Session:
     """Questions over rules that are read once. It is closed by `close`, or at the end of a `with`.
 
     The calls are those of the package without their first argument, and several threads may call at once: each waits for those before
-    it. `ProcessLookupError` tells that the process has ended. What explains a refusal is asked of another process when it is first read.
+    it. `ProcessLookupError` tells that the session has ended. A handle of the library answers, in the calling thread; or a process of the
+    program that is named, or where there is no library of its own, and that takes only words that a line of `gdlsolve serve` has. With
+    `whole` the rules are a game as it is found, which the program writes out.
     """
 
-    def __init__(self, rules: bytes | str, program: str | Path | None = None):
+    def __init__(self, rules: bytes | str, program: str | Path | None = None, *, whole: bool = False):
         self._lock = threading.Lock()
-        self._command = [str(program)] if program else program_words()
-        self._process = Process(self._command)
+        asked = begun(program)
+        self._asked: Asked = Whole(asked, program) if whole else asked
         try:
             self.stand(rules)
         except BaseException:
@@ -134,26 +265,17 @@ class Session:
 
     def close(self) -> None:
         """Ends the session."""
-        self._process.close()
+        self._asked.close()
 
     def stand(self, rules: bytes | str) -> None:
         """Takes other rules, which stand from then on."""
         with self._lock:
-            self._rules = rules.encode() if isinstance(rules, str) else bytes(rules)
-            self._process.stand(self._rules)
+            self._asked.stand(rules.encode() if isinstance(rules, str) else bytes(rules))
 
     def reply(self, words: Sequence[str]) -> Reply:
-        """The reply to the words of the program, over the rules that stand."""
-        line = line_of(words)
+        """The reply to the words of the program, over the rules that stand. It raises `MemoryError` for want of memory alone."""
         with self._lock:
-            rules, [told] = self._rules, self._process.exchange([line])
-        if told.status == Status.NO_MEMORY:
-            raise MemoryError
-
-        def explain() -> str:
-            return by_program(self._command, words, rules).errors.decode(errors="replace")
-
-        return Reply(told.status, told.output, explain=explain)
+            return self._asked.reply(words)
 
     def _answer(self, words: Sequence[str]) -> list[str]:
         """The lines of the answer to a command, where it is one."""
@@ -173,7 +295,7 @@ class Session:
 
     def _after(self, words: list[str], after: History) -> list[str]:
         """The lines of the answer to a command after a history."""
-        text = one_line(after)
+        text = self._asked.history(after)
         return self._answer([*words, "--after", text] if text else words)
 
     def moves(self, after: History = "") -> Position:

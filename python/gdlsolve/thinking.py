@@ -23,6 +23,8 @@ from gdlsolve.simulation import UNFINISHED, Node, Question, Simulation
 # So many moves are compared with the search's own at each depth, each over so many replies at most.
 COMPARED_MOVES = 3
 COMPARED_REPLIES = 16
+# So often it is seen whether an answer is still waited for, in seconds.
+BEAT = 0.1
 
 
 @dataclass(frozen=True)
@@ -164,17 +166,27 @@ class Thinking:
     def __post_init__(self) -> None:
         self.simulation = Simulation(self.question, self.quick, self.dice, self.root)
         self.search = Search(self.question, self.deep, self.simulation)
-        for work in (self.search.run, self.simulation.run):
-            threading.Thread(target=self.work, args=(work,), daemon=True).start()
+        runs = (self.search.run, self.simulation.run)
+        self.threads = [threading.Thread(target=self.work, args=(run,), daemon=True) for run in runs]
+        for thread in self.threads:
+            thread.start()
 
     def work(self, run: Callable[[threading.Event], None]) -> None:
         """Does a part of the work in its thread."""
         with giving_up():
             run(self.stop)
 
+    def goes_on(self) -> bool:
+        """Whether more may be found than is."""
+        return not self.deep.closed.is_set() and any(thread.is_alive() for thread in self.threads)
+
     def wait(self, until: float) -> None:
-        """Waits until the value is settled, or the time is over."""
-        self.search.settled.wait(max(until - time.monotonic(), 0))
+        """Waits until the value is settled, the time is over, the engine is closed, or both threads
+        have given up."""
+        while self.goes_on():
+            left = until - time.monotonic()
+            if left <= 0 or self.search.settled.wait(min(left, BEAT)):
+                return
 
     def choice(self) -> Choice:
         """Ends the work, and says what it came to."""

@@ -2,8 +2,10 @@
 
     hanging.py FILE [--session] [PROGRAM WORDS..]
 
-It hangs at a command whose first word stands in the file, and with the word `end` there it ends."""
+It hangs at a command whose first word stands in the file, gives no answer where a `!` stands behind the word, and with the word `end`
+there it ends. Before it hangs it makes a file beside that one, whose name ends with its number."""
 
+import os
 import sys
 import time
 from collections.abc import Sequence
@@ -12,7 +14,7 @@ from pathlib import Path
 sys.path.insert(0, str(Path(__file__).resolve().parent.parent))
 
 from gdlsolve.answering import Answers, run
-from gdlsolve.calls import Reply
+from gdlsolve.calls import Ended, Reply
 
 
 class Hanging(Answers):
@@ -26,7 +28,10 @@ class Hanging(Answers):
         held = self.held.read_text().split()
         if "end" in held:
             raise SystemExit(1)
+        if any(f"{words[0]}!" in held for words in batch):
+            raise Ended("no answer")
         if any(words[0] in held for words in batch):
+            self.held.with_suffix(f".{os.getpid()}").touch()
             time.sleep(3600)
         return super().replies(batch, rules)
 

@@ -9,7 +9,7 @@ import threading
 import time
 import urllib.error
 import urllib.request
-from collections.abc import Sequence
+from collections.abc import Callable, Sequence
 from contextlib import suppress
 from pathlib import Path
 from typing import Any
@@ -57,6 +57,23 @@ def started_by(process: int) -> list[int]:
     """The processes that a process has started."""
     lists = Path(f"/proc/{process}/task").glob("*/children")
     return [int(child) for text in lists for child in text.read_text().split()]
+
+
+def until(test: Callable[[], object], seconds: float = 180.0) -> bool:
+    """Whether something comes to be within so long."""
+    end = time.monotonic() + seconds
+    while not test() and time.monotonic() < end:
+        time.sleep(0.02)
+    return bool(test())
+
+
+def processor_time(process: int) -> int:
+    """What a process has used of processors, in ticks of a hundredth of a second; 0 where there is none."""
+    try:
+        words = Path(f"/proc/{process}/stat").read_text().rsplit(")", 1)[1].split()
+    except (FileNotFoundError, ProcessLookupError):
+        return 0
+    return int(words[11]) + int(words[12])
 
 
 def wait_for_end(process: int, seconds: float = LONG) -> bool:
@@ -139,15 +156,21 @@ class Served:
 
 
 class Held:
-    """The command of a solver that hangs at what a test says."""
+    """The command of a solver that hangs at what a test, or a class of tests, says."""
 
-    def __init__(self, test: TestCase):
+    def __init__(self, test: TestCase | type[TestCase]):
         folder = tempfile.TemporaryDirectory()
-        test.addCleanup(folder.cleanup)
+        (test.addClassCleanup if isinstance(test, type) else test.addCleanup)(folder.cleanup)
         self.file = Path(folder.name) / "held"
         self.at("")
         self.command = [sys.executable, str(HANGING), str(self.file), "--session", *PROGRAM]
 
     def at(self, words: str) -> None:
-        """From now on it hangs at these commands."""
+        """From now on it hangs at these commands, or gives no answer where a `!` stands behind one."""
         self.file.write_text(words)
+
+    def hung(self, least: int = 1) -> set[int]:
+        """The processes that hang, and those that they have started; none before so many hang."""
+        marks = self.file.parent.glob(f"{self.file.name}.*")
+        hang = {number for number in (int(mark.suffix[1:]) for mark in marks) if is_alive(number)}
+        return hang.union(*map(started_by, hang)) if len(hang) >= least else set()

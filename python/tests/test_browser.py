@@ -17,10 +17,13 @@ import unittest
 from collections.abc import Callable
 from pathlib import Path
 from typing import Any
+from unittest.mock import patch
 
-from gdlsolve.engine import Pool
+from gdlsolve.engine import OWN_COMMAND, Pool
 from gdlsolve.page.server import Desk, Server
-from tests import ENDLESS, ENDLESS_RULES, TOP
+from tests import ENDLESS, ENDLESS_RULES, PROGRAM, TOP, needs_program
+from tests.found import FOUND, LISTED
+from tests.serving import until
 
 PICTURES = os.environ.get("GDLSOLVE_PICTURES", "")
 # Where Debian puts the driver's package, for a Python that is not Debian's.
@@ -276,6 +279,14 @@ class Long(Browser):
         self.pick("subject", "black")
         self.wait(lambda: "Moves of black" in self.text("moves-title"))
 
+    def test_a_page_that_is_left_gives_up_its_look(self) -> None:
+        self.go(f"game={ENDLESS}")
+        self.pick("seconds", "")
+        at_work = self.desk.pool.children.at_work
+        self.wait(lambda: "turns ahead" in self.text("looked") and at_work)
+        self.browser.get("about:blank")
+        self.assertTrue(until(lambda: not at_work, 10))
+
     def test_the_solver_moves_now_when_it_is_told_to(self) -> None:
         self.go(f"game={ENDLESS}&you=none")
         self.wait(lambda: len(self.all("#list button")) > 1)
@@ -315,6 +326,34 @@ class Texts(Browser):
         self.element("open").click()
         self.wait(lambda: "Your move" in self.text("status"))
         self.assertFalse(self.element("refusal").is_displayed())
+
+    @needs_program
+    def test_a_game_as_games_are_found_is_written_out_and_played(self) -> None:
+        # The library writes nothing out.
+        pool = Pool(2, [*OWN_COMMAND, *PROGRAM])
+        self.addCleanup(pool.close)
+        instead = patch.object(self.desk, "pool", pool)
+        instead.start()
+        self.addCleanup(instead.stop)
+        self.go("game=tic_tac_toe")
+        self.element("write").click()
+        self.put("text", FOUND)
+        self.element("open").click()
+        self.wait(lambda: self.element("whole").is_displayed())
+        self.assertIn("refused G4 Recursive 9", self.text("refusal-told"))
+        self.check_access()
+        self.element("whole").click()
+        self.wait(lambda: "Your move, one" in self.text("status"))
+        self.assertIn("written out", self.text("notes"))
+        self.assertFalse(self.element("whole-too").is_displayed())
+        self.element("write").click()
+        self.put("text", LISTED)
+        self.element("open").click()
+        self.wait(lambda: self.element("whole-too").is_displayed())
+        self.check_access()
+        self.element("whole-too").click()
+        self.wait(lambda: not self.element("whole-too").is_displayed() and len(self.all("#rows button")) == 2)
+        self.assertIn("Your move, one", self.text("status"))
 
     def test_a_record_is_stepped_through(self) -> None:
         self.go("game=nim")

@@ -29,8 +29,9 @@ PATIENCE = 180.0
 # Starts a command again whenever it ends, as what looks after a cluster does.
 AGAIN = 'trap \'kill $child; exit\' TERM; while :; do "$@" & child=$!; wait $child; sleep 0.2; done'
 # The program, slow enough that something can be killed while it runs, as long as a file is there. The whole question, which has an empty
-# history, is slowest.
+# history, is slowest. What it is asked stands in another file.
 SLOWLY = """#!/bin/sh
+echo "$*" >> '{asked}'
 case "$*" in
   *"--depth 0 "*) ;;
   solve*"--after ") while [ -e '{slow}' ]; do sleep 0.5; done ;;
@@ -102,6 +103,14 @@ def marked(mark: str) -> set[int]:
     return found - {os.getpid()}
 
 
+def asks_by_cut(pid: int) -> bool:
+    """Whether a process is a program that is asked by several processors."""
+    try:
+        return b"--cut" in Path(f"/proc/{pid}/cmdline").read_bytes().split(b"\0")
+    except OSError:
+        return False
+
+
 class Here(unittest.TestCase):
     def test_a_process_pool(self) -> None:
         options, answer = stored(MARKS)
@@ -115,7 +124,10 @@ class Here(unittest.TestCase):
         no_one = ["--role", "no one", "--depth", "3"]
         no_turns = ["--role", "xplayer", "--depth", "0"]
         runs: list[tuple[list[str], tuple[int, bytes, bytes]]] = [
+            ([*options, str(MARKS)], (0, answer, b"")),
             (["--processes", "2", *options, str(MARKS)], (0, answer, b"")),
+            (["--processes", "2x2", *options, str(MARKS)], (0, answer, b"")),
+            (["--processes", "2x1", "--parts", *options, str(MARKS)], (0, answer, b"")),
             ([*no_one, str(MARKS)], (2, b"refused S1 NoSuchRole\n", b"")),
             ([*no_turns, str(MARKS)], (0, b"value 0\nmove none\n", b"")),
         ]
@@ -140,6 +152,7 @@ class Slow(unittest.TestCase):
     python: str
     room: Path
     slow: Path
+    asked: Path
     known: dict[str, str]
 
     @classmethod
@@ -152,7 +165,8 @@ class Slow(unittest.TestCase):
         command = shlex.join(PROGRAM or [sys.executable, "-m", "gdlsolve"])
         cls.slow = cls.room / "slow"
         slowly = cls.room / "slowly"
-        slowly.write_text(SLOWLY.format(command=command, slow=cls.slow))
+        cls.asked = cls.room / "asked"
+        slowly.write_text(SLOWLY.format(command=command, slow=cls.slow, asked=cls.asked))
         slowly.chmod(0o755)
         cls.known = environment(**{program.VARIABLE: str(slowly)})
         cls.addClassCleanup(lambda: until(lambda: not marked(str(cls.room)), "no process is left behind"))
@@ -210,9 +224,10 @@ class OverDask(Slow):
         cls.address = f"tcp://127.0.0.1:{port}"
         at = ["--host", "127.0.0.1", "--port", port, "--no-dashboard", "--scheduler-file", str(cls.room / "scheduler.json")]
         cls.scheduler = cls.keep("distributed.cli.dask_scheduler", *at)
-        worker = [cls.address, "--nthreads", "1", "--no-nanny", "--no-dashboard"]
+        worker = [cls.address, "--no-nanny", "--no-dashboard"]
         worker += ["--local-directory", str(cls.room), "--death-timeout", "60"]
-        cls.workers = [cls.keep("distributed.cli.dask_worker", *worker) for _ in range(WORKERS)]
+        more = ["distributed.cli.dask_worker", *worker]
+        cls.workers = [cls.keep(*more, "--nthreads", str(1 + (place == 0))) for place in range(WORKERS)]
 
     @classmethod
     def keep(cls, module: str, *words: str) -> subprocess.Popen[bytes]:
@@ -265,11 +280,27 @@ class OverDask(Slow):
 
     def test_engines_by_name(self) -> None:
         options, answer = stored(MARKS)
-        for engine in (["--scheduler-file", self.room / "scheduler.json"], ["--local", 2]):
+        engines: list[list[object]] = [["--scheduler-file", self.room / "scheduler.json"], ["--local", "2x3"], ["--local", 2]]
+        for engine in engines:
             with self.subTest(engine=engine):
+                self.asked.write_text("")
                 started, told = self.started(self.python, "-m", "gdlsolve.cluster", *engine, *options, MARKS)
                 output, _ = started.communicate(timeout=2 * PATIENCE)
                 self.assertEqual((started.returncode, output), (0, answer), self.said(told))
+        # The last had one worker of two processors, which is asked once.
+        asked = [line for line in self.asked.read_text().splitlines() if line.startswith("solve")]
+        self.assertEqual(asked[1:], [" ".join(["solve", *options, "--cut", "2", "--after", ""])])
+
+    def test_programs_of_this_machine_end_with_the_one_who_asks(self) -> None:
+        options, _ = stored(MARKS)
+        self.be_slow()
+        for engine in ("--local", "--processes"):
+            with self.subTest(engine=engine):
+                started, _ = self.started(self.python, "-m", "gdlsolve.cluster", engine, 2, *options, MARKS)
+                asked = until(lambda: {each for each in children(started.pid) if asks_by_cut(each)}, "a program runs")
+                started.kill()
+                started.wait()
+                until(lambda: not asked & marked(str(self.room)), "no program is left behind")
 
     def test_a_worker_is_killed(self) -> None:
         orphans: list[int] = []
@@ -331,7 +362,7 @@ class OverMpi(Slow):
         self.be_slow()
         started, told = self.command()
         until(lambda: ": value " in self.said(told) and self.programs(), "first answers")
-        self.fail_one(told, self.asked)
+        self.fail_one(told, self.asked_one)
         self.be_quick()
         output, _ = started.communicate(timeout=2 * PATIENCE)
         said = self.said(told)
@@ -342,7 +373,7 @@ class OverMpi(Slow):
         self.be_slow()
         started, told = self.command("--journal", book)
         until(lambda: ": value " in self.said(told) and self.programs(), "first answers")
-        worker = int(Path(f"/proc/{self.asked()}/stat").read_text().rsplit(")", 1)[1].split()[1])
+        worker = int(Path(f"/proc/{self.asked_one()}/stat").read_text().rsplit(")", 1)[1].split()[1])
         os.kill(worker, signal.SIGKILL)
         started.communicate(timeout=2 * PATIENCE)
         self.assertNotEqual(started.returncode, 0)
@@ -354,7 +385,7 @@ class OverMpi(Slow):
         self.assertEqual((started.returncode, output), (0, stored(MARKS)[1]), self.said(told))
         self.assertGreater(kept, 0)
 
-    def asked(self) -> int:
+    def asked_one(self) -> int:
         """A program that answers a question, as soon as there is one."""
         return until(self.programs, "a program runs")[0]
 

@@ -11,8 +11,9 @@ from typing import Any
 from unittest.mock import patch
 
 from gdlsolve.calls import Misuse, Refusal
-from gdlsolve.cluster import Contradiction, Failed, Lost, OtherProgram, driver, sought, task
+from gdlsolve.cluster import Contradiction, Failed, Lost, OtherProgram, command, driver, sought, task
 from gdlsolve.cluster.driver import Driver, Engine, Manner, Sought, Submits, reading
+from gdlsolve.cluster.engines import Share
 from gdlsolve.cluster.journal import Journal, Known
 from gdlsolve.cluster.program import Ran
 from gdlsolve.cluster.task import End, Outcome, Question
@@ -101,9 +102,10 @@ class Toys(unittest.TestCase):
         return toy.run(words, toy.rules_of(seed)).output
 
     def found(
-        self, seed: int, executor: Submits, width: int = 4, **manner: Any
+        self, seed: int, executor: Submits, width: int = 4, processors: int = 1, **manner: Any
     ) -> tuple[Driver, bytes]:
-        asked = Driver(self.asked(seed), Engine(executor, lambda: width), Manner(**manner))
+        engine = Engine(executor, lambda: width, processors=processors)
+        asked = Driver(self.asked(seed), engine, Manner(**manner))
         return asked, asked.reply().output
 
 
@@ -113,7 +115,9 @@ class Answers(Toys):
             with self.subTest(seed=seed):
                 executor = Wild(seed)
                 width = 1 + seed % 7
-                _, output = self.found(seed, executor, width, split=0.0 if seed % 2 else 9.0)
+                split, processors = 0.0 if seed % 2 else 9.0, 1 + seed % 3
+                parts = seed % 5 == 0
+                _, output = self.found(seed, executor, width, processors, split=split, parts=parts)
                 executor.close()
                 self.assertEqual(output, self.want(seed))
 
@@ -182,16 +186,29 @@ class Whole(Toys):
                     executor = Always(answer)
                     self.assertEqual(self.found(seed, executor, 40)[1], self.want(seed))
 
-    def test_few_workers_are_asked_for_parts_alone(self) -> None:
+    def histories(self, width: int, lost: int = 0, **manner: Any) -> list[str]:
+        """The histories that are asked for, of which the first are lost."""
         asked: list[str] = []
 
         def answer(future: Future[Outcome], call: Call, question: Question) -> None:
             asked.append(question.after)
-            future.set_result(call(question))
+            if len(asked) > lost:
+                future.set_result(call(question))
+            else:
+                future.cancel()
 
-        self.assertEqual(self.found(2, Always(answer), 2)[1], self.want(2))
-        self.assertTrue(asked)
-        self.assertNotIn("", asked)
+        self.assertEqual(self.found(2, Always(answer), width, **manner)[1], self.want(2))
+        return asked
+
+    def test_one_worker_is_asked_for_the_whole_alone(self) -> None:
+        self.assertEqual(self.histories(1), [""])
+        self.assertEqual(self.histories(1, 2), ["", "", ""])
+
+    def test_parts_alone_are_asked_for_where_that_is_wanted(self) -> None:
+        for width in (1, 2, 9):
+            asked = self.histories(width, parts=True)
+            self.assertTrue(asked)
+            self.assertNotIn("", asked)
 
 
 class Faults(Toys):
@@ -268,6 +285,28 @@ class Faults(Toys):
         for depth in (-1, 65):
             with self.assertRaises(Misuse):
                 sought(b"", "x", depth, (), "")
+
+
+class Processors(unittest.TestCase):
+    """How many processors a worker answers with."""
+
+    def test_several_are_a_cut_without_a_window(self) -> None:
+        asked = Question(b"", ("--role", "x", "--depth", "3"), "(a b)", 0, 50, "", None)
+        ways = {1: ["--window", "0:50"], 2: ["--cut", "2"], 16: ["--cut", "16"], 40: ["--cut", "16"]}
+        for processors, how in ways.items():
+            want = ["solve", "--role", "x", "--depth", "3", *how, "--after", "(a b)"]
+            self.assertEqual(asked.words(processors), want)
+
+    def test_without_dask_a_worker_has_one(self) -> None:
+        self.assertEqual([task._processors(number) for number in (0, 1, 3)], [1, 1, 3])
+
+    def test_numbers_of_the_command(self) -> None:
+        self.assertEqual([command.here("4"), command.here("2x3")], [Share(1, 4), Share(2, 3)])
+        self.assertEqual([command.of_mpi("4"), command.of_mpi("2x3")], [Share(4, 1), Share(2, 3)])
+        for text in ("0", "-1", "x2", "2x", "2x0", "0x2", "2x2x2", "a", ""):
+            for read in (command.here, command.of_mpi):
+                with self.subTest(text=text), self.assertRaises(ValueError):
+                    read(text)
 
 
 class Parts(unittest.TestCase):

@@ -2,6 +2,7 @@
 import importlib.util
 import json
 import os
+import signal
 import subprocess
 import tempfile
 import time
@@ -12,7 +13,10 @@ from pathlib import Path
 
 import gdlsolve
 from tests import ENDLESS_RULES, PROGRAM, SAYS_NOTHING, TOP, known, needs_program, package, ran
+from tests.serving import LONG, processor_time, started_by, until, wait_for_end
 
+# What is ended is gone within so many seconds.
+SOON = 20.0
 PENNIES = TOP / "games/matching_pennies.kif"
 MARKS = TOP / "games/tic_tac_toe.kif"
 
@@ -107,6 +111,43 @@ class Time(unittest.TestCase):
         status, output, _ = command(["solve", "--role", "xplayer", "--time", "0.001", MARKS])
         self.assertEqual(status, 0)
         self.assertTrue(output.startswith("depth 1\n"))
+
+    def test_nothing_is_left_at_work_where_it_is_ended(self) -> None:
+        ways = {signal.SIGTERM: -signal.SIGTERM, signal.SIGKILL: -signal.SIGKILL}
+        if signal.getsignal(signal.SIGINT) is signal.default_int_handler:
+            ways[signal.SIGINT] = 130
+        words = package("gdlsolve", "solve", "--role", "red", "--time", 600)
+        for number, status in ways.items():
+            with self.subTest(signal=number), subprocess.Popen(words, stdin=subprocess.PIPE, stderr=subprocess.PIPE, env=known()) as run:
+                try:
+                    assert run.stdin is not None
+                    run.stdin.write(ENDLESS_RULES.encode())
+                    run.stdin.close()
+                    self.assertTrue(until(lambda: any(map(processor_time, started_by(run.pid)))))
+                    asked = started_by(run.pid)
+                    left = {*asked, *(program for child in asked for program in started_by(child))}
+                    run.send_signal(number)
+                    self.assertEqual(run.wait(LONG), status)
+                finally:
+                    run.kill()
+                self.assertTrue(all(wait_for_end(process, SOON) for process in left))
+                assert run.stderr is not None
+                self.assertEqual(run.stderr.read(), b"")
+
+    def test_nothing_is_left_at_work_behind_the_time(self) -> None:
+        words = package("gdlsolve", "solve", "--role", "red", "--time", 5)
+        with subprocess.Popen(words, stdin=subprocess.PIPE, stdout=subprocess.PIPE, env=known()) as run:
+            left = set[int]()
+            assert run.stdin is not None and run.stdout is not None
+            run.stdin.write(ENDLESS_RULES.encode())
+            run.stdin.close()
+            while run.poll() is None:
+                for child in started_by(run.pid):
+                    left |= {child, *started_by(child)}
+                time.sleep(0.02)
+            self.assertTrue(run.stdout.read().startswith(b"depth "))
+        self.assertTrue(left)
+        self.assertTrue(all(wait_for_end(process, SOON) for process in left))
 
     def test_other_words_for_the_time_are_misuse(self) -> None:
         for words in (["--time", "0"], ["--time", "soon"], ["--time"], ["--time", "1", "--depth", "3"], ["--time=-1"]):

@@ -9,7 +9,7 @@ from concurrent.futures import ThreadPoolExecutor
 from pathlib import Path
 
 from tests import LONG_TESTS
-from tests.serving import PACE, Served
+from tests.serving import PACE, Served, until
 
 MATCHES = 10_000 if LONG_TESTS else 1_000
 # After so many matches all that is kept for later has been made.
@@ -43,14 +43,19 @@ class Leaks(unittest.TestCase):
             self.assertIn(served.says(f"(PLAY m{number} {turn})"), ("nil", "h", "t"))
         self.assertEqual(served.says(f"(STOP m{number} NIL)"), "done")
 
+    def rest(self, served: Served) -> None:
+        """Waits until nothing is at work for matches that are over, and threads had time to end."""
+        self.assertTrue(until(lambda: not served.player.children.at_work))
+        time.sleep(1)
+
     def test_many_short_matches(self) -> None:
         served = Served(self, matches=AT_ONCE)
         with ThreadPoolExecutor(AT_ONCE) as threads:
             list(threads.map(lambda number: self.play(served, number), range(FIRST)))
-            time.sleep(1)
+            self.rest(served)
             before = used()
             list(threads.map(lambda number: self.play(served, number), range(FIRST, MATCHES)))
-            time.sleep(1)
+            self.rest(served)
             now = used()
         size, all_threads, files = (later - first for first, later in zip(before, now))
         self.assertLess(size, 8_000)

@@ -2,6 +2,7 @@
 
 import http.client
 import json
+import os
 import signal
 import subprocess
 import threading
@@ -15,10 +16,13 @@ from gdlsolve.engine import Limit, Pool
 from gdlsolve.page import looks, places, records, state
 from gdlsolve.page.server import Desk, Server
 from tests import ENDLESS, ENDLESS_RULES, TOP, known, package
+from tests.serving import Held, processor_time, until
 
 MARKS = (TOP / "games/tic_tac_toe.kif").read_bytes()
-# A question that is deeper takes long enough that processes are at one at nearly any time.
+# How deep a look goes before it is stopped.
 DEEP = 8
+# What is given up ends within so many seconds, also on a busy machine.
+SOON = 20.0
 UNSAFE = "(role a) ; one\n(base p)\n  (<= (next p) (not (true ?x)))\n"
 
 
@@ -47,14 +51,6 @@ def turns(*moves: str) -> list[list[str]]:
     return [["noop", move] if place % 2 else [move, "noop"] for place, move in pairs]
 
 
-def until(test: Any, seconds: float = 180.0) -> bool:
-    """Waits so long for something to be."""
-    end = time.monotonic() + seconds
-    while not test() and time.monotonic() < end:
-        time.sleep(0.05)
-    return bool(test())
-
-
 class Served(unittest.TestCase):
     """Tests over a server in a thread."""
 
@@ -63,8 +59,13 @@ class Served(unittest.TestCase):
     port: int
 
     @classmethod
+    def pool(cls) -> Pool:
+        """What answers."""
+        return Pool(2)
+
+    @classmethod
     def setUpClass(cls) -> None:
-        cls.desk = Desk(Pool(2), TOP / "games")
+        cls.desk = Desk(cls.pool(), TOP / "games")
         cls.server = Server(cls.desk, 0)
         cls.port = cls.server.server_address[1]
         threading.Thread(target=cls.server.serve_forever, daemon=True).start()
@@ -234,6 +235,11 @@ class Looks(Served):
         self.assertTrue(until(lambda: self.ask("news", look=look, seen=-1)["depth"] >= DEEP))
         self.ask("stop", look=look)
         self.assertEqual(self.ended(look)["ended"], "stopped")
+        self.assertTrue(until(lambda: not self.desk.pool.children.at_work, SOON))
+        # Those that stand ready for other questions do nothing: they use less than a quarter of a second.
+        ready = {each: processor_time(each) for each in children(os.getpid())}
+        time.sleep(1)
+        self.assertEqual([each for each in ready if processor_time(each) > ready[each] + 25], [])
         self.assertEqual(self.ask("position", game=game, after=[])["state"], "open")
 
     def test_bad_questions_about_looks_are_told(self) -> None:
@@ -250,6 +256,64 @@ class Looks(Served):
         number = self.ask("values", **about, seconds=9)["look"]
         told = self.ended(number)
         self.assertEqual((told["ended"], told["why"]), ("failed", "refused H2 NotLegal 1 first"))
+
+
+class Stops(Served):
+    """Looks whose questions hang: two processes are at work at them, until they are given up."""
+
+    held: Held
+
+    @classmethod
+    def setUpClass(cls) -> None:
+        cls.held = Held(cls)
+        super().setUpClass()
+
+    @classmethod
+    def pool(cls) -> Pool:
+        return Pool(2, cls.held.command)
+
+    def begun(self) -> tuple[int, set[int]]:
+        """A look, and the processes that are at work at it."""
+        self.held.at("")
+        about: dict[str, Any] = {"game": self.opened("nim"), "role": "first", "after": []}
+        self.held.at("solve")
+        look: int = self.ask("values", **about, seconds=None)["look"]
+        return look, self.hung()
+
+    def hung(self) -> set[int]:
+        """The processes of two questions, once both hang."""
+        self.assertTrue(until(lambda: self.held.hung(2)))
+        return self.held.hung(2)
+
+    def check_ended(self, processes: set[int]) -> None:
+        """All these have ended soon, and none is at work."""
+        self.assertTrue(until(lambda: not alive(processes), SOON), alive(processes))
+        self.assertTrue(until(lambda: not self.desk.pool.children.at_work, SOON))
+
+    def test_by_the_button(self) -> None:
+        look, processes = self.begun()
+        self.ask("stop", look=look)
+        self.assertEqual(self.ended(look)["ended"], "stopped")
+        self.check_ended(processes)
+
+    def test_by_a_page_that_goes(self) -> None:
+        look, processes = self.begun()
+        body = json.dumps({"look": look, "seen": 99}).encode()
+        link = http.client.HTTPConnection("127.0.0.1", self.port, timeout=60)
+        link.request("POST", "/api/news", body, {"Content-Type": "application/json"})
+        link.close()
+        self.check_ended(processes)
+        self.assertEqual(self.ended(look)["ended"], "stopped")
+
+    def test_by_the_end_of_the_desk(self) -> None:
+        desk = Desk(Pool(2, self.held.command), TOP / "games")
+        self.held.at("")
+        about: dict[str, Any] = {"game": desk.open({"name": "nim"})["id"], "role": "first", "after": []}
+        self.held.at("solve")
+        desk.values(about)
+        processes = self.hung()
+        desk.close()
+        self.assertTrue(until(lambda: not alive(processes), SOON), alive(processes))
 
 
 class Guards(Served):

@@ -15,15 +15,17 @@ from concurrent.futures import ThreadPoolExecutor
 
 import gdlsolve
 from tests import ENDLESS, ENDLESS_RULES, TOP, known, package
-from tests.serving import PACE, Held, Served, clocks, post, rules_of, started_by, wait_for_end
+from tests.serving import LONG, PACE, Held, Served, clocks, post, rules_of, started_by, until, wait_for_end
 
 BOARD = rules_of("hexapawn")
 HEXAPAWN = (TOP / "games/hexapawn.kif").read_text()
 MARKS = (TOP / "games/tic_tac_toe.kif").read_text()
 # A game that is not settled within some seconds, and the role that begins.
 RED = (ENDLESS, "red")
-# Longer than the clocks of tests by so much as a busy machine takes, in seconds.
-SOON = 10.0
+# Longer than the clocks of tests by so much as a busy machine takes, in seconds, and long before a solver that hangs goes on.
+SOON = 60.0
+# Clocks of a match whose value is settled, so that they are not used.
+LONG_CLOCKS = clocks(60, 60)
 OPENINGS = gdlsolve.moves(HEXAPAWN).legal["white"]
 
 
@@ -40,7 +42,7 @@ class Messages(unittest.TestCase):
         says = self.served.says
         self.assertEqual(says("(INFO)"), "((name gdlsolve) (status available) (species alien))")
         self.assertEqual(says(f"(PREVIEW {rules_of('hexapawn')} 5)"), "ready")
-        self.assertEqual(self.served.start("M.1", "hexapawn", "Black", clocks(60, 2)), "ready")
+        self.assertEqual(self.served.start("M.1", "hexapawn", "Black", LONG_CLOCKS), "ready")
         self.assertEqual(says("(PLAY m.1 NIL)"), "noop")
         first = (OPENINGS[0], "noop")
         move = says(f"(PLAY m.1 ({OPENINGS[0]} NOOP))")
@@ -52,7 +54,7 @@ class Messages(unittest.TestCase):
 
     def test_what_is_no_message(self) -> None:
         url, board = self.served.url, rules_of("hexapawn")
-        self.assertEqual(self.served.start("m", "hexapawn", "white", clocks(60, 1)), "ready")
+        self.assertEqual(self.served.start("m", "hexapawn", "white", LONG_CLOCKS), "ready")
         messages: list[str | bytes] = [
             "",
             "(",
@@ -79,7 +81,7 @@ class Messages(unittest.TestCase):
 
     def test_what_is_not_played(self) -> None:
         for message in [
-            "(START n white ((role white) (<= p q) (<= r p) (<= q p)) 5 3)",
+            "(START n white ((role white) (<= p (not q)) (<= q (not p))) 5 3)",
             "(START n white () 5 3)",
             "(PLAY n NIL)",
             "(STOP n NIL)",
@@ -91,9 +93,9 @@ class Messages(unittest.TestCase):
 
     def test_repeated_late_and_foreign_messages(self) -> None:
         says, start = self.served.says, self.served.start
-        self.assertEqual(start("m", "hexapawn", "black", clocks(60, 1)), "ready")
-        self.assertEqual(start("m", "hexapawn", "black", clocks(60, 1)), "ready")
-        self.assertEqual(start("m", "hexapawn", "white", clocks(60, 1)), "busy")
+        self.assertEqual(start("m", "hexapawn", "black", LONG_CLOCKS), "ready")
+        self.assertEqual(start("m", "hexapawn", "black", LONG_CLOCKS), "ready")
+        self.assertEqual(start("m", "hexapawn", "white", LONG_CLOCKS), "busy")
         self.assertEqual([says("(PLAY m NIL)"), says("(PLAY m NIL)")], ["noop", "noop"])
         first = f"(PLAY m ({OPENINGS[1]} noop))"
         move = says(first)
@@ -110,7 +112,7 @@ class Messages(unittest.TestCase):
         self.assertEqual(says(first), "busy")
 
     def test_a_message_that_comes_twice_at_once_is_one_turn(self) -> None:
-        start = self.served.start("m", "rock_paper_scissors", "left", clocks(60, 1))
+        start = self.served.start("m", "rock_paper_scissors", "left", LONG_CLOCKS)
         self.assertEqual(start, "ready")
         self.served.says("(PLAY m NIL)")
         with ThreadPoolExecutor(4) as threads:
@@ -119,33 +121,33 @@ class Messages(unittest.TestCase):
         self.assertEqual(len(self.served.player.matches["m"].turns), 1)
 
     def test_a_move_that_was_replaced_by_the_referee_is_taken(self) -> None:
-        self.assertEqual(self.served.start("m", "tic_tac_toe", "xplayer", clocks(20, 2)), "ready")
+        self.assertEqual(self.served.start("m", "tic_tac_toe", "xplayer", LONG_CLOCKS), "ready")
         said = self.served.says("(PLAY m NIL)")
         other = next(move for move in legal(MARKS, "xplayer", []) if move != said)
         self.assertEqual(self.served.says(f"(PLAY m ({other} noop))"), "noop")
         self.assertEqual(self.served.player.matches["m"].turns, ((other, "noop"),))
 
     def test_the_end_of_a_match(self) -> None:
-        self.assertEqual(self.served.start("m", "matching_pennies", "a", clocks(60, 1)), "ready")
+        self.assertEqual(self.served.start("m", "matching_pennies", "a", LONG_CLOCKS), "ready")
         self.assertIn(self.served.says("(PLAY m NIL)"), ("h", "t"))
         self.assertEqual(self.served.says("(PLAY m (h t))"), "nil")
         self.assertEqual(self.served.says("(STOP m (h t))"), "done")
 
     def test_no_more_than_so_many_matches(self) -> None:
         start = self.served.start
-        self.assertEqual(start("m.1", "hexapawn", "black", clocks(60, 1)), "ready")
-        self.assertEqual(start("m.2", "hexapawn", "white", clocks(60, 1)), "ready")
-        self.assertEqual(start("m.3", "hexapawn", "white", clocks(60, 1)), "busy")
+        self.assertEqual(start("m.1", "hexapawn", "black", LONG_CLOCKS), "ready")
+        self.assertEqual(start("m.2", "hexapawn", "white", LONG_CLOCKS), "ready")
+        self.assertEqual(start("m.3", "hexapawn", "white", LONG_CLOCKS), "busy")
         self.assertIn("busy", self.served.says("(INFO)"))
         self.assertEqual(self.served.says("(ABORT m.1)"), "aborted")
-        self.assertEqual(start("m.3", "hexapawn", "white", clocks(60, 1)), "ready")
+        self.assertEqual(start("m.3", "hexapawn", "white", LONG_CLOCKS), "ready")
 
     def test_a_silent_match_makes_room(self) -> None:
         served = Served(self, matches=1, idle=0.0)
-        self.assertEqual(served.start("m.1", "hexapawn", "black", clocks(60, 1)), "ready")
-        self.assertEqual(served.start("m.2", "hexapawn", "black", clocks(60, 1)), "busy")
+        self.assertEqual(served.start("m.1", "hexapawn", "black", LONG_CLOCKS), "ready")
+        self.assertEqual(served.start("m.2", "hexapawn", "black", LONG_CLOCKS), "busy")
         served.player.matches["m.1"].heard -= 10_000
-        self.assertEqual(served.start("m.2", "hexapawn", "black", clocks(60, 1)), "ready")
+        self.assertEqual(served.start("m.2", "hexapawn", "black", LONG_CLOCKS), "ready")
         self.assertEqual(list(served.player.matches), ["m.2"])
 
     def test_odd_requests(self) -> None:
@@ -186,9 +188,9 @@ class Clocks(unittest.TestCase):
         names = [f"m{number}" for number in range(4)]
         openings = legal(ENDLESS_RULES, "red", [])
         with ThreadPoolExecutor(4) as threads:
-            starts = threads.map(lambda name: self.served.start(name, *RED, clocks(2, 1)), names)
+            starts = threads.map(lambda name: self.served.start(name, *RED, clocks(5, 2)), names)
             self.assertEqual(list(starts), ["ready"] * 4)
-            self.assertEqual(self.served.start("m4", *RED, clocks(2, 1)), "busy")
+            self.assertEqual(self.served.start("m4", *RED, clocks(5, 2)), "busy")
             begun = time.monotonic()
             found = list(threads.map(self.served.says, [f"(PLAY {name} NIL)" for name in names]))
             self.assertLess(time.monotonic() - begun, SOON * PACE)
@@ -206,7 +208,7 @@ class Clocks(unittest.TestCase):
 
     def test_a_search_that_hangs(self) -> None:
         self.held.at("solve")
-        self.assertEqual(self.timed(f"(START m white {BOARD} {clocks(1.5, 1)})"), "ready")
+        self.assertEqual(self.timed(f"(START m white {BOARD} {clocks(4, 2)})"), "ready")
         move = self.timed("(PLAY m NIL)")
         self.assertIn(move, OPENINGS)
         turns = [(move, "noop")]
@@ -219,7 +221,7 @@ class Clocks(unittest.TestCase):
 
     def test_a_solver_that_hangs_at_all(self) -> None:
         self.held.at("solve")
-        self.assertEqual(self.timed(f"(START m black {BOARD} {clocks(1.5, 1)})"), "ready")
+        self.assertEqual(self.timed(f"(START m black {BOARD} {clocks(4, 3)})"), "ready")
         self.assertEqual(self.timed("(PLAY m NIL)"), "noop")
         move = self.timed(f"(PLAY m ({OPENINGS[0]} noop))")
         self.held.at("check moves solve")
@@ -232,8 +234,8 @@ class Clocks(unittest.TestCase):
         self.assertEqual(len(self.served.player.matches["m"].turns), 3)
 
     def test_a_match_is_played_to_its_end_without_the_solver(self) -> None:
-        self.assertEqual(self.served.start("m", "tic_tac_toe", "xplayer", clocks(3, 1)), "ready")
-        self.held.at("check moves solve")
+        self.assertEqual(self.served.start("m", "tic_tac_toe", "xplayer", LONG_CLOCKS), "ready")
+        self.held.at("check! moves! solve!")
         dice, turns, behind = random.Random(3), list[tuple[str, str]](), "NIL"
         while (here := gdlsolve.moves(MARKS, turns)).state is gdlsolve.State.OPEN:
             move = self.timed(f"(PLAY m {behind})")
@@ -247,13 +249,18 @@ class Clocks(unittest.TestCase):
         self.assertEqual(self.served.start("m", "hexapawn", "black", clocks(60, 4)), "ready")
         self.served.says("(PLAY m NIL)")
         self.held.at("moves solve")
-        threading.Timer(PACE, self.held.at, [""]).start()
+
+        def go_on() -> None:
+            until(self.held.hung)
+            self.held.at("")
+
+        threading.Thread(target=go_on).start()
         move = self.timed(f"(PLAY m ({OPENINGS[0]} noop))")
         self.assertIn(move, legal(HEXAPAWN, "black", [(OPENINGS[0], "noop")]))
 
     def test_a_solver_that_is_killed(self) -> None:
         served = Served(self)
-        self.assertEqual(served.start("m", *RED, clocks(2, 1.5)), "ready")
+        self.assertEqual(served.start("m", *RED, clocks(5, 2)), "ready")
         match = served.player.matches["m"]
 
         def kill() -> None:
@@ -271,6 +278,33 @@ class Clocks(unittest.TestCase):
         reply = legal(ENDLESS_RULES, "black", turns)[0]
         move = served.says(f"(PLAY m (noop {reply}))")
         self.assertIn(move, legal(ENDLESS_RULES, "red", [*turns, ("noop", reply)]))
+
+    def check_ended_by(self, message: str, answer: str) -> None:
+        """Processes hang, a message ends them, and none is left at work."""
+        self.assertTrue(until(self.held.hung))
+        processes = self.held.hung()
+        self.assertEqual(self.served.says(message), answer)
+        self.assertTrue(all(wait_for_end(process, SOON) for process in processes))
+        self.assertTrue(until(lambda: not self.served.player.children.at_work, SOON))
+
+    def test_the_end_of_a_match_ends_what_is_at_work_for_it(self) -> None:
+        for message, answer in ("(STOP m NIL)", "done"), ("(ABORT m)", "aborted"):
+            self.held.at("")
+            with self.subTest(message=message), ThreadPoolExecutor(1) as threads:
+                self.assertEqual(self.served.start("m", "tic_tac_toe", "oplayer", "3600 3600"), "ready")
+                self.assertEqual(self.served.says("(PLAY m NIL)"), "noop")
+                self.held.at("solve")
+                said = threads.submit(self.served.says, "(PLAY m ((mark 1 1) noop))")
+                self.check_ended_by(message, answer)
+                self.assertIn(said.result(LONG), legal(MARKS, "oplayer", [("(mark 1 1)", "noop")]))
+
+    def test_a_match_that_is_ended_before_it_has_begun(self) -> None:
+        for command in ("check", "moves", "solve"):
+            self.held.at(command)
+            with self.subTest(command=command), ThreadPoolExecutor(1) as threads:
+                said = threads.submit(self.served.start, "m", "tic_tac_toe", "xplayer", "3600 3600")
+                self.check_ended_by("(ABORT m)", "aborted")
+                self.assertEqual(said.result(LONG), "busy")
 
     def test_a_solver_that_always_ends(self) -> None:
         self.held.at("end")

@@ -1,2 +1,3 @@
 mod Requests
 mod Statuses
+mod Handing

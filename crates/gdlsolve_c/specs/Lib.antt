@@ -1,3 +1,4 @@
 pub mod Calls
 pub mod Telling
 pub mod Explaining
+pub mod Handles

@@ -5,8 +5,8 @@ ghost use Rattle.gdlsolve_c.specs.Explaining.{RoomExplained};
 ghost use Rattle.reasons.specs.Headed.{IsHeaded};
 
 use crate::call::fill;
-use netgame::NetGame;
 use reasons::explanation;
+use rulegame::RuleGame;
 use std::alloc::{AllocError, Global};
 use words::{Request, request_of};
 
@@ -34,7 +34,7 @@ fn explained(
     let Request::Run(command) = &request else {
         return Ok(None);
     };
-    let text = explanation::<NetGame, ((), Global)>(&((), alloc), command, rules, reply)?;
+    let text = explanation::<RuleGame, ((), Global)>(&((), alloc), command, rules, reply)?;
     Ok(Some(text))
 }
 

@@ -1,9 +1,12 @@
 //! What a caller is told: the reply to a command, or what is said of words that make none.
 ghost use Rattle.std.specs.Prelude.{◌≡◌, IfOk};
 ghost use Rattle.gdlsolve_c.specs.Telling.{IsOutcomeOf, IsOutcome, told_bytes, status_of};
+ghost use Rattle.gdlsolve_c.specs.Handles.{IsMadeOf};
 
+use kept_game::replied_alone;
 use netgame::NetGame;
 use replies::{Reply, reply_alone};
+use rulegame::RuleGame;
 use statement::Status;
 use std::alloc::{AllocError, Global};
 use words::{Request, request_of};
@@ -51,19 +54,46 @@ impl Outcome {
     }
 }
 
+/// What is told where the words make no command.
+fn said(alloc: Global, text: &str) -> Result<Vec<u8>, AllocError> {
+    let text = format!(in alloc; "{text}")?;
+    Ok(text.into_bytes())
+}
+
 /// What is told where a request stands for the words: of a command its reply over the rules.
 fn tell_of(alloc: Global, request: &Request, rules: &[u8]) -> Result<Outcome, AllocError>
     ensures { IfOk result (IsOutcomeOf request.now rules.now) }
 {
     match request {
         Request::Run(command) => {
-            let reply = reply_alone::<NetGame, ((), Global)>(&((), alloc), command, rules)?;
+            let reply = reply_alone::<NetGame, RuleGame, ((), Global)>(
+                &((), alloc),
+                command,
+                rules,
+            )?;
             Ok(Outcome::Reply(reply))
         }
-        Request::Help(text) | Request::Misuse(text) => {
-            let text = format!(in alloc; "{text}")?;
-            Ok(Outcome::Words(text.into_bytes()))
+        Request::Help(text) | Request::Misuse(text) => Ok(Outcome::Words(said(alloc, text)?)),
+    }
+}
+
+/// The same, by the game that is kept of the rules, which is made first where there is none.
+fn tell_of_kept(
+    alloc: Global,
+    request: &Request,
+    rules: &[u8],
+    made: &mut Option<NetGame>,
+) -> Result<Outcome, AllocError>
+    requires { IsMadeOf made.old rules.now }
+    ensures told { IfOk result (IsOutcomeOf request.now rules.now) }
+    ensures made { IsMadeOf made.new rules.now }
+{
+    match request {
+        Request::Run(command) => {
+            let reply = replied_alone(&((), alloc), command, rules, made)?;
+            Ok(Outcome::Reply(reply))
         }
+        Request::Help(text) | Request::Misuse(text) => Ok(Outcome::Words(said(alloc, text)?)),
     }
 }
 
@@ -77,12 +107,32 @@ pub(crate) fn tell(alloc: Global, words: &[u8], rules: &[u8]) -> Result<Outcome,
     ensures { IfOk result (IsOutcome rules.now) }
 {
     let Ok(text) = str::from_utf8(words) else {
-        let text = format!(in alloc; "a word is no UTF-8\n")?;
-        return Ok(Outcome::Words(text.into_bytes()));
+        return Ok(Outcome::Words(said(alloc, "a word is no UTF-8\n")?));
     };
     let list = words_of(alloc, text)?;
     let Ok(request) = request_of(alloc, &list) else {
         return Err(AllocError);
     };
     tell_of(alloc, &request, rules)
+}
+
+/// The same, by the game that is kept of the rules. Also where it fails, what is kept is of the rules.
+pub(crate) fn tell_over(
+    alloc: Global,
+    words: &[u8],
+    rules: &[u8],
+    made: &mut Option<NetGame>,
+) -> Result<Outcome, AllocError>
+    requires { IsMadeOf made.old rules.now }
+    ensures told { IfOk result (IsOutcome rules.now) }
+    ensures made { IsMadeOf made.new rules.now }
+{
+    let Ok(text) = str::from_utf8(words) else {
+        return Ok(Outcome::Words(said(alloc, "a word is no UTF-8\n")?));
+    };
+    let list = words_of(alloc, text)?;
+    let Ok(request) = request_of(alloc, &list) else {
+        return Err(AllocError);
+    };
+    tell_of_kept(alloc, &request, rules, made)
 }

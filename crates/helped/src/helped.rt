@@ -13,8 +13,8 @@ use std::sync::atomic::{AtomicU64, Ordering};
 use std::thread::{Threads, map_indices};
 use tasks::{Node, answer_in};
 
-/// With fewer turns to come the tasks of a board are shared, and nobody helps: a search is done too soon.
-const FEWEST_TURNS: u32 = 8;
+/// The tables are made as for so many turns at least: for fewer they would have too few entries to be shared.
+const FEWEST_TURNS: u32 = 3;
 
 /// What the workers of a search share, if there are to be several, who are to keep what states are worth, and if it can be had.
 pub fn company_of<G: Game>(
@@ -26,10 +26,14 @@ pub fn company_of<G: Game>(
 ) -> Option<Company<G>>
     ensures { IfSome result (λ company. company_game company ≡ game.now) }
 {
-    if cut.workers() <= 1 || asked.depth < FEWEST_TURNS {
+    if cut.workers() <= 1 {
         return None;
     }
-    Company::within(alloc, game, asked, bytes)
+    let made_for = Question {
+        depth: asked.depth.max(FEWEST_TURNS),
+        ..asked
+    };
+    Company::within(alloc, game, made_for, bytes)
 }
 
 /// The value of a node and the place of its first best move, found over the tables, where the memory for it can be had.

@@ -22,9 +22,10 @@ use crate::level::Level;
 use crate::memory::{find_in, key_in, may_find};
 use crate::pack::{Pack, Part, Pick, pack_on};
 use crate::run::{LONGEST_RUN, Run};
+use crate::sight::Sight;
 use crate::tools::Tools;
 use game::{AtBound, Game, Question};
-use table::Bounds;
+use table::{Bounds, hash_of};
 
 /// What is known of the states of a run before they are searched.
 #[derive(Drop)]
@@ -50,7 +51,14 @@ pub fn new_ahead(count: usize) -> Ahead
     }
 }
 
-/// Finds what is kept of the states of a run.
+/// Notes the hash of the state at a place, by its key, where there are other workers.
+fn note_hash(sight: &Sight, place: usize, key: &[u64], hashes: &mut [u64; LONGEST_RUN]) {
+    if place < LONGEST_RUN && sight.has_others() {
+        hashes[place] = hash_of(key);
+    }
+}
+
+/// Finds what is kept of the states of a run, and notes their hashes where there are other workers.
 pub fn look_back<G: Game>(
     game: &G,
     asked: Question,
@@ -71,6 +79,7 @@ pub fn look_back<G: Game>(
     game.write_keys(&children.many, count, tools.memory.keys.as_mut_slice());
     for place in 0..count {
         let key = key_in(&tools.memory.keys, words, place);
+        note_hash(&tools.sight, place, key, &mut children.hashes);
         children.ahead.bounds[place] = find_in(game, &tools.memory.positions, key, asked);
     }
 }

@@ -3,6 +3,7 @@ ghost use Rattle.std.specs.Prelude.{IfOk};
 ghost use Rattle.maximin.specs.Children.{AreChildrenOf};
 
 use crate::ahead::{Ahead, new_ahead};
+use crate::run::LONGEST_RUN;
 use game::Game;
 use std::alloc::AllocError;
 
@@ -12,6 +13,8 @@ pub struct Children<P, M> {
     pub many: M,
     pub position: P,
     pub ahead: Ahead,
+    /// By state the hash by which other workers mark it, where it was looked up beside others. No answer rests on them.
+    pub hashes: [u64; LONGEST_RUN],
 }
 
 /// Room for the states of a game.
@@ -24,5 +27,6 @@ pub fn new_children<G: Game>(game: &G) -> Result<Children<G::Pos, G::Many>, Allo
         many,
         position,
         ahead: new_ahead(0),
+        hashes: [0; LONGEST_RUN],
     })
 }

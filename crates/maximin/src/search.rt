@@ -21,7 +21,7 @@ use crate::level::Level;
 use crate::memory::{keep, recall};
 use crate::moves::gather;
 use crate::narrow::{bounds_by, narrowed, settled};
-use crate::order::order_of;
+use crate::order::{order_of, put_off};
 use crate::run::LONGEST_RUN;
 use crate::sight::{mark_state, unmark_state};
 use crate::told::{greatest_told, least_told, told_worth};
@@ -261,8 +261,16 @@ fn least_at<G: Game>(
     if upper <= window.low {
         return upper;
     }
-    let order = order_of(&tools.history, joints, asked.depth);
+    let mut order = order_of(&tools.history, joints, asked.depth);
     for place in 0..count {
+        put_off(
+            &tools.sight,
+            &children.hashes,
+            asked.depth,
+            place,
+            count,
+            &mut order,
+        );
         let child = order[place];
         let below = SearchWindow {
             high: upper,
@@ -399,8 +407,16 @@ fn greatest_at<G: Game>(
     if lower >= window.high {
         return lower;
     }
-    let order = order_of(&tools.history, joints, asked.depth);
+    let mut order = order_of(&tools.history, joints, asked.depth);
     for place in 0..count {
+        put_off(
+            &tools.sight,
+            &children.hashes,
+            asked.depth,
+            place,
+            count,
+            &mut order,
+        );
         let child = order[place];
         let above = SearchWindow {
             low: lower,

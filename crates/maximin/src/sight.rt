@@ -1,5 +1,6 @@
 //! What a search sees of others beside it.
 use crate::memory::Memory;
+use crate::run::LONGEST_RUN;
 use game::{Game, Question};
 use hints::Marks;
 use std::alloc::AllocError;
@@ -71,11 +72,21 @@ impl Sight {
             None => false,
         }
     }
+
+    /// Whether states with so many turns left are marked by others.
+    pub fn sees(&self, turns: u32) -> bool {
+        turns >= FEWEST_MARKED && self.has_others()
+    }
+
+    /// Whether another is searching the state at a place, by the hashes of states.
+    pub fn is_in_hand(&self, hashes: &[u64; LONGEST_RUN], place: usize) -> bool {
+        place < LONGEST_RUN && self.is_marked_by_another(hashes[place])
+    }
 }
 
 /// Marks the state that was looked up last, if there are others to see it. The answer is its hash.
 pub fn mark_state<G: Game>(memory: &Memory<G>, sight: &Sight, asked: Question) -> Option<u64> {
-    if asked.depth < FEWEST_MARKED || !sight.has_others() {
+    if !sight.sees(asked.depth) {
         return None;
     }
     let hash = hash_of(&memory.key);

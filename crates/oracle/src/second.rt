@@ -6,6 +6,7 @@ ghost use Rattle.statement.specs.Answers.{Reply};
 ghost use Rattle.statement.specs.Input.{RepliesTo};
 ghost use Rattle.words.specs.Asked.{query_of};
 
+use netgame::NetGame;
 use rulegame::RuleGame;
 use running::{RunFault, run_with};
 use statement::Status;
@@ -13,7 +14,8 @@ use std::io::{Read, Write};
 use std::thread::Threads;
 use words::Command;
 
-/// Reads the rules, and writes the reply to the command and nothing else. The kept instances of the rules play their game.
+/// Reads the rules, and writes the reply to the command and nothing else. The kept instances of the rules play their game, and
+/// their network tells of a state where nothing is searched: each the other way round than in `run`.
 pub fn run_rules<T: Threads + Sync + AllocGlobal, R: Read, W: Write>(
     rt: &T,
     command: &Command,
@@ -28,5 +30,5 @@ pub fn run_rules<T: Threads + Sync + AllocGlobal, R: Read, W: Write>(
         × RepliesTo (query_of command.now) (R.remaining input.old) (R.remaining input.new) reply
         × AppendsFront (W.contents output.old) (W.contents output.new) reply.output) }
 {
-    run_with::<RuleGame, T, R, W>(rt, command, input, output)
+    run_with::<RuleGame, NetGame, T, R, W>(rt, command, input, output)
 }

@@ -53,7 +53,7 @@ fn lines_after<G: GroundGame, T: AllocGlobal>(
         return Ok(Vec::new(rt.alloc()));
     };
     let moves = Command::Ask(Inquiry::Moves { after });
-    let reply = reply_alone::<G, T>(rt, &moves, bytes)?;
+    let reply = reply_alone::<G, G, T>(rt, &moves, bytes)?;
     Ok(reply.output)
 }
 

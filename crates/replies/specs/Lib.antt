@@ -8,3 +8,4 @@ pub mod Windows
 pub mod Standing
 pub mod Settling
 pub mod Ready
+pub mod Kept

@@ -57,7 +57,7 @@ pub fn told_alone<G: Game + Drop>(alloc: Global, search: Search<G>) -> Result<Re
 }
 
 /// The reply to an inquiry over the bytes of the input.
-fn inquired_alone<G: GroundGame, T: AllocGlobal>(
+fn inquired_alone<G: GroundGame, S: GroundGame, T: AllocGlobal>(
     rt: &T,
     inquiry: &Inquiry,
     bytes: &[u8],
@@ -71,16 +71,16 @@ fn inquired_alone<G: GroundGame, T: AllocGlobal>(
     };
     let instantiated = instantiate_flat_alone(rt, &rules);
     drop(rules);
-    match ask::<G>(alloc, inquiry, instantiated)? {
+    match ask::<G, S>(alloc, inquiry, instantiated)? {
         Asked::Told(reply) => Ok(reply),
         Asked::ToSearch(search) => told_alone(alloc, search),
         Asked::ToDeepen(search) => Deepening::new(alloc, search)?.told(alloc),
     }
 }
 
-/// The reply to a command over the bytes of the input, by the calling thread alone. The type `G` says who plays the game. It fails only
-/// for want of memory.
-pub fn reply_alone<G: GroundGame, T: AllocGlobal>(
+/// The reply to a command over the bytes of the input, by the calling thread alone. The type `G` says who plays the game, and `S` who tells
+/// of a state where nothing is searched. It fails only for want of memory.
+pub fn reply_alone<G: GroundGame, S: GroundGame, T: AllocGlobal>(
     rt: &T,
     command: &Command,
     bytes: &[u8],
@@ -90,6 +90,6 @@ pub fn reply_alone<G: GroundGame, T: AllocGlobal>(
     match command {
         Command::Show => show(rt.alloc(), bytes),
         Command::Check => check(rt.alloc(), bytes),
-        Command::Ask(inquiry) => inquired_alone::<G, T>(rt, inquiry, bytes),
+        Command::Ask(inquiry) => inquired_alone::<G, S, T>(rt, inquiry, bytes),
     }
 }

@@ -1,16 +1,20 @@
 //! The replies to what is asked for a role and is found by the calling thread alone.
-ghost use Rattle.std.specs.Prelude.{◌≡◌, ◌<◌, IfOk, Result};
+ghost use Rattle.std.specs.Prelude.{◌≡◌, ◌<◌, IfOk, IfSome, OnOk, Result};
 ghost use Rattle.statement.specs.Rules.{State};
 ghost use Rattle.statement.specs.declared.history_fault.HistoryFault.{HistoryFault};
 ghost use Rattle.statement.specs.Histories.{IsHistoryOf};
 ghost use Rattle.statement.specs.Moving.{history_reply};
 ghost use Rattle.statement.specs.ForRole.{IsRoleReply};
 ghost use Rattle.replies.specs.Histories.{named};
+ghost use Rattle.replies.specs.Kept.{IsKeptSearch};
+ghost use Rattle.replies.specs.Play.{IsPlayFor, IsPlayKept};
 ghost use Rattle.replies.specs.Replies.{reply_of};
 ghost use Rattle.replies.specs.Windows.{wanted_lines};
 
 use crate::deepening::lines_by_depth;
 use crate::history::{position_after, refused_history};
+use crate::kept_search::{KeptSearch, search_for_question};
+use crate::play::Play;
 use crate::reply::{Reply, answered, refused};
 use crate::roles::role_named;
 use crate::search::bytes_in;
@@ -18,7 +22,6 @@ use crate::solving::best_lines;
 use crate::windowed::lines_within;
 use crate::worths::{lines_of_moves, moves_with_lines};
 use game::{Game, HistoryFault, Question};
-use maximin::Room;
 use statement::Window;
 use std::alloc::{AllocError, Global};
 use words::Sought;
@@ -48,7 +51,34 @@ impl Wanted {
     }
 }
 
-/// What is wanted of a state, as lines. What is kept of states takes at most so many bytes.
+/// What is wanted of a state, as lines, by searches in the memory that is given. What is kept of states beside it takes at most so many
+/// bytes.
+fn lines_by<G: Game>(
+    alloc: Global,
+    g: &G,
+    asked: Question,
+    wanted: Wanted,
+    here: &G::Pos,
+    bytes: usize,
+    play: &mut Play<G>,
+) -> Result<Vec<u8>, AllocError>
+    requires fits { G.fits g.now here.now }
+    requires play { IsPlayFor G.Game g.now asked.role asked.depth play.old }
+    ensures lines { IfOk result (λ output. output.items ≡ wanted_lines wanted (named (G.rules g.now) (G.role_name g.now) (G.move_name g.now))
+        asked.role asked.depth asked.at (G.state g.now here.now)) }
+    ensures play { OnOk result (IsPlayKept G.Game g.now play.old play.new) }
+{
+    match wanted {
+        Wanted::Whole => best_lines(alloc, g, asked, here, play),
+        Wanted::Within(window) => lines_within(alloc, g, asked, window, here, play),
+        Wanted::OfEachMove => lines_of_moves(alloc, g, asked, here, play),
+        Wanted::LineOfEachMove => moves_with_lines(alloc, g, asked, here, play),
+        Wanted::OfEachDepth => lines_by_depth(alloc, g, asked, here, play, bytes),
+    }
+}
+
+/// What is wanted of a state, as lines, in the memory that is kept, which stays for the next question. What is kept of states takes at most
+/// so many bytes. After an error nothing is kept.
 fn lines_of<G: Game>(
     alloc: Global,
     g: &G,
@@ -56,28 +86,21 @@ fn lines_of<G: Game>(
     wanted: Wanted,
     here: &G::Pos,
     bytes: usize,
+    kept: &mut Option<KeptSearch<G>>,
 ) -> Result<Vec<u8>, AllocError>
     requires fits { G.fits g.now here.now }
     requires role { asked.role < (G.rules g.now).roles }
-    ensures { IfOk result (λ output. output.items ≡ wanted_lines wanted (named (G.rules g.now) (G.role_name g.now) (G.move_name g.now))
+    requires kept { IfSome kept.old (IsKeptSearch G.Game g.now) }
+    ensures lines { IfOk result (λ output. output.items ≡ wanted_lines wanted (named (G.rules g.now) (G.role_name g.now) (G.move_name g.now))
         asked.role asked.depth asked.at (G.state g.now here.now)) }
+    ensures kept { IfSome kept.new (IsKeptSearch G.Game g.now) }
 {
     let ours = wanted.of_room(bytes);
-    let room = Room::with_table(alloc, g, asked, ours)?;
-    match wanted {
-        Wanted::Whole => best_lines(alloc, g, asked, here, room),
-        Wanted::Within(window) => lines_within(alloc, g, asked, window, here, room),
-        Wanted::OfEachMove => lines_of_moves(alloc, g, asked, here, room),
-        Wanted::LineOfEachMove => moves_with_lines(alloc, g, asked, here, room),
-        Wanted::OfEachDepth => lines_by_depth(
-            alloc,
-            g,
-            asked,
-            here,
-            room,
-            bytes.saturating_sub(ours),
-        ),
-    }
+    let others = bytes.saturating_sub(ours);
+    let mut search = search_for_question(alloc, g, asked, ours, kept)?;
+    let lines = lines_by(alloc, g, asked, wanted, here, others, &mut search.play)?;
+    *kept = Some(search);
+    Ok(lines)
 }
 
 /// The reply for a role after a history: the line that names the fault of the history, or what is wanted of the state.
@@ -88,30 +111,40 @@ fn reply_after<G: Game>(
     wanted: Wanted,
     after: &str,
     bytes: usize,
+    kept: &mut Option<KeptSearch<G>>,
 ) -> Result<Reply, AllocError>
-    requires { asked.role < (G.rules g.now).roles }
-    ensures { IfOk result (λ reply. (ended : Result State HistoryFault)
+    requires role { asked.role < (G.rules g.now).roles }
+    requires kept { IfSome kept.old (IsKeptSearch G.Game g.now) }
+    ensures reply { IfOk result (λ reply. (ended : Result State HistoryFault)
         × IsHistoryOf (named (G.rules g.now) (G.role_name g.now) (G.move_name g.now)) after.now ended
         × (reply_of reply ≡ history_reply (named (G.rules g.now) (G.role_name g.now) (G.move_name g.now))
         (wanted_lines wanted (named (G.rules g.now) (G.role_name g.now) (G.move_name g.now)) asked.role asked.depth asked.at) ended)) }
+    ensures kept { IfSome kept.new (IsKeptSearch G.Game g.now) }
 {
     match position_after(alloc, g, after) {
-        Ok(here) => Ok(answered(lines_of(alloc, g, asked, wanted, &here, bytes)?)),
+        Ok(here) => {
+            let lines = lines_of(alloc, g, asked, wanted, &here, bytes, kept)?;
+            Ok(answered(lines))
+        }
         Err(HistoryFault::NoMemory) => Err(AllocError),
         Err(fault) => refused_history(alloc, g, fault),
     }
 }
 
-/// The reply to what is asked for a role: the line that names the fault of the role or else of the history, or what is wanted.
+/// The reply to what is asked for a role: the line that names the fault of the role or else of the history, or what is wanted. The memory of
+/// the search stays for the next question.
 pub(crate) fn role_reply<G: Game>(
     alloc: Global,
     g: &G,
     sought: &Sought,
     wanted: Wanted,
+    kept: &mut Option<KeptSearch<G>>,
 ) -> Result<Reply, AllocError>
-    ensures { IfOk result (λ reply. IsRoleReply (named (G.rules g.now) (G.role_name g.now) (G.move_name g.now)) sought.now.role.now
+    requires { IfSome kept.old (IsKeptSearch G.Game g.now) }
+    ensures reply { IfOk result (λ reply. IsRoleReply (named (G.rules g.now) (G.role_name g.now) (G.move_name g.now)) sought.now.role.now
         (λ r. wanted_lines wanted (named (G.rules g.now) (G.role_name g.now) (G.move_name g.now)) r sought.now.depth sought.now.at_bound)
         sought.now.after.now (reply_of reply)) }
+    ensures kept { IfSome kept.new (IsKeptSearch G.Game g.now) }
 {
     match role_named(alloc, g, sought.role)? {
         Some(role) => {
@@ -127,6 +160,7 @@ pub(crate) fn role_reply<G: Game>(
                 wanted,
                 sought.after,
                 bytes_in(sought.table),
+                kept,
             )
         }
         None => refused(alloc, &"S1 NoSuchRole"),

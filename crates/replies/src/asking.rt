@@ -27,7 +27,7 @@ pub enum Asked<G: Game + Drop> {
 }
 
 /// What is asked of the ground of rules comes to this.
-fn ask_ground<G: GroundGame>(
+fn ask_ground<G: GroundGame, S: GroundGame>(
     alloc: Global,
     inquiry: &Inquiry,
     ground: FlatGround,
@@ -36,8 +36,8 @@ fn ask_ground<G: GroundGame>(
 {
     match inquiry {
         Inquiry::Net => Ok(Asked::Told(reply_to_net(alloc, &ground)?)),
-        Inquiry::Moves { after } => { Ok(Asked::Told(reply_to_moves::<G>(alloc, ground, after)?)) }
-        Inquiry::State { after } => Ok(Asked::Told(reply_to_state::<G>(alloc, ground, after)?)),
+        Inquiry::Moves { after } => { Ok(Asked::Told(reply_to_moves::<S>(alloc, ground, after)?)) }
+        Inquiry::State { after } => Ok(Asked::Told(reply_to_state::<S>(alloc, ground, after)?)),
         Inquiry::Solve(sought) => ask_solve(alloc, ground, sought),
         Inquiry::SolveWithin(sought, window) => Ok(Asked::Told(reply_for_role::<G>(
             alloc,
@@ -63,8 +63,8 @@ fn ask_ground<G: GroundGame>(
 
 /// What is asked of the instantiation of rules comes to this: the line that names the limit that they pass, or what is told of their
 /// ground, or for `solve`, over a role and a history without a fault, the search after which that is told. The type `G` says who plays
-/// the game. It fails only for want of memory.
-pub fn ask<G: GroundGame>(
+/// the game, and `S` who tells of a state where nothing is searched. It fails only for want of memory.
+pub fn ask<G: GroundGame, S: GroundGame>(
     alloc: Global,
     inquiry: &Inquiry,
     instantiated: Result<FlatGround, GroundFault>,
@@ -72,7 +72,7 @@ pub fn ask<G: GroundGame>(
     ensures { IfOk result (IsAsked G.Game (IsReplyOver (query_about inquiry.now) instantiated)) }
 {
     match instantiated {
-        Ok(ground) => ask_ground(alloc, inquiry, ground),
+        Ok(ground) => ask_ground::<G, S>(alloc, inquiry, ground),
         Err(GroundFault::NoMemory) => Err(AllocError),
         Err(fault) => Ok(Asked::Told(refused(alloc, &fault)?)),
     }

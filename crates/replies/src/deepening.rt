@@ -5,7 +5,6 @@ ghost use Rattle.kif.specs.Written.{AppendsFront};
 ghost use Rattle.statement.specs.Value.{value};
 ghost use Rattle.statement.specs.Answers.{answer};
 ghost use Rattle.statement.specs.Deepening.{depth_lines, deepen_lines};
-ghost use Rattle.maximin.specs.Room.{IsRoomFor};
 ghost use Rattle.replies.specs.Histories.{named};
 ghost use Rattle.replies.specs.Replies.{reply_of};
 ghost use Rattle.replies.specs.Play.{IsPlayFor, IsPlayKept};
@@ -85,6 +84,7 @@ fn write_depths<G: Game, W: Write>(
         (deepen_lines (named (G.rules g.now) (G.role_name g.now) (G.move_name g.now)) asked.role asked.depth asked.at (G.state g.now root.now))) }
     ensures front { OnErr result (AppendsFront (W.contents out.old) (W.contents out.new)
         (deepen_lines (named (G.rules g.now) (G.role_name g.now) (G.move_name g.now)) asked.role asked.depth asked.at (G.state g.now root.now))) }
+    ensures play { OnOk result (IsPlayKept G.Game g.now play.old play.new) }
 {
     let mut depth = 0;
     while depth < asked.depth {
@@ -99,25 +99,24 @@ fn write_depths<G: Game, W: Write>(
 }
 
 /// The lines of each depth to that of the question, or until the value is settled, of a state that stays. What is kept of states takes at
-/// most so many bytes beside the room.
+/// most so many bytes beside the memory that is given.
 pub(crate) fn lines_by_depth<G: Game>(
     alloc: Global,
     g: &G,
     asked: Question,
     here: &G::Pos,
-    room: Room<G>,
+    play: &mut Play<G>,
     bytes: usize,
 ) -> Result<Vec<u8>, AllocError>
     requires fits { G.fits g.now here.now }
-    requires room { IsRoomFor G.Game g.now asked.role asked.depth room }
-    ensures { IfOk result (λ output. output.items
+    requires play { IsPlayFor G.Game g.now asked.role asked.depth play.old }
+    ensures lines { IfOk result (λ output. output.items
         ≡ deepen_lines (named (G.rules g.now) (G.role_name g.now) (G.move_name g.now)) asked.role asked.depth asked.at (G.state g.now here.now)) }
+    ensures play { OnOk result (IsPlayKept G.Game g.now play.old play.new) }
 {
-    let start = g.fresh()?;
-    let mut play = Play::new(alloc, g, start, room)?;
     let mut settling = Settling::new(alloc, g, asked, bytes / 2)?;
     let mut output = Vec::new(alloc);
-    let Ok(()) = write_depths(g, here, asked, &mut play, &mut settling, &mut output) else {
+    let Ok(()) = write_depths(g, here, asked, play, &mut settling, &mut output) else {
         return Err(AllocError);
     };
     Ok(output)

@@ -62,7 +62,8 @@ pub(crate) fn reply_for_role<G: GroundGame>(
         (reply_of reply)) }
 {
     let game = G::over(alloc, ground)?;
-    role_reply(alloc, &game, sought, wanted)
+    let mut kept = None;
+    role_reply(alloc, &game, sought, wanted, &mut kept)
 }
 
 /// What `solve` over the ground of items comes to, for the best play that is sought.

@@ -1,8 +1,9 @@
 //! The value of a state, the move that makes sure of it, and the line of play, as lines.
 ghost use Rattle.std.specs.Prelude.{◌≡◌, ◌≤◌, ◌<◌, ◌++◌, pos, IfOk, IfSome, OnOk};
 ghost use Rattle.statement.specs.Value.{value, choice_of};
-ghost use Rattle.maximin.specs.Room.{IsRoomFor, IsRoomOf, room_depth};
+ghost use Rattle.maximin.specs.Room.{IsRoomOf, room_depth};
 ghost use Rattle.replies.specs.Histories.{named};
+ghost use Rattle.replies.specs.Play.{IsFoundOf, IsPlayFor, IsPlayKept};
 ghost use Rattle.statement.specs.Solving.{move_line, choice_text, solve_lines};
 
 use crate::alone::found_in;
@@ -58,26 +59,44 @@ pub(crate) fn value_lines<G: Game>(
     Ok(output)
 }
 
-/// The same of a state that stays, by one search in the room.
+/// The same of a state that stays, from the value and the first best move, by play in the memory that is given.
+pub(crate) fn lines_of_found<G: Game>(
+    alloc: Global,
+    g: &G,
+    asked: Question,
+    found: &Answer,
+    here: &G::Pos,
+    play: &mut Play<G>,
+) -> Result<Vec<u8>, AllocError>
+    requires fits { G.fits g.now here.now }
+    requires play { IsPlayFor G.Game g.now asked.role asked.depth play.old }
+    requires found { IsFoundOf (G.rules g.now) asked.role asked.depth asked.at (G.state g.now here.now) found.now }
+    ensures lines { IfOk result (λ output. output.items
+        ≡ solve_lines (named (G.rules g.now) (G.role_name g.now) (G.move_name g.now)) asked.role asked.depth asked.at (G.state g.now here.now)) }
+    ensures play { OnOk result (IsPlayKept G.Game g.now play.old play.new) }
+{
+    play.stand(g, here);
+    let mut output = Vec::new(alloc);
+    let Ok(()) = write_found(g, asked, found, play, &mut output) else {
+        return Err(AllocError);
+    };
+    Ok(output)
+}
+
+/// The same by one search.
 pub(crate) fn best_lines<G: Game>(
     alloc: Global,
     g: &G,
     asked: Question,
     here: &G::Pos,
-    room: Room<G>,
+    play: &mut Play<G>,
 ) -> Result<Vec<u8>, AllocError>
     requires fits { G.fits g.now here.now }
-    requires room { IsRoomFor G.Game g.now asked.role asked.depth room }
-    ensures { IfOk result (λ output. output.items
+    requires play { IsPlayFor G.Game g.now asked.role asked.depth play.old }
+    ensures lines { IfOk result (λ output. output.items
         ≡ solve_lines (named (G.rules g.now) (G.role_name g.now) (G.move_name g.now)) asked.role asked.depth asked.at (G.state g.now here.now)) }
+    ensures play { OnOk result (IsPlayKept G.Game g.now play.old play.new) }
 {
-    let start = g.fresh()?;
-    let mut play = Play::new(alloc, g, start, room)?;
     let found = found_in(g, here, asked, &mut play.room);
-    play.stand(g, here);
-    let mut output = Vec::new(alloc);
-    let Ok(()) = write_found(g, asked, &found, &mut play, &mut output) else {
-        return Err(AllocError);
-    };
-    Ok(output)
+    lines_of_found(alloc, g, asked, &found, here, play)
 }

@@ -6,10 +6,12 @@ ghost use Rattle.statement.specs.Solving.{solve_lines};
 ghost use Rattle.statement.specs.Within.{own_line, at_least_lines, window_lines};
 ghost use Rattle.maximin.specs.Room.{IsRoomFor, IsRoomKept};
 ghost use Rattle.replies.specs.Histories.{named};
+ghost use Rattle.replies.specs.Play.{IsPlayFor, IsPlayKept};
 ghost use Rattle.replies.specs.Windows.{IsPlaced};
 
+use crate::play::Play;
 use crate::reply::add_count;
-use crate::solving::{add_choice, value_lines};
+use crate::solving::{add_choice, lines_of_found};
 use game::{Game, Question};
 use maximin::{Room, choice_by_value, first_at_least, value_in};
 use share::Answer;
@@ -66,23 +68,21 @@ pub(crate) fn lines_of_value<G: Game>(
     asked: Question,
     worth: i16,
     here: &G::Pos,
-    room: Room<G>,
+    play: &mut Play<G>,
 ) -> Result<Vec<u8>, AllocError>
     requires fits { G.fits g.now here.now }
-    requires room { IsRoomFor G.Game g.now asked.role asked.depth room }
+    requires play { IsPlayFor G.Game g.now asked.role asked.depth play.old }
     requires worth { worth ≡ pos (value (G.rules g.now) asked.role asked.depth asked.at (G.state g.now here.now)) }
-    ensures { IfOk result (λ output. output.items
+    ensures lines { IfOk result (λ output. output.items
         ≡ solve_lines (named (G.rules g.now) (G.role_name g.now) (G.move_name g.now)) asked.role asked.depth asked.at (G.state g.now here.now)) }
+    ensures play { OnOk result (IsPlayKept G.Game g.now play.old play.new) }
 {
-    let mut room = room;
-    let choice = choice_by_value(g, here, asked, worth, &mut room);
+    let choice = choice_by_value(g, here, asked, worth, &mut play.room);
     let found = Answer {
         value: worth,
         choice,
     };
-    let mut from = g.fresh()?;
-    g.copy(here, &mut from);
-    value_lines(alloc, g, asked, found, from, room)
+    lines_of_found(alloc, g, asked, &found, here, play)
 }
 
 /// Adds the line of a move, if there is one. After an error the output may have a beginning of it.
@@ -124,8 +124,9 @@ fn above_lines<G: Game>(
     requires fits { G.fits g.now here.now }
     requires room { IsRoomFor G.Game g.now asked.role asked.depth room.old }
     requires bound { bound ≤ 101 }
-    ensures { IfOk result (λ output. output.items
+    ensures lines { IfOk result (λ output. output.items
         ≡ at_least_lines (named (G.rules g.now) (G.role_name g.now) (G.move_name g.now)) asked.role asked.depth asked.at bound (G.state g.now here.now)) }
+    ensures room { IsRoomKept G.Game g.now room.old room.new }
 {
     let own = first_at_least(g, here, asked, bound, room);
     let mut output = Vec::new(alloc);
@@ -141,17 +142,17 @@ pub(crate) fn lines_within<G: Game>(
     asked: Question,
     window: Window,
     here: &G::Pos,
-    room: Room<G>,
+    play: &mut Play<G>,
 ) -> Result<Vec<u8>, AllocError>
     requires fits { G.fits g.now here.now }
-    requires room { IsRoomFor G.Game g.now asked.role asked.depth room }
-    ensures { IfOk result (λ output. output.items
+    requires play { IsPlayFor G.Game g.now asked.role asked.depth play.old }
+    ensures lines { IfOk result (λ output. output.items
         ≡ window_lines (named (G.rules g.now) (G.role_name g.now) (G.move_name g.now)) window asked.role asked.depth asked.at (G.state g.now here.now)) }
+    ensures play { OnOk result (IsPlayKept G.Game g.now play.old play.new) }
 {
-    let mut room = room;
-    match place_value(g, here, asked, window, &mut room) {
+    match place_value(g, here, asked, window, &mut play.room) {
         Placed::Below => below_lines(alloc, window.from.saturating_sub(1)),
-        Placed::Between(worth) => lines_of_value(alloc, g, asked, worth, here, room),
-        Placed::Above => above_lines(alloc, g, asked, window.to, here, &mut room),
+        Placed::Between(worth) => lines_of_value(alloc, g, asked, worth, here, play),
+        Placed::Above => above_lines(alloc, g, asked, window.to, here, &mut play.room),
     }
 }

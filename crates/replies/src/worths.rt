@@ -2,20 +2,19 @@
 ghost use Rattle.std.specs.Prelude.{◌≡◌, true, false, ◌-◌, ◌<◌, ◌∷◌, [], ◌++◌, codes, IfOk, OnOk, Contains};
 ghost use Rattle.std.specs.Fmt.{decimal};
 ghost use Rattle.std.specs.List.{flat_map};
-ghost use Rattle.statement.specs.Solving.{solve_lines};
 ghost use Rattle.statement.specs.MoveValues.{worth_line, values_lines};
 ghost use Rattle.statement.specs.MoveLines.{move_lines, moves_with_lines};
 ghost use Rattle.maximin.specs.Open.{IsOpen};
-ghost use Rattle.maximin.specs.Room.{IsRoomFor};
+ghost use Rattle.maximin.specs.Room.{IsRoomFor, IsRoomOf, room_depth};
 ghost use Rattle.replies.specs.Histories.{named};
 ghost use Rattle.replies.specs.Play.{IsPlayFor, IsPlayKept};
 ghost use Rattle.replies.specs.Windows.{IsClosed};
 
 use crate::play::Play;
-use crate::windowed::lines_of_value;
+use crate::solving::best_lines;
 use crate::writing::{unsigned, write_behind};
 use game::{Game, Question, is_stuck};
-use maximin::{Room, move_worth, value_in};
+use maximin::{Room, move_worth};
 use std::alloc::{AllocError, Global};
 use std::io::Write;
 
@@ -67,9 +66,11 @@ fn add_worths<G: Game>(
     requires fits { G.fits g.now here.now }
     requires turn { IsOpen (G.rules g.now) asked.depth (G.state g.now here.now) }
     requires room { IsRoomFor G.Game g.now asked.role asked.depth room.old }
-    ensures { OnOk result (output.new.items ≡ output.old.items
+    ensures lines { OnOk result (output.new.items ≡ output.old.items
         ++ flat_map (worth_line (named (G.rules g.now) (G.role_name g.now) (G.move_name g.now)) asked.role (asked.depth - 1) asked.at (G.state g.now here.now))
         ((G.rules g.now).legal (G.state g.now here.now) asked.role)) }
+    ensures room { OnOk result (IsRoomOf G.Game g.now room.new) }
+    ensures deep { OnOk result (room_depth room.new ≡ room_depth room.old) }
 {
     let mut place = 0;
     while let Some(own) = g.legal(here, asked.role, place) {
@@ -80,43 +81,25 @@ fn add_worths<G: Game>(
     Ok(())
 }
 
-/// The value of a state, the first best move and the line of play, as lines.
-fn whole_lines<G: Game>(
-    alloc: Global,
-    g: &G,
-    asked: Question,
-    here: &G::Pos,
-    room: Room<G>,
-) -> Result<Vec<u8>, AllocError>
-    requires fits { G.fits g.now here.now }
-    requires room { IsRoomFor G.Game g.now asked.role asked.depth room }
-    ensures { IfOk result (λ output. output.items
-        ≡ solve_lines (named (G.rules g.now) (G.role_name g.now) (G.move_name g.now)) asked.role asked.depth asked.at (G.state g.now here.now)) }
-{
-    let mut room = room;
-    let worth = value_in(g, here, asked, -1, 101, &mut room);
-    lines_of_value(alloc, g, asked, worth, here, room)
-}
-
 /// What each legal move of a role makes sure of; where there is no turn to come, what the role gets.
 pub(crate) fn lines_of_moves<G: Game>(
     alloc: Global,
     g: &G,
     asked: Question,
     here: &G::Pos,
-    room: Room<G>,
+    play: &mut Play<G>,
 ) -> Result<Vec<u8>, AllocError>
     requires fits { G.fits g.now here.now }
-    requires room { IsRoomFor G.Game g.now asked.role asked.depth room }
-    ensures { IfOk result (λ output. output.items
+    requires play { IsPlayFor G.Game g.now asked.role asked.depth play.old }
+    ensures lines { IfOk result (λ output. output.items
         ≡ values_lines (named (G.rules g.now) (G.role_name g.now) (G.move_name g.now)) asked.role asked.depth asked.at (G.state g.now here.now)) }
+    ensures play { OnOk result (IsPlayKept G.Game g.now play.old play.new) }
 {
-    let mut room = room;
     if is_closed(g, here, asked.depth) {
-        return whole_lines(alloc, g, asked, here, room);
+        return best_lines(alloc, g, asked, here, play);
     }
     let mut output = Vec::new(alloc);
-    add_worths(g, asked, here, &mut room, &mut output)?;
+    add_worths(g, asked, here, &mut play.room, &mut output)?;
     Ok(output)
 }
 
@@ -159,9 +142,10 @@ fn add_each<G: Game>(
     requires fits { G.fits g.now here.now }
     requires turn { IsOpen (G.rules g.now) asked.depth (G.state g.now here.now) }
     requires play { IsPlayFor G.Game g.now asked.role asked.depth play.old }
-    ensures { OnOk result (output.new.items ≡ output.old.items
+    ensures lines { OnOk result (output.new.items ≡ output.old.items
         ++ flat_map (move_lines (named (G.rules g.now) (G.role_name g.now) (G.move_name g.now)) asked.role (asked.depth - 1) asked.at (G.state g.now here.now))
         ((G.rules g.now).legal (G.state g.now here.now) asked.role)) }
+    ensures play { OnOk result (IsPlayKept G.Game g.now play.old play.new) }
 {
     let mut place = 0;
     while let Some(own) = g.legal(here, asked.role, place) {
@@ -177,18 +161,18 @@ pub(crate) fn moves_with_lines<G: Game>(
     g: &G,
     asked: Question,
     here: &G::Pos,
-    room: Room<G>,
+    play: &mut Play<G>,
 ) -> Result<Vec<u8>, AllocError>
     requires fits { G.fits g.now here.now }
-    requires room { IsRoomFor G.Game g.now asked.role asked.depth room }
-    ensures { IfOk result (λ output. output.items
+    requires play { IsPlayFor G.Game g.now asked.role asked.depth play.old }
+    ensures lines { IfOk result (λ output. output.items
         ≡ moves_with_lines (named (G.rules g.now) (G.role_name g.now) (G.move_name g.now)) asked.role asked.depth asked.at (G.state g.now here.now)) }
+    ensures play { OnOk result (IsPlayKept G.Game g.now play.old play.new) }
 {
     if is_closed(g, here, asked.depth) {
-        return whole_lines(alloc, g, asked, here, room);
+        return best_lines(alloc, g, asked, here, play);
     }
-    let mut play = Play::new(alloc, g, g.fresh()?, room)?;
     let mut output = Vec::new(alloc);
-    add_each(g, asked, here, &mut play, &mut output)?;
+    add_each(g, asked, here, play, &mut output)?;
     Ok(output)
 }

@@ -1,5 +1,4 @@
 mod Marks
 mod States
 mod PlanLemmas
-mod FlatLemmas
 mod RuleRooms

@@ -1,16 +1,17 @@
 -- Marks by number, and going through kept instances.
-use Rattle.std.proofs.Common.{◌≡◌, ℕ, ◌+◌, ◌<◌, ◌≤◌, Bool, true, false, cond, not, ◌&&◌, ◌||◌, List, [], ◌∷◌, length, suc, refl, sym, ◌∙◌, ap, arith, inl, inr, get_or, get_or-set_same, get_or-set_other, ne_eqb, eq-eqb, le-ltb}
+use Rattle.std.proofs.Common.{◌≡◌, ℕ, ◌+◌, ◌<◌, ◌≤◌, Bool, true, false, cond, not, ◌&&◌, ◌||◌, List, [], ◌∷◌, length, drop, suc, refl, sym, ◌∙◌, ap, subst, arith, inl, inr, get_or, get_or-set_same, get_or-set_other, ne_eqb, eq-eqb, le-ltb}
 use Rattle.std.specs.Prelude.{All, filter, ◌==◌, nat_lt}
 use Rattle.std.specs.List.{range_with_len}
 use Rattle.std.proofs.Math.ListN.{set, length-set}
 use Rattle.std.proofs.lemmas.Bool.{cases_eq}
-use Rattle.std.proofs.lemmas.List.{get_or_past}
+use Rattle.std.proofs.lemmas.List.{get_or_past, drop_more}
 use Rattle.statement.specs.declared.kind.Kind.{Kind}
 use Rattle.statement.specs.Kept.{Kept}
 use Rattle.ground.specs.Fits.{IsKeptWithin}
 use Rattle.statement.specs.Rules.{State, Turn}
 use Rattle.statement.specs.GameNumbers.{stands_in}
-use Rattle.rulebook.specs.RulePlay.{marked, kind_at, is_given, is_right, all_right, found_by}
+use Rattle.rulebook.specs.GroundFacts.{blank}
+use Rattle.rulebook.specs.RulePlay.{marked, kind_at, is_given, is_right, all_right, found_by, holds}
 use Rattle.rulegame.specs.Marks.{AreMarks, with_heads}
 use Rattle.rulebook.proofs.Facts.{filters_agree}
 
@@ -89,6 +90,32 @@ heads_hold kinds s j n (k ∷ ks) found marks within m =
     step false false e more less = less
     step true false e more less = absurd cc
     step false true e more less = absurd cc
+
+-- one instance more
+pub heads_behind : (first marks new : List Bool) (ks : List Kept) (p head : ℕ) (body : List (ℕ × Bool)) → p < length ks
+    → ((d : Kept) → head ≡ (get_or ks p d).head) → ((d : Kept) → body ≡ (get_or ks p d).body)
+    → new ≡ cond (all_right (λ n. get_or marks n false) body) (set marks head true) marks → with_heads first ks ≡ with_heads marks (drop p ks)
+    → with_heads first ks ≡ with_heads new (drop (p + 1) ks)
+heads_behind first marks new ks p head body below heads bodies written left =
+    let k = get_or ks p blank in
+    left
+    ∙ ap (with_heads marks) (drop_more ks p blank below)
+    ∙ ap (λ (b : List (ℕ × Bool)). with_heads (cond (all_right (λ n. get_or marks n false) b) (set marks k.head true) marks) (drop (p + 1) ks))
+    (sym (bodies blank))
+    ∙ ap (λ (h : ℕ). with_heads (cond (all_right (λ n. get_or marks n false) body) (set marks h true) marks) (drop (p + 1) ks)) (sym (heads blank))
+    ∙ ap (λ (ms : List Bool). with_heads ms (drop (p + 1) ks)) (sym written)
+
+-- marks where nothing is found
+pub none_found : (bs : List Bool) (n m : ℕ) → length bs ≡ m → m ≡ n → ((k : ℕ) → k < m → get_or bs k false ≡ false)
+    → AreMarks bs n (λ k. stands_in k [])
+none_found bs n m size same none = record { size = size ∙ same; each = λ k below. none k (omega (arith, below, same)) }
+
+-- marks of what is found by the instances are marks of what holds
+pub kept_holds : (kinds : List Kind) (kept : List Kept) (s : State) (j : Turn) (marks new : List Bool) → All (IsKeptWithin (length kinds)) kept
+    → AreMarks marks (length kinds) (is_right kinds s j []) → new ≡ with_heads marks kept → AreMarks new (length kinds) (holds kinds kept s j)
+kept_holds kinds kept s j marks new within given written =
+    subst (λ (bs : List Bool). AreMarks bs (length kinds) (holds kinds kept s j)) (sym written)
+    (heads_hold kinds s j (length kinds) kept [] marks within given)
 
 pub past_marks : (bs : List Bool) (p : ℕ) → length bs ≤ p → get_or bs p false ≡ nat_lt p (length bs)
 past_marks bs p l = get_or_past bs p false l ∙ sym (le-ltb p (length bs) l)

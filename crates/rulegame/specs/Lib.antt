@@ -1,5 +1,4 @@
 pub mod Marks
 pub mod RuleRoom
-pub mod Flats
 pub mod Plans
 pub mod RuleMany

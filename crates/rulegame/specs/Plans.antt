@@ -1,17 +1,16 @@
 -- This crate's own: what `run` promises does not rest on it.
--- What a plan of play keeps of an instantiation: its instances in flat lists, and the atoms that are asked for in play by kind.
+-- What a plan of play keeps of an instantiation: the atoms that are asked for in play, by kind.
 use Rattle.std.specs.Prelude.{ℕ, ◌≡◌, ◌<◌, Bool, ◌==◌, ◌&&◌, List, length, get_or}
 use Rattle.std.specs.List.{list_any}
 use Rattle.statement.specs.declared.kind.Kind.{Kind}
 use Rattle.ground.specs.declared.flat_ground.FlatGround.{FlatGround}
-use Rattle.ground.specs.GroundView.{inputs_of, instances_of, kinds_of}
+use Rattle.ground.specs.GroundView.{inputs_of, kinds_of}
 use Rattle.rulebook.specs.declared.naming.Naming.TheVariants.{ByNext, ByLegal}
 use Rattle.rulebook.specs.declared.standing.Sought.TheVariants.{Given, Named, Goals, Ends}
 use Rattle.rulebook.specs.declared.standing.Standing.{Standing}
 use Rattle.rulegame.specs.declared.plan.RolePlan.{RolePlan}
 use Rattle.rulegame.specs.declared.plan.RulePlan.{RulePlan}
 use Rattle.statement.specs.Rules.{State, Turn}
-use Rattle.rulegame.specs.Flats.{IsFlatOf}
 use Rattle.rulebook.specs.RulePlay.{is_given}
 use Rattle.rulebook.specs.Standings.{all_standing}
 
@@ -24,9 +23,8 @@ pub record IsRolePlanOf (kinds : List Kind) (r : ℕ) (plan : RolePlan) : Type 0
   pub legals : plan.legals.items ≡ all_standing (Named (ByLegal r)) kinds
   pub goals : plan.goals.items ≡ all_standing (Goals r) kinds
 
--- the lists and the flat instances are those of the instantiation
+-- the lists are those of the instantiation
 pub record IsPlanOf (g : FlatGround) (plan : RulePlan) : Type 0 where
-  pub flat : IsFlatOf (length (kinds_of g)) (instances_of g) plan.flat.first.items plan.flat.heads.items plan.flat.ends.items plan.flat.literals.items
   pub given : plan.given.items ≡ all_standing Given (kinds_of g)
   pub nexts : plan.nexts.items ≡ all_standing (Named ByNext) (kinds_of g)
   pub ends : plan.ends.items ≡ all_standing Ends (kinds_of g)

@@ -2,7 +2,6 @@
 #![tactic(auto)]
 
 mod evaluation;
-mod flattening;
 mod plan;
 mod planning;
 mod reading;

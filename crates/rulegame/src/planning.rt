@@ -4,7 +4,6 @@ ghost use Rattle.ground.specs.GroundView.{kinds_of, inputs_of};
 ghost use Rattle.rulegame.specs.Plans.{IsRolePlanOf, IsPlanOf};
 ghost use Rattle.rulegame.specs.declared.plan.RolePlan.{RolePlan};
 
-use crate::flattening::flatten;
 use crate::plan::{RolePlan, RulePlan};
 use ground::FlatGround;
 use rulebook::{Naming, Sought, list_standing};
@@ -38,7 +37,6 @@ pub(crate) fn make_plan(alloc: Global, ground: &FlatGround) -> Result<RulePlan, 
     ensures { IfOk result (λ plan. IsPlanOf ground.now plan) }
 {
     Ok(RulePlan {
-        flat: flatten(alloc, ground)?,
         given: list_standing(alloc, ground, Sought::Given)?,
         nexts: list_standing(alloc, ground, Sought::Named(Naming::ByNext))?,
         ends: list_standing(alloc, ground, Sought::Ends)?,

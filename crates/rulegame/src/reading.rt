@@ -4,7 +4,7 @@ ghost use Rattle.rulegame.specs.Marks.{AreMarks};
 ghost use Rattle.rulebook.specs.RulePlay.{marked, names, is_terminal};
 ghost use Rattle.rulebook.specs.Standings.{names_among, goal_among, ends_among};
 
-use crate::evaluation::put_mark;
+use crate::evaluation::{clear, put_mark};
 use ground::Kind;
 use rulebook::{Naming, Standing, number_of, value_of};
 
@@ -31,17 +31,6 @@ fn note(holds: bool, kind: Kind, by: Naming, marks: &mut Vec<bool>)
     };
     if (number as usize) < marks.len() {
         put_mark(marks, number as usize, true);
-    }
-}
-
-/// Takes all marks away.
-fn clear(marks: &mut Vec<bool>)
-    ensures size { length marks.new.items ≡ length marks.old.items }
-    ensures each { (k : ℕ) → k < length marks.old.items → slice_index_or marks.new.items k false ≡ false }
-    ensures capacity { vec_capacity marks.new ≡ vec_capacity marks.old }
-{
-    for place in 0..marks.len() {
-        put_mark(marks, place, false);
     }
 }
 

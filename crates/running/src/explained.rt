@@ -14,6 +14,7 @@ use crate::runs::{Ran, ended, run_keeping};
 use crate::warning::warnings;
 use netgame::NetGame;
 use reasons::explanation;
+use rulegame::RuleGame;
 use statement::Status;
 use std::alloc::Global;
 use std::io::{Read, Write};
@@ -35,7 +36,7 @@ pub(crate) fn explain_ran<T: Threads + Sync + AllocGlobal, E: Write>(
     let Status::Refused = ran.reply.status else {
         return;
     };
-    let Ok(text) = explanation::<NetGame, T>(rt, command, &ran.bytes, &ran.reply.output) else {
+    let Ok(text) = explanation::<RuleGame, T>(rt, command, &ran.bytes, &ran.reply.output) else {
         return;
     };
     tell(errors, &text);
@@ -85,7 +86,7 @@ fn comment_on<T: Threads + Sync + AllocGlobal, E: Write>(
 }
 
 /// Runs a command, and tells the errors what explains a refusal, or warns of an answer.
-fn run_explained<T: Threads + Sync + AllocGlobal, R: Read, W: Write, E: Write>(
+pub fn run_explained<T: Threads + Sync + AllocGlobal, R: Read, W: Write, E: Write>(
     rt: &T,
     command: &Command,
     input: &mut R,
@@ -96,7 +97,7 @@ fn run_explained<T: Threads + Sync + AllocGlobal, R: Read, W: Write, E: Write>(
         (streams (R.remaining input.old) (W.contents output.old) (E.contents errors.old))
         (streams (R.remaining input.new) (W.contents output.new) (E.contents errors.new)) }
 {
-    let ran = run_keeping::<NetGame, T, R, W>(rt, command, input, output);
+    let ran = run_keeping::<NetGame, RuleGame, T, R, W>(rt, command, input, output);
     let status = status_of(ended(&ran), errors);
     comment_on(rt, command, &ran, errors);
     status

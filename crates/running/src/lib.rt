@@ -1,5 +1,6 @@
 //! All that the program does with words, a reader and two writers: a request of the words, a run of its command from the bytes of the input to
-//! those of the output, and the exit status. Who plays the game of the rules is a type; `run` is over the network.
+//! those of the output, and the exit status. Who plays the game of the rules is a type, and so is who tells of a state where nothing
+//! is searched; `run` plays over the network and tells over the kept instances.
 #![tactic(auto)]
 
 mod advice;
@@ -15,7 +16,7 @@ mod warning;
 mod working;
 
 pub use commands::{fulfil, main_with, status_of};
-pub use explained::main_explained;
+pub use explained::{main_explained, run_explained};
 pub use fault::RunFault;
 pub use input::read_input;
 pub use linting::lint_reply;

@@ -23,9 +23,9 @@ use dropped::{add_dropped, dropped_heads};
 use ground::{GroundFault, instantiate_flat_alone};
 use kif::{Expr, KifFault};
 use lint::finding_lines;
-use netgame::NetGame;
 use opening::{add_openings, openings_of};
 use replies::check;
+use rulegame::RuleGame;
 use rules::{RuleFault, RuleSet};
 use statement::Status;
 use std::alloc::{AllocError, Allocator, Global};
@@ -53,7 +53,7 @@ fn add_start<T: AllocGlobal, A: Allocator>(
 ) -> Result<(), AllocError> {
     match instantiate_flat_alone(rt, rules) {
         Ok(ground) => {
-            let found = openings_of::<NetGame>(rt.alloc(), ground)?;
+            let found = openings_of::<RuleGame>(rt.alloc(), ground)?;
             add_openings(bytes, items, rules, &found, output)
         }
         Err(GroundFault::TooMany(_)) => Ok(()),

@@ -21,6 +21,7 @@ use kif::write_bytes;
 use netgame::NetGame;
 use replies::Deepening;
 use rulebook::GroundGame;
+use rulegame::RuleGame;
 use statement::Status;
 use std::alloc::Global;
 use std::io::{Read, Write};
@@ -95,13 +96,15 @@ fn write_as_found<G: Game + Drop, W: Write>(
     Ok(())
 }
 
-/// Reads the rules, writes the reply to the command and nothing else, and keeps both. The type `G` says who plays their game.
-pub(crate) fn run_keeping<G: GroundGame, T: Threads + Sync + AllocGlobal, R: Read, W: Write>(
-    rt: &T,
-    command: &Command,
-    input: &mut R,
-    output: &mut W,
-) -> Result<Ran, RunFault>
+/// Reads the rules, writes the reply to the command and nothing else, and keeps both. The type `G` says who plays their game, and `S` who
+/// tells of a state where nothing is searched.
+pub(crate) fn run_keeping<
+    G: GroundGame,
+    S: GroundGame,
+    T: Threads + Sync + AllocGlobal,
+    R: Read,
+    W: Write,
+>(rt: &T, command: &Command, input: &mut R, output: &mut W) -> Result<Ran, RunFault>
     ensures answers { IfOk result (λ ran. RepliedTo (query_of command.now) ran.reply.status
         (R.remaining input.old) (R.remaining input.new) (W.contents output.old) (W.contents output.new)) }
     ensures refused { IfOk result (λ ran. ran.reply.status ≡ Refused
@@ -114,7 +117,7 @@ pub(crate) fn run_keeping<G: GroundGame, T: Threads + Sync + AllocGlobal, R: Rea
 {
     let bytes = read_input(rt.alloc(), input)?;
     let mut sizes = None;
-    let Ok(work) = work_of::<G, T>(rt, command, &bytes, &mut sizes) else {
+    let Ok(work) = work_of::<G, S, T>(rt, command, &bytes, &mut sizes) else {
         return Err(RunFault::Memory);
     };
     let reply = write_work(rt.alloc(), work, output)?;
@@ -135,8 +138,9 @@ pub(crate) fn ended(ran: &Result<Ran, RunFault>) -> Result<Status, RunFault>
     }
 }
 
-/// Reads the rules, and writes the reply to the command and nothing else. The type `G` says who plays their game.
-pub fn run_with<G: GroundGame, T: Threads + Sync + AllocGlobal, R: Read, W: Write>(
+/// Reads the rules, and writes the reply to the command and nothing else. The type `G` says who plays their game, and `S` who tells of a
+/// state where nothing is searched.
+pub fn run_with<G: GroundGame, S: GroundGame, T: Threads + Sync + AllocGlobal, R: Read, W: Write>(
     rt: &T,
     command: &Command,
     input: &mut R,
@@ -150,10 +154,11 @@ pub fn run_with<G: GroundGame, T: Threads + Sync + AllocGlobal, R: Read, W: Writ
         × RepliesTo (query_of command.now) (R.remaining input.old) (R.remaining input.new) reply
         × AppendsFront (W.contents output.old) (W.contents output.new) reply.output) }
 {
-    ended(&run_keeping::<G, T, R, W>(rt, command, input, output))
+    ended(&run_keeping::<G, S, T, R, W>(rt, command, input, output))
 }
 
-/// Reads the rules, and writes the reply to the command and nothing else. The network of the rules plays their game.
+/// Reads the rules, and writes the reply to the command and nothing else. The network of the rules plays their game, and their kept
+/// instances tell of a state where nothing is searched, which needs no network.
 pub fn run<T: Threads + Sync + AllocGlobal, R: Read, W: Write>(
     rt: &T,
     command: &Command,
@@ -168,5 +173,5 @@ pub fn run<T: Threads + Sync + AllocGlobal, R: Read, W: Write>(
         × RepliesTo (query_of command.now) (R.remaining input.old) (R.remaining input.new) reply
         × AppendsFront (W.contents output.old) (W.contents output.new) reply.output) }
 {
-    run_with::<NetGame, T, R, W>(rt, command, input, output)
+    run_with::<NetGame, RuleGame, T, R, W>(rt, command, input, output)
 }

@@ -62,7 +62,7 @@ pub(crate) enum Work<G: Game + Drop> {
 }
 
 /// What an inquiry over the bytes of the input comes to. Where they are instantiated the sizes of that are noted.
-fn work_about<G: GroundGame, T: Threads + Sync + AllocGlobal>(
+fn work_about<G: GroundGame, S: GroundGame, T: Threads + Sync + AllocGlobal>(
     rt: &T,
     inquiry: &Inquiry,
     bytes: &[u8],
@@ -78,7 +78,7 @@ fn work_about<G: GroundGame, T: Threads + Sync + AllocGlobal>(
     let instantiated = instantiate_flat(rt, &rules);
     drop(rules);
     *sizes = sizes_of(&instantiated);
-    match ask::<G>(alloc, inquiry, instantiated)? {
+    match ask::<G, S>(alloc, inquiry, instantiated)? {
         Asked::Told(reply) => Ok(Work::Told(reply)),
         Asked::ToSearch(search) => Ok(Work::Told(told_by_workers(rt, search)?)),
         Asked::ToDeepen(search) => Ok(Work::ToWrite(Deepening::new(alloc, search)?)),
@@ -86,8 +86,8 @@ fn work_about<G: GroundGame, T: Threads + Sync + AllocGlobal>(
 }
 
 /// What a command over the bytes of the input comes to. All its memory is taken here. It fails only for want of memory. Where the rules
-/// are instantiated the sizes of that are noted.
-pub(crate) fn work_of<G: GroundGame, T: Threads + Sync + AllocGlobal>(
+/// are instantiated the sizes of that are noted. The type `G` says who plays the game, and `S` who tells of a state where nothing is searched.
+pub(crate) fn work_of<G: GroundGame, S: GroundGame, T: Threads + Sync + AllocGlobal>(
     rt: &T,
     command: &Command,
     bytes: &[u8],
@@ -98,12 +98,13 @@ pub(crate) fn work_of<G: GroundGame, T: Threads + Sync + AllocGlobal>(
     match command {
         Command::Show => Ok(Work::Told(show(rt.alloc(), bytes)?)),
         Command::Check => Ok(Work::Told(check(rt.alloc(), bytes)?)),
-        Command::Ask(inquiry) => work_about::<G, T>(rt, inquiry, bytes, sizes),
+        Command::Ask(inquiry) => work_about::<G, S, T>(rt, inquiry, bytes, sizes),
     }
 }
 
-/// The reply to a command over the bytes of the input. It fails only for want of memory.
-pub fn reply_by_workers<G: GroundGame, T: Threads + Sync + AllocGlobal>(
+/// The reply to a command over the bytes of the input. The type `G` says who plays the game, and `S` who tells of a state where nothing is
+/// searched. It fails only for want of memory.
+pub fn reply_by_workers<G: GroundGame, S: GroundGame, T: Threads + Sync + AllocGlobal>(
     rt: &T,
     command: &Command,
     bytes: &[u8],
@@ -111,7 +112,7 @@ pub fn reply_by_workers<G: GroundGame, T: Threads + Sync + AllocGlobal>(
     ensures { IfOk result (λ reply. IsReply (query_of command.now) bytes.now (reply_of reply)) }
 {
     let mut sizes = None;
-    match work_of::<G, T>(rt, command, bytes, &mut sizes)? {
+    match work_of::<G, S, T>(rt, command, bytes, &mut sizes)? {
         Work::Told(reply) => Ok(reply),
         Work::ToWrite(deepening) => deepening.told(rt.alloc()),
     }

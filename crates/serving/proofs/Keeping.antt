@@ -1,72 +1,42 @@
--- The game that is kept of the rules.
-use Rattle.std.proofs.Common.{ℕ, ◌≡◌, inr, List, subst, sym}
-use Rattle.std.specs.Prelude.{Option, Some, None, Result, Ok, Err, IfOk, IfSome}
-use Rattle.statement.specs.Tree.{Trees, list_of}
-use Rattle.statement.specs.Reading.{Reads}
-use Rattle.statement.specs.Items.{alternatives}
-use Rattle.statement.specs.Clause.{Alternative}
-use Rattle.statement.specs.Rules.{Rules}
-use Rattle.statement.specs.Queries.{Query}
-use Rattle.statement.specs.Answers.{Reply}
-use Rattle.statement.specs.Replies.{IsReply}
-use Rattle.statement.specs.declared.ground_fault.GroundFault.{GroundFault}
-use Rattle.ground.specs.declared.flat_ground.FlatGround.{FlatGround}
-use Rattle.ground.specs.GroundView.{IsGround}
-use Rattle.rules.specs.declared.rule_set.RuleSet.{RuleSet}
-use Rattle.rules.specs.RuleSetView.{rules_in}
-use Rattle.rulebook.specs.RuleState.{IsGameOver}
+-- What is kept of the rules.
+use Rattle.std.proofs.Common.{ℕ, ◌≡◌, List, subst, sym}
+use Rattle.std.specs.Prelude.{Option, Some, None, Ok, IfSome}
 use Rattle.replies.specs.declared.reply.Reply as made
-use Rattle.replies.specs.Replies.{reply_of}
-use Rattle.replies.specs.declared.reading.Reading.{Reading}
-use Rattle.replies.specs.declared.reading.Reading.TheVariants as readings
-use Rattle.replies.specs.Readings.{IsReadingOf, IsReplyOver}
 use Rattle.requests.specs.declared.desk.Desk.{Desk}
 use Rattle.requests.specs.declared.desk.Taken.{Taken}
 use Rattle.requests.specs.declared.desk.Taken.TheVariants.{Line, Rules as Stated, Starved, LastLine, Cut, Nothing}
 use Rattle.requests.specs.Desks.{IsTaken, rules_kept}
-use Rattle.serving.specs.Kept.{PlaysText, kept_after}
+use Rattle.words.specs.declared.command.Language.{Language}
+use Rattle.words.specs.declared.command.Language.TheVariants.{Profile, Whole, Tightened}
+use Rattle.serving.specs.Kept.{AreKept, kept_after}
 
--- the rules stay where the game is kept
-pub still_plays : {X : Type 0} (P : List ℕ → X → Type 0) (taken : Taken) (was now : Desk) (old new : Option (List ℕ)) (game : Option X)
-    → IsTaken (Ok taken) was now old new → IfSome game (P (rules_kept was)) → IfSome (kept_after taken game) (P (rules_kept now))
-still_plays P Line was now old new game h plays = subst (λ (l : List ℕ). IfSome game (P l)) (sym h.3) plays
-still_plays P Stated was now old new game h plays = tt
-still_plays P Starved was now old new game h plays = tt
-still_plays P LastLine was now old new game h plays = subst (λ (l : List ℕ). IfSome game (P l)) (sym h.5) plays
-still_plays P Cut was now old new game h plays = tt
-still_plays P Nothing was now old new game h plays = tt
+-- nothing may be kept of any rules
+module _ {X : Type 0} (Plays : List ℕ → X → Type 0) where
+  pub none_kept : (language : Language) (rules : List ℕ) → AreKept Plays language rules None None
+  none_kept Profile rules = tt
+  none_kept Whole rules = tt
+  none_kept Tightened rules = tt
 
--- the reply over the instantiation that the game is made of is that to the bytes
-pub reply_kept : {E : Type 0} (query : Query) (bytes : List ℕ) (source : FlatGround) (rules : Rules) (role_name : ℕ → List ℕ)
-    (move_name : ℕ → ℕ → List ℕ) (r : Result made.Reply E) → PlaysText bytes source rules role_name move_name
-    → IfOk r (λ reply. IsReplyOver query (Ok source) (reply_of reply)) → IfOk r (λ reply. IsReply query bytes (reply_of reply))
-reply_kept query bytes source rules role_name move_name (Ok reply) plays h = inr (plays.0, plays.1, h plays.0 plays.2 (plays.3, tt))
-reply_kept query bytes source rules role_name move_name (Err e) plays h = tt
+  -- what is kept of rules is kept of the same rules
+  pub same_kept : (language : Language) (rules others : List ℕ) (written : Option made.Reply) (game : Option X) → rules ≡ others
+      → AreKept Plays language rules written game → AreKept Plays language others written game
+  same_kept language rules others written game same kept = subst (λ (l : List ℕ). AreKept Plays language l written game) same kept
 
--- the game of the instantiation of rules that were read plays the bytes
-module _ {X : Type 0} (source : X → FlatGround) (rules : X → Rules) (role_name : X → ℕ → List ℕ) (move_name : X → ℕ → ℕ → List ℕ) where
-  plays_one : (bytes : List ℕ) (read : RuleSet) (came : Result FlatGround GroundFault) (game : X) → IsReadingOf bytes (readings.Rules read)
-      → IfOk came (IsGround (rules_in read)) → came ≡ Ok (source game) × IsGameOver (source game) (rules game) (role_name game) (move_name game)
-      → PlaysText bytes (source game) (rules game) (role_name game) (move_name game)
-  plays_one bytes read came game reads ground made =
-      let g : IsGround (rules_in read) (source game) = subst (λ (c : Result FlatGround GroundFault). IfOk c (IsGround (rules_in read))) made.0 ground in (
-        reads.0,
-        reads.1,
-        reads.2.lawful,
-        subst (λ (rs : List Alternative). IsGround rs (source game)) reads.2.same g,
-        made.1,
-      )
+  stays : (language : Language) (taken : Taken) (was now : Desk) (old new : Option (List ℕ)) (written : Option made.Reply) (game : Option X)
+      → IsTaken (Ok taken) was now old new → AreKept Plays language (rules_kept was) written game
+      → AreKept Plays language (rules_kept now) (kept_after taken written) (kept_after taken game)
+  stays language Line was now old new written game h kept = same_kept language (rules_kept was) (rules_kept now) written game (sym h.3) kept
+  stays language Stated was now old new written game h kept = none_kept language (rules_kept now)
+  stays language Starved was now old new written game h kept = none_kept language (rules_kept now)
+  stays language LastLine was now old new written game h kept = same_kept language (rules_kept was) (rules_kept now) written game (sym h.5) kept
+  stays language Cut was now old new written game h kept = none_kept language (rules_kept now)
+  stays language Nothing was now old new written game h kept = none_kept language (rules_kept now)
 
-  plays_some : (bytes : List ℕ) (read : RuleSet) (came : Result FlatGround GroundFault) (game : Option X) → IsReadingOf bytes (readings.Rules read)
-      → IfOk came (IsGround (rules_in read))
-      → IfSome game (λ g. (came ≡ Ok (source g)) × IsGameOver (source g) (rules g) (role_name g) (move_name g))
-      → IfSome game (λ g. PlaysText bytes (source g) (rules g) (role_name g) (move_name g))
-  plays_some bytes read came (Some game) reads ground made = plays_one bytes read came game reads ground made
-  plays_some bytes read came None reads ground made = tt
-
-  pub plays_read : {E : Type 0} (bytes : List ℕ) (read : RuleSet) (came : Result FlatGround GroundFault) (r : Result (Option X) E)
-      → IsReadingOf bytes (readings.Rules read) → IfOk came (IsGround (rules_in read))
-      → IfOk r (λ game. IfSome game (λ g. (came ≡ Ok (source g)) × IsGameOver (source g) (rules g) (role_name g) (move_name g)))
-      → IfOk r (λ game. IfSome game (λ g. PlaysText bytes (source g) (rules g) (role_name g) (move_name g)))
-  plays_read bytes read came (Ok game) reads ground made = plays_some bytes read came game reads ground made
-  plays_read bytes read came (Err e) reads ground made = tt
+  -- the rules stay where anything is kept
+  pub still_kept : (language : Language) (taken : Taken) (was now : Desk) (old new : Option (List ℕ)) (written written_then : Option made.Reply)
+      (game game_then : Option X) → IsTaken (Ok taken) was now old new → AreKept Plays language (rules_kept was) written game
+      → written_then ≡ kept_after taken written → game_then ≡ kept_after taken game → AreKept Plays language (rules_kept now) written_then game_then
+  still_kept language taken was now old new written written_then game game_then h kept text played =
+      let first = stays language taken was now old new written game h kept in
+      let second = subst (λ (w : Option made.Reply). AreKept Plays language (rules_kept now) w (kept_after taken game)) (sym text) first in
+      subst (λ (g : Option X). AreKept Plays language (rules_kept now) written_then g) (sym played) second

@@ -1,5 +1,6 @@
 mod FrameTexts
 mod Requests
+mod FoundTexts
 mod Standing
 mod Turning
 mod Holding

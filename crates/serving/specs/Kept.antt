@@ -1,22 +1,35 @@
 -- This crate's own: what `run` promises does not rest on it.
--- The game that is kept of the rules that stand.
-use Rattle.std.specs.Prelude.{ℕ, List, Option, None}
-use Rattle.statement.specs.Tree.{Trees, list_of}
-use Rattle.statement.specs.Reading.{Reads}
-use Rattle.statement.specs.Items.{alternatives}
-use Rattle.statement.specs.Profile.{HasNoFault}
-use Rattle.statement.specs.Rules.{Rules}
+-- What is kept of the rules that stand.
+use Rattle.std.specs.Prelude.{ℕ, List, Option, None, Some, IfSome, ⊤}
 use Rattle.ground.specs.declared.flat_ground.FlatGround.{FlatGround}
-use Rattle.ground.specs.GroundView.{IsGround}
-use Rattle.rulebook.specs.RuleState.{IsGameOver}
+use Rattle.game.specs.declared.game.Game.{Ghosts}
+use Rattle.kept_game.specs.Playing.{PlaysText}
+use Rattle.replies.specs.Kept.{IsKeptSearch}
+use Rattle.words.specs.declared.command.Language.{Language}
+use Rattle.words.specs.declared.command.Language.TheVariants.{Profile, Whole, Tightened}
+use Rattle.replies.specs.declared.reply.Reply.{Reply}
+use Rattle.replies.specs.Replies.{reply_of}
+use Rattle.unrolling.specs.Unrolled.{IsUnrollReply}
 use Rattle.requests.specs.declared.desk.Taken.{Taken}
+use Rattle.serving.specs.declared.game_kept.KeptGame.{KeptGame}
 use Rattle.requests.specs.declared.desk.Taken.TheVariants.{Line, Rules as Stated, Starved, LastLine, Cut, Nothing}
 
--- the bytes read as items without a fault, this is their instantiation, and the game with these rules and texts is made of it
-abbrev pub PlaysText : List ℕ → FlatGround → Rules → (ℕ → List ℕ) → (ℕ → ℕ → List ℕ) → Type 0
-PlaysText bytes source rules role_name move_name =
-    (ts : Trees) × Reads bytes ts × HasNoFault (list_of ts) × IsGround (alternatives (list_of ts)) source
-    × IsGameOver source rules role_name move_name
+-- the game plays the rules with these bytes, and the memory of a search, if there is one, is of the game
+abbrev pub IsKeptGame : {G P W M : Type 0} → Ghosts G P W M → (G → FlatGround) → List ℕ → KeptGame G P W M → Type 0
+IsKeptGame of source bytes kept =
+    PlaysText bytes (source kept.game) (of.rules kept.game) (of.role_name kept.game) (of.move_name kept.game)
+    × IfSome kept.search (IsKeptSearch of kept.game)
+
+-- nothing is kept of rules as they are found, or what is told of them, and a game, if there is one, plays the text that is written
+abbrev pub AreKeptFound : {X : Type 0} → (List ℕ → X → Type 0) → List ℕ → Option Reply → Option X → Type 0
+AreKeptFound Plays rules None made = ⊤
+AreKeptFound Plays rules (Some reply) made = IsUnrollReply rules (reply_of reply) × IfSome made (Plays reply.output.items)
+
+-- what is kept of rules in a language: a game that plays them, or what is kept of them as they are found
+abbrev pub AreKept : {X : Type 0} → (List ℕ → X → Type 0) → Language → List ℕ → Option Reply → Option X → Type 0
+AreKept Plays Profile rules written made = IfSome made (Plays rules)
+AreKept Plays Whole rules written made = AreKeptFound Plays rules written made
+AreKept Plays Tightened rules written made = AreKeptFound Plays rules written made
 
 -- what is kept after this was taken: nothing, where other rules may stand
 abbrev pub kept_after : {X : Type 0} → Taken → Option X → Option X

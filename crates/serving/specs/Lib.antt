@@ -2,3 +2,4 @@ pub mod Telling
 pub mod Kept
 pub mod Turns
 pub mod Serving
+pub mod Doing

@@ -4,10 +4,14 @@ use Rattle.std.specs.Prelude.{ℕ, ◌≡◌, ◌⊎◌, List, Ok, string_bytes}
 use Rattle.statement.specs.Answers.{Reply}
 use Rattle.statement.specs.Replies.{IsReply}
 use Rattle.words.specs.Asked.{query_of}
+use Rattle.words.specs.declared.command.Language.{Language}
+use Rattle.words.specs.declared.command.Language.TheVariants.{Profile, Whole, Tightened}
 use Rattle.words.specs.declared.grammar.Request.{Request}
 use Rattle.words.specs.declared.grammar.Request.TheVariants.{Run, Help, Misuse}
 use Rattle.running.specs.Exits.{exit_status}
 use Rattle.running.specs.Linted.{IsLintReply}
+use Rattle.unroll.specs.Written.{IsWrittenFor}
+use Rattle.unrolling.specs.Unrolled.{RefusesToUnroll}
 use Rattle.serving.specs.declared.framing.Frame.{Frame}
 use Rattle.serving.specs.declared.framing.Frame.TheVariants.{Made, Fixed}
 
@@ -27,6 +31,21 @@ IsToldOfLint rules status bytes =
 -- some request is answered, or `lint`
 abbrev pub IsTold : List ℕ → ℕ → List ℕ → Type 0
 IsTold rules status bytes = ((request : Request) × IsToldOf request rules status bytes) ⊎ IsToldOfLint rules status bytes
+
+-- nothing is written for the rules, and the refusal that names why is told
+abbrev pub IsToldRefusal : List ℕ → ℕ → List ℕ → Type 0
+IsToldRefusal rules status bytes =
+    (reply : Reply) × RefusesToUnroll rules reply × (status ≡ exit_status (Ok reply.status)) × (bytes ≡ reply.output)
+
+-- of rules as they are found is told what is told of the text that is written for them, or why none is
+abbrev pub IsToldFound : List ℕ → ℕ → List ℕ → Type 0
+IsToldFound rules status bytes = ((out : List ℕ) × IsWrittenFor rules out × IsTold out status bytes) ⊎ IsToldRefusal rules status bytes
+
+-- what is told of rules in a language
+abbrev pub IsToldIn : Language → List ℕ → ℕ → List ℕ → Type 0
+IsToldIn Profile = IsTold
+IsToldIn Whole = IsToldFound
+IsToldIn Tightened = IsToldFound
 
 -- the bytes of a frame
 abbrev pub frame_bytes : Frame → List ℕ

@@ -2,9 +2,9 @@
 ghost use Rattle.std.specs.Prelude.{◌≡◌, IfOk, IfSome, Ok};
 ghost use Rattle.running.specs.Exits.{exit_status};
 ghost use Rattle.serving.specs.Telling.{IsToldOf, IsTold};
-ghost use Rattle.serving.specs.Kept.{PlaysText};
+ghost use Rattle.serving.specs.Kept.{IsKeptGame};
 
-use crate::game_kept::replied;
+use crate::game_kept::{KeptGame, replied};
 use crate::splitting::words_in;
 use replies::Reply;
 use rulebook::GroundGame;
@@ -45,6 +45,19 @@ fn told_by(reply: Reply) -> Told
     }
 }
 
+/// What is told by a reply that is told again later.
+pub(crate) fn told_again(alloc: Global, reply: &Reply) -> Result<Told, AllocError>
+    ensures status { IfOk result (λ told. told.status ≡ exit_status (Ok reply.now.status)) }
+    ensures bytes { IfOk result (λ told. told.bytes.items ≡ reply.now.output.items) }
+{
+    let mut output = Vec::new(alloc);
+    output.extend_from_slice(&reply.output)?;
+    Ok(told_by(Reply {
+        output,
+        status: reply.status,
+    }))
+}
+
 /// A text that is told with a status.
 fn told_text(alloc: Global, status: u8, text: &str) -> Result<Told, AllocError>
     ensures status { IfOk result (λ told. told.status ≡ status) }
@@ -60,11 +73,11 @@ fn told_of<G: GroundGame, T: Threads + Sync + AllocGlobal>(
     rt: &T,
     request: &Request,
     rules: &[u8],
-    made: &mut Option<G>,
+    made: &mut Option<KeptGame<G>>,
 ) -> Result<Told, AllocError>
-    requires { IfSome made.old (λ g. PlaysText rules.now (G.source g) (G.rules g) (G.role_name g) (G.move_name g)) }
+    requires { IfSome made.old (IsKeptGame G.Game G.source rules.now) }
     ensures told { IfOk result (λ told. IsToldOf request.now rules.now told.status told.bytes.items) }
-    ensures made { IfSome made.new (λ g. PlaysText rules.now (G.source g) (G.rules g) (G.role_name g) (G.move_name g)) }
+    ensures made { IfSome made.new (IsKeptGame G.Game G.source rules.now) }
 {
     match request {
         Request::Run(command) => {
@@ -89,11 +102,11 @@ fn told_of_words<G: GroundGame, T: Threads + Sync + AllocGlobal>(
     rt: &T,
     words: &[&str],
     rules: &[u8],
-    made: &mut Option<G>,
+    made: &mut Option<KeptGame<G>>,
 ) -> Result<Told, AllocError>
-    requires { IfSome made.old (λ g. PlaysText rules.now (G.source g) (G.rules g) (G.role_name g) (G.move_name g)) }
+    requires { IfSome made.old (IsKeptGame G.Game G.source rules.now) }
     ensures told { IfOk result (λ told. IsTold rules.now told.status told.bytes.items) }
-    ensures made { IfSome made.new (λ g. PlaysText rules.now (G.source g) (G.rules g) (G.role_name g) (G.move_name g)) }
+    ensures made { IfSome made.new (IsKeptGame G.Game G.source rules.now) }
 {
     if is_lint(words) {
         let reply = lint_reply(rt, rules)?;
@@ -108,11 +121,11 @@ pub(crate) fn told_of_line<G: GroundGame, T: Threads + Sync + AllocGlobal>(
     rt: &T,
     line: &[u8],
     rules: &[u8],
-    made: &mut Option<G>,
+    made: &mut Option<KeptGame<G>>,
 ) -> Result<Told, AllocError>
-    requires { IfSome made.old (λ g. PlaysText rules.now (G.source g) (G.rules g) (G.role_name g) (G.move_name g)) }
+    requires { IfSome made.old (IsKeptGame G.Game G.source rules.now) }
     ensures told { IfOk result (λ told. IsTold rules.now told.status told.bytes.items) }
-    ensures made { IfSome made.new (λ g. PlaysText rules.now (G.source g) (G.rules g) (G.role_name g) (G.move_name g)) }
+    ensures made { IfSome made.new (IsKeptGame G.Game G.source rules.now) }
 {
     let Some(words) = words_in(rt.alloc(), line)? else {
         let fault = Request::Misuse(format!(in rt.alloc(); "a word is no UTF-8\n")?);

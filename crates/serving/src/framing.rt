@@ -1,18 +1,20 @@
 //! The frames that answer requests.
-ghost use Rattle.std.specs.Prelude.{◌≡◌, ◌++◌, ◌∷◌, [], IfOk, IfSome, OnOk};
+ghost use Rattle.std.specs.Prelude.{◌≡◌, ◌++◌, ◌∷◌, [], IfOk, OnOk};
 ghost use Rattle.std.specs.Fmt.{decimal};
 ghost use Rattle.requests.specs.Frames.{frame};
 ghost use Rattle.requests.specs.Sessions.{Answers};
 ghost use Rattle.requests.specs.Desks.{IsDesk, IsFrameOf, AnswersDesk, rules_kept};
-ghost use Rattle.serving.specs.Telling.{IsTold, frame_bytes};
-ghost use Rattle.serving.specs.Kept.{PlaysText};
+ghost use Rattle.serving.specs.Telling.{IsToldIn, frame_bytes};
+ghost use Rattle.serving.specs.Kept.{AreKept, IsKeptGame};
 
-use crate::answering::{Told, told_of_line};
+use crate::answering::Told;
+use crate::found_rules::{Kept, told_in};
 use requests::{Desk, Taken};
 use rulebook::GroundGame;
 use std::alloc::{AllocError, Global};
 use std::io::Write;
 use std::thread::Threads;
+use words::Language;
 
 /// The frame that rules stand.
 const TAKEN: &[u8] = b"0 0\n";
@@ -69,13 +71,14 @@ fn told_frame<G: GroundGame, T: Threads + Sync + AllocGlobal>(
     rt: &T,
     line: &[u8],
     rules: &[u8],
-    made: &mut Option<G>,
+    language: Language,
+    kept: &mut Kept<G>,
 ) -> Result<Vec<u8>, AllocError>
-    requires { IfSome made.old (λ g. PlaysText rules.now (G.source g) (G.rules g) (G.role_name g) (G.move_name g)) }
-    ensures frame { IfOk result (λ out. Answers IsTold rules.now out.items) }
-    ensures made { IfSome made.new (λ g. PlaysText rules.now (G.source g) (G.rules g) (G.role_name g) (G.move_name g)) }
+    requires { AreKept (IsKeptGame G.Game G.source) language rules.now kept.old.written kept.old.made }
+    ensures frame { IfOk result (λ out. Answers (IsToldIn language) rules.now out.items) }
+    ensures kept { AreKept (IsKeptGame G.Game G.source) language rules.now kept.new.written kept.new.made }
 {
-    let told = told_of_line(rt, line, rules, made)?;
+    let told = told_in(rt, line, rules, language, kept)?;
     framed(rt.alloc(), &told)
 }
 
@@ -84,13 +87,14 @@ fn frame_of<G: GroundGame, T: Threads + Sync + AllocGlobal>(
     rt: &T,
     line: &[u8],
     rules: &[u8],
-    made: &mut Option<G>,
+    language: Language,
+    kept: &mut Kept<G>,
 ) -> Frame
-    requires { IfSome made.old (λ g. PlaysText rules.now (G.source g) (G.rules g) (G.role_name g) (G.move_name g)) }
-    ensures frame { Answers IsTold rules.now (frame_bytes result) }
-    ensures made { IfSome made.new (λ g. PlaysText rules.now (G.source g) (G.rules g) (G.role_name g) (G.move_name g)) }
+    requires { AreKept (IsKeptGame G.Game G.source) language rules.now kept.old.written kept.old.made }
+    ensures frame { Answers (IsToldIn language) rules.now (frame_bytes result) }
+    ensures kept { AreKept (IsKeptGame G.Game G.source) language rules.now kept.new.written kept.new.made }
 {
-    match told_frame(rt, line, rules, made) {
+    match told_frame(rt, line, rules, language, kept) {
         Ok(bytes) => Frame::Made(bytes),
         Err(AllocError) => Frame::Fixed(STARVED),
     }
@@ -100,17 +104,18 @@ fn frame_of<G: GroundGame, T: Threads + Sync + AllocGlobal>(
 fn line_frame<G: GroundGame, T: Threads + Sync + AllocGlobal>(
     rt: &T,
     desk: &Desk,
-    made: &mut Option<G>,
+    language: Language,
+    kept: &mut Kept<G>,
 ) -> Frame
     requires desk { IsDesk desk.now }
-    requires made { IfSome made.old (λ g. PlaysText (rules_kept desk.now) (G.source g) (G.rules g) (G.role_name g) (G.move_name g)) }
-    ensures frame { AnswersDesk IsTold desk.now (frame_bytes result) }
-    ensures made { IfSome made.new (λ g. PlaysText (rules_kept desk.now) (G.source g) (G.rules g) (G.role_name g) (G.move_name g)) }
+    requires kept { AreKept (IsKeptGame G.Game G.source) language (rules_kept desk.now) kept.old.written kept.old.made }
+    ensures frame { AnswersDesk (IsToldIn language) desk.now (frame_bytes result) }
+    ensures kept { AreKept (IsKeptGame G.Game G.source) language (rules_kept desk.now) kept.new.written kept.new.made }
 {
     let Some(line) = desk.line() else {
         return Frame::Fixed(LONG);
     };
-    frame_of(rt, line, desk.rules(), made)
+    frame_of(rt, line, desk.rules(), language, kept)
 }
 
 /// The frame that answers what was taken.
@@ -118,15 +123,16 @@ pub(crate) fn frame_for<G: GroundGame, T: Threads + Sync + AllocGlobal>(
     rt: &T,
     desk: &Desk,
     taken: Taken,
-    made: &mut Option<G>,
+    language: Language,
+    kept: &mut Kept<G>,
 ) -> Frame
     requires desk { IsDesk desk.now }
-    requires made { IfSome made.old (λ g. PlaysText (rules_kept desk.now) (G.source g) (G.rules g) (G.role_name g) (G.move_name g)) }
-    ensures frame { IsFrameOf IsTold taken desk.now (frame_bytes result) }
-    ensures made { IfSome made.new (λ g. PlaysText (rules_kept desk.now) (G.source g) (G.rules g) (G.role_name g) (G.move_name g)) }
+    requires kept { AreKept (IsKeptGame G.Game G.source) language (rules_kept desk.now) kept.old.written kept.old.made }
+    ensures frame { IsFrameOf (IsToldIn language) taken desk.now (frame_bytes result) }
+    ensures kept { AreKept (IsKeptGame G.Game G.source) language (rules_kept desk.now) kept.new.written kept.new.made }
 {
     match taken {
-        Taken::Line | Taken::LastLine => line_frame(rt, desk, made),
+        Taken::Line | Taken::LastLine => line_frame(rt, desk, language, kept),
         Taken::Rules => Frame::Fixed(TAKEN),
         Taken::Starved => Frame::Fixed(STARVED),
         Taken::Cut => Frame::Fixed(CUT),

@@ -1,32 +1,26 @@
-//! The game of the rules that stand, which is kept from one question to the next.
-ghost use Rattle.std.specs.Prelude.{◌≡◌, IfOk, IfSome, Ok};
+//! The game of the rules that stand, which is kept from one question to the next, with the memory of the last search.
+ghost use Rattle.std.specs.Prelude.{IfOk, IfSome};
 ghost use Rattle.statement.specs.Replies.{IsReply};
 ghost use Rattle.words.specs.Asked.{query_about, query_of};
 ghost use Rattle.replies.specs.Replies.{reply_of};
-ghost use Rattle.replies.specs.Readings.{IsInstantiationOf};
-ghost use Rattle.rulebook.specs.RuleState.{IsGameOver};
-ghost use Rattle.serving.specs.Kept.{PlaysText};
+ghost use Rattle.kept_game.specs.Playing.{PlaysText};
+ghost use Rattle.serving.specs.Kept.{IsKeptGame};
 
-use ground::{FlatGround, GroundFault, instantiate_flat};
-use replies::{Reading, Reply, read, reply_over};
+use game::Game;
+use ground::instantiate_flat;
+use kept_game::{game_over, reply_by};
+use replies::{KeptSearch, Reading, Reply, read};
 use rulebook::GroundGame;
 use running::reply_by_workers;
-use std::alloc::{AllocError, Global};
+use std::alloc::AllocError;
 use std::thread::Threads;
 use words::{Command, Inquiry};
 
-/// The game of an instantiation, or none where there is none.
-fn game_over<G: GroundGame>(
-    alloc: Global,
-    instantiated: Result<FlatGround, GroundFault>,
-) -> Result<Option<G>, AllocError>
-    ensures { IfOk result (λ made. IfSome made (λ g. (instantiated ≡ Ok (G.source g)) × IsGameOver (G.source g) (G.rules g) (G.role_name g) (G.move_name g))) }
-{
-    match instantiated {
-        Ok(ground) => Ok(Some(G::over(alloc, ground)?)),
-        Err(GroundFault::NoMemory) => Err(AllocError),
-        Err(_) => Ok(None),
-    }
+/// The game of the rules, and the memory of the last search of it.
+#[derive(Drop)]
+pub(crate) struct KeptGame<G: Game> {
+    game: G,
+    search: Option<KeptSearch<G>>,
 }
 
 /// The game of rules, or none where they have a fault or pass a limit.
@@ -44,6 +38,19 @@ fn game_of<G: GroundGame, T: Threads + Sync + AllocGlobal>(
     game_over(rt.alloc(), instantiated)
 }
 
+/// The same, to be kept. No search of it was made.
+fn kept_game_of<G: GroundGame, T: Threads + Sync + AllocGlobal>(
+    rt: &T,
+    rules: &[u8],
+) -> Result<Option<KeptGame<G>>, AllocError>
+    ensures { IfOk result (λ made. IfSome made (IsKeptGame G.Game G.source rules.now)) }
+{
+    match game_of::<G, T>(rt, rules)? {
+        Some(game) => Ok(Some(KeptGame { game, search: None })),
+        None => Ok(None),
+    }
+}
+
 /// Whether several workers are to search.
 fn is_shared(inquiry: &Inquiry) -> bool {
     match inquiry {
@@ -57,17 +64,20 @@ fn told_over<G: GroundGame, T: Threads + Sync + AllocGlobal>(
     rt: &T,
     inquiry: &Inquiry,
     rules: &[u8],
-    made: &mut Option<G>,
+    made: &mut Option<KeptGame<G>>,
 ) -> Result<Option<Reply>, AllocError>
-    requires { IfSome made.old (λ g. PlaysText rules.now (G.source g) (G.rules g) (G.role_name g) (G.move_name g)) }
+    requires { IfSome made.old (IsKeptGame G.Game G.source rules.now) }
     ensures reply { IfOk result (λ told. IfSome told (λ reply. IsReply (query_about inquiry.now) rules.now (reply_of reply))) }
-    ensures made { IfSome made.new (λ g. PlaysText rules.now (G.source g) (G.rules g) (G.role_name g) (G.move_name g)) }
+    ensures made { IfSome made.new (IsKeptGame G.Game G.source rules.now) }
 {
     if made.is_none() {
-        *made = game_of::<G, T>(rt, rules)?;
+        *made = kept_game_of::<G, T>(rt, rules)?;
     }
     match made {
-        Some(game) => Ok(Some(reply_over(rt.alloc(), inquiry, game)?)),
+        Some(kept) => {
+            let reply = reply_by(rt.alloc(), inquiry, rules, &kept.game, &mut kept.search)?;
+            Ok(Some(reply))
+        }
         None => Ok(None),
     }
 }
@@ -78,11 +88,11 @@ pub(crate) fn replied<G: GroundGame, T: Threads + Sync + AllocGlobal>(
     rt: &T,
     command: &Command,
     rules: &[u8],
-    made: &mut Option<G>,
+    made: &mut Option<KeptGame<G>>,
 ) -> Result<Reply, AllocError>
-    requires { IfSome made.old (λ g. PlaysText rules.now (G.source g) (G.rules g) (G.role_name g) (G.move_name g)) }
+    requires { IfSome made.old (IsKeptGame G.Game G.source rules.now) }
     ensures reply { IfOk result (λ reply. IsReply (query_of command.now) rules.now (reply_of reply)) }
-    ensures made { IfSome made.new (λ g. PlaysText rules.now (G.source g) (G.rules g) (G.role_name g) (G.move_name g)) }
+    ensures made { IfSome made.new (IsKeptGame G.Game G.source rules.now) }
 {
     let told = match command {
         Command::Ask(inquiry) if !is_shared(inquiry) => told_over(rt, inquiry, rules, made)?,
@@ -90,6 +100,6 @@ pub(crate) fn replied<G: GroundGame, T: Threads + Sync + AllocGlobal>(
     };
     match told {
         Some(reply) => Ok(reply),
-        None => reply_by_workers::<G, T>(rt, command, rules),
+        None => reply_by_workers::<G, G, T>(rt, command, rules),
     }
 }

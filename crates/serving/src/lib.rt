@@ -3,6 +3,7 @@
 #![tactic(auto)]
 
 mod answering;
+mod found_rules;
 mod framing;
 mod game_kept;
 mod program;

@@ -7,4 +7,5 @@ mod negated;
 mod numbers;
 mod stratified;
 
+pub use negated::negated_by;
 pub use stratified::first_unstratified;

@@ -81,7 +81,7 @@ fn gather_all<'a>(
 }
 
 /// The relations of the negated atoms of an item's body, in the order of the text.
-pub(crate) fn negated_by(alloc: Global, item: &Expr<Global>) -> Result<Vec<Relation>, AllocError>
+pub fn negated_by(alloc: Global, item: &Expr<Global>) -> Result<Vec<Relation>, AllocError>
     ensures { IfOk result (λ found. map relation_in found.items ≡ negated_relations (tree_of item.now)) }
 {
     let mut found = Vec::new(alloc);

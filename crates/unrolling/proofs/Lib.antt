@@ -1,0 +1,4 @@
+pub mod Facts
+mod Parting
+mod ThroughNot
+mod WholeTexts

@@ -1,1 +1,3 @@
 pub mod Unrolled
+pub mod Found
+pub mod Crossing

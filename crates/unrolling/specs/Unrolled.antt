@@ -1,6 +1,6 @@
 -- This crate's own: what `run` promises does not rest on it.
 -- What becomes of the command `unroll`.
-use Rattle.std.specs.Prelude.{ℕ, ◌≡◌, ◌≢◌, ◌⊎◌, List, Option, Result, Ok, Err}
+use Rattle.std.specs.Prelude.{ℕ, ◌≡◌, ◌≢◌, ◌⊎◌, List, Option, Result, Ok, Err, IfOk, IfErr}
 use Rattle.std.specs.Io.KnownBytes.{Appends, Keeps}
 use Rattle.kif.specs.Written.{AppendsFront}
 use Rattle.statement.specs.Answers.{Reply, answer, refusal}
@@ -10,6 +10,7 @@ use Rattle.running.specs.declared.fault.RunFault.TheVariants.{Memory, Read, Writ
 use Rattle.running.specs.Input.{IsReadFrom}
 use Rattle.running.specs.Exits.{exit_status, AreErrorsTold}
 use Rattle.running.specs.Fulfilling.{Streams}
+use Rattle.running.specs.Explained.{TellsMore, before_more}
 use Rattle.lawful.specs.FaultTexts.{unroll_fault_words}
 use Rattle.lawful.specs.declared.fault.UnrollFault.{UnrollFault}
 use Rattle.lawful.specs.declared.fault.UnrollFault.TheVariants as faults
@@ -24,19 +25,37 @@ RefusesToUnroll bytes reply =
 abbrev pub IsUnrollReply : List ℕ → Reply → Type 0
 IsUnrollReply bytes reply = ((out : List ℕ) × IsWrittenFor bytes out × (reply ≡ answer out)) ⊎ RefusesToUnroll bytes reply
 
--- What was written where the run ended so: such a reply to the bytes that were read, with this status; nothing; or, where the writer failed,
--- a beginning of such a reply.
-abbrev pub HasUnrolled : Result Status RunFault → Option (List ℕ) → Option (List ℕ) → Option (List ℕ) → Option (List ℕ) → Type 0
-HasUnrolled (Ok status) input left before after =
+-- What was written where a run ended so, to which such replies are made: one to the bytes that were read, with this status; nothing; or,
+-- where the writer failed, a beginning of one.
+abbrev pub HasTold : (List ℕ → Reply → Type 0) → Result Status RunFault → Option (List ℕ) → Option (List ℕ) → Option (List ℕ) → Option (List ℕ) → Type 0
+HasTold Is (Ok status) input left before after =
     (bytes : List ℕ) × (reply : Reply)
-    × IsReadFrom input left bytes × IsUnrollReply bytes reply × (reply.status ≡ status) × Appends before after reply.output
-HasUnrolled (Err Memory) input left before after = Keeps before after
-HasUnrolled (Err Read) input left before after = Keeps before after
-HasUnrolled (Err Write) input left before after =
-    (bytes : List ℕ) × (reply : Reply) × IsReadFrom input left bytes × IsUnrollReply bytes reply × AppendsFront before after reply.output
+    × IsReadFrom input left bytes × Is bytes reply × (reply.status ≡ status) × Appends before after reply.output
+HasTold Is (Err Memory) input left before after = Keeps before after
+HasTold Is (Err Read) input left before after = Keeps before after
+HasTold Is (Err Write) input left before after =
+    (bytes : List ℕ) × (reply : Reply) × IsReadFrom input left bytes × Is bytes reply × AppendsFront before after reply.output
 
 -- the status says how that ended, and the errors are told a fault of the run
-abbrev pub IsUnrollRun : ℕ → Streams → Streams → Type 0
-IsUnrollRun status old new =
+abbrev pub IsRunOf : (List ℕ → Reply → Type 0) → ℕ → Streams → Streams → Type 0
+IsRunOf Is status old new =
     (ended : Result Status RunFault) × (status ≡ exit_status ended)
-    × HasUnrolled ended old.input new.input old.output new.output × AreErrorsTold ended old.errors new.errors
+    × HasTold Is ended old.input new.input old.output new.output × AreErrorsTold ended old.errors new.errors
+
+-- and then more was told to the errors, if it was refused
+abbrev pub IsExplainedRunOf : (List ℕ → Reply → Type 0) → ℕ → Streams → Streams → Type 0
+IsExplainedRunOf Is status old new =
+    (told : Option (List ℕ)) × IsRunOf Is status old (before_more new told) × TellsMore (status ≡ 2) told new.errors
+
+-- what is written for the text of the input was written, or its fault
+abbrev pub IsUnrollRun : ℕ → Streams → Streams → Type 0
+IsUnrollRun = IsExplainedRunOf IsUnrollReply
+
+-- How the writing of a reply ended: it was written, or a beginning of it where the writer failed, which the errors are told; the status says
+-- which, and then more was told to the errors, if it is a refusal.
+abbrev pub IsReplyTold : Reply → ℕ → Option (List ℕ) → Option (List ℕ) → Option (List ℕ) → Option (List ℕ) → Type 0
+IsReplyTold reply status before after errors new =
+    (ended : Result Status RunFault) × (told : Option (List ℕ)) × (status ≡ exit_status ended)
+    × IfOk ended (λ status. (status ≡ reply.status) × Appends before after reply.output)
+    × IfErr ended (λ fault. (fault ≡ Write) × AppendsFront before after reply.output)
+    × AreErrorsTold ended errors told × TellsMore (status ≡ 2) told new

@@ -11,7 +11,7 @@ use std::alloc::{AllocError, AllocGlobal, Global};
 use unroll::{Bounds, UnrollFault, unrolled};
 
 /// The line that names a fault, but want of memory.
-fn refused(alloc: Global, bytes: &[u8], fault: &UnrollFault) -> Result<Reply, AllocError>
+pub(crate) fn refused(alloc: Global, bytes: &[u8], fault: &UnrollFault) -> Result<Reply, AllocError>
     requires fault { IsUnrollFault bytes.now fault.now }
     requires other { fault.now ≢ UnrollFault.NoMemory }
     ensures { IfOk result (λ reply. IsUnrollReply bytes.now (reply_of reply)) }

@@ -13,6 +13,17 @@ pub enum Command<'a> {
     Ask(Inquiry<'a>),
 }
 
+/// In which language the rules on the input are.
+#[derive(Clone, Copy, Debug, PartialEq, Eq)]
+pub enum Language {
+    /// The profile, which every command takes as it stands: no relation rests on itself, and `base` and `input` are stated.
+    Profile,
+    /// The whole language, in which rules are found. They are written out first.
+    Whole,
+    /// The same, and no base propositions and inputs are stated but those that play can come to.
+    Tightened,
+}
+
 /// What is asked of the instantiation of rules.
 #[derive(Clone, Copy, Debug, PartialEq, Eq)]
 pub enum Inquiry<'a> {

@@ -1,5 +1,5 @@
 //! The words of the command line: the commands and their options, and the texts of their help.
-use crate::command::{Command, Inquiry, Sought};
+use crate::command::{Command, Inquiry, Language, Sought};
 use clap::error::ErrorKind;
 use cut::Cut;
 use statement::{AtBound, Window, Worth};
@@ -42,6 +42,9 @@ const VALUES_EXAMPLE: &str = "Example:
 /// What stands below the help of `solve`.
 const SOLVE_EXAMPLE: &str = "Example:
   gdlsolve solve --role oplayer --depth 8 --after \"((mark 1 1) noop)\" < game.kif";
+
+/// What words of the whole language are told where the rules have to be in the profile.
+const PLAIN_ALONE: &str = "--whole is an option of the program alone\n";
 
 /// What the words ask for.
 #[derive(Drop)]
@@ -155,16 +158,44 @@ fn table<'a>(alloc: Global) -> clap::Arg<'a> {
         .help("How much memory may keep what positions are worth, from 0 to 65536")
 }
 
+/// The option for rules in the whole language.
+fn whole<'a>(alloc: Global) -> clap::Arg<'a> {
+    clap::Arg::new(alloc, "whole")
+        .long("whole")
+        .action(clap::ArgAction::SetTrue)
+        .help(
+            "Read a game as it is found, with recursion or without base and input, as unroll writes it out",
+        )
+}
+
+/// The option for rules in the whole language of which less is stated.
+fn tighten<'a>(alloc: Global) -> Result<clap::Arg<'a>, AllocError> {
+    clap::Arg::new(alloc, "tighten")
+        .long("tighten")
+        .action(clap::ArgAction::SetTrue)
+        .help("With --whole: state only the base propositions and inputs that play can come to")
+        .requires_arg("whole")
+}
+
+/// The command with the options for rules in the whole language.
+fn in_any_language<'a>(
+    alloc: Global,
+    command: clap::Command<'a>,
+) -> Result<clap::Command<'a>, AllocError> {
+    command.arg(whole(alloc))?.arg(tighten(alloc)?)
+}
+
 /// The command `show`.
 fn show<'a>(alloc: Global) -> clap::Command<'a> {
     clap::Command::new(alloc, "show").about("Write the canonical text of each tree, one a line")
 }
 
-/// The command `check`.
-fn check<'a>(alloc: Global) -> clap::Command<'a> {
-    clap::Command::new(alloc, "check").about(
+/// The command `check` with its options.
+fn check<'a>(alloc: Global) -> Result<clap::Command<'a>, AllocError> {
+    let command = clap::Command::new(alloc, "check").about(
         "Name the first fault of the rules, or count what they have",
-    )
+    );
+    in_any_language(alloc, command)
 }
 
 /// The command `lint`, which is no request: whoever runs the program takes its word before the words are read as one.
@@ -188,34 +219,37 @@ fn unroll<'a>(alloc: Global) -> Result<clap::Command<'a>, AllocError> {
         )
 }
 
-/// The command `net`.
-fn net<'a>(alloc: Global) -> clap::Command<'a> {
-    clap::Command::new(alloc, "net").about(
+/// The command `net` with its options.
+fn net<'a>(alloc: Global) -> Result<clap::Command<'a>, AllocError> {
+    let command = clap::Command::new(alloc, "net").about(
         "Count what the rules come to: propositions, inputs, instances, and nodes of their network",
-    )
+    );
+    in_any_language(alloc, command)
 }
 
 /// The command `moves` with its options.
 fn moves<'a>(alloc: Global) -> Result<clap::Command<'a>, AllocError> {
-    clap::Command::new(alloc, "moves")
+    let command = clap::Command::new(alloc, "moves")
         .about(
             "Tell how play stands after a history, with the goals of an ended game or the legal moves",
         )
         .after_help(MOVES_EXAMPLE)
-        .arg(history(alloc))
+        .arg(history(alloc))?;
+    in_any_language(alloc, command)
 }
 
 /// The command `state` with its options.
 fn state<'a>(alloc: Global) -> Result<clap::Command<'a>, AllocError> {
-    clap::Command::new(alloc, "state")
+    let command = clap::Command::new(alloc, "state")
         .about("Tell how play stands after a history, and which base propositions hold")
         .after_help(STATE_EXAMPLE)
-        .arg(history(alloc))
+        .arg(history(alloc))?;
+    in_any_language(alloc, command)
 }
 
 /// The command `values` with its options.
 fn values<'a>(alloc: Global) -> Result<clap::Command<'a>, AllocError> {
-    clap::Command::new(alloc, "values")
+    let command = clap::Command::new(alloc, "values")
         .about("Tell of each legal move of a role after a history what it makes sure of")
         .after_help(VALUES_EXAMPLE)
         .arg(role(alloc))?
@@ -225,12 +259,13 @@ fn values<'a>(alloc: Global) -> Result<clap::Command<'a>, AllocError> {
         .arg(lines(alloc))?
         .arg(cut(alloc))?
         .arg(table(alloc))?
-        .arg(history(alloc))
+        .arg(history(alloc))?;
+    in_any_language(alloc, command)
 }
 
 /// The command `solve` with its options.
 fn solve<'a>(alloc: Global) -> Result<clap::Command<'a>, AllocError> {
-    clap::Command::new(alloc, "solve")
+    let command = clap::Command::new(alloc, "solve")
         .about(
             "Tell what a role can be sure of after a history, the move that makes sure of it, and the line of play",
         )
@@ -243,14 +278,16 @@ fn solve<'a>(alloc: Global) -> Result<clap::Command<'a>, AllocError> {
         .arg(deepen(alloc)?)?
         .arg(cut(alloc))?
         .arg(table(alloc))?
-        .arg(history(alloc))
+        .arg(history(alloc))?;
+    in_any_language(alloc, command)
 }
 
 /// The command `serve`, which is no request either.
-fn serve<'a>(alloc: Global) -> clap::Command<'a> {
-    clap::Command::new(alloc, "serve").about(
+fn serve<'a>(alloc: Global) -> Result<clap::Command<'a>, AllocError> {
+    let command = clap::Command::new(alloc, "serve").about(
         "Answer many requests in one process, each by a frame with its status and size",
-    )
+    );
+    in_any_language(alloc, command)
 }
 
 /// The commands and their options.
@@ -263,15 +300,15 @@ fn grammar<'a>(alloc: Global) -> Result<clap::Command<'a>, AllocError> {
         .no_binary_name(true)
         .subcommand_required(true)
         .subcommand(show(alloc))?
-        .subcommand(check(alloc))?
+        .subcommand(check(alloc)?)?
         .subcommand(lint(alloc))?
         .subcommand(unroll(alloc)?)?
-        .subcommand(net(alloc))?
+        .subcommand(net(alloc)?)?
         .subcommand(moves(alloc)?)?
         .subcommand(state(alloc)?)?
         .subcommand(solve(alloc)?)?
         .subcommand(values(alloc)?)?
-        .subcommand(serve(alloc))
+        .subcommand(serve(alloc)?)
 }
 
 /// What the options say that a state is worth where no turn is left and play goes on, or none where that is no text for it.
@@ -383,24 +420,64 @@ fn matched<'a>(matches: &clap::ArgMatches<'a>) -> Option<Result<Command<'a>, &'s
     }
 }
 
-/// The request that the words make. It fails only for want of memory.
-pub fn request_of<'a>(alloc: Global, words: &'a [&'a str]) -> Result<Request<'a>, AllocError> {
+/// In which language the options say that the rules are.
+fn language_of(options: &clap::ArgMatches) -> Language {
+    if !options.get_flag("whole") {
+        return Language::Profile;
+    }
+    if options.get_flag("tighten") {
+        return Language::Tightened;
+    }
+    Language::Whole
+}
+
+/// The language of the rules that was matched.
+fn language_in(matches: &clap::ArgMatches) -> Language {
+    match matches.subcommand() {
+        Some((_, options)) => language_of(options),
+        None => Language::Profile,
+    }
+}
+
+/// What words that make no command are told: help, or what is wrong with them.
+fn told_by<'a>(alloc: Global, error: &clap::Error) -> Result<Request<'a>, AllocError> {
+    match error.kind() {
+        ErrorKind::OutOfMemory => Err(AllocError),
+        ErrorKind::DisplayHelp | ErrorKind::DisplayVersion => {
+            Ok(Request::Help(error.to_string(alloc)?))
+        }
+        _ => Ok(Request::Misuse(error.to_string(alloc)?)),
+    }
+}
+
+/// The request that the words make, and in which language it wants the rules. It fails only for want of memory.
+pub fn asked_of<'a>(
+    alloc: Global,
+    words: &'a [&'a str],
+) -> Result<(Request<'a>, Language), AllocError> {
     let mut grammar = grammar(alloc)?;
-    match grammar.try_get_matches_from_mut(words) {
+    let request = match grammar.try_get_matches_from_mut(words) {
         Ok(matches) => match matched(&matches) {
-            Some(Ok(command)) => Ok(Request::Run(command)),
-            Some(Err(line)) => Ok(Request::Misuse(format!(in alloc; "{line}\n")?)),
+            Some(Ok(command)) => return Ok((Request::Run(command), language_in(&matches))),
+            Some(Err(line)) => Request::Misuse(format!(in alloc; "{line}\n")?),
             None => {
                 let error = grammar.error(ErrorKind::MissingSubcommand, "no command")?;
-                Ok(Request::Misuse(error.to_string(alloc)?))
+                Request::Misuse(error.to_string(alloc)?)
             }
         },
-        Err(error) => match error.kind() {
-            ErrorKind::OutOfMemory => Err(AllocError),
-            ErrorKind::DisplayHelp | ErrorKind::DisplayVersion => {
-                Ok(Request::Help(error.to_string(alloc)?))
-            }
-            _ => Ok(Request::Misuse(error.to_string(alloc)?)),
-        },
+        Err(error) => told_by(alloc, &error)?,
+    };
+    Ok((request, Language::Profile))
+}
+
+/// The request that the words make of rules in the profile: words that want another language are no command. It fails only for want of
+/// memory.
+pub fn request_of<'a>(alloc: Global, words: &'a [&'a str]) -> Result<Request<'a>, AllocError> {
+    let (request, language) = asked_of(alloc, words)?;
+    match language {
+        Language::Profile => Ok(request),
+        Language::Whole | Language::Tightened => {
+            Ok(Request::Misuse(format!(in alloc; "{PLAIN_ALONE}")?))
+        }
     }
 }

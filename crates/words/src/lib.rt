@@ -4,5 +4,5 @@
 mod command;
 mod grammar;
 
-pub use command::{Command, Inquiry, Sought};
-pub use grammar::{Request, request_of};
+pub use command::{Command, Inquiry, Language, Sought};
+pub use grammar::{Request, asked_of, request_of};

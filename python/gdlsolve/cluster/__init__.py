@@ -73,14 +73,17 @@ def solve(
     split: float = 2.0,
     journal: Path | None = None,
     patience: float = 120.0,
+    processors: int = 1,
+    parts: bool = False,
 ) -> Solution:
-    """What `gdlsolve.solve` gives, found by up to `width` tasks of an executor at a time. A task
+    """What `gdlsolve.solve` gives, found by up to `width` tasks of an executor at a time, each by so
+    many processors. With 0 processors a task of Dask uses as many as its worker has threads. A task
     that has run for `split` seconds is split where the executor could do more. Answers are kept in
     the file `journal`, and what stands there is not asked for again. An engine may be gone for
-    `patience` seconds."""
+    `patience` seconds. With `parts` the whole question is not asked beside its parts."""
     worth = ["--at-bound", at_bound] if unfinished is None else ["--unfinished", str(unfinished)]
-    manner = Manner(split, journal, patience)
-    engine = Engine(executor, _room(width))
+    manner = Manner(split, journal, patience, parts=parts)
+    engine = Engine(executor, _room(width), processors=processors)
     found = Driver(sought(rules, role, depth, worth, after), engine, manner).reply()
     lines = lines_of(found.output)
     if found.status is Status.REFUSED:

@@ -21,6 +21,7 @@ from typing import NoReturn
 from gdlsolve.calls import Misuse, Refusal, Status
 from gdlsolve.cluster import engines, sought
 from gdlsolve.cluster.driver import Driver, Engine, Manner
+from gdlsolve.cluster.engines import Share
 from gdlsolve.cluster.faults import ClusterFault
 
 INPUT_FAILED = 4
@@ -36,23 +37,40 @@ class _Parser(argparse.ArgumentParser):
         raise Misuse(f"{self.format_usage()}{message}")
 
 
-def _number(text: str) -> int:
-    """A number of workers."""
-    found = int(text)
-    if found < 1:
+def _share(workers: str, processors: str) -> Share:
+    """So many workers of so many processors each."""
+    found = Share(int(workers), int(processors))
+    if found.workers < 1 or found.processors < 1:
         raise ValueError
     return found
+
+
+def here(text: str) -> Share:
+    """What of this machine answers: one worker of so many processors, or `2x3`, two of three."""
+    workers, x, processors = text.rpartition("x")
+    return _share(workers if x else "1", processors)
+
+
+def of_mpi(text: str) -> Share:
+    """So many workers of one processor, or `2x3`, two of three."""
+    workers, x, processors = text.partition("x")
+    return _share(workers, processors if x else "1")
+
+
+def processors() -> int:
+    """How many processors this process may use."""
+    return len(os.sched_getaffinity(0))
 
 
 def _add_engines(parser: argparse.ArgumentParser) -> None:
     """The options of which one says who shares the work."""
     which = parser.add_mutually_exclusive_group()
     add = which.add_argument
-    add("--processes", type=_number, metavar="N", help="N programs here (as many as processors)")
+    add("--processes", type=here, metavar="N", help="N processors of this machine (all of them)")
     add("--scheduler", metavar="ADDRESS", help="the workers of a Dask scheduler")
     add("--scheduler-file", metavar="FILE", help="the same, by the file that the scheduler writes")
-    add("--local", type=_number, metavar="N", help="a Dask scheduler and N workers here")
-    add("--mpi", type=_number, metavar="N", help="N processes of MPI")
+    add("--local", type=here, metavar="N", help="a Dask scheduler and a worker of N processors here")
+    add("--mpi", type=of_mpi, metavar="N", help="N processes of MPI; NxK: each has K processors")
 
 
 def _parser() -> argparse.ArgumentParser:
@@ -69,6 +87,7 @@ def _parser() -> argparse.ArgumentParser:
     add("--split", type=float, default=2.0, metavar="SECONDS", help="when a question may be split")
     add("--journal", type=Path, metavar="FILE", help="keeps answers, and asks for none again")
     add("--patience", type=float, default=120.0, metavar="SECONDS", help="how long it may be gone")
+    add("--parts", action="store_true", help="asks for parts alone, and never for the whole")
     add("--verbose", action="store_true", help="tells on standard error what happens")
     add("game", type=Path, nargs="?", metavar="GAME.kif", help="the rules")
     return parser
@@ -84,7 +103,7 @@ def engine_of(words: argparse.Namespace) -> AbstractContextManager[Engine]:
         return engines.dask_here(words.local, words.patience)
     if words.mpi is not None:
         return engines.mpi(words.mpi)
-    return engines.processes(words.processes or os.cpu_count() or 1)
+    return engines.processes(words.processes or Share(1, processors()))
 
 
 def _say(line: str) -> None:
@@ -100,13 +119,13 @@ def run(words: Sequence[str]) -> int:
     rules = sys.stdin.buffer.read() if asked.game is None else asked.game.read_bytes()
     what = sought(rules, asked.role, asked.depth, worth, asked.after)
     log = _say if asked.verbose else lambda line: None
-    manner = Manner(asked.split, asked.journal, asked.patience, log)
+    manner = Manner(asked.split, asked.journal, asked.patience, log, asked.parts)
     with engine_of(asked) as engine:
         driver = Driver(what, engine, manner)
         found = driver.reply()
         log(" ".join(f"{name} {round(count, 3)}" for name, count in asdict(driver.counts).items()))
-    sys.stdout.buffer.write(found.output)
-    sys.stdout.buffer.flush()
+        sys.stdout.buffer.write(found.output)
+        sys.stdout.buffer.flush()
     return int(found.status)
 
 

@@ -18,7 +18,7 @@ from gdlsolve.calls import Misuse, Refusal, Reply, Status, lines_of
 from gdlsolve.cluster import program, task
 from gdlsolve.cluster.faults import Contradiction, Failed, Lost, OtherProgram
 from gdlsolve.cluster.journal import Journal, Known, key_of
-from gdlsolve.cluster.task import End, Outcome, Question
+from gdlsolve.cluster.task import OPEN, End, Outcome, Question
 from gdlsolve.cluster.tree import (
     Move,
     Need,
@@ -29,7 +29,6 @@ from gdlsolve.cluster.tree import (
     text,
     turn_of,
     value_needs,
-    whole,
     widest,
 )
 from gdlsolve.replies import Position, State
@@ -37,9 +36,6 @@ from gdlsolve.terms import terms
 
 # So often a question is asked of a program or an engine that fails.
 TRIES = 3
-# An engine that can work at so many questions is asked for the whole as well, beside its parts: one
-# program keeps what it finds, and may be ahead of several that know nothing of each other.
-WITH_WHOLE = 3
 # So often the driver looks whether a question should be split, in seconds.
 BEAT = 0.1
 # So long it waits after something was lost, in seconds.
@@ -55,11 +51,13 @@ class Submits(Protocol):
 
 @dataclass(frozen=True)
 class Engine:
-    """An executor, how many questions it can work at, and whether it is there."""
+    """An executor, how many workers it has, each of which takes a question at a time, whether it is
+    there, and how many processors a worker has, or 0 where it is Dask that knows."""
 
     executor: Submits
     width: Callable[[], int]
     alive: Callable[[], bool] = lambda: True
+    processors: int = 1
 
 
 @dataclass(frozen=True)
@@ -85,12 +83,14 @@ class Sought:
 @dataclass(frozen=True)
 class Manner:
     """How it is sought: after how many seconds a question may be split, where answers are kept, how
-    many seconds the engine may be gone, and who is told what happens."""
+    many seconds the engine may be gone, who is told what happens, and whether the parts alone are
+    asked for, and never the whole."""
 
     split: float = 2.0
     journal: Path | None = None
     patience: float = 120.0
     log: Callable[[str], None] = lambda line: None
+    parts: bool = False
 
 
 @dataclass
@@ -145,6 +145,9 @@ class Driver:
         self._role = sought.role
         self._losing: tuple[float, float] | None = None
         self._stops = Path()
+        # The state of the whole question, where that is asked. One program keeps what it finds, and so
+        # is mostly ahead of several that know nothing of each other.
+        self._whole: Node | None = None
 
     def reply(self) -> Reply:
         """The reply of `solve`."""
@@ -152,14 +155,14 @@ class Driver:
         if closed is not None:
             return closed
         root = Node((), self.sought.depth)
+        self._whole = None if self.manner.parts else root
         self._stops = Path(tempfile.mkdtemp(prefix="gdlsolve-"))
         try:
             self._recall(root)
             if not root.moves:
                 self._look_at(root)
-            if self.engine.width() >= WITH_WHOLE and any(value_needs(root)):
-                self._send(whole(root))
             self._finish(lambda: value_needs(root))
+            self._whole = None
             self.manner.log(f"value {root.low}")
             self._finish(lambda: line_needs(root))
             return Reply(Status.ANSWER, self._lines(root))
@@ -259,7 +262,7 @@ class Driver:
             for need in wanted:
                 if free <= 0:
                     return
-                if need.node.moves or need.node in out:
+                if need.node in out or (need.node.moves and need.node is not self._whole):
                     continue
                 if alone and need.group is not None and busy[need.group]:
                     continue
@@ -291,7 +294,8 @@ class Driver:
         low, high = widest(need.low, need.high, self._goals)
         stop = self._stops / str(self.counts.sent)
         options, after = self.sought.options(node.depth), self.sought.history(node.turns)
-        question = Question(self.sought.rules, options, after, low, high, self._digest, str(stop))
+        how = low, high, self._digest, str(stop), self.engine.processors
+        question = Question(self.sought.rules, options, after, *how)
         try:
             future = self.engine.executor.submit(task.answer, question)
         except OSError as fault:
@@ -364,7 +368,8 @@ class Driver:
         self._losing = None
         self.counts.seconds += outcome.seconds
         node = asked.node
-        found = reading(outcome.lines, asked.low, asked.high)
+        window = (asked.low, asked.high) if outcome.processors == 1 else OPEN
+        found = reading(outcome.lines, *window)
         self.manner.log(f"{outcome.seconds:.3f} s {text(node.turns)}: {outcome.lines[0]}")
         node.told = node.told or found.told
         node.narrow(found.low, found.high)

@@ -7,6 +7,7 @@ import time
 from collections.abc import Iterator
 from concurrent.futures import ThreadPoolExecutor
 from contextlib import contextmanager
+from dataclasses import dataclass
 from importlib import import_module
 from typing import Any
 
@@ -19,15 +20,23 @@ COUNT_EVERY = 2.0
 RETRIES = 2
 
 
+@dataclass(frozen=True)
+class Share:
+    """So many workers, of so many processors each."""
+
+    workers: int
+    processors: int
+
+
 @contextmanager
-def processes(number: int) -> Iterator[Engine]:
-    """So many programs on this machine, each waited for by a thread."""
-    with ThreadPoolExecutor(number) as pool:
-        yield Engine(pool, lambda: number)
+def processes(share: Share) -> Iterator[Engine]:
+    """Programs on this machine, each waited for by a thread."""
+    with ThreadPoolExecutor(share.workers) as pool:
+        yield Engine(pool, lambda: share.workers, processors=share.processors)
 
 
 class _Workers:
-    """How many threads the workers of a Dask cluster have together; 0 where it is gone."""
+    """How many workers a Dask cluster has; 0 where it is gone."""
 
     def __init__(self, client: Any):
         self._client = client
@@ -39,7 +48,7 @@ class _Workers:
             return 0
         if time.monotonic() - self._when >= COUNT_EVERY:
             try:
-                self._counted = sum(self._client.nthreads().values())
+                self._counted = len(self._client.nthreads())
             except OSError:
                 self._counted = 0
             self._when = time.monotonic()
@@ -56,7 +65,7 @@ def _dask(client: Any, patience: float) -> Iterator[Engine]:
             raise Lost("the scheduler has no workers")
         time.sleep(0.1)
     executor = client.get_executor(pure=False, retries=RETRIES)
-    yield Engine(executor, workers, lambda: workers() > 0)
+    yield Engine(executor, workers, lambda: workers() > 0, processors=0)
 
 
 def _client(patience: float, **where: Any) -> Any:
@@ -86,13 +95,18 @@ def dask_by_file(path: str, patience: float) -> Iterator[Engine]:
 
 
 @contextmanager
-def dask_here(number: int, patience: float) -> Iterator[Engine]:
-    """A Dask scheduler and so many workers on this machine, for this run alone."""
+def dask_here(share: Share, patience: float) -> Iterator[Engine]:
+    """A Dask scheduler and workers on this machine, for this run alone. They are threads of this
+    process, since all that they do is to wait for programs. Threads of Dask's own may be waited for
+    half a minute where a worker is closed."""
     distributed: Any = import_module("distributed")
     with (
+        ThreadPoolExecutor(share.workers * share.processors) as threads,
         distributed.LocalCluster(
-            n_workers=number,
-            threads_per_worker=1,
+            n_workers=share.workers,
+            threads_per_worker=share.processors,
+            processes=False,
+            executor=threads,
             dashboard_address=None,
             silence_logs=logging.CRITICAL,
         ) as cluster,
@@ -103,10 +117,10 @@ def dask_here(number: int, patience: float) -> Iterator[Engine]:
 
 
 @contextmanager
-def mpi(number: int) -> Iterator[Engine]:
-    """So many processes of MPI."""
+def mpi(share: Share) -> Iterator[Engine]:
+    """Processes of MPI."""
     futures: Any = import_module("mpi4py.futures")
-    with futures.MPIPoolExecutor(number) as pool:
-        yield Engine(pool, lambda: number)
+    with futures.MPIPoolExecutor(share.workers) as pool:
+        yield Engine(pool, lambda: share.workers, processors=share.processors)
 
 

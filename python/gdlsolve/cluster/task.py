@@ -18,13 +18,16 @@ from gdlsolve.cluster import program
 
 # No value is outside.
 OPEN = (-1, 101)
+# So many workers a cut of one level has at most; further levels seldom pay.
+MOST_OF_CUT = 16
 
 
 @dataclass(frozen=True)
 class Question:
     """The value of the state after a history, asked for between two bounds. `options` are those of
     `solve` but for history and window, `digest` is the sum of the program that has to answer, and
-    `stop` the file that is there once the answer is not wanted any more."""
+    `stop` the file that is there once the answer is not wanted any more. So many processors may
+    answer it; 0 are those that Dask knows the worker to have."""
 
     rules: bytes
     options: tuple[str, ...]
@@ -33,11 +36,16 @@ class Question:
     high: int
     digest: str
     stop: str | None
+    processors: int = 1
 
-    def words(self) -> list[str]:
-        """The words of the program."""
-        window = [] if (self.low, self.high) == OPEN else ["--window", f"{self.low}:{self.high}"]
-        return ["solve", *self.options, *window, "--after", self.after]
+    def words(self, processors: int) -> list[str]:
+        """The words of the program. Within a window one worker searches, whatever the cut; so where
+        there are several processors the value itself is asked for, by all of them."""
+        if processors > 1:
+            how = ["--cut", str(min(processors, MOST_OF_CUT))]
+        else:
+            how = [] if (self.low, self.high) == OPEN else ["--window", f"{self.low}:{self.high}"]
+        return ["solve", *self.options, *how, "--after", self.after]
 
 
 class End(Enum):
@@ -53,11 +61,24 @@ class End(Enum):
 
 @dataclass(frozen=True)
 class Outcome:
-    """How a question ended, the lines that tell it, and the seconds that it took."""
+    """How a question ended, the lines that tell it, the seconds that it took, and by how many
+    processors it was answered."""
 
     end: End
     lines: tuple[str, ...]
     seconds: float = 0.0
+    processors: int = 1
+
+
+def _processors(asked: int) -> int:
+    """How many processors answer a question for which so many are given."""
+    distributed = sys.modules.get("distributed")
+    if asked or distributed is None:
+        return asked or 1
+    try:
+        return max(int(distributed.get_worker().state.nthreads), 1)
+    except (AttributeError, ValueError):
+        return 1
 
 
 def _by_dask() -> Callable[[], bool] | None:
@@ -106,9 +127,9 @@ def answer(question: Question) -> Outcome:
     found = program.digest()
     if found != question.digest:
         return Outcome(End.OTHER_PROGRAM, (found,))
-    begun = time.monotonic()
+    begun, processors = time.monotonic(), _processors(question.processors)
     try:
-        ran = program.run(question.words(), question.rules, _stopped(question.stop))
+        ran = program.run(question.words(processors), question.rules, _stopped(question.stop))
     except program.Stopped:
         return Outcome(End.STOPPED, (), time.monotonic() - begun)
     end = _end(ran)
@@ -116,4 +137,4 @@ def answer(question: Question) -> Outcome:
         lines = tuple(lines_of(ran.output))
     else:
         lines = (f"status {ran.status}", *ran.errors.decode(errors="replace").splitlines())
-    return Outcome(end, lines, time.monotonic() - begun)
+    return Outcome(end, lines, time.monotonic() - begun, processors)

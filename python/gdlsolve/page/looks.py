@@ -26,6 +26,8 @@ from gdlsolve.replies import Position, Solution
 HALF = 50
 # So long nobody may ask for a look before it is given up, in seconds.
 FORGOTTEN = 30.0
+# So often it is seen whether somebody still waits for news, in seconds.
+BEAT = 0.25
 
 
 def said(fault: BaseException) -> str:
@@ -140,11 +142,22 @@ class Look:
             self.version += 1
             self.changed.notify_all()
 
-    def told(self, seen: int, longest: float) -> dict[str, Any]:
+    def wait(self, seen: int, longest: float, is_gone: Callable[[], bool]) -> None:
+        """Waits until more is known than what was seen, so long at most. Where the one who asks goes
+        meanwhile, the look is given up."""
+        end = time.monotonic() + longest
+        with self.changed:
+            while not self.changed.wait_for(lambda: self.version > seen, BEAT):
+                if is_gone():
+                    self.stop()
+                if time.monotonic() >= end:
+                    return
+
+    def told(self, seen: int, longest: float, is_gone: Callable[[], bool]) -> dict[str, Any]:
         """What is known, as soon as it is more than what was seen, or after so many seconds."""
         self.seen = time.monotonic()
+        self.wait(seen, longest, is_gone)
         with self.changed:
-            self.changed.wait_for(lambda: self.version > seen, longest)
             self.seen = time.monotonic()
             best = None
             if self.best is not None:

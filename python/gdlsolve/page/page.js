@@ -19,6 +19,8 @@ async function ask(what, question = {}) {
   try {
     answer = await fetch("/api/" + what, {
       method: "POST", headers: { "Content-Type": "application/json" }, body: JSON.stringify(question),
+      // Also a page that goes gives up its looks.
+      keepalive: what === "stop",
     });
   } catch {
     throw new Error("The server does not answer. Is it still running?");
@@ -115,6 +117,7 @@ function fillRefusal(refused, text) {
   $("refusal-told").textContent = refused.told + place;
   $("refusal-cause").textContent = refused.cause || "";
   $("refusal-said").textContent = refused.explanation || "";
+  $("whole").hidden = !refused.whole;
   $("refusal-more").hidden = !refused.explanation;
   $("refusal-more").open = Boolean(refused.explanation);
   const shown = $("refusal-text");
@@ -162,6 +165,7 @@ async function open(question, { turns = [], you = null, at = null } = {}) {
   $("about").textContent = told.about;
   $("notes").textContent = told.notes.join("\n");
   $("notes").hidden = !told.notes.length;
+  $("whole-too").hidden = !told.whole;
   document.title = `${told.name.replaceAll("_", " ")} – gdlsolve`;
   drawSeats();
   fillSubject();
@@ -715,7 +719,7 @@ async function takeRecord() {
     const told = await ask("record", { text: $("record-text").value });
     const known = now.games.some(({ name }) => name === told.game);
     if (known && (!now.game || now.game.name !== told.game)) await open({ name: told.game });
-    else if (!known && told.rules) await open({ text: told.rules });
+    else if (!known && told.rules) await open({ text: told.rules, whole: true });
     if (!now.game) throw new Error("Open the game of this record first.");
     const end = await ask("position", { game: now.game.id, after: told.turns });
     if (end.refused) throw new Error(`The record does not fit ${now.game.name}: ${end.refused.told}. ${end.refused.cause}`);
@@ -754,11 +758,14 @@ function wire() {
   on("load", () => openSection("record", "record-text"));
   on("close-rules", () => { $("rules").hidden = true; $("write").focus(); });
   on("close-record", () => { $("record").hidden = true; $("load").focus(); });
-  on("open", () => open({ text: $("text").value }).then(() => {
+  const openText = (whole) => open({ text: $("text").value, whole }).then(() => {
     const shown = $("refusal").hidden ? $("play") : $("refusal");
     if ($("refusal").hidden) { $("rules").hidden = true; $("play").focus(); }
     shown.scrollIntoView({ block: "nearest" });
-  }));
+  });
+  on("open", () => openText(false));
+  on("whole", () => openText(true));
+  on("whole-too", () => openText(true));
   on("mend", goToFault);
   on("text", tellPlace, "keyup");
   on("text", tellPlace, "click");
@@ -782,6 +789,7 @@ function wire() {
   $("boards").addEventListener("keydown", walkBoard);
   $("tree").addEventListener("keydown", walkTree);
   document.addEventListener("keydown", key);
+  addEventListener("pagehide", leave);
 }
 
 // The turns of a history's text, which the address tells.

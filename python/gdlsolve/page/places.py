@@ -11,6 +11,7 @@ from collections.abc import Iterator
 from dataclasses import dataclass
 from typing import Any
 
+from gdlsolve import whole
 from gdlsolve.calls import Refusal
 
 EXPLAINED = re.compile(r"^[^\n]*?:(\d+):(\d+): ", re.MULTILINE)
@@ -41,6 +42,13 @@ CAUSES = {
     "H2": "A move of the history is not legal there.",
     "H3": "The history goes on although the game is over.",
     "H4": "The history goes on although some role has no legal move.",
+}
+
+
+# The same of rules as games are found, which were to be written out.
+WHOLE_CAUSES = {
+    "U1": "This relation rests on itself through a not, so nothing says what it is.",
+    "U2": "What is to be written out is more than may be: the last word says of what.",
 }
 
 
@@ -89,7 +97,7 @@ def where(refused: Refusal, text: bytes) -> Place | None:
         return None
     if refused.code.startswith("K"):
         return place_of(text, number)
-    return _item_place(text, number) if refused.code.startswith("G") else None
+    return _item_place(text, number) if refused.code[0] in "GU" else None
 
 
 def refusal(refused: Refusal, text: bytes) -> dict[str, Any]:
@@ -100,7 +108,8 @@ def refusal(refused: Refusal, text: bytes) -> dict[str, Any]:
         "name": refused.name,
         "told": str(refused),
         "explanation": refused.explanation.strip(),
-        "cause": CAUSES.get(refused.code, ""),
+        "cause": {**CAUSES, **WHOLE_CAUSES}.get(refused.code, ""),
+        "whole": whole.is_helped(refused),
         "line": place.line if place else None,
         "column": place.column if place else None,
     }

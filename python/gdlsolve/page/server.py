@@ -5,6 +5,7 @@ from __future__ import annotations
 import hashlib
 import itertools
 import json
+import select
 import sys
 import threading
 import time
@@ -16,7 +17,7 @@ from pathlib import Path
 from typing import Any, cast
 
 import gdlsolve
-from gdlsolve import board
+from gdlsolve import board, whole
 from gdlsolve.calls import Misuse, Refusal, Reply
 from gdlsolve.engine import Broken, Late, Limit, Pool, history
 from gdlsolve.page import looks, places, records, state
@@ -29,6 +30,7 @@ MOST_LOOKS = 8
 PATIENCE = 30.0
 NEWS = 10.0
 NO_ANSWER = (Late, Broken, MemoryError)
+WRITTEN = "These rules are as games are found, and were written out to be played."
 
 FILES = {
     "/": ("page.html", "text/html"),
@@ -115,16 +117,18 @@ class Desk:
             return board.Style(), f"{beside.name}: {fault}"
 
     def open(self, told: dict[str, Any]) -> dict[str, Any]:
-        """Opens a game by its name or by its text, or tells its refusal."""
+        """Opens a game by its name or by its text, or tells its refusal. One of the folder that is as
+        games are found is written out, and of others those for which it is asked."""
         path = self._stored(str(told["name"])) if "text" not in told else None
-        rules = path.read_bytes() if path else str(told["text"]).encode()
-        text = rules.decode(errors="replace")
+        found = path.read_bytes() if path else str(told["text"]).encode()
+        text = found.decode(errors="replace")
         try:
+            rules = whole.playable(found, self._ask) if path or told.get("whole") else found
             roles = Description.of(self._ask(["check"], rules)).roles
             warning = self.reply(["moves"], rules)
             warning.lines()
         except Refusal as refused:
-            return {"text": text, "refused": places.refusal(refused, rules)}
+            return {"text": text, "refused": places.refusal(refused, found)}
         style, note = self._style(path)
         base = state.base(rules, roles[0], self._ask) if style.draw else []
         name = path.stem if path else "pasted"
@@ -135,9 +139,10 @@ class Desk:
             self._opened[key] = opened
             while len(self._opened) > MOST_GAMES:
                 del self._opened[next(iter(self._opened))]
-        notes = [note, warning.errors.decode(errors="replace").strip()]
+        written = WRITTEN if rules is not found else ""
+        notes = [note, written, warning.errors.decode(errors="replace").strip()]
         return {"id": key, "name": name, "text": text, "roles": roles, "about": about(text),
-                "notes": [each for each in notes if each]}
+                "notes": [each for each in notes if each], "whole": not (written or whole.states_all(found))}
 
     def _game(self, told: dict[str, Any]) -> Opened:
         """The game that a question is about."""
@@ -214,10 +219,11 @@ class Desk:
             raise BadQuestion("This look is over.")
         return found
 
-    def news(self, told: dict[str, Any]) -> dict[str, Any]:
-        """What a look has found, once it is more than what the page has seen."""
+    def news(self, told: dict[str, Any], is_gone: Callable[[], bool]) -> dict[str, Any]:
+        """What a look has found, once it is more than what the page has seen. A page that goes while
+        it waits gives the look up."""
         seen = told.get("seen")
-        return self._look(told).told(seen if isinstance(seen, int) else -1, NEWS)
+        return self._look(told).told(seen if isinstance(seen, int) else -1, NEWS, is_gone)
 
     def stop(self, told: dict[str, Any]) -> dict[str, Any]:
         """Gives a look up."""
@@ -253,7 +259,6 @@ QUESTIONS: dict[str, Callable[[Desk, dict[str, Any]], dict[str, Any]]] = {
     "/api/values": Desk.values,
     "/api/replies": Desk.replies,
     "/api/choose": Desk.choose,
-    "/api/news": Desk.news,
     "/api/stop": Desk.stop,
     "/api/record": Desk.record,
 }
@@ -324,6 +329,20 @@ class Handler(BaseHTTPRequestHandler):
         name, kind = found
         return self._send(200, kind, (files("gdlsolve.page") / name).read_bytes())
 
+    def _is_gone(self) -> bool:
+        """Whether nobody is at the other end any more."""
+        poll = select.poll()
+        poll.register(self.connection, select.POLLRDHUP)
+        return bool(poll.poll(0))
+
+    def _answer(self, told: dict[str, Any]) -> dict[str, Any] | None:
+        """The answer to a question of the page, where there is such a one."""
+        desk = cast(Server, self.server).desk
+        if self.path == "/api/news":
+            return desk.news(told, self._is_gone)
+        question = QUESTIONS.get(self.path)
+        return None if question is None else question(desk, told)
+
     def do_POST(self) -> None:
         """Answers a question of the page."""
         if not self._is_ours():
@@ -334,16 +353,15 @@ class Handler(BaseHTTPRequestHandler):
         if int(size) > MOST_BYTES:
             return self._fault(413, "That is too long.")
         body = self.rfile.read(int(size))
-        question = QUESTIONS.get(self.path)
-        if question is None:
-            return self._fault(404, "There is no such question.")
         try:
             told = json.loads(body)
             if not isinstance(told, dict):
                 raise BadQuestion("A question is a JSON object.")
-            answer = question(cast(Server, self.server).desk, told)
+            answer = self._answer(told)
         except (ValueError, KeyError, Misuse, Refusal, OSError, *NO_ANSWER) as fault:
             return self._json(400, {"error": looks.said(fault)})
+        if answer is None:
+            return self._fault(404, "There is no such question.")
         return self._json(200, answer)
 
     def log_message(self, *words: Any) -> None:

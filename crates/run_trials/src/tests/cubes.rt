@@ -184,7 +184,7 @@ fn is_told_by<G: GroundGame, T: AllocGlobal>(
     want: &[u8],
     exit: u8,
 ) -> Result<bool, AllocError> {
-    let reply = reply_alone::<G, T>(rt, command, rules)?;
+    let reply = reply_alone::<G, G, T>(rt, command, rules)?;
     Ok(reply.output.as_slice() == want && reply.status == status_of(exit))
 }
 

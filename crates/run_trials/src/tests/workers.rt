@@ -58,7 +58,8 @@ fn search_of<T: AllocGlobal>(
         return Err(AllocError);
     };
     let instantiated = instantiate_flat_alone(rt, &rules);
-    let Asked::ToSearch(search) = ask(rt.alloc(), inquiry, instantiated)? else {
+    let Asked::ToSearch(search) = ask::<RuleGame, RuleGame>(rt.alloc(), inquiry, instantiated)?
+    else {
         return Err(AllocError);
     };
     Ok(search)

@@ -121,7 +121,7 @@ turns-preserved g c =
         children = record { many = c.turns.invariant.level.children.many; position = c.step.ensures.fits };
       };
       capacities = level_kept g.G.Game c.args.game.now now record { cursor = c.next_turn.new.cursor; run = now.moves.run }
-          record { many = now.children.many; position = c.step.new.q; ahead = now.children.ahead }
+          record { many = now.children.many; position = c.step.new.q; ahead = now.children.ahead; hashes = now.children.hashes }
           (moves_kept now.moves c.next_turn.new.cursor now.moves.run c.next_turn.ensures.capacities refl)
           (children_kept g.G.Game c.args.game.now c.step.new.q now.children.position now.children.many now.children.many
           c.step.ensures.capacities refl)
@@ -167,7 +167,7 @@ returns-then-value_within-known-clause-kept g c =
     (moves_kept old.moves c.start_turns.new.cursor old.moves.run c.start_turns.ensures.capacities refl) refl in
     let level : Level g.row.G-Pos.Denot g.row.G-Many.Denot = record {
       moves = record { cursor = c.next_turn.new.cursor; run = now.moves.run };
-      children = record { many = now.children.many; position = c.step.new.q; ahead = now.children.ahead };
+      children = record { many = now.children.many; position = c.step.new.q; ahead = now.children.ahead; hashes = now.children.hashes };
     } in
     let turned : level_capacities g.G.Game c.args.game.now level ≡ level_capacities g.G.Game c.args.game.now now =
     level_kept g.G.Game c.args.game.now now level.moves level.children

@@ -24,6 +24,9 @@ use Rattle.std.proofs.Common.{
   below_more,
 }
 use Rattle.std.proofs.Math.ListN.{set}
+use Rattle.std.proofs.lemmas.List.Sorted.{IsPermutation-trans}
+use Rattle.std.specs.List.{range_with_len}
+use Rattle.std.specs.List.Sorted.{IsPermutation}
 use Rattle.std.proofs.lemmas.Int.{ints, clamps, to_z-of_z}
 use Rattle.std.proofs.lemmas.List.{length-map}
 use mir.Val.{SFits, of_z, to_z}
@@ -224,9 +227,11 @@ least_at-loop-place-preserved g t c =
     let worth : List ℕ → ℕ = λ s. value rules c.args.asked.role c.args.asked.depth c.args.asked.at s in
     let all = least (map worth states) in
     let count = length c.args.joints.now in
-    let order = c.order_of-order.result in
+    let order = c.put_off.new.order in
+    let ordered : IsPermutation (range_with_len 0 count) (take count order) =
+    IsPermutation-trans (range_with_len 0 count) (take count c.loop-place.order) (take count order) c.loop-place.invariant.order c.put_off.ensures.order in
     let child = get_or order c.loop-place.place 0 in
-    let inside : child < count = place_within count order c.loop-place.place 0 c.order_of-order.ensures (omega (arith, c.loop-place-test.true)) in
+    let inside : child < count = place_within count order c.loop-place.place 0 ordered (omega (arith, c.loop-place-test.true)) in
     let here = worth (get_or states child []) in
     let a = c.args.window.low in
     let ea : to_z w16 (of_z w16 a) ≡ a = to_z-of_z w16 a (search facts) in
@@ -246,11 +251,14 @@ least_at-loop-place-preserved g t c =
       deep = omega arith;
       known = c.child_at.ensures.children;
       same = same_states_then c.loop-place.invariant.same c.child_at.ensures.same;
+      size = c.put_off.ensures.size ∙ c.loop-place.invariant.size;
+      order = ordered;
       above = rw ea at (le_z_false (to_z w16 (of_z w16 c.min-upper.result)) (to_z w16 (of_z w16 a)) c.if-upper-window-3.false);
       below = rw lowered (lowered_below b upper r c.loop-place.invariant.below);
       at_least = rw lowered (lowered_least all here a b upper r part c.loop-place.invariant.at_least c.loop-place.invariant.below answers);
       seen = below_more _ _
-          (λ k lt. rw lowered (lowered_seen (worth (get_or states (get_or order k 0) [])) a upper r (c.loop-place.invariant.seen k lt)))
+          (λ k lt. rw lowered (lowered_seen (worth (get_or states (get_or order k 0) [])) a upper r
+          (rw (c.put_off.ensures.before k lt) (c.loop-place.invariant.seen k lt))))
           (rw lowered (lowered_now here a upper r answers));
     }
 
@@ -276,9 +284,11 @@ least_at-returns-then-upper-window-3-clause-answers g t c =
     let worth : List ℕ → ℕ = λ s. value rules c.args.asked.role c.args.asked.depth c.args.asked.at s in
     let all = least (map worth states) in
     let count = length c.args.joints.now in
-    let order = c.order_of-order.result in
+    let order = c.put_off.new.order in
+    let ordered : IsPermutation (range_with_len 0 count) (take count order) =
+    IsPermutation-trans (range_with_len 0 count) (take count c.loop-place.order) (take count order) c.loop-place.invariant.order c.put_off.ensures.order in
     let child = get_or order c.loop-place.place 0 in
-    let inside : child < count = place_within count order c.loop-place.place 0 c.order_of-order.ensures (omega (arith, c.loop-place-test.true)) in
+    let inside : child < count = place_within count order c.loop-place.place 0 ordered (omega (arith, c.loop-place-test.true)) in
     let here = worth (get_or states child []) in
     let a = c.args.window.low in
     let ea : to_z w16 (of_z w16 a) ≡ a = to_z-of_z w16 a (search facts) in
@@ -308,8 +318,8 @@ least_at-returns-clause-answers g t c =
     let eb : to_z w16 (of_z w16 b) ≡ b = to_z-of_z w16 b (search facts) in
     let bottom = least_worth_reached worth states (omega (arith, c.requires.joints.count, c.requires.joints.some)) in
     let upper = to_z w16 c.loop-place.upper-bits in
-    let each = all_places (λ k. upper ≤ℤ int_max (pos (worth (get_or states k []))) a) (length c.args.joints.now) c.order_of-order.result
-    c.order_of-order.ensures (λ k lt. c.loop-place.invariant.seen k (omega (arith, c.loop-place-test.false))) in
+    let each = all_places (λ k. upper ≤ℤ int_max (pos (worth (get_or states k []))) a) (length c.args.joints.now) c.loop-place.order
+    c.loop-place.invariant.order (λ k lt. c.loop-place.invariant.seen k (omega (arith, c.loop-place-test.false))) in
     record {
       at_least = c.loop-place.invariant.at_least;
       at_most = rw bottom.2 at (each bottom.0 (omega (arith, bottom.1, c.requires.joints.count)));
@@ -494,9 +504,11 @@ greatest_at-loop-place-preserved g t c =
     let worth : List ℕ → ℕ = λ s. value rules c.args.asked.role c.args.asked.depth c.args.asked.at s in
     let all = greatest (map worth states) in
     let count = length c.args.joints.now in
-    let order = c.order_of-order.result in
+    let order = c.put_off.new.order in
+    let ordered : IsPermutation (range_with_len 0 count) (take count order) =
+    IsPermutation-trans (range_with_len 0 count) (take count c.loop-place.order) (take count order) c.loop-place.invariant.order c.put_off.ensures.order in
     let child = get_or order c.loop-place.place 0 in
-    let inside : child < count = place_within count order c.loop-place.place 0 c.order_of-order.ensures (omega (arith, c.loop-place-test.true)) in
+    let inside : child < count = place_within count order c.loop-place.place 0 ordered (omega (arith, c.loop-place-test.true)) in
     let here = worth (get_or states child []) in
     let a = c.args.window.low in
     let ea : to_z w16 (of_z w16 a) ≡ a = to_z-of_z w16 a (search facts) in
@@ -516,11 +528,14 @@ greatest_at-loop-place-preserved g t c =
       deep = omega arith;
       known = c.child_at.ensures.children;
       same = same_states_then c.loop-place.invariant.same c.child_at.ensures.same;
+      size = c.put_off.ensures.size ∙ c.loop-place.invariant.size;
+      order = ordered;
       above = rw raised (raised_above a lower r c.loop-place.invariant.above);
       below = rw eb at (le_z_false (to_z w16 (of_z w16 b)) (to_z w16 (of_z w16 c.max-lower.result)) c.if-lower-window-3.false);
       at_most = rw raised (raised_most all here a b lower r part c.loop-place.invariant.at_most answers);
       seen = below_more _ _
-          (λ k lt. rw raised (raised_seen (worth (get_or states (get_or order k 0) [])) b lower r (c.loop-place.invariant.seen k lt)))
+          (λ k lt. rw raised (raised_seen (worth (get_or states (get_or order k 0) [])) b lower r
+          (rw (c.put_off.ensures.before k lt) (c.loop-place.invariant.seen k lt))))
           (rw raised (raised_now here b lower r answers));
     }
 
@@ -546,9 +561,11 @@ greatest_at-returns-then-lower-window-3-clause-answers g t c =
     let worth : List ℕ → ℕ = λ s. value rules c.args.asked.role c.args.asked.depth c.args.asked.at s in
     let all = greatest (map worth states) in
     let count = length c.args.joints.now in
-    let order = c.order_of-order.result in
+    let order = c.put_off.new.order in
+    let ordered : IsPermutation (range_with_len 0 count) (take count order) =
+    IsPermutation-trans (range_with_len 0 count) (take count c.loop-place.order) (take count order) c.loop-place.invariant.order c.put_off.ensures.order in
     let child = get_or order c.loop-place.place 0 in
-    let inside : child < count = place_within count order c.loop-place.place 0 c.order_of-order.ensures (omega (arith, c.loop-place-test.true)) in
+    let inside : child < count = place_within count order c.loop-place.place 0 ordered (omega (arith, c.loop-place-test.true)) in
     let here = worth (get_or states child []) in
     let a = c.args.window.low in
     let ea : to_z w16 (of_z w16 a) ≡ a = to_z-of_z w16 a (search facts) in
@@ -577,8 +594,8 @@ greatest_at-returns-clause-answers g t c =
     let eb : to_z w16 (of_z w16 b) ≡ b = to_z-of_z w16 b (search facts) in
     let top = greatest_worth_reached worth states (omega (arith, c.requires.joints.count, c.requires.joints.some)) in
     let lower = to_z w16 c.loop-place.lower-bits in
-    let each = all_places (λ k. int_min (pos (worth (get_or states k []))) b ≤ℤ lower) (length c.args.joints.now) c.order_of-order.result
-    c.order_of-order.ensures (λ k lt. c.loop-place.invariant.seen k (omega (arith, c.loop-place-test.false))) in
+    let each = all_places (λ k. int_min (pos (worth (get_or states k []))) b ≤ℤ lower) (length c.args.joints.now) c.loop-place.order
+    c.loop-place.invariant.order (λ k lt. c.loop-place.invariant.seen k (omega (arith, c.loop-place-test.false))) in
     record {
       at_least = rw top.2 at (each top.0 (omega (arith, top.1, c.requires.joints.count)));
       at_most = c.loop-place.invariant.at_most;
@@ -901,37 +918,49 @@ greatest_after-returns-clause-answers g t c =
 
 pub least_at-child_at-requires-clause-place : goal.least_at-child_at-requires-clause-place
 least_at-child_at-requires-clause-place g t c κs within =
-    let inside = place_within (length c.args.joints.now) c.order_of-order.result c.loop-place.place 0 c.order_of-order.ensures
+    let inside = place_within (length c.args.joints.now) c.put_off.new.order c.loop-place.place 0
+    (IsPermutation-trans (range_with_len 0 (length c.args.joints.now)) (take (length c.args.joints.now) c.loop-place.order)
+    (take (length c.args.joints.now) c.put_off.new.order) c.loop-place.invariant.order c.put_off.ensures.order)
     (omega (arith, c.loop-place-test.true)) in
     let same : c.loop-place.children.many ≡ c.args.children.now.many = c.loop-place.invariant.same.many in
     rw same (omega (arith, c.requires.joints.count))
 
 pub least_at-bounds-joints-child : goal.least_at-bounds-joints-child
 least_at-bounds-joints-child g t c =
-    place_within (length c.args.joints.now) c.order_of-order.result c.loop-place.place 0 c.order_of-order.ensures
+    place_within (length c.args.joints.now) c.put_off.new.order c.loop-place.place 0
+    (IsPermutation-trans (range_with_len 0 (length c.args.joints.now)) (take (length c.args.joints.now) c.loop-place.order)
+    (take (length c.args.joints.now) c.put_off.new.order) c.loop-place.invariant.order c.put_off.ensures.order)
     (omega (arith, c.loop-place-test.true))
 
 pub least_at-offset_bounds-joints-child : goal.least_at-offset_bounds-joints-child
 least_at-offset_bounds-joints-child g t c =
-    let inside = place_within (length c.args.joints.now) c.order_of-order.result c.loop-place.place 0 c.order_of-order.ensures
+    let inside = place_within (length c.args.joints.now) c.put_off.new.order c.loop-place.place 0
+    (IsPermutation-trans (range_with_len 0 (length c.args.joints.now)) (take (length c.args.joints.now) c.loop-place.order)
+    (take (length c.args.joints.now) c.put_off.new.order) c.loop-place.invariant.order c.put_off.ensures.order)
     (omega (arith, c.loop-place-test.true)) in
     omega (arith, c.requires.joints.few)
 
 pub greatest_at-child_at-requires-clause-place : goal.greatest_at-child_at-requires-clause-place
 greatest_at-child_at-requires-clause-place g t c κs within =
-    let inside = place_within (length c.args.joints.now) c.order_of-order.result c.loop-place.place 0 c.order_of-order.ensures
+    let inside = place_within (length c.args.joints.now) c.put_off.new.order c.loop-place.place 0
+    (IsPermutation-trans (range_with_len 0 (length c.args.joints.now)) (take (length c.args.joints.now) c.loop-place.order)
+    (take (length c.args.joints.now) c.put_off.new.order) c.loop-place.invariant.order c.put_off.ensures.order)
     (omega (arith, c.loop-place-test.true)) in
     let same : c.loop-place.children.many ≡ c.args.children.now.many = c.loop-place.invariant.same.many in
     rw same (omega (arith, c.requires.joints.count))
 
 pub greatest_at-bounds-joints-child : goal.greatest_at-bounds-joints-child
 greatest_at-bounds-joints-child g t c =
-    place_within (length c.args.joints.now) c.order_of-order.result c.loop-place.place 0 c.order_of-order.ensures
+    place_within (length c.args.joints.now) c.put_off.new.order c.loop-place.place 0
+    (IsPermutation-trans (range_with_len 0 (length c.args.joints.now)) (take (length c.args.joints.now) c.loop-place.order)
+    (take (length c.args.joints.now) c.put_off.new.order) c.loop-place.invariant.order c.put_off.ensures.order)
     (omega (arith, c.loop-place-test.true))
 
 pub greatest_at-offset_bounds-joints-child : goal.greatest_at-offset_bounds-joints-child
 greatest_at-offset_bounds-joints-child g t c =
-    let inside = place_within (length c.args.joints.now) c.order_of-order.result c.loop-place.place 0 c.order_of-order.ensures
+    let inside = place_within (length c.args.joints.now) c.put_off.new.order c.loop-place.place 0
+    (IsPermutation-trans (range_with_len 0 (length c.args.joints.now)) (take (length c.args.joints.now) c.loop-place.order)
+    (take (length c.args.joints.now) c.put_off.new.order) c.loop-place.invariant.order c.put_off.ensures.order)
     (omega (arith, c.loop-place-test.true)) in
     omega (arith, c.requires.joints.few)
 
@@ -972,6 +1001,8 @@ least_at-loop-place-init g t c =
       above = rw ea at (le_z_false (to_z w16 (of_z w16 upper)) (to_z w16 (of_z w16 a)) c.if-upper-window-2.false);
       below = rw eu (omega (arith, ints));
       at_least = rw eu least_known;
+      size = search facts;
+      order = c.order_of-order.ensures;
       seen = λ k lt. absurd (omega arith);
     }
 
@@ -1059,6 +1090,8 @@ greatest_at-loop-place-init g t c =
       above = rw eu (omega (arith, ints));
       below = rw eb at (le_z_false (to_z w16 (of_z w16 b)) (to_z w16 (of_z w16 lower)) c.if-lower-window-2.false);
       at_most = rw eu most_known;
+      size = search facts;
+      order = c.order_of-order.ensures;
       seen = λ k lt. absurd (omega arith);
     }
 

@@ -1,4 +1,6 @@
-use Rattle.std.proofs.Common.{◌≡◌, ℕ, ◌+◌, ◌*◌, ◌-◌, ◌<◌, ◌≤◌, length, [], ◌∷◌, get_or}
+use Rattle.std.proofs.Common.{◌≡◌, ℕ, ◌+◌, ◌*◌, ◌-◌, ◌<◌, ◌≤◌, length, take, [], ◌∷◌, get_or}
+use Rattle.std.specs.List.{range_with_len}
+use Rattle.std.specs.List.Sorted.{IsPermutation}
 use Rattle.std.specs.Prelude.{pos, ◌<ℤ◌, ◌≤ℤ◌, map}
 use Rattle.std.specs.Int.{int_min, int_max}
 use Rattle.statement.specs.Rules.{choices}
@@ -89,6 +91,8 @@ invariant-least_at-loop-place g l =
       deep : length l.levels ≡ length l.initial.levels;
       known : AreLookedAt g.G.Game l.game l.asked l.children;
       same : AreSameStates g.G.Game l.game l.fn.children l.children;
+      size : length l.order ≡ 64;
+      order : IsPermutation (range_with_len 0 l.count) (take l.count l.order);
       above : l.window.low <ℤ l.upper;
       below : l.upper ≤ℤ l.window.high;
       at_least : int_min (pos all) l.window.high ≤ℤ l.upper;
@@ -140,6 +144,8 @@ invariant-greatest_at-loop-place g l =
       deep : length l.levels ≡ length l.initial.levels;
       known : AreLookedAt g.G.Game l.game l.asked l.children;
       same : AreSameStates g.G.Game l.game l.fn.children l.children;
+      size : length l.order ≡ 64;
+      order : IsPermutation (range_with_len 0 l.count) (take l.count l.order);
       above : l.window.low ≤ℤ l.lower;
       below : l.lower <ℤ l.window.high;
       at_most : l.lower ≤ℤ int_max (pos all) l.window.low;

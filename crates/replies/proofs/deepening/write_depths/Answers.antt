@@ -16,6 +16,7 @@ loop-depth-init g c =
     all_depths game asked.role asked.at state asked.depth ∙ ap (λ (n : ℕ). lines_from game asked.role asked.at state 1 n) (sym none) in
     record {
       within = omega arith;
+      same = refl;
       ahead = c.requires.play;
       further = c.requires.settling;
       lines = subst (λ (xs : List ℕ). Written (g.W.Write.contents c.args.out.now) (g.W.Write.contents c.args.out.now)
@@ -75,6 +76,7 @@ loop-depth-preserved g c =
     let kept = c.in_ok-worth.ensures.play in
     record {
       within = omega arith;
+      same = kept.depth ∙ c.loop-depth.invariant.same;
       ahead = record {
         known = c.requires.play.known;
         play = kept.play;

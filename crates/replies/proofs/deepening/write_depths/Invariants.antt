@@ -1,4 +1,5 @@
-use Rattle.std.proofs.Common.{◌+◌, ◌-◌, ◌≤◌}
+use Rattle.std.proofs.Common.{◌≡◌, ◌+◌, ◌-◌, ◌≤◌}
+use Rattle.maximin.specs.Room.{room_depth}
 use Rattle.replies.proofs.Held.{Written}
 use Rattle.statement.specs.Deepening.{deepen_lines}
 use Rattle.replies.specs.Histories.{named}
@@ -15,6 +16,7 @@ invariant-loop-depth g l =
     let game = named rules (g.G.Game.role_name l.g) (g.G.Game.move_name l.g) in
     record {
       within : l.depth ≤ l.asked.depth;
+      same : room_depth l.play.room ≡ room_depth l.fn.play.room;
       ahead : IsPlayFor g.G.Game l.g l.asked.role l.asked.depth l.play;
       further : IsSettlingFor g.G.Game l.g l.asked.role l.asked.depth l.asked.at l.settling;
       lines : Written (g.W.Write.contents l.fn.out) (g.W.Write.contents l.out) (deepen_lines game l.asked.role l.asked.depth l.asked.at state)

@@ -10,4 +10,4 @@ returns g c =
     let sought = c.args.sought.now in
     tells_game c.args.ground (named (g.G.Game.rules played) (g.G.Game.role_name played) (g.G.Game.move_name played))
     (λ told. IsRoleReply told sought.role.now (λ r. wanted_lines c.args.wanted told r sought.depth sought.at_bound) sought.after.now)
-    c.role_reply.result c.in_ok-game.ensures.plays c.role_reply.ensures
+    c.role_reply.result c.in_ok-game.ensures.plays c.role_reply.ensures.reply

@@ -11,8 +11,8 @@ add_own-requires-clause-own g c κs within =
     rw c.first_at_least-own.ensures.first (first_within (g.G.Game.rules c.args.g.now) (λ s r below. law.legal_within c.args.g.now s r below)
     c.args.asked.role c.args.asked.depth c.args.asked.at c.args.bound (g.G.Game.state c.args.g.now c.args.here.now) c.requires.room.role)
 
-pub returns : goal.returns
-returns g c =
+pub returns-clause-lines : goal.returns-clause-lines
+returns-clause-lines g c =
     let game = named (g.G.Game.rules c.args.g.now) (g.G.Game.role_name c.args.g.now) (g.G.Game.move_name c.args.g.now) in
     let asked = c.args.asked in
     let first = first_at_least game.rules asked.role asked.depth asked.at c.args.bound (g.G.Game.state c.args.g.now c.args.here.now) in

@@ -5,8 +5,8 @@ use Rattle.replies.specs.Histories.{named}
 use Rattle.replies.proofs.Placing.{told_below, told_between, worth_between, told_above}
 use Rattle.replies.proofs.windowed.lines_within.Goals as goal
 
-pub returns-in-Below : goal.returns-in-Below
-returns-in-Below g c =
+pub returns-in-Below-clause-lines : goal.returns-in-Below-clause-lines
+returns-in-Below-clause-lines g c =
     let game = named (g.G.Game.rules c.args.g.now) (g.G.Game.role_name c.args.g.now) (g.G.Game.move_name c.args.g.now) in
     let state = g.G.Game.state c.args.g.now c.args.here.now in
     let asked = c.args.asked in
@@ -23,10 +23,10 @@ lines_of_value-requires-clause-worth g c κs within =
     ∙ worth_between game c.args.window asked.role asked.depth asked.at state c.place_value.result c.place_value.ensures.placed c.in-Between.worth
     c.in-Between.is
 
-pub returns-in-Between : goal.returns-in-Between
-returns-in-Between g c =
+pub returns-in-Between-clause-lines : goal.returns-in-Between-clause-lines
+returns-in-Between-clause-lines g c =
     let game = named (g.G.Game.rules c.args.g.now) (g.G.Game.role_name c.args.g.now) (g.G.Game.move_name c.args.g.now) in
     let state = g.G.Game.state c.args.g.now c.args.here.now in
     let asked = c.args.asked in
     rw (told_between game c.args.window asked.role asked.depth asked.at state c.place_value.result c.place_value.ensures.placed c.in-Between.worth
-    c.in-Between.is) c.lines_of_value.ensures
+    c.in-Between.is) c.lines_of_value.ensures.lines

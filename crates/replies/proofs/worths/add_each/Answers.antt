@@ -1,4 +1,4 @@
-use Rattle.std.proofs.Common.{ℕ, ◌<◌, ◌≡◌, ◌-◌, length, arith}
+use Rattle.std.proofs.Common.{ℕ, ◌<◌, ◌≡◌, ◌-◌, ◌∙◌, length, arith}
 use Rattle.statement.specs.MoveLines.{move_lines}
 use Rattle.replies.specs.Histories.{named}
 use Rattle.game.proofs.Facts.{legal_known, legal_place, legal_count}
@@ -57,6 +57,7 @@ loop-own-preserved g c =
         play = kept.play;
         deep = omega (arith, c.loop-own.invariant.play.deep, kept.depth);
       };
+      same = kept.depth ∙ c.loop-own.invariant.same;
       within = omega (arith, here.0);
       lines =
           one_element_more (move_lines (named rules (g.G.Game.role_name c.args.g.now) (g.G.Game.move_name c.args.g.now)) role depth c.args.asked.at state)
@@ -65,8 +66,8 @@ loop-own-preserved g c =
           c.in_ok-add_move_lines.ensures.lines;
     }
 
-pub returns : goal.returns
-returns g c =
+pub returns-clause-lines : goal.returns-clause-lines
+returns-clause-lines g c =
     let rules = g.G.Game.rules c.args.g.now in
     let state = g.G.Game.state c.args.g.now c.args.here.now in
     let role = c.args.asked.role in

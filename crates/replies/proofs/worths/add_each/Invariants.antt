@@ -1,6 +1,7 @@
 use Rattle.std.proofs.Common.{◌≡◌, ◌++◌, ◌≤◌, ◌-◌, length, take}
 use Rattle.std.specs.List.{flat_map}
 use Rattle.statement.specs.MoveLines.{move_lines}
+use Rattle.maximin.specs.Room.{room_depth}
 use Rattle.replies.specs.Histories.{named}
 use Rattle.replies.specs.Play.{IsPlayFor}
 use Rattle.replies.proofs.worths.add_each.Given as goal
@@ -14,6 +15,7 @@ invariant-loop-own g l =
     let named_game = named (game.rules l.g) (game.role_name l.g) (game.move_name l.g) in
     record {
       play : IsPlayFor game l.g l.asked.role l.asked.depth l.play;
+      same : room_depth l.play.room ≡ room_depth l.fn.play.room;
       within : l.place ≤ length legal;
       lines : l.output.items ≡ l.fn.output.items ++ flat_map (move_lines named_game l.asked.role (l.asked.depth - 1) l.asked.at state)
           (take l.place legal);

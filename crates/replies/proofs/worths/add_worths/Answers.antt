@@ -65,6 +65,7 @@ loop-own-preserved g c =
         room = c.move_worth-worth.ensures.room.room;
         deep = omega (arith, c.loop-own.invariant.room.deep, c.move_worth-worth.ensures.room.depth);
       };
+      same = c.move_worth-worth.ensures.room.depth ∙ c.loop-own.invariant.same;
       within = omega (arith, here.0);
       lines =
           one_element_more (worth_line (named rules (g.G.Game.role_name c.args.g.now) (g.G.Game.move_name c.args.g.now)) role depth c.args.asked.at state)
@@ -74,8 +75,8 @@ loop-own-preserved g c =
           ∙ ap (λ (n : ℕ). c.loop-own.output.items ++ (codes "value " ++ decimal n ++ 32 ∷ name ++ 10 ∷ [])) worth);
     }
 
-pub returns : goal.returns
-returns g c =
+pub returns-clause-lines : goal.returns-clause-lines
+returns-clause-lines g c =
     let rules = g.G.Game.rules c.args.g.now in
     let state = g.G.Game.state c.args.g.now c.args.here.now in
     let role = c.args.asked.role in

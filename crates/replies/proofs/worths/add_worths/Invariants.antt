@@ -1,6 +1,6 @@
 use Rattle.std.proofs.Common.{◌≡◌, ◌++◌, ◌≤◌, ◌-◌, length, take}
 use Rattle.std.specs.List.{flat_map}
-use Rattle.maximin.specs.Room.{IsRoomFor}
+use Rattle.maximin.specs.Room.{IsRoomFor, room_depth}
 use Rattle.replies.specs.Histories.{named}
 use Rattle.statement.specs.MoveValues.{worth_line}
 use Rattle.replies.proofs.worths.add_worths.Given as goal
@@ -14,6 +14,7 @@ invariant-loop-own g l =
     let named_game = named (game.rules l.g) (game.role_name l.g) (game.move_name l.g) in
     record {
       room : IsRoomFor game l.g l.asked.role l.asked.depth l.room;
+      same : room_depth l.room ≡ room_depth l.fn.room;
       within : l.place ≤ length legal;
       lines : l.output.items ≡ l.fn.output.items ++ flat_map (worth_line named_game l.asked.role (l.asked.depth - 1) l.asked.at state)
           (take l.place legal);

@@ -5,18 +5,18 @@ use Rattle.replies.specs.Histories.{named}
 use Rattle.replies.proofs.MoveWorths.{values_open, values_closed}
 use Rattle.replies.proofs.worths.lines_of_moves.Goals as goal
 
-pub returns-then-is_closed : goal.returns-then-is_closed
-returns-then-is_closed g c =
+pub returns-then-is_closed-clause-lines : goal.returns-then-is_closed-clause-lines
+returns-then-is_closed-clause-lines g c =
     let game = named (g.G.Game.rules c.args.g.now) (g.G.Game.role_name c.args.g.now) (g.G.Game.move_name c.args.g.now) in
     rw (values_closed game c.args.asked.role c.args.asked.depth c.args.asked.at (g.G.Game.state c.args.g.now c.args.here.now)
-    (c.is_closed.ensures.yes c.if-is_closed.true)) c.whole_lines.ensures
+    (c.is_closed.ensures.yes c.if-is_closed.true)) c.best_lines.ensures.lines
 
-pub returns : goal.returns
-returns g c =
+pub returns-clause-lines : goal.returns-clause-lines
+returns-clause-lines g c =
     let game = named (g.G.Game.rules c.args.g.now) (g.G.Game.role_name c.args.g.now) (g.G.Game.move_name c.args.g.now) in
     let state = g.G.Game.state c.args.g.now c.args.here.now in
     let asked = c.args.asked in
-    c.in_ok-add_worths.ensures
+    c.in_ok-add_worths.ensures.lines
     ∙ ap (λ (xs : List ℕ). xs ++ flat_map (worth_line game asked.role (asked.depth - 1) asked.at state) (game.rules.legal state asked.role))
     c.new-output.ensures.items
     ∙ sym (values_open game asked.role asked.depth asked.at state (c.is_closed.ensures.no c.if-is_closed.false))

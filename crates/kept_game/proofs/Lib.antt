@@ -1,0 +1,2 @@
+mod Plays
+pub mod Facts

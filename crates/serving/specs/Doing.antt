@@ -1,0 +1,19 @@
+-- This crate's own: what `run` promises does not rest on it.
+-- What becomes of the words of the program.
+use Rattle.std.specs.Prelude.{ℕ, ◌⊎◌}
+use Rattle.words.specs.declared.command.Command.{Command}
+use Rattle.words.specs.declared.command.Language.{Language}
+use Rattle.running.specs.Fulfilling.{Streams}
+use Rattle.running.specs.Explained.{IsExplained}
+use Rattle.running.specs.Linted.{IsLintRun}
+use Rattle.unrolling.specs.Unrolled.{IsUnrollRun}
+use Rattle.unrolling.specs.Found.{IsFoundRun}
+use Rattle.serving.specs.Serving.{IsServed}
+
+-- a command was run over rules as they are found, or it was `lint`, or some request was fulfilled over rules in the profile
+abbrev pub IsAskedRun : ℕ → Streams → Streams → Type 0
+IsAskedRun status old new = ((command : Command) × IsFoundRun command status old new) ⊎ (IsLintRun status old new ⊎ IsExplained status old new)
+
+-- a session was held, or rules were written out, or the words asked for something else
+abbrev pub IsProgramRun : ℕ → Streams → Streams → Type 0
+IsProgramRun status old new = ((language : Language) × IsServed language status old new) ⊎ (IsUnrollRun status old new ⊎ IsAskedRun status old new)

@@ -1,0 +1,13 @@
+use Rattle.std.proofs.Common.{List, ℕ, refl, subst}
+use Rattle.replies.specs.Replies.{reply_of}
+use Rattle.unrolling.specs.Unrolled.{IsUnrollReply}
+use Rattle.unrolling.proofs.told.told_of.Goals as goal
+
+pub returns-in-Ok-refused : goal.returns-in-Ok-refused
+returns-in-Ok-refused c = record {
+  told = (
+    refl,
+    subst (λ (l : List ℕ). IsUnrollReply l (reply_of c.in-Ok-refused.reply)) c.deref-in-Err.ensures.value c.in-Ok-refused.ensures,
+  );
+  fault = tt;
+}

@@ -1,0 +1,99 @@
+"""Games as they are found in collections: with relations that rest on themselves, or without `base` and `input`.
+
+The program writes such a game out as rules that every command takes (`unroll`). What is asked from then on is asked of what was written.
+"""
+from __future__ import annotations
+
+import re
+from collections.abc import Callable, Sequence
+from functools import lru_cache
+from pathlib import Path
+
+from gdlsolve import calls
+from gdlsolve.calls import Misuse, Refusal, Reply
+from gdlsolve.terms import Malformed, trees
+
+# What gives the lines of the answer to a command over rules.
+Ask = Callable[[Sequence[str], bytes], list[str]]
+# Refusals of rules against which it may help to write them out.
+HELPED = ("G1", "G3", "G4")
+TOO_MANY = "N1"
+HEAD = re.compile(r"\((?:<= )?\(?([^\s()]+)")
+
+
+def words(tighten: bool = False) -> list[str]:
+    """The words that have rules written out."""
+    return ["unroll", "--tighten"] if tighten else ["unroll"]
+
+
+def is_helped(refused: Refusal) -> bool:
+    """Whether rules that are refused so may be taken once they are written out."""
+    return refused.code in HELPED
+
+
+def states_all(rules: bytes) -> bool:
+    """Whether items state `base`, and items state `input`."""
+    try:
+        heads = {found[1] for found in map(HEAD.match, trees(rules.decode("latin-1"))) if found}
+    except Malformed:
+        return True
+    return {"base", "input"} <= heads
+
+
+def written_out(rules: bytes, ask: Ask, tighten: bool = False) -> bytes:
+    """Rules written out."""
+    return "".join(f"{line}\n" for line in ask(words(tighten), rules)).encode()
+
+
+def _stated(rules: bytes, ask: Ask) -> bytes:
+    """The rules, where they are taken and state what play can come to, or else what is written out of them."""
+    refused = None
+    try:
+        ask(["check"], rules)
+    except Refusal as fault:
+        if not is_helped(fault):
+            raise
+        refused = fault
+    if refused is None and states_all(rules):
+        return rules
+    try:
+        return written_out(rules, ask)
+    except Misuse:
+        # There is no program that writes them out.
+        if refused is not None:
+            raise refused from None
+        return rules
+
+
+def playable(rules: bytes, ask: Ask) -> bytes:
+    """The rules, where they can be played as they stand, or else what is written out of them. Where they state more than may be, what play
+    can come to is stated alone."""
+    stated = _stated(rules, ask)
+    try:
+        ask(["moves"], stated)
+    except Refusal as fault:
+        if fault.code != TOO_MANY:
+            raise
+        try:
+            return written_out(rules, ask, tighten=True)
+        except (Misuse, Refusal):
+            raise fault from None
+    return stated
+
+
+@lru_cache(8)
+def _reply(answers: Path | tuple[str, ...], rules: bytes, tighten: bool) -> Reply:
+    """The reply of what answers."""
+    return calls.reply(words(tighten), rules)
+
+
+def reply(rules: bytes | str, tighten: bool = False) -> Reply:
+    """The reply that has rules written out. It is asked for once, also where many calls are over them."""
+    found = calls.answers()
+    text = rules.encode() if isinstance(rules, str) else bytes(rules)
+    return _reply(found if isinstance(found, Path) else tuple(found), text, tighten)
+
+
+def unroll(rules: bytes | str, *, tighten: bool = False) -> str:
+    """A game as it is found, written out as rules that every command takes. With `tighten` only what play can come to is stated."""
+    return "".join(f"{line}\n" for line in reply(rules, tighten).lines())
