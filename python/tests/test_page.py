@@ -402,7 +402,7 @@ class Places(unittest.TestCase):
     def test_each_fault_has_its_words(self) -> None:
         usage = (TOP / "docs/USAGE.md").read_text()
         codes = {line.split()[2] for line in usage.splitlines() if line.startswith("| `refused ")}
-        self.assertEqual(codes, set(places.CAUSES))
+        self.assertEqual(codes, {*places.CAUSES, *places.WHOLE_CAUSES})
 
 
 class Records(unittest.TestCase):

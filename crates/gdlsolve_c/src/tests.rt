@@ -112,7 +112,7 @@ fn worked_texts_are_told_in_any_room(rt: HostRuntime) -> Result<(), AllocError> 
 }
 
 /// Words that make no command, and what is said of them.
-const MISUSED: [(&[u8], &[u8]); 5] = [
+const MISUSED: [(&[u8], &[u8]); 6] = [
     (
         b"solve\0--role\0a\0--depth\x001\0--cut\x0017\0",
         b"bad cut\n",
@@ -125,7 +125,11 @@ const MISUSED: [(&[u8], &[u8]); 5] = [
     (b"--version\0", b"gdlsolve 0.1.0\n"),
     (
         b"check\0--help\0",
-        b"Name the first fault of the rules, or count what they have\n\nUsage: gdlsolve check\n\nOptions:\n  -h, --help  Print help\n",
+        b"Name the first fault of the rules, or count what they have\n\nUsage: gdlsolve check [OPTIONS]\n\nOptions:\n      --whole    Read a game as it is found, with recursion or without base and input, as unroll writes it out\n      --tighten  With --whole: state only the base propositions and inputs that play can come to\n  -h, --help     Print help\n",
+    ),
+    (
+        b"check\0--whole\0",
+        b"--whole is an option of the program alone\n",
     ),
 ];
 

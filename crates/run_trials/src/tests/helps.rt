@@ -48,10 +48,12 @@ Options:
 
 const CHECK: &str = "Name the first fault of the rules, or count what they have
 
-Usage: gdlsolve check
+Usage: gdlsolve check [OPTIONS]
 
 Options:
-  -h, --help  Print help
+      --whole    Read a game as it is found, with recursion or without base and input, as unroll writes it out
+      --tighten  With --whole: state only the base propositions and inputs that play can come to
+  -h, --help     Print help
 ";
 
 const LINT: &str =
@@ -76,10 +78,12 @@ Options:
 const NET: &str =
     "Count what the rules come to: propositions, inputs, instances, and nodes of their network
 
-Usage: gdlsolve net
+Usage: gdlsolve net [OPTIONS]
 
 Options:
-  -h, --help  Print help
+      --whole    Read a game as it is found, with recursion or without base and input, as unroll writes it out
+      --tighten  With --whole: state only the base propositions and inputs that play can come to
+  -h, --help     Print help
 ";
 
 const MOVES: &str =
@@ -89,6 +93,8 @@ Usage: gdlsolve moves [OPTIONS]
 
 Options:
       --after <TEXT>  The turns that were played, each a list of a move for each role
+      --whole         Read a game as it is found, with recursion or without base and input, as unroll writes it out
+      --tighten       With --whole: state only the base propositions and inputs that play can come to
   -h, --help          Print help
 
 Example:
@@ -101,6 +107,8 @@ Usage: gdlsolve state [OPTIONS]
 
 Options:
       --after <TEXT>  The turns that were played, each a list of a move for each role
+      --whole         Read a game as it is found, with recursion or without base and input, as unroll writes it out
+      --tighten       With --whole: state only the base propositions and inputs that play can come to
   -h, --help          Print help
 
 Example:
@@ -120,6 +128,8 @@ Options:
       --cut <LEVELS>         How many threads search, and those behind each of their moves, as 4 or 4x2 [default: 1]
       --table <MIB>          How much memory may keep what positions are worth, from 0 to 65536 [default: 64]
       --after <TEXT>         The turns that were played, each a list of a move for each role
+      --whole                Read a game as it is found, with recursion or without base and input, as unroll writes it out
+      --tighten              With --whole: state only the base propositions and inputs that play can come to
   -h, --help                 Print help
 
 Example:
@@ -141,15 +151,28 @@ Options:
       --cut <LEVELS>         How many threads search, and those behind each of their moves, as 4 or 4x2 [default: 1]
       --table <MIB>          How much memory may keep what positions are worth, from 0 to 65536 [default: 64]
       --after <TEXT>         The turns that were played, each a list of a move for each role
+      --whole                Read a game as it is found, with recursion or without base and input, as unroll writes it out
+      --tighten              With --whole: state only the base propositions and inputs that play can come to
   -h, --help                 Print help
 
 Example:
   gdlsolve solve --role oplayer --depth 8 --after \"((mark 1 1) noop)\" < game.kif
 ";
 
+const SERVE: &str =
+    "Answer many requests in one process, each by a frame with its status and size
+
+Usage: gdlsolve serve [OPTIONS]
+
+Options:
+      --whole    Read a game as it is found, with recursion or without base and input, as unroll writes it out
+      --tighten  With --whole: state only the base propositions and inputs that play can come to
+  -h, --help     Print help
+";
+
 #[test]
 fn help_is_an_answer(rt: HostRuntime) {
-    let rows: [Row; 14] = [
+    let rows: [Row; 15] = [
         (&["--help"], PROGRAM),
         (&["-h"], PROGRAM),
         (&["help"], PROGRAM),
@@ -163,6 +186,7 @@ fn help_is_an_answer(rt: HostRuntime) {
         (&["values", "--help"], VALUES),
         (&["solve", "--help"], SOLVE),
         (&["help", "solve"], SOLVE),
+        (&["serve", "--help"], SERVE),
         (&["--version"], "gdlsolve 0.1.0\n"),
     ];
     for (words, want) in rows {
