@@ -159,8 +159,7 @@ Example:
   gdlsolve solve --role oplayer --depth 8 --after \"((mark 1 1) noop)\" < game.kif
 ";
 
-const SERVE: &str =
-    "Answer many requests in one process, each by a frame with its status and size
+const SERVE: &str = "Answer many requests in one process, each by a frame with its status and size
 
 Usage: gdlsolve serve [OPTIONS]
 
