@@ -4,12 +4,11 @@ ghost use Rattle.statement.specs.Value.{value, choice_of};
 ghost use Rattle.maximin.specs.Company.{company_game};
 ghost use Rattle.helped.specs.Found.{IsFound};
 
-use crate::helper::{Aid, help};
+use crate::helper::{Aid, help_with};
 use cut::Cut;
 use game::{Game, Question};
 use maximin::{Company, Room};
 use std::alloc::Global;
-use std::sync::atomic::{AtomicU64, Ordering};
 use std::thread::{Threads, map_indices};
 use tasks::{Node, answer_in};
 
@@ -51,7 +50,7 @@ fn answer_over_tables<G: Game>(aid: &Aid<'_, G>) -> Option<(i16, u32)>
     Some(answer_in(node, &mut room))
 }
 
-/// The same, and then the word that says that it is done.
+/// The same, and then the word to the others that it is done.
 fn answer_and_tell<G: Game>(aid: &Aid<'_, G>) -> Option<(i16, u32)>
     requires fits { G.fits aid.now.node.now.game.now aid.now.node.now.from.now }
     requires company { company_game aid.now.company.now ≡ aid.now.node.now.game.now }
@@ -59,7 +58,7 @@ fn answer_and_tell<G: Game>(aid: &Aid<'_, G>) -> Option<(i16, u32)>
         (G.state aid.now.node.now.game.now aid.now.node.now.from.now) r.0 r.1) }
 {
     let found = answer_over_tables(aid);
-    aid.done.store(1, Ordering::Relaxed);
+    aid.company.end();
     found
 }
 
@@ -71,7 +70,7 @@ fn take_part<G: Game>(aid: &Aid<'_, G>, worker: usize) -> Option<(i16, u32)>
         (G.state aid.now.node.now.game.now aid.now.node.now.from.now) r.0 r.1) }
 {
     if worker > 0 {
-        help(aid, worker - 1);
+        help_with(aid, worker - 1);
         return None;
     }
     answer_and_tell(aid)
@@ -113,12 +112,10 @@ fn answer_with_help<R: Threads + Sync, G: Game>(
     ensures { IfSome result (λ r. IsFound (G.rules node.now.game.now) node.now.asked.role node.now.asked.depth node.now.asked.at
         (G.state node.now.game.now node.now.from.now) r.0 r.1) }
 {
-    let done = AtomicU64::new(0);
     let aid = Aid {
         alloc,
         node,
         company,
-        done: &done,
     };
     answer_by_parts(rt, &aid, others)
 }

@@ -3,6 +3,5 @@
 
 mod helped;
 mod helper;
-mod todo;
 
 pub use helped::{answer_helped, company_of};

@@ -8,11 +8,14 @@ use std::sync::atomic::{AtomicU64, Ordering};
 /// The bits of a mark that name a worker. The others are of the hash.
 const WORKER_BITS: u64 = 0xff;
 
-/// The states that workers are searching. A mark is lost where another state that is marked has the same place.
+/// The states that workers are searching, and whether what they find is still wanted. A mark is lost where another state that is marked
+/// has the same place.
 #[derive(Drop)]
 pub struct Marks {
     // A place is 0 where nothing is marked.
     pub(crate) places: Vec<AtomicU64>,
+    // Not 0 once nothing is wanted any more.
+    over: AtomicU64,
 }
 
 // The mark of a state with this hash, which this worker is searching.
@@ -30,7 +33,20 @@ impl Marks {
         for _ in 0..places {
             words.push(AtomicU64::new(0))?;
         }
-        Ok(Marks { places: words })
+        Ok(Marks {
+            places: words,
+            over: AtomicU64::new(0),
+        })
+    }
+
+    /// Says that nothing that is searched for is wanted any more.
+    pub fn end(&self) {
+        self.over.store(1, Ordering::Relaxed);
+    }
+
+    /// Whether that was said.
+    pub fn is_over(&self) -> bool {
+        self.over.load(Ordering::Relaxed) != 0
     }
 
     // The place of a state, if there are any places.

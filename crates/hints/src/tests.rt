@@ -76,6 +76,18 @@ fn a_mark_is_of_one_state(rt: HostRuntime) -> Result<(), Fail> {
     Ok(())
 }
 
+#[test]
+fn the_end_is_seen_by_the_others(rt: HostRuntime) -> Result<(), Fail> {
+    let marks = Marks::new(rt.alloc(), 16)?;
+    assert!(rt; !marks.is_over());
+    marks.mark(0x1234_5678_9abc_def0, 0);
+    assert!(rt; !marks.is_over());
+    let end = || marks.end();
+    join(&rt, end, || ());
+    assert!(rt; marks.is_over());
+    Ok(())
+}
+
 // What two workers tell each other. A note may be lost where both note the same move at once.
 fn notes_of_two<R: Threads + Sync>(rt: &R, history: &SharedHistory, marks: &Marks) {
     let left = move || {

@@ -37,4 +37,9 @@ impl<G: Game> Company<G> {
             marks,
         })
     }
+
+    /// Says that the search is over: what others search to help with it is not wanted any more.
+    pub fn end(&self) {
+        self.marks.end();
+    }
 }

@@ -13,17 +13,17 @@ ghost use Rattle.maximin.specs.Tools.{IsWindow};
 use crate::bounded::first_reaching;
 use crate::choosing::{best_move, choice_at};
 use crate::company::Company;
+use crate::ending::Dismissed;
 use crate::history::History;
 use crate::known::{KnownMove, choice_worth, reply_worth};
 use crate::level::{Level, new_level};
-use crate::memory::{new_memory, recall, shared_memory};
-use crate::search::{reply_at, value_within, worst_at};
-use crate::sight::{Sight, mark_state, unmark_state};
+use crate::memory::{new_memory, shared_memory};
+use crate::search::{GREATEST, LEAST, reply_at, try_known_at, value_within, worst_at};
+use crate::sight::Sight;
 use crate::tools::{Tools, new_tools};
 use crate::window::SearchWindow;
 use game::{AtBound, Game, Joint, Question};
 use std::alloc::{AllocError, Global};
-use table::hash_of;
 
 /// All the memory of a search: room to step many joint moves at once, what is remembered of moves, and for each turn that it looks
 /// ahead a run of joint moves, the states after them, and one state.
@@ -101,33 +101,6 @@ impl<G: Game> Room<G> {
         let tools = new_tools(g, history, memory, sight)?;
         Ok(Room { tools, levels })
     }
-
-    /// Marks the state that was looked up last as being searched, for the other workers of a company, if many turns are left of it.
-    pub fn mark(&self, asked: Question) -> Option<u64> {
-        mark_state(&self.tools.memory, &self.tools.sight, asked)
-    }
-
-    /// Takes a mark away.
-    pub fn unmark(&self, mark: Option<u64>) {
-        unmark_state(&self.tools.sight, mark);
-    }
-
-    /// Whether another worker is searching the state that was looked up last.
-    pub fn is_in_hand(&self) -> bool {
-        self.tools
-            .sight
-            .is_marked_by_another(hash_of(&self.tools.memory.key))
-    }
-
-    /// How many states were marked here so far. It tells how long searches take.
-    pub fn marked(&self) -> u64 {
-        self.tools.sight.marked()
-    }
-
-    /// How much the moves of a joint move cut off.
-    pub fn score(&self, joint: &Joint) -> u64 {
-        self.tools.history.score(joint)
-    }
 }
 
 /// The value of a state for a role, within a window. The value is what the role can be sure of within so many turns, whatever the
@@ -153,16 +126,19 @@ pub fn value_in<G: Game>(
     value_within(g, p, asked, window, &mut room.tools, levels)
 }
 
-/// At least and at most what a state is worth to a role, by what is kept of it.
-pub fn known_bounds<G: Game>(g: &G, p: &G::Pos, asked: Question, room: &mut Room<G>) -> (u8, u8)
+/// Searches a state to help a search of it by others, who find what is kept of it in the tables that they share. It ends early once
+/// their search is over. The answer is whether it came to its end.
+pub fn help<G: Game>(g: &G, p: &G::Pos, asked: Question, room: &mut Room<G>) -> bool
     requires fits { G.fits g.now p.now }
     requires room { IsRoomFor G.Game g.now asked.role asked.depth room.old }
-    ensures least { result.0 ≤ value (G.rules g.now) asked.role asked.depth asked.at (G.state g.now p.now) }
-    ensures most { value (G.rules g.now) asked.role asked.depth asked.at (G.state g.now p.now) ≤ result.1 }
     ensures room { IsRoomKept G.Game g.now room.old room.new }
 {
-    let known = recall(g, p, asked, &mut room.tools.memory);
-    (known.lo, known.hi)
+    let levels = room.levels.as_mut_slice();
+    let whole = SearchWindow {
+        low: LEAST,
+        high: GREATEST,
+    };
+    try_known_at::<G, Dismissed>(g, p, asked, whole, &mut room.tools, levels).is_ok()
 }
 
 /// The value of a state for a role, where there is a turn to come, and the place of the first legal move of the role, in printed

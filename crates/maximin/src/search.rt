@@ -1,5 +1,5 @@
 //! The search, level by level.
-ghost use Rattle.std.specs.Prelude.{◌≡◌, ◌+◌, ◌<◌, ◌≤◌, ◌<ℤ◌, pos, false, [], length, map, get_or, if◌then◌else◌};
+ghost use Rattle.std.specs.Prelude.{◌≡◌, ◌+◌, ◌<◌, ◌≤◌, ◌<ℤ◌, pos, false, [], length, map, get_or, if◌then◌else◌, IfOk};
 ghost use Rattle.statement.specs.AtBound.{bound_worth};
 ghost use Rattle.statement.specs.Rules.{is_stuck as stuck};
 ghost use Rattle.game.specs.Value.{Answers};
@@ -16,6 +16,7 @@ use crate::alone::{gather_own, is_alone};
 use crate::children::Children;
 use crate::cursor::{next_turn, start_turns, write_joint};
 use crate::end::{greatest_judged, judge_last, least_judged};
+use crate::ending::Ending;
 use crate::history::Movers;
 use crate::level::Level;
 use crate::memory::{keep, recall};
@@ -28,6 +29,7 @@ use crate::told::{greatest_told, least_told, told_worth};
 use crate::tools::Tools;
 use crate::window::SearchWindow;
 use game::{AtBound, Game, Joint, Question, is_stuck};
+use std::convert::Infallible;
 
 /// What a state that is not ended is worth where no turn is left.
 fn bound_at<G: Game>(game: &G, from: &G::Pos, role: usize, at: AtBound) -> i16
@@ -45,35 +47,35 @@ fn bound_at<G: Game>(game: &G, from: &G::Pos, role: usize, at: AtBound) -> i16
 
 /// The value of a state within a window.
 #[cycle(search)]
-fn value_at<G: Game>(
+fn value_at<G: Game, E: Ending>(
     game: &G,
     from: &G::Pos,
     asked: Question,
     window: SearchWindow,
     tools: &mut Tools<G>,
     levels: &mut [Level<G::Pos, G::Many>],
-) -> i16
+) -> Result<i16, E>
     requires fits { G.fits game.now from.now }
     requires fit { AreFit G.Game game.now asked.role asked.depth tools.old levels.old }
     requires window { IsWindow window.low window.high }
-    ensures answers { Answers (value (G.rules game.now) asked.role asked.depth asked.at (G.state game.now from.now)) window.low window.high result }
+    ensures answers { IfOk result (Answers (value (G.rules game.now) asked.role asked.depth asked.at (G.state game.now from.now)) window.low window.high) }
     ensures kept { AreKept G.Game game.now tools.old levels.old tools.new levels.new }
 {
     if game.ended(from) {
-        return i16::from(game.goal(from, asked.role));
+        return Ok(i16::from(game.goal(from, asked.role)));
     }
     if asked.depth == 0 {
-        return bound_at(game, from, asked.role, asked.at);
+        return Ok(bound_at(game, from, asked.role, asked.at));
     }
     if is_stuck(game, from) {
-        return 0;
+        return Ok(0);
     }
     let next = Question {
         depth: asked.depth - 1,
         ..asked
     };
     if is_alone(game, from, asked.role) {
-        return best_at(game, from, next, window, tools, levels);
+        return best_at::<G, E>(game, from, next, window, tools, levels);
     }
     let mut best = window.low;
     let mut place = 0;
@@ -82,18 +84,19 @@ fn value_at<G: Game>(
             low: best,
             ..window
         };
-        best = best.max(worst_at(game, from, next, own, above, tools, levels));
+        let worst = try_worst_at::<G, E>(game, from, next, own, above, tools, levels)?;
+        best = best.max(worst);
         if best >= window.high {
-            return best;
+            return Ok(best);
         }
         place += 1;
     }
-    best
+    Ok(best)
 }
 
 /// The least value of a state that can follow where the role plays `own`, within a window.
 #[cycle(search)]
-pub fn worst_at<G: Game>(
+fn try_worst_at<G: Game, E: Ending>(
     game: &G,
     from: &G::Pos,
     asked: Question,
@@ -101,13 +104,13 @@ pub fn worst_at<G: Game>(
     window: SearchWindow,
     tools: &mut Tools<G>,
     levels: &mut [Level<G::Pos, G::Many>],
-) -> i16
+) -> Result<i16, E>
     requires fits { G.fits game.now from.now }
     requires fit { AreFit G.Game game.now asked.role (asked.depth + 1) tools.old levels.old }
     requires own { own < (G.rules game.now).moves asked.role }
     requires open { stuck (G.rules game.now) (G.state game.now from.now) ≡ false }
     requires window { IsWindow window.low window.high }
-    ensures answers { Answers (worst (G.rules game.now) asked.role asked.depth asked.at (G.state game.now from.now) own) window.low window.high result }
+    ensures answers { IfOk result (Answers (worst (G.rules game.now) asked.role asked.depth asked.at (G.state game.now from.now) own) window.low window.high) }
     ensures kept { AreKept G.Game game.now tools.old levels.old tools.new levels.new }
 {
     let (first, rest) = levels.split_at_mut(1);
@@ -121,10 +124,10 @@ pub fn worst_at<G: Game>(
             high: upper,
             ..window
         };
-        let least = least_after(game, from, asked, below, tools, level, rest);
+        let least = least_after::<G, E>(game, from, asked, below, tools, level, rest)?;
         upper = upper.min(least);
         if upper <= window.low || !more {
-            return upper;
+            return Ok(upper);
         }
         most = LONGEST_RUN.min(most * 8);
     }
@@ -132,7 +135,7 @@ pub fn worst_at<G: Game>(
 
 /// The least value of the states after the joint moves of a level's run, within a window.
 #[cycle(search)]
-fn least_after<G: Game>(
+fn least_after<G: Game, E: Ending>(
     game: &G,
     from: &G::Pos,
     asked: Question,
@@ -140,23 +143,23 @@ fn least_after<G: Game>(
     tools: &mut Tools<G>,
     level: &mut Level<G::Pos, G::Many>,
     levels: &mut [Level<G::Pos, G::Many>],
-) -> i16
+) -> Result<i16, E>
     requires fits { G.fits game.now from.now }
     requires fit { AreFit G.Game game.now asked.role asked.depth tools.old levels.old }
     requires level { IsFilled G.Game game.now level.old }
     requires window { IsWindow window.low window.high }
-    ensures answers { Answers (least (map (λ j. value (G.rules game.now) asked.role asked.depth asked.at
-        ((G.rules game.now).after (G.state game.now from.now) j)) (turns_in level.old.moves.run))) window.low window.high result }
+    ensures answers { IfOk result (Answers (least (map (λ j. value (G.rules game.now) asked.role asked.depth asked.at
+        ((G.rules game.now).after (G.state game.now from.now) j)) (turns_in level.old.moves.run))) window.low window.high) }
     ensures kept { AreKept G.Game game.now tools.old levels.old tools.new levels.new }
     ensures level { IsLevelKept G.Game game.now level.old level.new }
 {
     let count = level.moves.run.count;
     let joints = &level.moves.run.joints[..count];
     if judge_last(game, from, joints, asked, &mut tools.wide) {
-        return least_judged(game, &tools.wide, count, asked, window);
+        return Ok(least_judged(game, &tools.wide, count, asked, window));
     }
     game.steps(from, joints, &mut tools.wide, &mut level.children.many);
-    least_at(
+    least_at::<G, E>(
         game,
         joints,
         asked,
@@ -169,7 +172,7 @@ fn least_after<G: Game>(
 
 /// The value of one of the states after a run, within a window.
 #[cycle(search)]
-pub fn child_at<G: Game>(
+fn try_child_at<G: Game, E: Ending>(
     game: &G,
     place: usize,
     asked: Question,
@@ -177,62 +180,63 @@ pub fn child_at<G: Game>(
     tools: &mut Tools<G>,
     children: &mut Children<G::Pos, G::Many>,
     levels: &mut [Level<G::Pos, G::Many>],
-) -> i16
+) -> Result<i16, E>
     requires place { place < length (G.states game.now children.old.many) }
     requires fit { AreFit G.Game game.now asked.role asked.depth tools.old levels.old }
     requires children { AreLookedAt G.Game game.now asked children.old }
     requires window { IsWindow window.low window.high }
-    ensures answers { Answers (value (G.rules game.now) asked.role asked.depth asked.at (get_or (G.states game.now children.old.many) place []))
-        window.low window.high result }
+    ensures answers { IfOk result (Answers (value (G.rules game.now) asked.role asked.depth asked.at (get_or (G.states game.now children.old.many) place []))
+        window.low window.high) }
     ensures kept { AreKept G.Game game.now tools.old levels.old tools.new levels.new }
     ensures children { AreLookedAt G.Game game.now asked children.new }
     ensures same { AreSameStates G.Game game.now children.old children.new }
 {
     if let Some(worth) = told_worth(game, &children.many, place, asked) {
-        return worth;
+        return Ok(worth);
     }
     look_ahead(game, place, asked, tools, children, levels);
     let known = bounds_of(&children.ahead, place);
     let left = narrowed(known, window);
     if left.low >= left.high {
-        return settled(known, left.high);
+        return Ok(settled(known, left.high));
     }
     game.take(&children.many, place, &mut children.position);
-    known_at(game, &children.position, asked, left, tools, levels)
+    try_known_at::<G, E>(game, &children.position, asked, left, tools, levels)
 }
 
 /// The value of a state within a window, by what is kept of it, or else by a search in what that leaves of the window.
 #[cycle(search)]
-pub fn known_at<G: Game>(
+pub fn try_known_at<G: Game, E: Ending>(
     game: &G,
     from: &G::Pos,
     asked: Question,
     window: SearchWindow,
     tools: &mut Tools<G>,
     levels: &mut [Level<G::Pos, G::Many>],
-) -> i16
+) -> Result<i16, E>
     requires fits { G.fits game.now from.now }
     requires fit { AreFit G.Game game.now asked.role asked.depth tools.old levels.old }
     requires window { IsWindow window.low window.high }
-    ensures answers { Answers (value (G.rules game.now) asked.role asked.depth asked.at (G.state game.now from.now)) window.low window.high result }
+    ensures answers { IfOk result (Answers (value (G.rules game.now) asked.role asked.depth asked.at (G.state game.now from.now)) window.low window.high) }
     ensures kept { AreKept G.Game game.now tools.old levels.old tools.new levels.new }
 {
+    E::check(&tools.sight)?;
     let known = recall(game, from, asked, &mut tools.memory);
     let left = narrowed(known, window);
     if left.low >= left.high {
-        return settled(known, left.high);
+        return Ok(settled(known, left.high));
     }
     let mark = mark_state(&tools.memory, &tools.sight, asked);
-    let answer = value_at(game, from, asked, left, tools, levels);
+    let answer = value_at::<G, E>(game, from, asked, left, tools, levels)?;
     unmark_state(&tools.sight, mark);
     let found = bounds_by(window, answer);
     keep(game, from, asked, found, &mut tools.memory);
-    answer
+    Ok(answer)
 }
 
 /// The least value of the states after a run, within a window.
 #[cycle(search)]
-fn least_at<G: Game>(
+fn least_at<G: Game, E: Ending>(
     game: &G,
     joints: &[Joint],
     asked: Question,
@@ -240,26 +244,26 @@ fn least_at<G: Game>(
     tools: &mut Tools<G>,
     children: &mut Children<G::Pos, G::Many>,
     levels: &mut [Level<G::Pos, G::Many>],
-) -> i16
+) -> Result<i16, E>
     requires joints { AreJointsTo (G.states game.now children.old.many) joints.now }
     requires fit { AreFit G.Game game.now asked.role asked.depth tools.old levels.old }
     requires children { AreChildrenOf G.Game game.now children.old }
     requires window { IsWindow window.low window.high }
-    ensures answers { Answers (least (map (value (G.rules game.now) asked.role asked.depth asked.at) (G.states game.now children.old.many)))
-        window.low window.high result }
+    ensures answers { IfOk result (Answers (least (map (value (G.rules game.now) asked.role asked.depth asked.at) (G.states game.now children.old.many)))
+        window.low window.high) }
     ensures kept { AreKept G.Game game.now tools.old levels.old tools.new levels.new }
     ensures same { AreSameStates G.Game game.now children.old children.new }
 {
     let count = joints.len();
     let mut upper = least_told(game, &children.many, count, asked, window.high);
     if upper <= window.low {
-        return upper;
+        return Ok(upper);
     }
     children.ahead = new_ahead(count);
     look_back(game, asked, tools, children);
     upper = least_bound(&children.ahead, upper);
     if upper <= window.low {
-        return upper;
+        return Ok(upper);
     }
     let mut order = order_of(&tools.history, joints, asked.depth);
     for place in 0..count {
@@ -276,33 +280,34 @@ fn least_at<G: Game>(
             high: upper,
             ..window
         };
-        upper = upper.min(child_at(game, child, asked, below, tools, children, levels));
+        let worth = try_child_at::<G, E>(game, child, asked, below, tools, children, levels)?;
+        upper = upper.min(worth);
         if upper <= window.low {
             let movers = Movers::Others(asked.role);
             tools.history.note_cut(&joints[child], movers, asked.depth);
-            return upper;
+            return Ok(upper);
         }
     }
-    upper
+    Ok(upper)
 }
 
 /// The greatest value of a state that can follow, within a window, where no other role has a choice.
 #[cycle(search)]
-fn best_at<G: Game>(
+fn best_at<G: Game, E: Ending>(
     game: &G,
     from: &G::Pos,
     asked: Question,
     window: SearchWindow,
     tools: &mut Tools<G>,
     levels: &mut [Level<G::Pos, G::Many>],
-) -> i16
+) -> Result<i16, E>
     requires fits { G.fits game.now from.now }
     requires fit { AreFit G.Game game.now asked.role (asked.depth + 1) tools.old levels.old }
     requires open { stuck (G.rules game.now) (G.state game.now from.now) ≡ false }
     requires alone { IsAlone (G.rules game.now) (G.state game.now from.now) asked.role }
     requires window { IsWindow window.low window.high }
-    ensures answers { Answers (greatest (map (worst (G.rules game.now) asked.role asked.depth asked.at (G.state game.now from.now))
-        ((G.rules game.now).legal (G.state game.now from.now) asked.role))) window.low window.high result }
+    ensures answers { IfOk result (Answers (greatest (map (worst (G.rules game.now) asked.role asked.depth asked.at (G.state game.now from.now))
+        ((G.rules game.now).legal (G.state game.now from.now) asked.role))) window.low window.high) }
     ensures kept { AreKept G.Game game.now tools.old levels.old tools.new levels.new }
 {
     let (first, rest) = levels.split_at_mut(1);
@@ -323,16 +328,16 @@ fn best_at<G: Game>(
         );
         let count = level.moves.run.count;
         if count == 0 {
-            return best;
+            return Ok(best);
         }
         let above = SearchWindow {
             low: best,
             ..window
         };
-        let greatest = greatest_after(game, from, asked, above, tools, level, rest);
+        let greatest = greatest_after::<G, E>(game, from, asked, above, tools, level, rest)?;
         best = best.max(greatest);
         if best >= window.high {
-            return best;
+            return Ok(best);
         }
         place += count;
         most = LONGEST_RUN.min(8 * most);
@@ -341,7 +346,7 @@ fn best_at<G: Game>(
 
 /// The greatest value of the states after the joint moves of a level's run, within a window.
 #[cycle(search)]
-fn greatest_after<G: Game>(
+fn greatest_after<G: Game, E: Ending>(
     game: &G,
     from: &G::Pos,
     asked: Question,
@@ -349,23 +354,23 @@ fn greatest_after<G: Game>(
     tools: &mut Tools<G>,
     level: &mut Level<G::Pos, G::Many>,
     levels: &mut [Level<G::Pos, G::Many>],
-) -> i16
+) -> Result<i16, E>
     requires fits { G.fits game.now from.now }
     requires fit { AreFit G.Game game.now asked.role asked.depth tools.old levels.old }
     requires level { IsFilled G.Game game.now level.old }
     requires window { IsWindow window.low window.high }
-    ensures answers { Answers (greatest (map (λ j. value (G.rules game.now) asked.role asked.depth asked.at
-        ((G.rules game.now).after (G.state game.now from.now) j)) (turns_in level.old.moves.run))) window.low window.high result }
+    ensures answers { IfOk result (Answers (greatest (map (λ j. value (G.rules game.now) asked.role asked.depth asked.at
+        ((G.rules game.now).after (G.state game.now from.now) j)) (turns_in level.old.moves.run))) window.low window.high) }
     ensures kept { AreKept G.Game game.now tools.old levels.old tools.new levels.new }
     ensures level { IsLevelKept G.Game game.now level.old level.new }
 {
     let count = level.moves.run.count;
     let joints = &level.moves.run.joints[..count];
     if judge_last(game, from, joints, asked, &mut tools.wide) {
-        return greatest_judged(game, &tools.wide, count, asked, window);
+        return Ok(greatest_judged(game, &tools.wide, count, asked, window));
     }
     game.steps(from, joints, &mut tools.wide, &mut level.children.many);
-    greatest_at(
+    greatest_at::<G, E>(
         game,
         joints,
         asked,
@@ -378,7 +383,7 @@ fn greatest_after<G: Game>(
 
 /// The greatest value of the states after a run, within a window.
 #[cycle(search)]
-fn greatest_at<G: Game>(
+fn greatest_at<G: Game, E: Ending>(
     game: &G,
     joints: &[Joint],
     asked: Question,
@@ -386,26 +391,26 @@ fn greatest_at<G: Game>(
     tools: &mut Tools<G>,
     children: &mut Children<G::Pos, G::Many>,
     levels: &mut [Level<G::Pos, G::Many>],
-) -> i16
+) -> Result<i16, E>
     requires joints { AreJointsTo (G.states game.now children.old.many) joints.now }
     requires fit { AreFit G.Game game.now asked.role asked.depth tools.old levels.old }
     requires children { AreChildrenOf G.Game game.now children.old }
     requires window { IsWindow window.low window.high }
-    ensures answers { Answers (greatest (map (value (G.rules game.now) asked.role asked.depth asked.at) (G.states game.now children.old.many)))
-        window.low window.high result }
+    ensures answers { IfOk result (Answers (greatest (map (value (G.rules game.now) asked.role asked.depth asked.at) (G.states game.now children.old.many)))
+        window.low window.high) }
     ensures kept { AreKept G.Game game.now tools.old levels.old tools.new levels.new }
     ensures same { AreSameStates G.Game game.now children.old children.new }
 {
     let count = joints.len();
     let mut lower = greatest_told(game, &children.many, count, asked, window.low);
     if lower >= window.high {
-        return lower;
+        return Ok(lower);
     }
     children.ahead = new_ahead(count);
     look_back(game, asked, tools, children);
     lower = greatest_bound(&children.ahead, lower);
     if lower >= window.high {
-        return lower;
+        return Ok(lower);
     }
     let mut order = order_of(&tools.history, joints, asked.depth);
     for place in 0..count {
@@ -422,14 +427,81 @@ fn greatest_at<G: Game>(
             low: lower,
             ..window
         };
-        lower = lower.max(child_at(game, child, asked, above, tools, children, levels));
+        let worth = try_child_at::<G, E>(game, child, asked, above, tools, children, levels)?;
+        lower = lower.max(worth);
         if lower >= window.high {
             let movers = Movers::Role(asked.role);
             tools.history.note_cut(&joints[child], movers, asked.depth);
-            return lower;
+            return Ok(lower);
         }
     }
-    lower
+    Ok(lower)
+}
+
+/// The least value of a state that can follow where the role plays `own`, within a window.
+pub fn worst_at<G: Game>(
+    game: &G,
+    from: &G::Pos,
+    asked: Question,
+    own: u32,
+    window: SearchWindow,
+    tools: &mut Tools<G>,
+    levels: &mut [Level<G::Pos, G::Many>],
+) -> i16
+    requires fits { G.fits game.now from.now }
+    requires fit { AreFit G.Game game.now asked.role (asked.depth + 1) tools.old levels.old }
+    requires own { own < (G.rules game.now).moves asked.role }
+    requires open { stuck (G.rules game.now) (G.state game.now from.now) ≡ false }
+    requires window { IsWindow window.low window.high }
+    ensures answers { Answers (worst (G.rules game.now) asked.role asked.depth asked.at (G.state game.now from.now) own) window.low window.high result }
+    ensures kept { AreKept G.Game game.now tools.old levels.old tools.new levels.new }
+{
+    let Ok(worst) = try_worst_at::<G, Infallible>(game, from, asked, own, window, tools, levels);
+    worst
+}
+
+/// The value of one of the states after a run, within a window.
+pub fn child_at<G: Game>(
+    game: &G,
+    place: usize,
+    asked: Question,
+    window: SearchWindow,
+    tools: &mut Tools<G>,
+    children: &mut Children<G::Pos, G::Many>,
+    levels: &mut [Level<G::Pos, G::Many>],
+) -> i16
+    requires place { place < length (G.states game.now children.old.many) }
+    requires fit { AreFit G.Game game.now asked.role asked.depth tools.old levels.old }
+    requires children { AreLookedAt G.Game game.now asked children.old }
+    requires window { IsWindow window.low window.high }
+    ensures answers { Answers (value (G.rules game.now) asked.role asked.depth asked.at (get_or (G.states game.now children.old.many) place []))
+        window.low window.high result }
+    ensures kept { AreKept G.Game game.now tools.old levels.old tools.new levels.new }
+    ensures children { AreLookedAt G.Game game.now asked children.new }
+    ensures same { AreSameStates G.Game game.now children.old children.new }
+{
+    let Ok(worth) =
+        try_child_at::<G, Infallible>(game, place, asked, window, tools, children, levels);
+    worth
+}
+
+/// The value of a state within a window, by what is kept of it, or else by a search in what that leaves of the window.
+fn known_at<G: Game>(
+    game: &G,
+    from: &G::Pos,
+    asked: Question,
+    window: SearchWindow,
+    tools: &mut Tools<G>,
+    levels: &mut [Level<G::Pos, G::Many>],
+) -> i16
+    requires fits { G.fits game.now from.now }
+    requires fit { AreFit G.Game game.now asked.role asked.depth tools.old levels.old }
+    requires window { IsWindow window.low window.high }
+    ensures answers { Answers (value (G.rules game.now) asked.role asked.depth asked.at (G.state game.now from.now)) window.low window.high result }
+    ensures kept { AreKept G.Game game.now tools.old levels.old tools.new levels.new }
+{
+    let Ok(worth) = try_known_at::<G, Infallible>(game, from, asked, window, tools, levels);
+    worth
 }
 
 /// The least and the greatest value of a state, as goal values are.

@@ -5,7 +5,6 @@ use game::{Game, Question};
 use hints::Marks;
 use std::alloc::AllocError;
 use std::sync::Arc;
-use std::sync::atomic::{AtomicU64, Ordering};
 use table::hash_of;
 
 /// States with fewer turns left are not marked: they are searched too soon.
@@ -16,8 +15,6 @@ const FEWEST_MARKED: u32 = 4;
 pub struct Sight {
     marks: Option<Arc<Marks>>,
     worker: u8,
-    /// How many states this worker marked.
-    marked: AtomicU64,
 }
 
 impl Sight {
@@ -26,7 +23,6 @@ impl Sight {
         Sight {
             marks: None,
             worker: 0,
-            marked: AtomicU64::new(0),
         }
     }
 
@@ -35,7 +31,6 @@ impl Sight {
         Ok(Sight {
             marks: Some(Arc::try_clone(marks)?),
             worker,
-            marked: AtomicU64::new(0),
         })
     }
 
@@ -44,18 +39,19 @@ impl Sight {
         self.marks.is_some()
     }
 
+    /// Whether the others have what this search is to help with, or need it no more.
+    pub fn is_over(&self) -> bool {
+        match &self.marks {
+            Some(marks) => marks.is_over(),
+            None => false,
+        }
+    }
+
     /// Marks a state, by its hash, while it is searched.
     pub fn mark(&self, hash: u64) {
         if let Some(marks) = &self.marks {
             marks.mark(hash, self.worker);
-            let marked = self.marked.load(Ordering::Relaxed);
-            self.marked.store(marked.wrapping_add(1), Ordering::Relaxed);
         }
-    }
-
-    /// How many states were marked here.
-    pub fn marked(&self) -> u64 {
-        self.marked.load(Ordering::Relaxed)
     }
 
     /// Takes the mark away, if it is still there.

@@ -29,6 +29,7 @@ use Rattle.std.specs.List.{range_with_len}
 use Rattle.std.specs.List.Sorted.{IsPermutation}
 use Rattle.std.proofs.lemmas.Int.{ints, clamps, to_z-of_z}
 use Rattle.std.proofs.lemmas.List.{length-map}
+use Rattle.std.proofs.lemmas.Result.{IfOk-weaker}
 use mir.Val.{SFits, of_z, to_z}
 use Rattle.std.specs.Prelude.{ℤ, pos, ◌≤ℤ◌, map}
 use Rattle.std.specs.Int.{int_min, int_max}
@@ -80,10 +81,10 @@ use Rattle.maximin.proofs.Runs.{
 }
 use Rattle.game.proofs.Facts.{legal_known, legal_place, legal_count, none_past}
 use Rattle.maximin.proofs.search.+search.Goals as goal
-use Rattle.maximin.proofs.search.+search.Goals.{worst_at-then-upper-window-via-then-upper-window, worst_at-then-upper-window-via-else-upper-window+then-not-more}
+use Rattle.maximin.proofs.search.+search.Goals.{try_worst_at-then-upper-window-via-then-upper-window, try_worst_at-then-upper-window-via-else-upper-window+then-not-more}
 
-pub value_at-worst_at-requires-clause-own : goal.value_at-worst_at-requires-clause-own
-value_at-worst_at-requires-clause-own g t c κs within =
+pub value_at-try_worst_at-requires-clause-own : goal.value_at-try_worst_at-requires-clause-own
+value_at-try_worst_at-requires-clause-own g t c κs within =
     let rules = g.G.Game.rules c.args.game.now in
     let state = g.G.Game.state c.args.game.now c.args.from.now in
     let legal = rules.legal state c.args.asked.role in
@@ -106,7 +107,7 @@ value_at-returns-then-best-window-clause-answers g t c =
     let ea : to_z w16 (of_z w16 a) ≡ a = to_z-of_z w16 a (search facts) in
     let b = c.args.window.high in
     let eb : to_z w16 (of_z w16 b) ≡ b = to_z-of_z w16 b (search facts) in
-    let r = c.worst_at.result in
+    let r = c.in_ok-worst.worst in
     let best = to_z w16 c.loop-own.best-bits in
     let fits_r : SFits w16 r = search facts in
     let fits_m : SFits w16 c.max-best.result = search facts in
@@ -116,7 +117,7 @@ value_at-returns-then-best-window-clause-answers g t c =
     raised_most (value rules c.args.asked.role c.args.asked.depth c.args.asked.at state)
     (worst rules c.args.asked.role (c.args.asked.depth - 1) c.args.asked.at state c.in-Some.own) a b best r
     (rw here.1 at (worst_le_value rules c.args.asked.role c.args.asked.depth c.args.asked.at state c.loop-own.place free here.0))
-    c.loop-own.invariant.at_most (rw eb at c.worst_at.ensures.answers) in
+    c.loop-own.invariant.at_most (rw eb at c.in_ok-worst.ensures.answers) in
     let cut : b ≤ℤ int_max best r = rw (raised, eb) at (le_z_true (to_z w16 (of_z w16 b)) (to_z w16 (of_z w16 c.max-best.result)) c.if-best-window.true) in
     rw raised (cut_above (value rules c.args.asked.role c.args.asked.depth c.args.asked.at state) a b (int_max best r) cut most)
 
@@ -156,7 +157,7 @@ value_at-loop-own-preserved g t c =
     let ea : to_z w16 (of_z w16 a) ≡ a = to_z-of_z w16 a (search facts) in
     let b = c.args.window.high in
     let eb : to_z w16 (of_z w16 b) ≡ b = to_z-of_z w16 b (search facts) in
-    let r = c.worst_at.result in
+    let r = c.in_ok-worst.worst in
     let best = to_z w16 c.loop-own.best-bits in
     let fits_r : SFits w16 r = search facts in
     let fits_m : SFits w16 c.max-best.result = search facts in
@@ -166,9 +167,9 @@ value_at-loop-own-preserved g t c =
     raised_most (value rules c.args.asked.role c.args.asked.depth c.args.asked.at state)
     (worst rules c.args.asked.role (c.args.asked.depth - 1) c.args.asked.at state c.in-Some.own) a b best r
     (rw here.1 at (worst_le_value rules c.args.asked.role c.args.asked.depth c.args.asked.at state c.loop-own.place free here.0))
-    c.loop-own.invariant.at_most (rw eb at c.worst_at.ensures.answers) in
+    c.loop-own.invariant.at_most (rw eb at c.in_ok-worst.ensures.answers) in
     record {
-      kept = kept_then c.loop-own.invariant.kept c.worst_at.ensures.kept;
+      kept = kept_then c.loop-own.invariant.kept c.try_worst_at.ensures.kept;
       deep = omega arith;
       in_list = omega (arith, here.0);
       above = rw raised (raised_above a best r c.loop-own.invariant.above);
@@ -178,7 +179,7 @@ value_at-loop-own-preserved g t c =
           (λ k lt. rw raised (raised_seen (worst rules c.args.asked.role (c.args.asked.depth - 1) c.args.asked.at state (get_or legal k 0)) b best r
           (c.loop-own.invariant.seen k lt)))
           (rw (raised, here.1) (raised_now (worst rules c.args.asked.role (c.args.asked.depth - 1) c.args.asked.at state c.in-Some.own) b best r
-          (rw eb at c.worst_at.ensures.answers)));
+          (rw eb at c.in_ok-worst.ensures.answers)));
     }
 
 pub value_at-returns-clause-answers : goal.value_at-returns-clause-answers
@@ -238,19 +239,19 @@ least_at-loop-place-preserved g t c =
     let b = c.args.window.high in
     let eb : to_z w16 (of_z w16 b) ≡ b = to_z-of_z w16 b (search facts) in
     let same : c.loop-place.children.many ≡ c.args.children.now.many = c.loop-place.invariant.same.many in
-    let r = c.child_at.result in
+    let r = c.in_ok-worth.worth in
     let upper = to_z w16 c.loop-place.upper-bits in
     let fits_r : SFits w16 r = search facts in
     let fits_m : SFits w16 c.min-upper.result = search facts in
     let lowered : to_z w16 (of_z w16 c.min-upper.result) ≡ int_min upper r =
     to_z-of_z w16 c.min-upper.result fits_m ∙ c.min-upper.ensures.value ∙ ap (λ z. int_min upper z) (to_z-of_z w16 r fits_r) in
-    let answers : Answers here a upper r = rw (same, ea) at c.child_at.ensures.answers in
+    let answers : Answers here a upper r = rw (same, ea) at c.in_ok-worth.ensures.answers in
     let part : all ≤ here = least_worth_below worth states child (omega (arith, c.requires.joints.count)) in
     record {
-      kept = kept_then c.loop-place.invariant.kept c.child_at.ensures.kept;
+      kept = kept_then c.loop-place.invariant.kept c.try_child_at.ensures.kept;
       deep = omega arith;
-      known = c.child_at.ensures.children;
-      same = same_states_then c.loop-place.invariant.same c.child_at.ensures.same;
+      known = c.try_child_at.ensures.children;
+      same = same_states_then c.loop-place.invariant.same c.try_child_at.ensures.same;
       size = c.put_off.ensures.size ∙ c.loop-place.invariant.size;
       order = ordered;
       above = rw ea at (le_z_false (to_z w16 (of_z w16 c.min-upper.result)) (to_z w16 (of_z w16 a)) c.if-upper-window-3.false);
@@ -295,13 +296,13 @@ least_at-returns-then-upper-window-3-clause-answers g t c =
     let b = c.args.window.high in
     let eb : to_z w16 (of_z w16 b) ≡ b = to_z-of_z w16 b (search facts) in
     let same : c.loop-place.children.many ≡ c.args.children.now.many = c.loop-place.invariant.same.many in
-    let r = c.child_at.result in
+    let r = c.in_ok-worth.worth in
     let upper = to_z w16 c.loop-place.upper-bits in
     let fits_r : SFits w16 r = search facts in
     let fits_m : SFits w16 c.min-upper.result = search facts in
     let lowered : to_z w16 (of_z w16 c.min-upper.result) ≡ int_min upper r =
     to_z-of_z w16 c.min-upper.result fits_m ∙ c.min-upper.ensures.value ∙ ap (λ z. int_min upper z) (to_z-of_z w16 r fits_r) in
-    let answers : Answers here a upper r = rw (same, ea) at c.child_at.ensures.answers in
+    let answers : Answers here a upper r = rw (same, ea) at c.in_ok-worth.ensures.answers in
     let part : all ≤ here = least_worth_below worth states child (omega (arith, c.requires.joints.count)) in
     let low : int_min (pos all) b ≤ℤ int_min upper r = lowered_least all here a b upper r part c.loop-place.invariant.at_least
     c.loop-place.invariant.below answers in
@@ -325,8 +326,8 @@ least_at-returns-clause-answers g t c =
       at_most = rw bottom.2 at (each bottom.0 (omega (arith, bottom.1, c.requires.joints.count)));
     }
 
-pub worst_at-runs-init : goal.worst_at-runs-init
-worst_at-runs-init g t c =
+pub try_worst_at-runs-init : goal.try_worst_at-runs-init
+try_worst_at-runs-init g t c =
     let rules = g.G.Game.rules c.args.game.now in
     let state = g.G.Game.state c.args.game.now c.args.from.now in
     let lists = choices rules state c.args.asked.role c.args.own in
@@ -364,8 +365,8 @@ worst_at-runs-init g t c =
       at_most = subst (λ (z : ℤ). int_min z (pos left) ≤ℤ int_max (pos all) a) (sym eb) (start_most all left a b same);
     }
 
-pub worst_at-least_after-least-requires-clause-level : goal.worst_at-least_after-least-requires-clause-level
-worst_at-least_after-least-requires-clause-level g t c κs within =
+pub try_worst_at-least_after-requires-clause-level : goal.try_worst_at-least_after-requires-clause-level
+try_worst_at-least_after-requires-clause-level g t c κs within =
     let taken = c.gather-more.ensures.taken in
     record {
       level = record { moves = taken.moves; children = c.runs.invariant.level.children };
@@ -373,8 +374,8 @@ worst_at-least_after-least-requires-clause-level g t c κs within =
       known = taken.known;
     }
 
-pub worst_at-returns-then-upper-window-clause-answers : goal.worst_at-returns-then-upper-window-clause-answers
-worst_at-returns-then-upper-window-clause-answers g t c =
+pub try_worst_at-returns-then-upper-window-clause-answers : goal.try_worst_at-returns-then-upper-window-clause-answers
+try_worst_at-returns-then-upper-window-clause-answers g t c =
     let rules = g.G.Game.rules c.args.game.now in
     let state = g.G.Game.state c.args.game.now c.args.from.now in
     let lists = choices rules state c.args.asked.role c.args.own in
@@ -388,13 +389,13 @@ worst_at-returns-then-upper-window-clause-answers g t c =
     let ea : to_z w16 (of_z w16 a) ≡ a = to_z-of_z w16 a (search facts) in
     let b = c.args.window.high in
     let eb : to_z w16 (of_z w16 b) ≡ b = to_z-of_z w16 b (search facts) in
-    let r = c.least_after-least.result in
+    let r = c.in_ok-least.least in
     let upper = to_z w16 c.runs.upper-bits in
     let fits_r : SFits w16 r = search facts in
     let fits_m : SFits w16 c.min-upper.result = search facts in
     let lowered : to_z w16 (of_z w16 c.min-upper.result) ≡ int_min upper r =
     to_z-of_z w16 c.min-upper.result fits_m ∙ c.min-upper.ensures.value ∙ ap (λ z. int_min upper z) (to_z-of_z w16 r fits_r) in
-    let answers : Answers here a upper r = rw ea at c.least_after-least.ensures.answers in
+    let answers : Answers here a upper r = rw ea at c.in_ok-least.ensures.answers in
     let some : 0 < length (turns_in run) = some_taken run.joints.items run.count c.gather-more.ensures.taken.some
     (omega (arith, c.gather-more.ensures.taken.moves.run.size)) in
     let part : all ≤ here =
@@ -407,16 +408,16 @@ worst_at-returns-then-upper-window-clause-answers g t c =
     let low : int_min (pos all) b ≤ℤ int_min upper r = lowered_least all here a b upper r part c.runs.invariant.at_least c.runs.invariant.below
     answers in
     rw lowered (elim c.then-upper-window.branch [
-      | worst_at-then-upper-window-via-then-upper-window w ↦ cut_below all a b (int_min upper r) (rw (lowered, ea) at (le_z_true (to_z w16 (of_z w16 c.min-upper.result)) (to_z w16 (of_z w16 a)) w.if-upper-window.true)) low
-      | worst_at-then-upper-window-via-else-upper-window+then-not-more w ↦
+      | try_worst_at-then-upper-window-via-then-upper-window w ↦ cut_below all a b (int_min upper r) (rw (lowered, ea) at (le_z_true (to_z w16 (of_z w16 c.min-upper.result)) (to_z w16 (of_z w16 a)) w.if-upper-window.true)) low
+      | try_worst_at-then-upper-window-via-else-upper-window+then-not-more w ↦
           let end : int_min upper (pos here) ≤ℤ int_max (pos all) a =
           subst (λ (turns : List Turn). int_min upper (pos (least (map worth turns))) ≤ℤ int_max (pos all) a) w.if-not-more.ensures.left.all
           c.runs.invariant.at_most in
           record { at_least = low; at_most = lowered_end all here a upper r end answers }
     ])
 
-pub worst_at-returns-then-upper-window-clause-kept : goal.worst_at-returns-then-upper-window-clause-kept
-worst_at-returns-then-upper-window-clause-kept g t c =
+pub try_worst_at-returns-then-upper-window-clause-kept : goal.try_worst_at-returns-then-upper-window-clause-kept
+try_worst_at-returns-then-upper-window-clause-kept g t c =
     let split = c.split_at_mut-first.ensures in
     let old = get_or c.split_at_mut-first.result.0.now 0 c.index-first-0.result in
     let now = c.runs.level in
@@ -424,32 +425,32 @@ worst_at-returns-then-upper-window-clause-kept g t c =
     c.runs.invariant.capacities
     ∙ level_kept g.G.Game c.args.game.now old record { cursor = c.start_turns.new.cursor; run = old.moves.run } old.children
     (moves_kept old.moves c.start_turns.new.cursor old.moves.run c.start_turns.ensures.capacities refl) refl in
-    let turned : level_capacities g.G.Game c.args.game.now c.least_after-least.new.level ≡ level_capacities g.G.Game c.args.game.now now =
-    c.least_after-least.ensures.level.capacities
+    let turned : level_capacities g.G.Game c.args.game.now c.least_after.new.level ≡ level_capacities g.G.Game c.args.game.now now =
+    c.least_after.ensures.level.capacities
     ∙ level_kept g.G.Game c.args.game.now now c.gather-more.new.moves now.children c.gather-more.ensures.taken.capacities refl in
     let kept =
     all_levels_kept c.args.levels.now c.split_at_mut-first.result.0.now c.split_at_mut-first.result.1.now
-    c.least_after-least.new.levels c.least_after-least.new.level c.index-first-0.result split.value split.front_len c.least_after-least.ensures.level.level
-    (turned ∙ begun) (kept_then c.runs.invariant.kept c.least_after-least.ensures.kept) in
+    c.least_after.new.levels c.least_after.new.level c.index-first-0.result split.value split.front_len c.least_after.ensures.level.level
+    (turned ∙ begun) (kept_then c.runs.invariant.kept c.least_after.ensures.kept) in
     elim c.then-upper-window.branch [
-      | worst_at-then-upper-window-via-then-upper-window w ↦ rw w.levels-is kept
-      | worst_at-then-upper-window-via-else-upper-window+then-not-more w ↦ rw w.levels-is kept
+      | try_worst_at-then-upper-window-via-then-upper-window w ↦ rw w.levels-is kept
+      | try_worst_at-then-upper-window-via-else-upper-window+then-not-more w ↦ rw w.levels-is kept
     ]
 
-pub worst_at-runs-smaller : goal.worst_at-runs-smaller
-worst_at-runs-smaller g t c =
+pub try_worst_at-runs-smaller : goal.try_worst_at-runs-smaller
+try_worst_at-runs-smaller g t c =
     let rules = g.G.Game.rules c.args.game.now in
     let state = g.G.Game.state c.args.game.now c.args.from.now in
     let lists = choices rules state c.args.asked.role c.args.own in
     let run = c.gather-more.new.moves.run in
     let some : 0 < length (turns_in run) = some_taken run.joints.items run.count c.gather-more.ensures.taken.some
     (omega (arith, c.gather-more.ensures.taken.moves.run.size)) in
-    rw c.least_after-least.ensures.level.moves (fewer_behind c.runs.level.moves.cursor.joint.items c.gather-more.new.moves.cursor.joint.items (later lists
+    rw c.least_after.ensures.level.moves (fewer_behind c.runs.level.moves.cursor.joint.items c.gather-more.new.moves.cursor.joint.items (later lists
     c.runs.level.moves.cursor.places.items) (turns_in run)
     (later lists c.gather-more.new.moves.cursor.places.items) c.if-not-more.ensures.left.more some)
 
-pub worst_at-runs-preserved : goal.worst_at-runs-preserved
-worst_at-runs-preserved g t c =
+pub try_worst_at-runs-preserved : goal.try_worst_at-runs-preserved
+try_worst_at-runs-preserved g t c =
     let rules = g.G.Game.rules c.args.game.now in
     let state = g.G.Game.state c.args.game.now c.args.from.now in
     let lists = choices rules state c.args.asked.role c.args.own in
@@ -464,13 +465,13 @@ worst_at-runs-preserved g t c =
     let ea : to_z w16 (of_z w16 a) ≡ a = to_z-of_z w16 a (search facts) in
     let b = c.args.window.high in
     let eb : to_z w16 (of_z w16 b) ≡ b = to_z-of_z w16 b (search facts) in
-    let r = c.least_after-least.result in
+    let r = c.in_ok-least.least in
     let upper = to_z w16 c.runs.upper-bits in
     let fits_r : SFits w16 r = search facts in
     let fits_m : SFits w16 c.min-upper.result = search facts in
     let lowered : to_z w16 (of_z w16 c.min-upper.result) ≡ int_min upper r =
     to_z-of_z w16 c.min-upper.result fits_m ∙ c.min-upper.ensures.value ∙ ap (λ z. int_min upper z) (to_z-of_z w16 r fits_r) in
-    let answers : Answers here a upper r = rw ea at c.least_after-least.ensures.answers in
+    let answers : Answers here a upper r = rw ea at c.in_ok-least.ensures.answers in
     let some : 0 < length (turns_in run) = some_taken run.joints.items run.count c.gather-more.ensures.taken.some
     (omega (arith, c.gather-more.ensures.taken.moves.run.size)) in
     let next : least (map worth before) ≡ min here left =
@@ -481,20 +482,20 @@ worst_at-runs-preserved g t c =
     answers in
     let now = c.runs.level in
     record {
-      level = c.least_after-least.ensures.level.level;
-      capacities = c.least_after-least.ensures.level.capacities
+      level = c.least_after.ensures.level.level;
+      capacities = c.least_after.ensures.level.capacities
           ∙ level_kept g.G.Game c.args.game.now now c.gather-more.new.moves now.children c.gather-more.ensures.taken.capacities refl
           ∙ c.runs.invariant.capacities;
-      kept = kept_then c.runs.invariant.kept c.least_after-least.ensures.kept;
+      kept = kept_then c.runs.invariant.kept c.least_after.ensures.kept;
       deep = omega arith;
       some = omega (arith, c.min-most.ensures, c.runs.invariant.some);
       few = omega (arith, c.min-most.ensures);
-      stands = rw c.least_after-least.ensures.level.moves c.if-not-more.ensures.left.stands;
+      stands = rw c.least_after.ensures.level.moves c.if-not-more.ensures.left.stands;
       above = rw ea at (le_z_false (to_z w16 (of_z w16 c.min-upper.result)) (to_z w16 (of_z w16 a)) c.if-upper-window.false);
       below = rw lowered (lowered_below b upper r c.runs.invariant.below);
       at_least = rw lowered low;
-      part = rw c.least_after-least.ensures.level.moves (omega (arith, next, c.runs.invariant.part));
-      at_most = rw (lowered, c.least_after-least.ensures.level.moves) (lowered_most all here left a upper r (rw next at c.runs.invariant.at_most) answers);
+      part = rw c.least_after.ensures.level.moves (omega (arith, next, c.runs.invariant.part));
+      at_most = rw (lowered, c.least_after.ensures.level.moves) (lowered_most all here left a upper r (rw next at c.runs.invariant.at_most) answers);
     }
 
 pub greatest_at-loop-place-preserved : goal.greatest_at-loop-place-preserved
@@ -515,19 +516,19 @@ greatest_at-loop-place-preserved g t c =
     let b = c.args.window.high in
     let eb : to_z w16 (of_z w16 b) ≡ b = to_z-of_z w16 b (search facts) in
     let same : c.loop-place.children.many ≡ c.args.children.now.many = c.loop-place.invariant.same.many in
-    let r = c.child_at.result in
+    let r = c.in_ok-worth.worth in
     let lower = to_z w16 c.loop-place.lower-bits in
     let fits_r : SFits w16 r = search facts in
     let fits_m : SFits w16 c.max-lower.result = search facts in
     let raised : to_z w16 (of_z w16 c.max-lower.result) ≡ int_max lower r =
     to_z-of_z w16 c.max-lower.result fits_m ∙ c.max-lower.ensures.value ∙ ap (λ z. int_max lower z) (to_z-of_z w16 r fits_r) in
-    let answers : Answers here lower b r = rw (same, eb) at c.child_at.ensures.answers in
+    let answers : Answers here lower b r = rw (same, eb) at c.in_ok-worth.ensures.answers in
     let part : here ≤ all = greatest_worth_above worth states child (omega (arith, c.requires.joints.count)) in
     record {
-      kept = kept_then c.loop-place.invariant.kept c.child_at.ensures.kept;
+      kept = kept_then c.loop-place.invariant.kept c.try_child_at.ensures.kept;
       deep = omega arith;
-      known = c.child_at.ensures.children;
-      same = same_states_then c.loop-place.invariant.same c.child_at.ensures.same;
+      known = c.try_child_at.ensures.children;
+      same = same_states_then c.loop-place.invariant.same c.try_child_at.ensures.same;
       size = c.put_off.ensures.size ∙ c.loop-place.invariant.size;
       order = ordered;
       above = rw raised (raised_above a lower r c.loop-place.invariant.above);
@@ -572,13 +573,13 @@ greatest_at-returns-then-lower-window-3-clause-answers g t c =
     let b = c.args.window.high in
     let eb : to_z w16 (of_z w16 b) ≡ b = to_z-of_z w16 b (search facts) in
     let same : c.loop-place.children.many ≡ c.args.children.now.many = c.loop-place.invariant.same.many in
-    let r = c.child_at.result in
+    let r = c.in_ok-worth.worth in
     let lower = to_z w16 c.loop-place.lower-bits in
     let fits_r : SFits w16 r = search facts in
     let fits_m : SFits w16 c.max-lower.result = search facts in
     let raised : to_z w16 (of_z w16 c.max-lower.result) ≡ int_max lower r =
     to_z-of_z w16 c.max-lower.result fits_m ∙ c.max-lower.ensures.value ∙ ap (λ z. int_max lower z) (to_z-of_z w16 r fits_r) in
-    let answers : Answers here lower b r = rw (same, eb) at c.child_at.ensures.answers in
+    let answers : Answers here lower b r = rw (same, eb) at c.in_ok-worth.ensures.answers in
     let part : here ≤ all = greatest_worth_above worth states child (omega (arith, c.requires.joints.count)) in
     let most : int_max lower r ≤ℤ int_max (pos all) a = raised_most all here a b lower r part c.loop-place.invariant.at_most answers in
     rw raised (cut_above all a b (int_max lower r) (rw (raised, eb) at (le_z_true (to_z w16 (of_z w16 b)) (to_z w16 (of_z w16 c.max-lower.result)) c.if-lower-window-3.true)) most)
@@ -610,9 +611,7 @@ value_at-returns-then-is_alone-clause-answers g t c =
       going = sym c.ended.ensures ∙ c.if-ended.false;
       free = sym c.is_stuck.ensures ∙ c.if-is_stuck.false;
     } in
-    let fits : SFits w16 c.best_at.result = search facts in
-    rw (to_z-of_z w16 c.best_at.result fits, value_open rules c.args.asked.role c.args.asked.depth c.args.asked.at state free)
-    c.best_at.ensures.answers
+    rw (value_open rules c.args.asked.role c.args.asked.depth c.args.asked.at state free) c.best_at.ensures.answers
 
 pub best_at-runs-init : goal.best_at-runs-init
 best_at-runs-init g t c =
@@ -654,8 +653,8 @@ best_at-gather_own-requires-clause-joint g t c κs within =
     turn_known rules state c.args.asked.role 0 c.runs.level.moves.cursor.places.items c.runs.level.moves.cursor.joint.items c.runs.invariant.stands (omega arith)
     (λ q below. law.legal_within c.args.game.now state q below)
 
-pub best_at-greatest_after-greatest-requires-clause-level : goal.best_at-greatest_after-greatest-requires-clause-level
-best_at-greatest_after-greatest-requires-clause-level g t c κs within =
+pub best_at-greatest_after-requires-clause-level : goal.best_at-greatest_after-requires-clause-level
+best_at-greatest_after-requires-clause-level g t c κs within =
     let kept = c.runs.invariant.level in
     let taken = c.gather_own.ensures.own in
     let some = c.if-count-eq0.false in
@@ -720,7 +719,7 @@ best_at-returns-then-best-window-clause-answers g t c =
     let b = c.args.window.high in
     let eb : to_z w16 (of_z w16 b) ≡ b = to_z-of_z w16 b (search facts) in
     let best = to_z w16 c.runs.best-bits in
-    let r = c.greatest_after-greatest.result in
+    let r = c.in_ok-greatest.greatest in
     let fits_r : SFits w16 r = search facts in
     let fits_m : SFits w16 c.max-best.result = search facts in
     let raised : to_z w16 (of_z w16 c.max-best.result) ≡ int_max best r =
@@ -732,7 +731,7 @@ best_at-returns-then-best-window-clause-answers g t c =
     ∙ own_worths (λ t. value_of (rules.after state t)) (λ m. set joint c.args.asked.role m) own_worth each (take run.count (drop c.runs.place legal))
     ∙ map_part own_worth c.runs.place run.count legal in
     let answers : Answers (greatest (take run.count (drop c.runs.place worths))) best b r = subst (λ (ws : List ℕ). Answers (greatest ws) best b r)
-    found (rw eb at c.greatest_after-greatest.ensures.answers) in
+    found (rw eb at c.in_ok-greatest.ensures.answers) in
     let size : length worths ≡ length legal = length-map legal own_worth in
     let some = c.if-count-eq0.false in
     let most = run_most worths c.runs.place run.count a b best r (omega arith) (omega (arith, c.gather_own.ensures.own.within)) c.runs.invariant.at_most
@@ -748,13 +747,13 @@ best_at-returns-then-best-window-clause-kept g t c =
     c.runs.invariant.capacities
     ∙ level_kept g.G.Game c.args.game.now old record { cursor = c.start_turns.new.cursor; run = old.moves.run } old.children
     (moves_kept old.moves c.start_turns.new.cursor old.moves.run c.start_turns.ensures.capacities refl) refl in
-    let turned : level_capacities g.G.Game c.args.game.now c.greatest_after-greatest.new.level ≡ level_capacities g.G.Game c.args.game.now now =
-    c.greatest_after-greatest.ensures.level.capacities
+    let turned : level_capacities g.G.Game c.args.game.now c.greatest_after.new.level ≡ level_capacities g.G.Game c.args.game.now now =
+    c.greatest_after.ensures.level.capacities
     ∙ level_kept g.G.Game c.args.game.now now record { cursor = now.moves.cursor; run = c.gather_own.new.run } now.children
     (moves_kept now.moves now.moves.cursor c.gather_own.new.run refl c.gather_own.ensures.capacities) refl in
     all_levels_kept c.args.levels.now c.split_at_mut-first.result.0.now c.split_at_mut-first.result.1.now
-    c.greatest_after-greatest.new.levels c.greatest_after-greatest.new.level c.index-first-0.result split.value split.front_len c.greatest_after-greatest.ensures.level.level
-    (turned ∙ begun) (kept_then c.runs.invariant.kept c.greatest_after-greatest.ensures.kept)
+    c.greatest_after.new.levels c.greatest_after.new.level c.index-first-0.result split.value split.front_len c.greatest_after.ensures.level.level
+    (turned ∙ begun) (kept_then c.runs.invariant.kept c.greatest_after.ensures.kept)
 
 pub best_at-runs-preserved : goal.best_at-runs-preserved
 best_at-runs-preserved g t c =
@@ -771,7 +770,7 @@ best_at-runs-preserved g t c =
     let b = c.args.window.high in
     let eb : to_z w16 (of_z w16 b) ≡ b = to_z-of_z w16 b (search facts) in
     let best = to_z w16 c.runs.best-bits in
-    let r = c.greatest_after-greatest.result in
+    let r = c.in_ok-greatest.greatest in
     let fits_r : SFits w16 r = search facts in
     let fits_m : SFits w16 c.max-best.result = search facts in
     let raised : to_z w16 (of_z w16 c.max-best.result) ≡ int_max best r =
@@ -783,22 +782,22 @@ best_at-runs-preserved g t c =
     ∙ own_worths (λ t. value_of (rules.after state t)) (λ m. set joint c.args.asked.role m) own_worth each (take run.count (drop c.runs.place legal))
     ∙ map_part own_worth c.runs.place run.count legal in
     let answers : Answers (greatest (take run.count (drop c.runs.place worths))) best b r = subst (λ (ws : List ℕ). Answers (greatest ws) best b r)
-    found (rw eb at c.greatest_after-greatest.ensures.answers) in
+    found (rw eb at c.in_ok-greatest.ensures.answers) in
     let size : length worths ≡ length legal = length-map legal own_worth in
     let some = c.if-count-eq0.false in
     let inside : c.runs.place + run.count ≤ length worths = omega (arith, c.gather_own.ensures.own.within) in
     let now = c.runs.level in
     record {
-      level = c.greatest_after-greatest.ensures.level.level;
-      capacities = c.greatest_after-greatest.ensures.level.capacities
+      level = c.greatest_after.ensures.level.level;
+      capacities = c.greatest_after.ensures.level.capacities
           ∙ level_kept g.G.Game c.args.game.now now record { cursor = now.moves.cursor; run = c.gather_own.new.run } now.children
           (moves_kept now.moves now.moves.cursor c.gather_own.new.run refl c.gather_own.ensures.capacities) refl
           ∙ c.runs.invariant.capacities;
-      kept = kept_then c.runs.invariant.kept c.greatest_after-greatest.ensures.kept;
+      kept = kept_then c.runs.invariant.kept c.greatest_after.ensures.kept;
       deep = omega arith;
       some = omega (arith, c.min-most.ensures, c.runs.invariant.some);
       few = omega (arith, c.min-most.ensures);
-      stands = rw c.greatest_after-greatest.ensures.level.moves c.runs.invariant.stands;
+      stands = rw c.greatest_after.ensures.level.moves c.runs.invariant.stands;
       in_list = omega (arith, c.gather_own.ensures.own.within);
       above = rw raised (raised_above a best r c.runs.invariant.above);
       below = rw eb at (le_z_false (to_z w16 (of_z w16 b)) (to_z w16 (of_z w16 c.max-best.result)) c.if-best-window.false);
@@ -857,14 +856,12 @@ least_after-returns-clause-answers g t c =
     let ea : to_z w16 (of_z w16 a) ≡ a = to_z-of_z w16 a (search facts) in
     let b = c.args.window.high in
     let eb : to_z w16 (of_z w16 b) ≡ b = to_z-of_z w16 b (search facts) in
-    let r = c.least_at.result in
-    let fits_r : SFits w16 r = search facts in
     let worths : map value_of (g.G.Game.states c.args.game.now c.steps.new.out) ≡ map worth (turns_in run) =
     ap (map value_of) (c.steps.ensures.after
     ∙ ap (λ (js : List (SmallVec ℕ)). map (λ (j : SmallVec ℕ). rules.after state j.items) (take run.count js)) c.deref.ensures.value)
     ∙ worths_after value_of (rules.after state) (take run.count run.joints.items) in
-    rw (to_z-of_z w16 r fits_r)
-    (subst (λ (ws : List ℕ). Answers (least ws) c.args.window.low c.args.window.high r) worths c.least_at.ensures.answers)
+    IfOk-weaker c.least_at.result _ _ (λ r h. subst (λ (ws : List ℕ). Answers (least ws) c.args.window.low c.args.window.high r) worths h)
+    c.least_at.ensures.answers
 
 pub greatest_after-judge_last-requires-clause-joints : goal.greatest_after-judge_last-requires-clause-joints
 greatest_after-judge_last-requires-clause-joints g t c κs within =
@@ -907,17 +904,15 @@ greatest_after-returns-clause-answers g t c =
     let ea : to_z w16 (of_z w16 a) ≡ a = to_z-of_z w16 a (search facts) in
     let b = c.args.window.high in
     let eb : to_z w16 (of_z w16 b) ≡ b = to_z-of_z w16 b (search facts) in
-    let r = c.greatest_at.result in
-    let fits_r : SFits w16 r = search facts in
     let worths : map value_of (g.G.Game.states c.args.game.now c.steps.new.out) ≡ map worth (turns_in run) =
     ap (map value_of) (c.steps.ensures.after
     ∙ ap (λ (js : List (SmallVec ℕ)). map (λ (j : SmallVec ℕ). rules.after state j.items) (take run.count js)) c.deref.ensures.value)
     ∙ worths_after value_of (rules.after state) (take run.count run.joints.items) in
-    rw (to_z-of_z w16 r fits_r)
-    (subst (λ (ws : List ℕ). Answers (greatest ws) c.args.window.low c.args.window.high r) worths c.greatest_at.ensures.answers)
+    IfOk-weaker c.greatest_at.result _ _ (λ r h. subst (λ (ws : List ℕ). Answers (greatest ws) c.args.window.low c.args.window.high r) worths h)
+    c.greatest_at.ensures.answers
 
-pub least_at-child_at-requires-clause-place : goal.least_at-child_at-requires-clause-place
-least_at-child_at-requires-clause-place g t c κs within =
+pub least_at-try_child_at-requires-clause-place : goal.least_at-try_child_at-requires-clause-place
+least_at-try_child_at-requires-clause-place g t c κs within =
     let inside = place_within (length c.args.joints.now) c.put_off.new.order c.loop-place.place 0
     (IsPermutation-trans (range_with_len 0 (length c.args.joints.now)) (take (length c.args.joints.now) c.loop-place.order)
     (take (length c.args.joints.now) c.put_off.new.order) c.loop-place.invariant.order c.put_off.ensures.order)
@@ -940,8 +935,8 @@ least_at-offset_bounds-joints-child g t c =
     (omega (arith, c.loop-place-test.true)) in
     omega (arith, c.requires.joints.few)
 
-pub greatest_at-child_at-requires-clause-place : goal.greatest_at-child_at-requires-clause-place
-greatest_at-child_at-requires-clause-place g t c κs within =
+pub greatest_at-try_child_at-requires-clause-place : goal.greatest_at-try_child_at-requires-clause-place
+greatest_at-try_child_at-requires-clause-place g t c κs within =
     let inside = place_within (length c.args.joints.now) c.put_off.new.order c.loop-place.place 0
     (IsPermutation-trans (range_with_len 0 (length c.args.joints.now)) (take (length c.args.joints.now) c.loop-place.order)
     (take (length c.args.joints.now) c.put_off.new.order) c.loop-place.invariant.order c.put_off.ensures.order)
@@ -1142,16 +1137,16 @@ greatest_at-look_back-requires-clause-children g t c κs within =
           (λ s. value_at_most rules c.args.asked.role (λ q r. law.goal_within c.args.game.now q r) c.args.asked.depth c.args.asked.at s);
     }
 
-pub child_at-returns-in-Some-clause-answers : goal.child_at-returns-in-Some-clause-answers
-child_at-returns-in-Some-clause-answers g t c =
+pub try_child_at-returns-in-Some-clause-answers : goal.try_child_at-returns-in-Some-clause-answers
+try_child_at-returns-in-Some-clause-answers g t c =
     let worth = value (g.G.Game.rules c.args.game.now) c.args.asked.role c.args.asked.depth c.args.asked.at
     (get_or (g.G.Game.states c.args.game.now c.args.children.now.many) c.args.place []) in
     let r = c.in-Some.worth in
     let fits_r : SFits w16 r = search facts in
     exact worth c.args.window.low c.args.window.high (to_z w16 (of_z w16 r)) (to_z-of_z w16 r fits_r ∙ c.in-Some.ensures)
 
-pub child_at-returns-then-left-clause-answers : goal.child_at-returns-then-left-clause-answers
-child_at-returns-then-left-clause-answers g t c =
+pub try_child_at-returns-then-left-clause-answers : goal.try_child_at-returns-then-left-clause-answers
+try_child_at-returns-then-left-clause-answers g t c =
     let states = g.G.Game.states c.args.game.now c.args.children.now.many in
     let worth = value (g.G.Game.rules c.args.game.now) c.args.asked.role c.args.asked.depth c.args.asked.at (get_or states c.args.place []) in
     let same : c.look_ahead.new.children.many ≡ c.args.children.now.many = c.look_ahead.ensures.same.many in
@@ -1169,8 +1164,8 @@ child_at-returns-then-left-clause-answers g t c =
     c.narrowed-left.ensures.low c.narrowed-left.ensures.high
     (rw (eh, el) at (le_z_true (to_z w16 (of_z w16 high)) (to_z w16 (of_z w16 low)) c.if-left.true)) (rw eh at c.settled.ensures))
 
-pub child_at-known_at-requires-clause-window : goal.child_at-known_at-requires-clause-window
-child_at-known_at-requires-clause-window g t c κs within =
+pub try_child_at-try_known_at-requires-clause-window : goal.try_child_at-try_known_at-requires-clause-window
+try_child_at-try_known_at-requires-clause-window g t c κs within =
     let low = c.narrowed-left.result.low in
     let high = c.narrowed-left.result.high in
     let el : to_z w16 (of_z w16 low) ≡ low = to_z-of_z w16 low (search facts) in
@@ -1178,8 +1173,8 @@ child_at-known_at-requires-clause-window g t c κs within =
     narrow_window c.bounds_of-known.result c.args.window.low c.args.window.high low high c.requires.window c.narrowed-left.ensures.low
     c.narrowed-left.ensures.high (rw (eh, el) at (le_z_false (to_z w16 (of_z w16 high)) (to_z w16 (of_z w16 low)) c.if-left.false))
 
-pub child_at-returns-clause-answers : goal.child_at-returns-clause-answers
-child_at-returns-clause-answers g t c =
+pub try_child_at-returns-clause-answers : goal.try_child_at-returns-clause-answers
+try_child_at-returns-clause-answers g t c =
     let states = g.G.Game.states c.args.game.now c.args.children.now.many in
     let worth = value (g.G.Game.rules c.args.game.now) c.args.asked.role c.args.asked.depth c.args.asked.at (get_or states c.args.place []) in
     let same : c.look_ahead.new.children.many ≡ c.args.children.now.many = c.look_ahead.ensures.same.many in
@@ -1190,17 +1185,15 @@ child_at-returns-clause-answers g t c =
     let high = c.narrowed-left.result.high in
     let taken : g.G.Game.state c.args.game.now c.take.new.q ≡ get_or states c.args.place [] = c.take.ensures.taken
     ∙ ap (λ m. get_or (g.G.Game.states c.args.game.now m) c.args.place []) same in
-    let r = c.known_at.result in
-    let fits_r : SFits w16 r = search facts in
-    rw (to_z-of_z w16 r fits_r)
-    (narrow_answers worth known c.args.window.low c.args.window.high low high r inside c.narrowed-left.ensures.low c.narrowed-left.ensures.high
-    (rw taken at c.known_at.ensures.answers))
+    IfOk-weaker c.try_known_at.result _ _
+    (λ r h. narrow_answers worth known c.args.window.low c.args.window.high low high r inside c.narrowed-left.ensures.low c.narrowed-left.ensures.high h)
+    (rw taken at c.try_known_at.ensures.answers)
 
-pub child_at-returns-clause-kept : goal.child_at-returns-clause-kept
-child_at-returns-clause-kept g t c = kept_then c.look_ahead.ensures.kept c.known_at.ensures.kept
+pub try_child_at-returns-clause-kept : goal.try_child_at-returns-clause-kept
+try_child_at-returns-clause-kept g t c = kept_then c.look_ahead.ensures.kept c.try_known_at.ensures.kept
 
-pub known_at-returns-then-left-clause-answers : goal.known_at-returns-then-left-clause-answers
-known_at-returns-then-left-clause-answers g t c =
+pub try_known_at-returns-then-left-clause-answers : goal.try_known_at-returns-then-left-clause-answers
+try_known_at-returns-then-left-clause-answers g t c =
     let worth = value (g.G.Game.rules c.args.game.now) c.args.asked.role c.args.asked.depth c.args.asked.at (g.G.Game.state c.args.game.now c.args.from.now) in
     let low = c.narrowed-left.result.low in
     let high = c.narrowed-left.result.high in
@@ -1213,8 +1206,8 @@ known_at-returns-then-left-clause-answers g t c =
     c.narrowed-left.ensures.low c.narrowed-left.ensures.high
     (rw (eh, el) at (le_z_true (to_z w16 (of_z w16 high)) (to_z w16 (of_z w16 low)) c.if-left.true)) (rw eh at c.settled.ensures))
 
-pub known_at-value_at-answer-requires-clause-window : goal.known_at-value_at-answer-requires-clause-window
-known_at-value_at-answer-requires-clause-window g t c κs within =
+pub try_known_at-value_at-requires-clause-window : goal.try_known_at-value_at-requires-clause-window
+try_known_at-value_at-requires-clause-window g t c κs within =
     let low = c.narrowed-left.result.low in
     let high = c.narrowed-left.result.high in
     let el : to_z w16 (of_z w16 low) ≡ low = to_z-of_z w16 low (search facts) in
@@ -1222,34 +1215,34 @@ known_at-value_at-answer-requires-clause-window g t c κs within =
     narrow_window c.recall-known.result c.args.window.low c.args.window.high low high c.requires.window c.narrowed-left.ensures.low
     c.narrowed-left.ensures.high (rw (eh, el) at (le_z_false (to_z w16 (of_z w16 high)) (to_z w16 (of_z w16 low)) c.if-left.false))
 
-pub known_at-keep-requires-clause-found : goal.known_at-keep-requires-clause-found
-known_at-keep-requires-clause-found g t c κs within =
+pub try_known_at-keep-requires-clause-found : goal.try_known_at-keep-requires-clause-found
+try_known_at-keep-requires-clause-found g t c κs within =
     let worth = value (g.G.Game.rules c.args.game.now) c.args.asked.role c.args.asked.depth c.args.asked.at (g.G.Game.state c.args.game.now c.args.from.now) in
     let low = c.narrowed-left.result.low in
     let high = c.narrowed-left.result.high in
     let law = g.met.G.Game g.world.𝓛 g.world.𝓜 g.world.𝓡 ((λ _ x. x), (λ x. x), (λ x. x), λ x. x) in
     let few = value_at_most (g.G.Game.rules c.args.game.now) c.args.asked.role (λ s r. law.goal_within c.args.game.now s r) c.args.asked.depth c.args.asked.at
     (g.G.Game.state c.args.game.now c.args.from.now) in
-    let r = c.value_at-answer.result in
+    let r = c.in_ok-answer.answer in
     let fits_r : SFits w16 r = search facts in
     c.bounds_by-found.ensures worth few (rw (to_z-of_z w16 r fits_r)
     (narrow_answers worth c.recall-known.result c.args.window.low c.args.window.high low high r c.recall-known.ensures.within c.narrowed-left.ensures.low
-    c.narrowed-left.ensures.high c.value_at-answer.ensures.answers))
+    c.narrowed-left.ensures.high c.in_ok-answer.ensures.answers))
 
-pub known_at-returns-clause-answers : goal.known_at-returns-clause-answers
-known_at-returns-clause-answers g t c =
+pub try_known_at-returns-clause-answers : goal.try_known_at-returns-clause-answers
+try_known_at-returns-clause-answers g t c =
     let worth = value (g.G.Game.rules c.args.game.now) c.args.asked.role c.args.asked.depth c.args.asked.at (g.G.Game.state c.args.game.now c.args.from.now) in
     let low = c.narrowed-left.result.low in
     let high = c.narrowed-left.result.high in
-    let r = c.value_at-answer.result in
+    let r = c.in_ok-answer.answer in
     let fits_r : SFits w16 r = search facts in
     rw (to_z-of_z w16 r fits_r)
     (narrow_answers worth c.recall-known.result c.args.window.low c.args.window.high low high r c.recall-known.ensures.within c.narrowed-left.ensures.low
-    c.narrowed-left.ensures.high c.value_at-answer.ensures.answers)
+    c.narrowed-left.ensures.high c.in_ok-answer.ensures.answers)
 
-pub known_at-returns-clause-kept : goal.known_at-returns-clause-kept
-known_at-returns-clause-kept g t c = memory_kept c.args.tools.now c.value_at-answer.new.tools c.recall-known.new.memory c.keep.new.memory c.args.levels.now
-    c.value_at-answer.new.levels c.recall-known.ensures.capacities c.keep.ensures.capacities c.keep.ensures.memory c.value_at-answer.ensures.kept
+pub try_known_at-returns-clause-kept : goal.try_known_at-returns-clause-kept
+try_known_at-returns-clause-kept g t c = memory_kept c.args.tools.now c.value_at.new.tools c.recall-known.new.memory c.keep.new.memory c.args.levels.now
+    c.value_at.new.levels c.recall-known.ensures.capacities c.keep.ensures.capacities c.keep.ensures.memory c.value_at.ensures.kept
 
 pub value_at-returns-then-asked-eq0-clause-answers : goal.value_at-returns-then-asked-eq0-clause-answers
 value_at-returns-then-asked-eq0-clause-answers g t c =
@@ -1277,13 +1270,13 @@ value_at-loop-own-init g t c =
     }
 
 pub value_at-returns-then-best-window-clause-kept : goal.value_at-returns-then-best-window-clause-kept
-value_at-returns-then-best-window-clause-kept g t c = kept_then c.loop-own.invariant.kept c.worst_at.ensures.kept
+value_at-returns-then-best-window-clause-kept g t c = kept_then c.loop-own.invariant.kept c.try_worst_at.ensures.kept
 
 pub least_at-returns-then-upper-window-3-clause-kept : goal.least_at-returns-then-upper-window-3-clause-kept
-least_at-returns-then-upper-window-3-clause-kept g t c = kept_then c.loop-place.invariant.kept c.child_at.ensures.kept
+least_at-returns-then-upper-window-3-clause-kept g t c = kept_then c.loop-place.invariant.kept c.try_child_at.ensures.kept
 
-pub least_at-child_at-requires-clause-window : goal.least_at-child_at-requires-clause-window
-least_at-child_at-requires-clause-window g t c κs within =
+pub least_at-try_child_at-requires-clause-window : goal.least_at-try_child_at-requires-clause-window
+least_at-try_child_at-requires-clause-window g t c κs within =
     let a = c.args.window.low in
     let ea : to_z w16 (of_z w16 a) ≡ a = to_z-of_z w16 a (search facts) in
     let top = c.requires.window.high in
@@ -1291,10 +1284,10 @@ least_at-child_at-requires-clause-window g t c κs within =
     rw ea record { low = c.requires.window.low; order = c.loop-place.invariant.above; high = omega (arith, ints) }
 
 pub greatest_at-returns-then-lower-window-3-clause-kept : goal.greatest_at-returns-then-lower-window-3-clause-kept
-greatest_at-returns-then-lower-window-3-clause-kept g t c = kept_then c.loop-place.invariant.kept c.child_at.ensures.kept
+greatest_at-returns-then-lower-window-3-clause-kept g t c = kept_then c.loop-place.invariant.kept c.try_child_at.ensures.kept
 
-pub greatest_at-child_at-requires-clause-window : goal.greatest_at-child_at-requires-clause-window
-greatest_at-child_at-requires-clause-window g t c κs within =
+pub greatest_at-try_child_at-requires-clause-window : goal.greatest_at-try_child_at-requires-clause-window
+greatest_at-try_child_at-requires-clause-window g t c κs within =
     let b = c.args.window.high in
     let eb : to_z w16 (of_z w16 b) ≡ b = to_z-of_z w16 b (search facts) in
     let bottom = c.requires.window.low in
@@ -1306,3 +1299,58 @@ least_at-look_back-requires-clause-tools g t c κs within = record { wide = c.re
 
 pub greatest_at-look_back-requires-clause-tools : goal.greatest_at-look_back-requires-clause-tools
 greatest_at-look_back-requires-clause-tools g t c κs within = record { wide = c.requires.fit.wide; memory = c.requires.fit.memory }
+
+pub least_at-returns-in_err-worth-clause-kept : goal.least_at-returns-in_err-worth-clause-kept
+least_at-returns-in_err-worth-clause-kept g t c = kept_then c.loop-place.invariant.kept c.try_child_at.ensures.kept
+
+pub greatest_at-returns-in_err-worth-clause-kept : goal.greatest_at-returns-in_err-worth-clause-kept
+greatest_at-returns-in_err-worth-clause-kept g t c = kept_then c.loop-place.invariant.kept c.try_child_at.ensures.kept
+
+pub try_worst_at-returns-in_err-least-clause-kept : goal.try_worst_at-returns-in_err-least-clause-kept
+try_worst_at-returns-in_err-least-clause-kept g t c =
+    let split = c.split_at_mut-first.ensures in
+    let old = get_or c.split_at_mut-first.result.0.now 0 c.index-first-0.result in
+    let now = c.runs.level in
+    let begun : level_capacities g.G.Game c.args.game.now now ≡ level_capacities g.G.Game c.args.game.now old =
+    c.runs.invariant.capacities
+    ∙ level_kept g.G.Game c.args.game.now old record { cursor = c.start_turns.new.cursor; run = old.moves.run } old.children
+    (moves_kept old.moves c.start_turns.new.cursor old.moves.run c.start_turns.ensures.capacities refl) refl in
+    let turned : level_capacities g.G.Game c.args.game.now c.least_after.new.level ≡ level_capacities g.G.Game c.args.game.now now =
+    c.least_after.ensures.level.capacities
+    ∙ level_kept g.G.Game c.args.game.now now c.gather-more.new.moves now.children c.gather-more.ensures.taken.capacities refl in
+    all_levels_kept c.args.levels.now c.split_at_mut-first.result.0.now c.split_at_mut-first.result.1.now
+    c.least_after.new.levels c.least_after.new.level c.index-first-0.result split.value split.front_len c.least_after.ensures.level.level
+    (turned ∙ begun) (kept_then c.runs.invariant.kept c.least_after.ensures.kept)
+
+pub best_at-returns-in_err-greatest-clause-kept : goal.best_at-returns-in_err-greatest-clause-kept
+best_at-returns-in_err-greatest-clause-kept g t c =
+    let split = c.split_at_mut-first.ensures in
+    let old = get_or c.split_at_mut-first.result.0.now 0 c.index-first-0.result in
+    let now = c.runs.level in
+    let begun : level_capacities g.G.Game c.args.game.now now ≡ level_capacities g.G.Game c.args.game.now old =
+    c.runs.invariant.capacities
+    ∙ level_kept g.G.Game c.args.game.now old record { cursor = c.start_turns.new.cursor; run = old.moves.run } old.children
+    (moves_kept old.moves c.start_turns.new.cursor old.moves.run c.start_turns.ensures.capacities refl) refl in
+    let turned : level_capacities g.G.Game c.args.game.now c.greatest_after.new.level ≡ level_capacities g.G.Game c.args.game.now now =
+    c.greatest_after.ensures.level.capacities
+    ∙ level_kept g.G.Game c.args.game.now now record { cursor = now.moves.cursor; run = c.gather_own.new.run } now.children
+    (moves_kept now.moves now.moves.cursor c.gather_own.new.run refl c.gather_own.ensures.capacities) refl in
+    all_levels_kept c.args.levels.now c.split_at_mut-first.result.0.now c.split_at_mut-first.result.1.now
+    c.greatest_after.new.levels c.greatest_after.new.level c.index-first-0.result split.value split.front_len c.greatest_after.ensures.level.level
+    (turned ∙ begun) (kept_then c.runs.invariant.kept c.greatest_after.ensures.kept)
+
+pub try_worst_at-least_after-requires-clause-window : goal.try_worst_at-least_after-requires-clause-window
+try_worst_at-least_after-requires-clause-window g t c κs within =
+    let a = c.args.window.low in
+    let ea : to_z w16 (of_z w16 a) ≡ a = to_z-of_z w16 a (search facts) in
+    let top = c.requires.window.high in
+    let below = c.runs.invariant.below in
+    rw ea record { low = c.requires.window.low; order = c.runs.invariant.above; high = omega (arith, ints) }
+
+pub best_at-greatest_after-requires-clause-window : goal.best_at-greatest_after-requires-clause-window
+best_at-greatest_after-requires-clause-window g t c κs within =
+    let b = c.args.window.high in
+    let eb : to_z w16 (of_z w16 b) ≡ b = to_z-of_z w16 b (search facts) in
+    let bottom = c.requires.window.low in
+    let above = c.runs.invariant.above in
+    rw eb record { low = omega (arith, ints); order = c.runs.invariant.below; high = c.requires.window.high }

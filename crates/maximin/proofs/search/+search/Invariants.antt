@@ -14,14 +14,14 @@ use Rattle.maximin.proofs.search.+search.Given as goal
 abbrev pub decreases-value_at : goal.decreases-value_at
 decreases-value_at g l = 6 * l.asked.depth
 
-abbrev pub decreases-child_at : goal.decreases-child_at
-decreases-child_at g l = 6 * l.asked.depth + 2
+abbrev pub decreases-try_child_at : goal.decreases-try_child_at
+decreases-try_child_at g l = 6 * l.asked.depth + 2
 
-abbrev pub decreases-known_at : goal.decreases-known_at
-decreases-known_at g l = 6 * l.asked.depth + 1
+abbrev pub decreases-try_known_at : goal.decreases-try_known_at
+decreases-try_known_at g l = 6 * l.asked.depth + 1
 
-abbrev pub decreases-worst_at : goal.decreases-worst_at
-decreases-worst_at g l = 6 * l.asked.depth + 5
+abbrev pub decreases-try_worst_at : goal.decreases-try_worst_at
+decreases-try_worst_at g l = 6 * l.asked.depth + 5
 
 abbrev pub decreases-least_at : goal.decreases-least_at
 decreases-least_at g l = 6 * l.asked.depth + 3
@@ -51,8 +51,8 @@ decreases-value_at-loop-own g l =
     length (rules.legal (g.G.Game.state l.game l.from) l.asked.role) - l.place
 
 -- upper is an upper bound of the answer, and the replies that are left have the rest of it
-abbrev pub invariant-worst_at-runs : goal.invariant-worst_at-runs
-invariant-worst_at-runs g l =
+abbrev pub invariant-try_worst_at-runs : goal.invariant-try_worst_at-runs
+invariant-try_worst_at-runs g l =
     let rules = g.G.Game.rules l.game in
     let state = g.G.Game.state l.game l.from in
     let lists = choices rules state l.asked.role l.own in
@@ -74,8 +74,8 @@ invariant-worst_at-runs g l =
       at_most : int_min l.upper (pos left) ≤ℤ int_max (pos all) l.window.low;
     }
 
-abbrev pub decreases-worst_at-runs : goal.decreases-worst_at-runs
-decreases-worst_at-runs g l =
+abbrev pub decreases-try_worst_at-runs : goal.decreases-try_worst_at-runs
+decreases-try_worst_at-runs g l =
     let rules = g.G.Game.rules l.game in
     let lists = choices rules (g.G.Game.state l.game l.from) l.asked.role l.own in
     length (later lists l.level.moves.cursor.places.items)

@@ -1,0 +1,30 @@
+//! Whether a search may end without an answer.
+use crate::sight::Sight;
+use std::convert::Infallible;
+
+/// Why a search ends without an answer.
+pub trait Ending {
+    /// Ends a search that is to end, by what it sees of others.
+    fn check(sight: &Sight) -> Result<(), Self>;
+}
+
+/// A search whose answer is wanted has one.
+impl Ending for Infallible {
+    fn check(sight: &Sight) -> Result<(), Infallible> {
+        let _ = sight;
+        Ok(())
+    }
+}
+
+/// The search that is helped is over.
+#[derive(Clone, Copy)]
+pub struct Dismissed;
+
+impl Ending for Dismissed {
+    fn check(sight: &Sight) -> Result<(), Dismissed> {
+        if sight.is_over() {
+            return Err(Dismissed);
+        }
+        Ok(())
+    }
+}
