@@ -2,5 +2,7 @@ use Rattle.maximin.proofs.Kept.{room_kept}
 use Rattle.maximin.proofs.room.help.Goals as goal
 
 pub returns : goal.returns
-returns g c = room_kept c.args.room.now c.try_known_at.new.tools c.as_mut_slice-levels.result.now c.try_known_at.new.levels
-    c.as_mut_slice-levels.ensures.value c.try_known_at.ensures.kept
+returns g c = record {
+  room = room_kept c.args.room.now c.try_known_at.new.tools c.as_mut_slice-levels.result.now c.try_known_at.new.levels
+      c.as_mut_slice-levels.ensures.value c.try_known_at.ensures.kept;
+}
