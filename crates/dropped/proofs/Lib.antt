@@ -3,5 +3,4 @@ mod KeptHeads
 mod KeyedLacks
 mod OwnerLists
 mod TellingLists
-mod NothingStated
 mod InputLists

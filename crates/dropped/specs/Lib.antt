@@ -2,5 +2,4 @@ pub mod Effects
 pub mod Keyed
 pub mod Owners
 pub mod Telling
-pub mod Lacking
 pub mod Findings

@@ -4,7 +4,6 @@
 mod dropping;
 mod effects;
 mod finding;
-mod lacking;
 mod owners;
 mod searching;
 #[cfg(test)]
@@ -13,5 +12,4 @@ mod told;
 
 pub use dropping::dropped_heads;
 pub use finding::{Dropped, Lack};
-pub use lacking::{Lacking, lacking_of};
 pub use told::add_dropped;

@@ -1,5 +1,5 @@
 //! Worked heads without effect.
-use crate::{Lacking, add_dropped, dropped_heads, lacking_of};
+use crate::{add_dropped, dropped_heads};
 use kif::read;
 use rules::RuleSet;
 use std::alloc::{AllocError, Global};
@@ -51,51 +51,6 @@ fn heads_without_effect_are_told(rt: HostRuntime) -> Result<(), Fail> {
     for (text, wanted) in TEXTS {
         let told = lines_of(rt.alloc(), text)?;
         assert_eq!(rt; from_utf8(&told)?, wanted);
-    }
-    Ok(())
-}
-
-/// Of what a text states none.
-fn lacking_in(alloc: Global, text: &[u8]) -> Result<Lacking, AllocError> {
-    let Ok(items) = read(alloc, text) else {
-        return Err(AllocError);
-    };
-    let Ok(rules) = RuleSet::check(alloc, &items) else {
-        return Err(AllocError);
-    };
-    lacking_of(alloc, &rules).map_err(|_| AllocError)
-}
-
-/// Texts, and of what they state none.
-const STATED: [(&[u8], Lacking); 3] = [
-    (
-        b"(role a)(base p)(input a go)",
-        Lacking {
-            base: false,
-            inputs: false,
-        },
-    ),
-    (
-        b"(role a)(role b)(input b go)",
-        Lacking {
-            base: true,
-            inputs: false,
-        },
-    ),
-    (
-        b"(role a)(base p)(input b go)",
-        Lacking {
-            base: false,
-            inputs: true,
-        },
-    ),
-];
-
-#[test]
-fn what_is_not_stated_is_found(rt: HostRuntime) -> Result<(), Fail> {
-    for (text, wanted) in STATED {
-        let lacking = lacking_in(rt.alloc(), text)?;
-        assert_eq!(rt; lacking, wanted);
     }
     Ok(())
 }

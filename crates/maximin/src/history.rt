@@ -24,11 +24,16 @@ impl Movers {
 /// More turns to come count for a cut as so many do.
 const MOST_DOUBLINGS: u32 = 48;
 
+/// The fewest turns behind joint moves that are worth an order.
+const FEWEST_TURNS: u32 = 2;
+
 /// How much each move of each role cut off. It says in which order moves are searched, and no answer rests on it. Where a search has
 /// several workers they have one.
 #[derive(Drop)]
 pub struct History {
     counts: Arc<SharedHistory>,
+    /// Moves with more turns behind them are searched as they are printed.
+    ranked: u32,
 }
 
 /// What no search has cut off yet.
@@ -46,14 +51,21 @@ impl History {
         let counts = new_counts(alloc, game)?;
         Ok(History {
             counts: Arc::new(alloc, counts)?,
+            ranked: u32::MAX,
         })
     }
 
-    /// The history that others have too.
-    pub fn of(counts: &Arc<SharedHistory>) -> Result<History, AllocError> {
+    /// The history that others have too, by which moves are put in order that have at most so many turns behind them.
+    pub fn of(counts: &Arc<SharedHistory>, ranked: u32) -> Result<History, AllocError> {
         Ok(History {
             counts: Arc::try_clone(counts)?,
+            ranked,
         })
+    }
+
+    /// Whether moves with so many turns behind them are put in order.
+    pub fn ranks(&self, turns: u32) -> bool {
+        (FEWEST_TURNS..=self.ranked).contains(&turns)
     }
 
     /// How much the moves of a joint move cut off.

@@ -82,7 +82,8 @@ impl<G: Game> Room<G> {
     }
 
     /// The same for the worker of this number, from 0 to 254, of a company: it keeps in their tables what it finds, and sees what the
-    /// others search.
+    /// others search. Each but the first takes the moves of a state with as many turns left as printed, as the first does who looks for
+    /// the first best of them.
     pub fn in_company(
         alloc: Global,
         g: &G,
@@ -95,7 +96,12 @@ impl<G: Game> Room<G> {
         ensures depth { IfOk result (λ room. room_depth room ≡ depth) }
     {
         let levels = new_levels(alloc, g, depth)?;
-        let history = History::of(&company.history)?;
+        let ranked = if worker == 0 {
+            u32::MAX
+        } else {
+            depth.saturating_sub(2)
+        };
+        let history = History::of(&company.history, ranked)?;
         let memory = shared_memory(alloc, g, &company.tables)?;
         let sight = Sight::among(&company.marks, worker)?;
         let tools = new_tools(g, history, memory, sight)?;

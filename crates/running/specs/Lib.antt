@@ -6,3 +6,4 @@ pub mod Ran
 pub mod Explained
 pub mod Linted
 pub mod Work
+pub mod Sizes

@@ -1,4 +1,9 @@
 //! What a description should have to be a game, as its instantiation tells it.
+ghost use Rattle.std.specs.Prelude.{◌≡◌, ◌<◌, ℕ, true, false, length, IfOk, IfSome};
+ghost use Rattle.ground.specs.Grounds.{texts_at};
+ghost use Rattle.ground.specs.GroundView.{inputs_of, roles_of};
+ghost use Rattle.running.specs.Sizes.{AreSizesOf};
+
 use ground::{FlatGround, GroundFault};
 
 /// Whether an instantiation has base propositions and inputs, and how many heads without effect.
@@ -10,7 +15,10 @@ pub(crate) struct Sizes {
 }
 
 /// Whether some role has an input.
-fn has_inputs(ground: &FlatGround) -> bool {
+fn has_inputs(ground: &FlatGround) -> bool
+    ensures none { result ≡ false → (r : ℕ) → r < length (roles_of ground.now) → length (texts_at (inputs_of ground.now) r) ≡ 0 }
+    ensures some { result ≡ true → (r : ℕ) × (r < length (roles_of ground.now)) × (0 < length (texts_at (inputs_of ground.now) r)) }
+{
     for role in 0..ground.roles() {
         if ground.inputs(role) > 0 {
             return true;
@@ -20,7 +28,9 @@ fn has_inputs(ground: &FlatGround) -> bool {
 }
 
 /// What an instantiation has, if there is one.
-pub(crate) fn sizes_of(instantiated: &Result<FlatGround, GroundFault>) -> Option<Sizes> {
+pub(crate) fn sizes_of(instantiated: &Result<FlatGround, GroundFault>) -> Option<Sizes>
+    ensures { IfOk instantiated.now (λ ground. IfSome result (AreSizesOf ground)) }
+{
     let Ok(ground) = instantiated else {
         return None;
     };

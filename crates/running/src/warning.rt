@@ -1,7 +1,7 @@
 //! What warns of an answer that is lawful and most likely not meant.
 use crate::sizes::Sizes;
 use bumpalo::Bump;
-use dropped::{add_dropped, dropped_heads, lacking_of};
+use dropped::{add_dropped, dropped_heads};
 use kif::{Expr, read};
 use rules::RuleSet;
 use std::alloc::{AllocError, Allocator, Global};
@@ -11,21 +11,34 @@ use std::io::Write;
 const SHOWN: usize = 3;
 
 /// Adds lines that tell of what rules state none.
-fn add_lacking(alloc: Global, rules: &RuleSet, output: &mut Vec<u8>) -> Result<(), AllocError> {
-    let Ok(lacking) = lacking_of(alloc, rules) else {
-        return Err(AllocError);
-    };
-    if lacking.base {
+fn add_lacking(sizes: &Sizes, output: &mut Vec<u8>) -> Result<(), AllocError> {
+    if !sizes.has_base {
         output.extend_from_slice(
             b"<input>: warning: there is no base proposition, so nothing holds in any state: state them by `base`\n",
         )?;
     }
-    if lacking.inputs {
+    if !sizes.has_inputs {
         output.extend_from_slice(
             b"<input>: warning: there is no input, so no role has a legal move: state them by `input`\n",
         )?;
     }
     Ok(())
+}
+
+/// Adds lines that tell of the heads without effect in a text, of the first few items.
+fn add_dropped_heads(
+    alloc: Global,
+    bytes: &[u8],
+    output: &mut Vec<u8>,
+) -> Result<(), AllocError> {
+    let arena = Bump::new(alloc);
+    let Ok(items) = read(&arena, bytes) else {
+        return Err(AllocError);
+    };
+    let Ok(rules) = RuleSet::check(alloc, &items) else {
+        return Err(AllocError);
+    };
+    add_heads(alloc, bytes, &items, &rules, output)
 }
 
 /// Adds lines that tell of heads without effect, of the first few items.
@@ -50,25 +63,13 @@ fn add_heads<A: Allocator>(
     Ok(())
 }
 
-/// What warns of the rules of bytes: that there are no base propositions or no inputs, and which heads have no effect. Whether there is
-/// something to warn of their sizes tell, and what it is is looked for anew.
+/// What warns of the rules of bytes: that there are no base propositions or no inputs, which their sizes tell, and which heads have no
+/// effect, which is looked for anew where the sizes tell that there are some.
 pub(crate) fn warnings(alloc: Global, bytes: &[u8], sizes: &Sizes) -> Result<Vec<u8>, AllocError> {
     let mut output = Vec::new(alloc);
-    if sizes.has_base && sizes.has_inputs && sizes.dropped == 0 {
-        return Ok(output);
-    }
-    let arena = Bump::new(alloc);
-    let Ok(items) = read(&arena, bytes) else {
-        return Err(AllocError);
-    };
-    let Ok(rules) = RuleSet::check(alloc, &items) else {
-        return Err(AllocError);
-    };
-    if !sizes.has_base || !sizes.has_inputs {
-        add_lacking(alloc, &rules, &mut output)?;
-    }
+    add_lacking(sizes, &mut output)?;
     if sizes.dropped > 0 {
-        add_heads(alloc, bytes, &items, &rules, &mut output)?;
+        add_dropped_heads(alloc, bytes, &mut output)?;
     }
     Ok(output)
 }
