@@ -25,8 +25,7 @@ pub fn help_with<G: Game>(aid: &Aid<'_, G>, before: usize)
 {
     let node = aid.node;
     let number = (before % 128) as u8 + 1;
-    let Ok(mut room) =
-        Room::in_company(aid.alloc, node.game, node.asked.depth, aid.company, number)
+    let Ok(mut room) = Room::in_company(aid.alloc, node.game, node.asked.depth, aid.company, number)
     else {
         return;
     };

@@ -1,4 +1,5 @@
-//! The search, level by level.
+//! The search, level by level. It answers, unless it is to end without an answer, which only a helper's can be (`Ending`); where it ends so
+//! nothing is kept of the states that it was in.
 ghost use Rattle.std.specs.Prelude.{◌≡◌, ◌+◌, ◌<◌, ◌≤◌, ◌<ℤ◌, pos, false, [], length, map, get_or, if◌then◌else◌, IfOk};
 ghost use Rattle.statement.specs.AtBound.{bound_worth};
 ghost use Rattle.statement.specs.Rules.{is_stuck as stuck};
@@ -58,7 +59,8 @@ fn value_at<G: Game, E: Ending>(
     requires fits { G.fits game.now from.now }
     requires fit { AreFit G.Game game.now asked.role asked.depth tools.old levels.old }
     requires window { IsWindow window.low window.high }
-    ensures answers { IfOk result (Answers (value (G.rules game.now) asked.role asked.depth asked.at (G.state game.now from.now)) window.low window.high) }
+    ensures answers { IfOk result (Answers (value (G.rules game.now) asked.role asked.depth asked.at (G.state game.now from.now))
+        window.low window.high) }
     ensures kept { AreKept G.Game game.now tools.old levels.old tools.new levels.new }
 {
     if game.ended(from) {
@@ -110,7 +112,8 @@ fn try_worst_at<G: Game, E: Ending>(
     requires own { own < (G.rules game.now).moves asked.role }
     requires open { stuck (G.rules game.now) (G.state game.now from.now) ≡ false }
     requires window { IsWindow window.low window.high }
-    ensures answers { IfOk result (Answers (worst (G.rules game.now) asked.role asked.depth asked.at (G.state game.now from.now) own) window.low window.high) }
+    ensures answers { IfOk result (Answers (worst (G.rules game.now) asked.role asked.depth asked.at (G.state game.now from.now) own)
+        window.low window.high) }
     ensures kept { AreKept G.Game game.now tools.old levels.old tools.new levels.new }
 {
     let (first, rest) = levels.split_at_mut(1);
@@ -217,7 +220,8 @@ pub fn try_known_at<G: Game, E: Ending>(
     requires fits { G.fits game.now from.now }
     requires fit { AreFit G.Game game.now asked.role asked.depth tools.old levels.old }
     requires window { IsWindow window.low window.high }
-    ensures answers { IfOk result (Answers (value (G.rules game.now) asked.role asked.depth asked.at (G.state game.now from.now)) window.low window.high) }
+    ensures answers { IfOk result (Answers (value (G.rules game.now) asked.role asked.depth asked.at (G.state game.now from.now))
+        window.low window.high) }
     ensures kept { AreKept G.Game game.now tools.old levels.old tools.new levels.new }
 {
     E::check(&tools.sight)?;
@@ -480,8 +484,9 @@ pub fn child_at<G: Game>(
     ensures children { AreLookedAt G.Game game.now asked children.new }
     ensures same { AreSameStates G.Game game.now children.old children.new }
 {
-    let Ok(worth) =
-        try_child_at::<G, Infallible>(game, place, asked, window, tools, children, levels);
+    let Ok(worth) = try_child_at::<G, Infallible>(
+        game, place, asked, window, tools, children, levels,
+    );
     worth
 }
 

@@ -7,7 +7,7 @@ use Rattle.ground.specs.declared.flat_ground.FlatGround.{FlatGround}
 use Rattle.running.specs.declared.sizes.Sizes.{Sizes}
 
 -- whether there is a base proposition, and whether some role has an input
-pub record AreSizesOf (ground : FlatGround) (s : Sizes) : Type 0 where
-  pub base : s.has_base ≡ nat_lt 0 (length (base_of ground))
-  pub none : s.has_inputs ≡ false → (r : ℕ) → r < length (roles_of ground) → length (texts_at (inputs_of ground) r) ≡ 0
-  pub some : s.has_inputs ≡ true → (r : ℕ) × (r < length (roles_of ground)) × (0 < length (texts_at (inputs_of ground) r))
+pub record AreSizesOf (made : FlatGround) (s : Sizes) : Type 0 where
+  pub base : s.has_base ≡ nat_lt 0 (length (base_of made))
+  pub none : s.has_inputs ≡ false → (r : ℕ) → r < length (roles_of made) → length (texts_at (inputs_of made) r) ≡ 0
+  pub some : s.has_inputs ≡ true → (r : ℕ) × (r < length (roles_of made)) × (0 < length (texts_at (inputs_of made) r))

@@ -15,12 +15,12 @@ pub(crate) struct Sizes {
 }
 
 /// Whether some role has an input.
-fn has_inputs(ground: &FlatGround) -> bool
-    ensures none { result ≡ false → (r : ℕ) → r < length (roles_of ground.now) → length (texts_at (inputs_of ground.now) r) ≡ 0 }
-    ensures some { result ≡ true → (r : ℕ) × (r < length (roles_of ground.now)) × (0 < length (texts_at (inputs_of ground.now) r)) }
+fn has_inputs(made: &FlatGround) -> bool
+    ensures none { result ≡ false → (r : ℕ) → r < length (roles_of made.now) → length (texts_at (inputs_of made.now) r) ≡ 0 }
+    ensures some { result ≡ true → (r : ℕ) × (r < length (roles_of made.now)) × (0 < length (texts_at (inputs_of made.now) r)) }
 {
-    for role in 0..ground.roles() {
-        if ground.inputs(role) > 0 {
+    for role in 0..made.roles() {
+        if made.inputs(role) > 0 {
             return true;
         }
     }
@@ -29,14 +29,14 @@ fn has_inputs(ground: &FlatGround) -> bool
 
 /// What an instantiation has, if there is one.
 pub(crate) fn sizes_of(instantiated: &Result<FlatGround, GroundFault>) -> Option<Sizes>
-    ensures { IfOk instantiated.now (λ ground. IfSome result (AreSizesOf ground)) }
+    ensures { IfOk instantiated.now (λ made. IfSome result (AreSizesOf made)) }
 {
-    let Ok(ground) = instantiated else {
+    let Ok(made) = instantiated else {
         return None;
     };
     Some(Sizes {
-        has_base: ground.base() > 0,
-        has_inputs: has_inputs(ground),
-        dropped: ground.dropped(),
+        has_base: made.base() > 0,
+        has_inputs: has_inputs(made),
+        dropped: made.dropped(),
     })
 }

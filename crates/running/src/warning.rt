@@ -26,11 +26,7 @@ fn add_lacking(sizes: &Sizes, output: &mut Vec<u8>) -> Result<(), AllocError> {
 }
 
 /// Adds lines that tell of the heads without effect in a text, of the first few items.
-fn add_dropped_heads(
-    alloc: Global,
-    bytes: &[u8],
-    output: &mut Vec<u8>,
-) -> Result<(), AllocError> {
+fn add_dropped_heads(alloc: Global, bytes: &[u8], output: &mut Vec<u8>) -> Result<(), AllocError> {
     let arena = Bump::new(alloc);
     let Ok(items) = read(&arena, bytes) else {
         return Err(AllocError);
