@@ -1354,3 +1354,22 @@ best_at-greatest_after-requires-clause-window g t c κs within =
     let bottom = c.requires.window.low in
     let above = c.runs.invariant.above in
     rw eb record { low = omega (arith, ints); order = c.runs.invariant.below; high = c.requires.window.high }
+
+pub value_at-try_worst_at-requires-clause-window : goal.value_at-try_worst_at-requires-clause-window
+value_at-try_worst_at-requires-clause-window g t c κs within =
+    let b = c.args.window.high in
+    let eb : to_z w16 (of_z w16 b) ≡ b = to_z-of_z w16 b (search facts) in
+    let bottom = c.requires.window.low in
+    let above = c.loop-own.invariant.above in
+    rw eb record { low = omega (arith, ints); order = c.loop-own.invariant.below; high = c.requires.window.high }
+
+pub value_at-returns-in_err-worst-clause-kept : goal.value_at-returns-in_err-worst-clause-kept
+value_at-returns-in_err-worst-clause-kept g t c = kept_then c.loop-own.invariant.kept c.try_worst_at.ensures.kept
+
+pub try_known_at-returns-in_err-check-clause-kept : goal.try_known_at-returns-in_err-check-clause-kept
+try_known_at-returns-in_err-check-clause-kept g t c = kept_at_first c.requires.fit
+
+pub try_known_at-returns-in_err-answer-clause-kept : goal.try_known_at-returns-in_err-answer-clause-kept
+try_known_at-returns-in_err-answer-clause-kept g t c = memory_kept c.args.tools.now c.value_at.new.tools c.recall-known.new.memory
+    c.value_at.new.tools.memory c.args.levels.now c.value_at.new.levels c.recall-known.ensures.capacities refl c.value_at.ensures.kept.memory
+    c.value_at.ensures.kept
