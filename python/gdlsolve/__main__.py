@@ -15,7 +15,7 @@ from collections.abc import Callable, Sequence
 from dataclasses import asdict, dataclass, replace
 from enum import Enum
 from pathlib import Path
-from typing import Any, NoReturn
+from typing import Any, NoReturn, TextIO
 
 from gdlsolve import program, whole
 from gdlsolve.calls import ASKS_FOR_HELP, Ended, Misuse, Refusal, Reply, Status, lines_of, reply
@@ -37,14 +37,16 @@ ASKS = {*ASKS_FOR_HELP, "help"}
 FLAGS = {"--deepen", "--lines", "--tighten", "--whole"}
 # Commands that may take long.
 SEARCHES = (["solve"], ["values"])
-# Options that have no value.
-FLAGS = {"--deepen", "--lines", "--tighten", "--whole"}
 # Commands to which a game as it is found is written out.
 OVER_RULES = {"check", "moves", "net", "solve", "state", "values"}
-INPUT_FAILED = 4
+STREAM_FAILED = 4
 NO_PROGRAM = 70
 # By a key.
 STOPPED = 130
+
+
+class StreamFault(Exception):
+    """Standard input or output failed, or is closed. The text is what the program says of it."""
 
 
 @dataclass(frozen=True)
@@ -127,23 +129,51 @@ def plain(value: object) -> object:
     raise TypeError(f"{value!r} is no part of an answer")
 
 
+def hush(stream: TextIO) -> None:
+    """Drops what a stream that failed has not written, so that Python does not try it again at its end."""
+    os.dup2(os.open(os.devnull, os.O_WRONLY), stream.fileno())
+
+
+def put(output: bytes) -> None:
+    """Writes to standard output. Python has none where it is closed."""
+    if sys.stdout is None:
+        raise StreamFault("write fault")
+    try:
+        sys.stdout.buffer.write(output)
+        sys.stdout.buffer.flush()
+    except OSError as fault:
+        hush(sys.stdout)
+        raise StreamFault("write fault") from fault
+
+
+def say(text: str) -> None:
+    """Tells people something, where they can be told."""
+    if sys.stderr is None:
+        return
+    try:
+        sys.stderr.write(text)
+        sys.stderr.flush()
+    except OSError:
+        hush(sys.stderr)
+
+
 def write_json(value: Any) -> None:
-    print(json.dumps(value, default=plain))
+    put(json.dumps(value, default=plain).encode() + b"\n")
 
 
 def write(line: Line, found: Reply) -> int:
     """Writes a reply as the words ask for, and gives the exit status."""
     if found.status == Status.MISUSE:
         asked = bool(ASKS & set(line.words)) and b"error:" not in found.output
-        stream = sys.stdout if asked else sys.stderr
-        stream.write(found.output.decode())
-        if asked and "-V" not in line.words and "--version" not in line.words:
-            stream.write(USAGE)
-        return 0 if asked else int(Status.MISUSE)
-    sys.stderr.write(found.errors.decode(errors="replace"))
+        if not asked:
+            say(found.output.decode())
+            return int(Status.MISUSE)
+        tells_words = "-V" not in line.words and "--version" not in line.words
+        put(found.output + (USAGE.encode() if tells_words else b""))
+        return 0
+    say(found.errors.decode(errors="replace"))
     if not line.as_json:
-        sys.stdout.buffer.write(found.output)
-        sys.stdout.buffer.flush()
+        put(found.output)
     elif is_linted(line, found):
         write_json({"findings": findings(lines_of(found.output))})
     elif found.status == Status.REFUSED:
@@ -161,15 +191,25 @@ def write_deepest(line: Line, found: Deepest) -> int:
     if line.as_json:
         write_json({"depth": found.depth, "settled": found.settled, **told("solve", found.reply.output)})
     else:
-        sys.stdout.write(f"depth {found.depth}\n{found.reply.output.decode()}" + ("settled\n" if found.settled else ""))
+        put(b"depth %d\n%s%s" % (found.depth, found.reply.output, b"settled\n" if found.settled else b""))
     return int(Status.ANSWER)
+
+
+def on_input() -> bytes:
+    """The bytes of standard input."""
+    if sys.stdin is None:
+        raise StreamFault("read fault")
+    try:
+        return sys.stdin.buffer.read()
+    except OSError as fault:
+        raise StreamFault("read fault") from fault
 
 
 def rules_of(line: Line) -> bytes:
     """The bytes of the rules."""
     if ASKS & set(line.words) or not line.words:
         return b""
-    return sys.stdin.buffer.read() if line.game is None else line.game.read_bytes()
+    return on_input() if line.game is None else line.game.read_bytes()
 
 
 def answered(line: Line, rules: bytes) -> Reply:
@@ -222,17 +262,20 @@ def main() -> int:
     try:
         return run(sys.argv[1:])
     except Misuse as misuse:
-        print(misuse, file=sys.stderr)
+        say(f"{misuse}\n")
         return int(Status.MISUSE)
     except MemoryError:
-        print("no memory", file=sys.stderr)
+        say("no memory\n")
         return int(Status.NO_MEMORY)
     except (Ended, Broken, ImportError) as fault:
-        print(str(fault) or "the solver gave no reply", file=sys.stderr)
+        say(f"{str(fault) or 'the solver gave no reply'}\n")
         return NO_PROGRAM
+    except StreamFault as fault:
+        say(f"{fault}\n")
+        return STREAM_FAILED
     except OSError as fault:
-        print(f"{fault.filename}: {fault.strerror}" if fault.filename else "read fault", file=sys.stderr)
-        return INPUT_FAILED
+        say(f"{fault.filename}: {fault.strerror}\n" if fault.filename else f"{fault}\n")
+        return STREAM_FAILED
     except KeyboardInterrupt:
         return STOPPED
 

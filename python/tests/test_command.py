@@ -2,6 +2,7 @@
 import importlib.util
 import json
 import os
+import shlex
 import signal
 import subprocess
 import tempfile
@@ -50,6 +51,27 @@ class Words(unittest.TestCase):
             status, output, errors = command(words)
             self.assertEqual((status, output), (1, ""))
             self.assertTrue(errors)
+
+    def test_a_stream_that_is_closed_or_full_is_told_as_the_program_does(self) -> None:
+        marks, role = shlex.quote(str(MARKS)), "solve --role xplayer --time 0.001"
+        wrong = {"check <&-": "read fault\n"}
+        for words in f"check {marks}", f"check --json {marks}", f"{role} {marks}", f"{role} --json {marks}", "--help":
+            wrong |= {f"{words} >&-": "write fault\n", f"{words} >/dev/full": "write fault\n", f"{words} >&- 2>&-": ""}
+        for words, want in wrong.items():
+            with self.subTest(words=words):
+                self.assertEqual(self.by_shell(words), (4, "", want))
+
+    def test_people_who_cannot_be_told_change_no_status(self) -> None:
+        for where in "2>&-", "2>/dev/full":
+            with self.subTest(where=where):
+                self.assertEqual(self.by_shell(f"check {where} < /dev/null"), (2, "refused G6 NoRole\n", ""))
+                self.assertEqual(self.by_shell(f"solve --role xplayer --time 0.001 {MARKS} {where}")[0], 0)
+                self.assertEqual(self.by_shell(f"list {where}"), (1, "", ""))
+
+    def by_shell(self, words: str) -> tuple[int, str, str]:
+        """What the command does in a shell."""
+        done = subprocess.run(f"{shlex.join(package('gdlsolve'))} {words}", shell=True, capture_output=True, text=True, env=known(), check=False)
+        return done.returncode, done.stdout, done.stderr
 
     @needs_program
     def test_requests_are_answered_by_the_program(self) -> None:
