@@ -188,6 +188,8 @@ def write_deepest(line: Line, found: Deepest) -> int:
     """Writes the deepest answer that was found in time, and gives the exit status."""
     if found.reply.status != Status.ANSWER:
         return write(line, found.reply)
+    if found.broken:
+        say(f"the search ended before its time: {found.broken}\n")
     if line.as_json:
         write_json({"depth": found.depth, "settled": found.settled, **told("solve", found.reply.output)})
     else:

@@ -9,10 +9,10 @@ from __future__ import annotations
 import math
 import time
 from collections.abc import Iterator, Sequence
-from dataclasses import dataclass
+from dataclasses import dataclass, replace
 
 from gdlsolve.calls import Misuse, Reply, Status
-from gdlsolve.engine import Late, Limit, Pool
+from gdlsolve.engine import Broken, Late, Limit, Pool
 from gdlsolve.progress import progress
 
 # The greatest depth that the program takes.
@@ -22,11 +22,13 @@ OWN_OPTIONS = ("--depth", "--at-bound", "--unfinished")
 
 @dataclass(frozen=True)
 class Deepest:
-    """The deepest answer that was found, or what stands in its place: a refusal, misuse, want of memory."""
+    """The deepest answer that was found, or what stands in its place: a refusal, misuse, want of memory. `broken` says why no deeper one
+    was looked for, where the time was not over."""
 
     depth: int
     reply: Reply
     settled: bool
+    broken: str = ""
 
 
 def _value(found: Reply) -> bytes:
@@ -70,6 +72,11 @@ def deepen(words: Sequence[str], rules: bytes, seconds: float) -> Deepest:
                 tell(f"{deepest.depth + 1} turns ahead")
         except Late:
             pass
+        except (Broken, MemoryError) as fault:
+            # What was finished counts, as it does where the time is over.
+            if not found:
+                raise
+            found.append(replace(found[-1], broken=str(fault) or "no memory"))
         finally:
             pool.close()
     return found[-1]

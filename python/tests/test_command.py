@@ -134,6 +134,18 @@ class Time(unittest.TestCase):
         self.assertEqual(status, 0)
         self.assertTrue(output.startswith("depth 1\n"))
 
+    def test_what_was_finished_counts_where_the_solver_ends(self) -> None:
+        for failing, why in (("exit 3", "no memory"), ("kill -9 $$", "status -9")):
+            with self.subTest(failing=failing), tempfile.TemporaryDirectory() as room:
+                fake = Path(room) / "fake"
+                told = f'case "$*" in *"--depth 3"*) {failing};; *"--unfinished 100"*) echo value 100;; *) echo value 50;; esac'
+                fake.write_text(f"#!/bin/sh\n{told}\necho move h\necho line 1 h t\n")
+                fake.chmod(0o755)
+                status, output, errors = command(["solve", "--role", "a", "--time", "60", PENNIES], GDLSOLVE_PROGRAM=str(fake))
+                self.assertEqual((status, output), (0, "depth 2\nvalue 50\nmove h\nline 1 h t\n"))
+                self.assertTrue(errors.startswith("the search ended before its time: "), errors)
+                self.assertIn(why, errors)
+
     def test_nothing_is_left_at_work_where_it_is_ended(self) -> None:
         ways = {signal.SIGTERM: -signal.SIGTERM, signal.SIGKILL: -signal.SIGKILL}
         if signal.getsignal(signal.SIGINT) is signal.default_int_handler:
