@@ -26,6 +26,8 @@ from gdlsolve.cluster.faults import ClusterFault
 
 INPUT_FAILED = 4
 NO_ANSWER = 69
+# By a key.
+STOPPED = 130
 DESCRIPTION = "Solves a game on many machines. The answer is that of one, or there is none."
 
 
@@ -157,3 +159,5 @@ def main() -> int:
     except OSError as fault:
         _say(f"{fault.filename}: {fault.strerror}" if fault.filename else f"fault: {fault}")
         return INPUT_FAILED
+    except KeyboardInterrupt:
+        return STOPPED
