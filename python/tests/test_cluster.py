@@ -152,6 +152,11 @@ class Here(unittest.TestCase):
         self.assertEqual(run.returncode, 130)
         until(lambda: not marked(mark), "no program is left behind")
 
+    def test_a_journal_that_cannot_be_written_is_told_before_anything_is_asked(self) -> None:
+        words = package("gdlsolve.cluster", "--role", "red", "--depth", 40, "--journal", "/no such folder/journal")
+        done = subprocess.run(words, input=ENDLESS_RULES.encode(), capture_output=True, env=environment(), check=False, timeout=PATIENCE)
+        self.assertEqual((done.returncode, done.stdout, done.stderr), (4, b"", b"/no such folder/journal: No such file or directory\n"))
+
     def test_other_words_are_misuse(self) -> None:
         none: list[str] = []
         for words in (none, ["--role", "a", "--depth", "65", str(MARKS)], ["--processes", "0"]):
