@@ -33,6 +33,7 @@ from gdlsolve.thinking import Choice, Thinking
 # This part of the time in which a solver that seems to hang is asked again is left for what is
 # worked out without it.
 RESERVE = 0.25
+MOST_PORT = 65_535
 # What the solver says or does when it gives no answer.
 NO_ANSWER = (Late, Broken, Misuse, MemoryError)
 
@@ -420,7 +421,8 @@ def options(words: Sequence[str] | None) -> argparse.Namespace:
     known.add_argument("--whole", action="store_true", help="write out each game before it is played")
     known.add_argument("--quiet", action="store_true", help="do not tell each turn")
     found = known.parse_args(words)
-    if not 1 <= found.depth <= MOST_DEPTH or found.matches < 1 or min(found.margin, found.idle) < 0:
+    is_right = found.margin >= 0 and found.idle >= 0 and 0 <= found.port <= MOST_PORT
+    if not 1 <= found.depth <= MOST_DEPTH or found.matches < 1 or not is_right:
         known.error("a number is out of its range")
     return found
 
@@ -438,7 +440,13 @@ def main(words: Sequence[str] | None = None) -> int:
         given.name, given.matches, given.margin, given.depth, given.idle, given.quiet, given.whole
     )
     player = Player(known)
-    with Server(given.host, given.port, player) as server:
+    try:
+        made = Server(given.host, given.port, player)
+    except OSError as fault:
+        print(f"{given.host}:{given.port}: {fault.strerror}", file=sys.stderr)
+        player.close()
+        return 1
+    with made as server:
         print(f"{given.name} on {given.host}:{server.server_address[1]}", flush=True)
         try:
             server.serve_forever()

@@ -346,6 +346,11 @@ class Ends(unittest.TestCase):
             self.assertEqual((done.returncode, done.stdout), (1, ""))
             self.assertIn(want, done.stderr)
 
+    def test_a_port_that_is_none_is_told_in_a_line(self) -> None:
+        done = subprocess.run(package("gdlsolve.page", "--port", 65536), env=known(), capture_output=True, text=True, timeout=120)
+        self.assertEqual((done.returncode, done.stdout), (2, ""))
+        self.assertTrue(done.stderr.endswith("error: --port is a number from 0 to 65535\n"), done.stderr)
+
     def test_a_killed_server_leaves_no_process(self) -> None:
         words = package("gdlsolve.page", "--port", 0, "--workers", 2)
         for number, status in (signal.SIGTERM, 0), (signal.SIGKILL, -signal.SIGKILL):

@@ -334,8 +334,18 @@ class Program(unittest.TestCase):
         self.assertEqual(json.loads(errors.splitlines()[0])["move"], "h")
         self.assertTrue(all(map(wait_for_end, left)))
 
+    def test_a_port_that_is_in_use_is_told_in_a_line(self) -> None:
+        with socket.socket() as taken:
+            taken.bind(("127.0.0.1", 0))
+            taken.listen()
+            port = taken.getsockname()[1]
+            command = package("gdlsolve.player", "--port", port)
+            done = subprocess.run(command, capture_output=True, env=known(), check=False, text=True)
+        self.assertEqual((done.returncode, done.stdout, done.stderr), (1, "", f"127.0.0.1:{port}: Address already in use\n"))
+
     def test_words_that_are_none(self) -> None:
-        for words in (["--depth", "0"], ["--depth", "65"], ["--matches", "0"], ["--margin", "-1"]):
+        wrong = ["--depth", "0"], ["--depth", "65"], ["--matches", "0"], ["--margin", "-1"], ["--margin", "nan"], ["--port", "65536"]
+        for words in wrong:
             command = package("gdlsolve.player", *words)
             done = subprocess.run(command, capture_output=True, env=known(), check=False)
             self.assertEqual(done.returncode, 2)

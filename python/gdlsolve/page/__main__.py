@@ -31,6 +31,8 @@ def options() -> argparse.Namespace:
     given = words.parse_args()
     if given.folder is not None and not given.folder.is_dir():
         words.error(f"{given.folder} is no folder")
+    if not 0 <= given.port <= 65_535:
+        words.error("--port is a number from 0 to 65535")
     if not 1 <= given.workers <= 64:
         words.error("--workers is a number from 1 to 64")
     return given
@@ -57,6 +59,7 @@ def main() -> int:
         server = Server(desk, given.port)
     except OSError as fault:
         print(f"port {given.port}: {fault.strerror}", file=sys.stderr)
+        desk.close()
         return 1
     signal.signal(signal.SIGTERM, end)
     address = f"http://127.0.0.1:{server.server_address[1]}/"
