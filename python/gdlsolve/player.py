@@ -17,6 +17,7 @@ import threading
 import time
 from collections.abc import Sequence
 from concurrent.futures import Future
+from contextlib import suppress
 from dataclasses import dataclass
 from http.server import BaseHTTPRequestHandler, ThreadingHTTPServer
 from typing import Any
@@ -36,6 +37,13 @@ RESERVE = 0.25
 MOST_PORT = 65_535
 # What the solver says or does when it gives no answer.
 NO_ANSWER = (Late, Broken, Misuse, MemoryError)
+
+
+def note(told: dict[str, Any]) -> None:
+    """Writes a line on standard error. Where that is full or gone nothing is written, and play goes on."""
+    if sys.stderr is not None:
+        with suppress(OSError):
+            print(json.dumps(told), file=sys.stderr, flush=True)
 
 
 @dataclass(frozen=True)
@@ -226,7 +234,7 @@ class Match:
         """Writes what happened on standard error."""
         if not self.options.is_quiet:
             told = {"match": self.name, "role": self.start.role, "turn": len(self.turns) + 1}
-            print(json.dumps({**told, **what}), file=sys.stderr, flush=True)
+            note({**told, **what})
 
     def tell_choice(self, choice: Choice) -> None:
         """Writes what was chosen."""
@@ -400,7 +408,7 @@ class Server(ThreadingHTTPServer):
     def handle_error(self, request: Any, client_address: Any) -> None:
         """A connection that breaks is told in one line."""
         if not self.player.options.is_quiet:
-            print(json.dumps({"fault": repr(sys.exc_info()[1])}), file=sys.stderr, flush=True)
+            note({"fault": repr(sys.exc_info()[1])})
 
 
 def options(words: Sequence[str] | None) -> argparse.Namespace:

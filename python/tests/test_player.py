@@ -343,6 +343,19 @@ class Program(unittest.TestCase):
             done = subprocess.run(command, capture_output=True, env=known(), check=False, text=True)
         self.assertEqual((done.returncode, done.stdout, done.stderr), (1, "", f"127.0.0.1:{port}: Address already in use\n"))
 
+    def test_it_answers_where_nothing_can_be_told_on_standard_error(self) -> None:
+        with open("/dev/full", "w") as full, subprocess.Popen(
+            package("gdlsolve.player", "--port", 0), stdout=subprocess.PIPE, stderr=full, env=known(), text=True
+        ) as player:
+            try:
+                assert player.stdout is not None
+                url = f"http://{player.stdout.readline().split()[-1]}"
+                self.assertEqual(post(url, f"(START m a {rules_of('matching_pennies')} 30 1)"), (200, "ready"))
+                self.assertEqual(post(url, "(PLAY m NIL)"), (200, "h"))
+                self.assertEqual(post(url, "(PLAY m (x x))"), (200, "h"))
+            finally:
+                player.terminate()
+
     def test_words_that_are_none(self) -> None:
         wrong = ["--depth", "0"], ["--depth", "65"], ["--matches", "0"], ["--margin", "-1"], ["--margin", "nan"], ["--port", "65536"]
         for words in wrong:
