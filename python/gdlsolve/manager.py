@@ -13,6 +13,7 @@ import argparse
 import http
 import http.client
 import json
+import math
 import random
 import socket
 import sys
@@ -38,6 +39,15 @@ RANDOM = "random"
 MOST_BYTES = 1 << 20
 # So long a player may take for what ends a match, in seconds.
 FAREWELL = 5.0
+
+
+def is_of(value: object, kind: str) -> bool:
+    """Whether a value is of the kind that a field of a record is declared with. A number of seconds is at least 0, and finite."""
+    if kind.startswith("list["):
+        return isinstance(value, list) and all(is_of(each, kind[len("list[") : -1]) for each in value)
+    if kind == "float":
+        return isinstance(value, (int, float)) and not isinstance(value, bool) and 0 <= value < math.inf
+    return type(value).__name__ == kind
 
 
 @dataclass
@@ -79,6 +89,9 @@ class Record:
             found = cls(**{name: told[name] for name in cls.__dataclass_fields__ if name in told})
         except (KeyError, TypeError, ValueError) as fault:
             raise ValueError(f"{file} is no record of a match: {fault!r}") from None
+        for name, each in cls.__dataclass_fields__.items():
+            if not is_of(getattr(found, name), str(each.type)):
+                raise ValueError(f"{file} is no record of a match: {name} has something else than {each.type}")
         lengths = {len(found.moves), len(found.errors), len(found.seconds)}
         if len(lengths) != 1 or len(found.players) != len(found.roles):
             raise ValueError(f"{file} is no record of a match: its lists differ in length")
@@ -248,10 +261,15 @@ class Referee:
         return self.record
 
 
+def roles_of(rules: str) -> list[str]:
+    """The roles of a game, also of one that has to be written out."""
+    return list(gdlsolve.check(whole.playable(rules.encode(), answer)).roles)
+
+
 def made(given: argparse.Namespace) -> Record:
     """The record of a new match."""
     rules = given.rules.read_bytes().decode(errors="replace")
-    roles = list(gdlsolve.check(whole.playable(rules.encode(), answer)).roles)
+    roles = roles_of(rules)
     if len(given.player) > len(roles):
         raise ValueError(f"there are {len(given.player)} players, and {len(roles)} roles")
     players = given.player + [RANDOM] * (len(roles) - len(given.player))
@@ -265,6 +283,8 @@ def resumed(given: argparse.Namespace) -> Record:
     """The record of a match that goes on. It has another name, since players may know the old one
     with other turns; at those it is ended."""
     record = Record.read(given.resume)
+    if record.roles != roles_of(record.rules):
+        raise ValueError(f"{given.resume} is no record of a match: its roles are not those of its rules")
     for player in dict.fromkeys(record.players):
         if player != RANDOM:
             post(player, f"(ABORT {record.matchId})", FAREWELL)

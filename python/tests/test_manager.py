@@ -218,6 +218,20 @@ class Records(unittest.TestCase):
         with self.assertRaises(ValueError):
             Record.read(self.file)
 
+    def test_a_record_with_something_else_in_it_is_told_in_a_line(self) -> None:
+        good = played([game("nim")])
+        good.write(self.file)
+        told = json.loads(self.file.read_text())
+        turns = len(good.moves)
+        bad: dict[str, object] = {"rules": 5, "roles": 5, "players": [1, 2], "startClock": "5", "playClock": -1, "states": None}
+        for name, value in {**bad, "moves": [[1, 2]] * turns, "errors": [5] * turns, "seconds": None}.items():
+            self.file.write_text(json.dumps({**told, name: value}))
+            with self.subTest(name=name), self.assertRaisesRegex(ValueError, f"{self.file} is no record of a match: {name} has "):
+                Record.read(self.file)
+        self.file.write_text(json.dumps({**told, "roles": ["one", "two"]}))
+        with self.assertRaisesRegex(ValueError, "its roles are not those of its rules"):
+            played(["--resume", str(self.file)])
+
 
 class Program(unittest.TestCase):
     def ran(self, *words: str) -> tuple[int, str, str]:
