@@ -315,8 +315,8 @@ def options(words: Sequence[str] | None) -> argparse.Namespace:
     found = known.parse_args(words)
     if (found.rules is None) == (found.resume is None):
         known.error("either rules or a record to go on with")
-    if min(found.start, found.play, found.slack) < 0:
-        known.error("a clock is below 0")
+    if not all(0 <= clock < math.inf for clock in (found.start, found.play, found.slack)):
+        known.error("a clock is no number of seconds from 0 on")
     return found
 
 

@@ -247,7 +247,8 @@ class Program(unittest.TestCase):
 
     def test_words_that_are_none(self) -> None:
         self.assertEqual(self.ran()[0], 2)
-        self.assertEqual(self.ran(game("nim"), "--play", "-1")[0], 2)
+        for clock in "-1", "nan", "inf":
+            self.assertEqual(self.ran(game("nim"), "--play", clock)[0], 2)
         self.assertEqual(self.ran("no such file")[0], 1)
         self.assertEqual(self.ran(game("nim"), "--player", "ftp://x")[0], 1)
         self.assertEqual(self.ran(game("nim"), *["--player", "random"] * 3)[0], 1)
