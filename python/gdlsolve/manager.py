@@ -20,7 +20,8 @@ import sys
 import threading
 import time
 from collections.abc import Callable, Sequence
-from concurrent.futures import ThreadPoolExecutor
+from concurrent.futures import Future
+from contextlib import suppress
 from dataclasses import asdict, dataclass, field
 from functools import partial
 from pathlib import Path
@@ -39,6 +40,8 @@ RANDOM = "random"
 MOST_BYTES = 1 << 20
 # So long a player may take for what ends a match, in seconds.
 FAREWELL = 5.0
+# The exit status where a key ends it.
+STOPPED = 130
 
 
 def is_of(value: object, kind: str) -> bool:
@@ -156,6 +159,20 @@ def post(player: str, message: str, seconds: float) -> Told:
     return Told(text, error, round(took, 3))
 
 
+def begun(work: Callable[[], Told]) -> Future[Told]:
+    """What will have been told, by a thread that is not waited for where the referee ends: a clock may be long."""
+    found: Future[Told] = Future()
+
+    def run() -> None:
+        try:
+            found.set_result(work())
+        except Exception as fault:
+            found.set_exception(fault)
+
+    threading.Thread(target=run, daemon=True).start()
+    return found
+
+
 class Referee:
     """Leads a match: tells the players, takes their moves, and keeps the record."""
 
@@ -189,8 +206,8 @@ class Referee:
                 return Told(None, "", 0.0)
             return post(player, message(role), seconds)
 
-        with ThreadPoolExecutor(len(self.record.roles)) as threads:
-            return list(threads.map(one, self.record.roles, self.record.players))
+        both = zip(self.record.roles, self.record.players)
+        return [found.result() for found in [begun(partial(one, *each)) for each in both]]
 
     def tell_turn(self, word: str, last: Sequence[Turn], seconds: float) -> list[Told]:
         """What each player says to a message with the last of these turns."""
@@ -247,9 +264,28 @@ class Referee:
         self.record.write(self.file)
 
     def play(self, most_turns: int) -> Record:
-        """Plays to the end, or to so many turns."""
-        self.failed = self.start()
+        """Plays to the end, or to so many turns. Where it is ended before, or the record cannot be written, the match is broken off at its
+        players too."""
         self.record.isAborted = False
+        # A record that cannot be written is told before the players have begun.
+        self.note()
+        try:
+            return self.led(most_turns)
+        except BaseException:
+            self.break_off()
+            raise
+
+    def break_off(self) -> None:
+        """Ends the match at its players, who would else wait for turns, and says so in the record."""
+        self.record.isAborted = True
+        with suppress(OSError):
+            self.note()
+        with suppress(ValueError):
+            self.tell(lambda role: f"(ABORT {self.record.matchId})", FAREWELL)
+
+    def led(self, most_turns: int) -> Record:
+        """Begins at the players, and plays to the end, or to so many turns."""
+        self.failed = self.start()
         self.note()
         while self.here.state is State.OPEN and len(self.record.moves) < most_turns:
             self.turn()
@@ -333,6 +369,8 @@ def main(words: Sequence[str] | None = None) -> int:
     except (Refusal, ValueError, OSError, ImportError, Ended) as fault:
         print(fault, file=sys.stderr)
         return 1
+    except KeyboardInterrupt:
+        return STOPPED
     wrong = sum(1 for turn in record.errors for error in turn if error)
     count = f"{len(record.moves)} turns, {wrong} failed moves"
     print(f"{record.matchId}: {record.state} after {count}")

@@ -2,6 +2,7 @@
 
 import json
 import random
+import signal
 import subprocess
 import tempfile
 import threading
@@ -244,6 +245,40 @@ class Program(unittest.TestCase):
         self.assertEqual((status, errors), (0, ""))
         ended = r"^m: ended after \d+ turns, 0 failed moves\nfirst \d+\nsecond \d+\n$"
         self.assertRegex(output, ended)
+
+    def test_a_record_that_cannot_be_written_is_told_before_a_player_has_begun(self) -> None:
+        odd = Odd(self, lambda text: "ready")
+        status, output, errors = self.ran(game("nim"), "--player", odd.url, "--record", "/no such folder/match.json")
+        self.assertEqual((status, output), (1, ""))
+        self.assertIn("/no such folder/match.json", errors)
+        self.assertEqual(odd.heard, [])
+
+    @unittest.skipIf(signal.getsignal(signal.SIGINT) is signal.SIG_IGN, "the key is of no account here")
+    def test_a_key_breaks_the_match_off_at_once_and_at_the_players_too(self) -> None:
+        ended, is_asked = threading.Event(), threading.Event()
+        self.addCleanup(ended.set)
+
+        def hang(text: str) -> str:
+            if text.startswith("(PLAY"):
+                is_asked.set()
+                ended.wait(600)
+            return "ready"
+
+        odd = Odd(self, hang)
+        with tempfile.TemporaryDirectory() as room:
+            file = Path(room) / "match.json"
+            words = [game("nim"), "--id", "m", "--player", odd.url, "--play", "600", "--record", str(file)]
+            pipe = subprocess.PIPE
+            with subprocess.Popen(package("gdlsolve.manager", *words), stdout=pipe, stderr=pipe, env=known()) as manager:
+                try:
+                    self.assertTrue(is_asked.wait(120))
+                    manager.send_signal(signal.SIGINT)
+                    self.assertEqual(manager.communicate(timeout=120), (b"", b""))
+                finally:
+                    manager.kill()
+            record = Record.read(file)
+        self.assertEqual((manager.returncode, record.isAborted, record.state), (130, True, "open"))
+        self.assertEqual(odd.heard[-1], "(ABORT m)")
 
     def test_words_that_are_none(self) -> None:
         self.assertEqual(self.ran()[0], 2)
