@@ -5,6 +5,7 @@ import json
 import os
 import signal
 import subprocess
+import tempfile
 import threading
 import time
 import unittest
@@ -123,6 +124,14 @@ class Games(Served):
         self.assertEqual([each["name"] for each in games], stored)
         about = "Tic-tac-toe on a board of three by three cells"
         self.assertIn({"name": "tic_tac_toe", "about": about}, games)
+
+    def test_what_cannot_be_read_in_the_folder_is_passed_over(self) -> None:
+        with tempfile.TemporaryDirectory() as room:
+            (Path(room) / "folder.kif").mkdir()
+            (Path(room) / "gone.kif").symlink_to("no such file")
+            (Path(room) / "nim.kif").write_text("; Nim.")
+            desk = Desk(self.desk.pool, Path(room))
+            self.assertEqual(desk.games()["games"], [{"name": "nim", "about": "Nim"}])
 
     def test_a_game_is_opened_by_name_or_text(self) -> None:
         told = self.ask("open", name="tic_tac_toe")

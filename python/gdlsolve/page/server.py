@@ -10,6 +10,7 @@ import sys
 import threading
 import time
 from collections.abc import Callable, Sequence
+from contextlib import suppress
 from dataclasses import dataclass
 from http.server import BaseHTTPRequestHandler, ThreadingHTTPServer
 from importlib.resources import files
@@ -94,9 +95,11 @@ class Desk:
         return self.reply(words, rules).lines()
 
     def games(self) -> dict[str, Any]:
-        """The games of the folder."""
-        found = sorted(self.folder.glob("*.kif")) if self.folder else []
-        told = [{"name": path.stem, "about": about(path.read_text("latin-1"))} for path in found]
+        """The games of the folder. What cannot be read there is passed over."""
+        told = []
+        for path in sorted(self.folder.glob("*.kif")) if self.folder else []:
+            with suppress(OSError):
+                told.append({"name": path.stem, "about": about(path.read_text("latin-1"))})
         return {"games": told, "version": gdlsolve.__version__}
 
     def _stored(self, name: str) -> Path:
