@@ -15,7 +15,7 @@ from typing import Any
 from gdlsolve.calls import Refusal
 from gdlsolve.engine import Limit, Pool
 from gdlsolve.page import looks, places, records, state
-from gdlsolve.page.server import Desk, Server
+from gdlsolve.page.server import MOST_LOOKS, Desk, Server
 from tests import ENDLESS, ENDLESS_RULES, TOP, known, package
 from tests.serving import Held, processor_time, until
 
@@ -250,6 +250,14 @@ class Looks(Served):
         time.sleep(1)
         self.assertEqual([each for each in ready if processor_time(each) > ready[each] + 25], [])
         self.assertEqual(self.ask("position", game=game, after=[])["state"], "open")
+
+    def test_a_long_look_is_not_given_up_for_those_that_have_ended(self) -> None:
+        about: dict[str, Any] = {"game": self.opened(ENDLESS), "role": "red", "after": [], "seconds": None}
+        look = self.ask("values", **about)["look"]
+        for _ in range(MOST_LOOKS + 1):
+            self.ended(self.ask("values", game=self.opened("matching_pennies"), role="a", after=[], seconds=60)["look"])
+        self.assertEqual(self.ask("news", look=look, seen=-1)["ended"], "")
+        self.ask("stop", look=look)
 
     def test_bad_questions_about_looks_are_told(self) -> None:
         game = self.opened("nim")

@@ -196,7 +196,8 @@ class Desk:
 
     def _drop_old(self) -> None:
         """Gives up looks for which nobody asks, and the oldest where there are too many."""
-        for number, look in list(self._looks.items()):
+        # Those that have ended make room first, so that one goes on as long as no eight others do.
+        for number, look in sorted(self._looks.items(), key=lambda each: not each[1].ended):
             if look.forgotten() or len(self._looks) >= MOST_LOOKS:
                 del self._looks[number]
                 threading.Thread(target=look.stop, daemon=True).start()
