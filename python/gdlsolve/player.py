@@ -11,6 +11,7 @@ from __future__ import annotations
 import argparse
 import json
 import random
+import re
 import signal
 import sys
 import threading
@@ -35,6 +36,8 @@ from gdlsolve.thinking import Choice, Thinking
 # worked out without it.
 RESERVE = 0.25
 MOST_PORT = 65_535
+# A line between the chunks of a body is no longer, in bytes.
+MOST_OF_LINE = 4_096
 # What the solver says or does when it gives no answer.
 NO_ANSWER = (Late, Broken, Misuse, MemoryError)
 
@@ -352,6 +355,14 @@ class Player:
         self.children.close()
 
 
+class Unread(Exception):
+    """A body that is not read. `status` is that of HTTP, and the text says why."""
+
+    def __init__(self, status: int, why: str):
+        super().__init__(why)
+        self.status = status
+
+
 class Handler(BaseHTTPRequestHandler):
     """One message over HTTP."""
 
@@ -378,18 +389,52 @@ class Handler(BaseHTTPRequestHandler):
     def do_POST(self) -> None:
         """Answers a message."""
         arrived = time.monotonic()
-        size = self.headers.get("Content-Length", "")
-        if not (size.isascii() and size.isdigit()):
-            return self.tell(411, "a message has a length")
-        if len(size) > 9 or int(size) > MOST_BYTES:
-            return self.tell(413, "too long")
-        text = self.rfile.read(int(size))
-        if len(text) < int(size):
-            return self.tell(400, "cut off")
         try:
+            text = self.body()
             return self.tell(200, self.server.player.answer(text.decode(errors="replace"), arrived))
+        except Unread as fault:
+            return self.tell(fault.status, str(fault))
         except Malformed as fault:
             return self.tell(400, f"malformed: {fault}")
+
+    def body(self) -> bytes:
+        """The body of a message."""
+        if self.headers.get("Transfer-Encoding", "").lower() == "chunked":
+            return self.chunks()
+        size = self.headers.get("Content-Length", "")
+        if not (size.isascii() and size.isdigit()):
+            raise Unread(411, "a message has a length")
+        if len(size) > 9 or int(size) > MOST_BYTES:
+            raise Unread(413, "too long")
+        return self.taken(int(size))
+
+    def taken(self, size: int) -> bytes:
+        """So many bytes of the body."""
+        found = self.rfile.read(size)
+        if len(found) < size:
+            raise Unread(400, "cut off")
+        return found
+
+    def chunks(self) -> bytes:
+        """A body that comes in chunks, as clients send it that do not know its length before: each behind a line with its size, the last
+        one empty."""
+        found = bytearray()
+        while size := self.size_of_chunk():
+            if len(found) + size > MOST_BYTES:
+                raise Unread(413, "too long")
+            found += self.taken(size)
+            self.rfile.readline(MOST_OF_LINE)
+        # What may stand behind the last one is read, so that the client hears the answer.
+        while self.rfile.readline(MOST_OF_LINE).strip():
+            pass
+        return bytes(found)
+
+    def size_of_chunk(self) -> int:
+        """The size of the next chunk."""
+        word = self.rfile.readline(MOST_OF_LINE).partition(b";")[0].strip()
+        if not re.fullmatch(rb"[0-9a-fA-F]{1,8}", word):
+            raise Unread(400, "cut off")
+        return int(word, 16)
 
     def log_message(self, format: str, *words: Any) -> None:
         """Writes nothing: the player tells its turns itself."""

@@ -26,6 +26,7 @@ RED = (ENDLESS, "red")
 SOON = 60.0
 # Clocks of a match whose value is settled, so that they are not used.
 LONG_CLOCKS = clocks(60, 60)
+CHUNKED = b"POST / HTTP/1.1\r\nTransfer-Encoding: chunked\r\n\r\n"
 OPENINGS = gdlsolve.moves(HEXAPAWN).legal["white"]
 
 
@@ -157,12 +158,18 @@ class Messages(unittest.TestCase):
             (b"POST / HTTP/1.0\r\nContent-Length: -5\r\n\r\n", b"411"),
             (b"POST / HTTP/1.0\r\nContent-Length: 99999999999999\r\n\r\n", b"413"),
             (b"POST / HTTP/1.0\r\nContent-Length: 9999999\r\n\r\n", b"413"),
+            (CHUNKED + b"3\r\n(IN\r\n3;x=1\r\nFO)\r\n0\r\n\r\n", b"200"),
+            (CHUNKED + b"6\r\n(INFO)\r\n0\r\nMore: 1\r\n\r\n", b"200"),
+            (CHUNKED + b"-6\r\n(INFO)\r\n0\r\n\r\n", b"400"),
+            (CHUNKED + b"(INFO)", b"400"),
+            (CHUNKED + b"999999\r\n", b"413"),
             (b"GET / HTTP/1.0\r\n\r\n", b"501"),
             (b"OPTIONS / HTTP/1.0\r\n\r\n", b"200"),
             (b"\x00\x01\x02\r\n\r\n", b"400"),
         ]:
             with self.subTest(raw=raw), socket.create_connection((host, port), 60) as link:
                 link.sendall(raw)
+                link.shutdown(socket.SHUT_WR)
                 self.assertIn(status, link.recv(400).split(b"\r\n")[0])
         with socket.create_connection((host, port), 60) as link:
             # A body that does not come holds up nobody else.
