@@ -36,6 +36,12 @@ def _value(found: Reply) -> bytes:
     return found.output.split(b"\n", 1)[0]
 
 
+def _is_sure(found: Reply) -> bool:
+    """Whether an answer in which unfinished play is worth nothing is settled by itself: no more is to be had, or there is no turn to come."""
+    value, *rest = found.output.splitlines()
+    return value == b"value 100" or rest == [b"move none"]
+
+
 def _ask(pool: Pool, words: Sequence[str], rules: bytes, until: float) -> Reply:
     """A reply that is there in time."""
     found = pool.ask(words, rules, Limit(until))
@@ -53,7 +59,7 @@ def depths(pool: Pool, words: Sequence[str], rules: bytes, until: float) -> Iter
         yield Deepest(depth, sure, False)
         if sure.status != Status.ANSWER:
             return
-        if _value(_ask(pool, [*asked, "100"], rules, until)) == _value(sure):
+        if _is_sure(sure) or _value(_ask(pool, [*asked, "100"], rules, until)) == _value(sure):
             yield Deepest(depth, sure, True)
             return
 

@@ -21,6 +21,9 @@ SOON = 20.0
 PENNIES = TOP / "games/matching_pennies.kif"
 MARKS = TOP / "games/tic_tac_toe.kif"
 
+# Turns of it behind which the role that moves wins at once.
+WON = "((mark 1 1) noop) (noop (mark 2 1)) ((mark 1 2) noop) (noop (mark 2 2))"
+
 
 # Where it is the program that has to answer.
 BY_PROGRAM = {"GDLSOLVE_PROGRAM": " ".join(PROGRAM)}
@@ -128,6 +131,14 @@ class Time(unittest.TestCase):
         status, output, _ = command(["solve", "--role", "xplayer", "--time", "60", "--json", MARKS])
         told = json.loads(output)
         self.assertEqual((status, told["settled"], told["value"]), (0, True, 50))
+
+    def test_what_no_turn_can_change_is_settled_in_the_shortest_time(self) -> None:
+        short = ["solve", "--time", "0.001", "--role"]
+        for words, want in [
+            (["a", PENNIES, "--after", "(h t)"], "depth 1\nvalue 0\nmove none\nsettled\n"),
+            (["xplayer", MARKS, "--after", WON], "depth 1\nvalue 100\nmove (mark 1 3)\nline 1 (mark 1 3) noop\nsettled\n"),
+        ]:
+            self.assertEqual(command([*short, *words])[:2], (0, want))
 
     def test_one_turn_is_waited_for(self) -> None:
         status, output, _ = command(["solve", "--role", "xplayer", "--time", "0.001", MARKS])
