@@ -7,6 +7,7 @@ from __future__ import annotations
 
 import importlib.util
 import io
+import json
 import os
 import shutil
 import sys
@@ -367,6 +368,27 @@ class Texts(Browser):
         self.put("record-text", "((mark 1 1) noop)")
         self.element("take").click()
         self.wait(lambda: "does not fit" in self.text("record-fault"))
+
+    def test_a_record_of_pasted_rules_has_the_rules(self) -> None:
+        self.go("game=nim")
+        rules = (TOP / "games/matching_pennies.kif").read_text()
+        self.element("write").click()
+        self.put("text", rules)
+        self.element("open").click()
+        self.wait(lambda: self.text("title") == "pasted")
+        self.wait(lambda: len(self.all("#rows button")) == 2)
+        # What is saved is kept here, in place of a file.
+        self.run_js("URL.createObjectURL = (blob) => { blob.text().then((text) => { window.saved = text; }); return '#'; }")
+        self.element("save").click()
+        self.wait(lambda: self.run_js("return window.saved"))
+        saved = self.run_js("return window.saved")
+        self.assertEqual(json.loads(saved)["rules"], rules)
+        self.browser.get("about:blank")
+        self.go("game=nim")
+        self.element("load").click()
+        self.put("record-text", saved.replace('"moves": []', '"moves": [["h", "t"]]'))
+        self.element("take").click()
+        self.wait(lambda: self.text("title") == "pasted" and self.element("forward").is_enabled())
 
 
 del Browser

@@ -531,6 +531,8 @@ function save() {
     isCompleted: state === "ended" && now.at === now.turns.length,
   };
   if (told.isCompleted) told.goalValues = now.game.roles.map((role) => goals[role]);
+  // The folder has no such game, and the page itself forgets it.
+  if (!now.games.some(({ name }) => name === told.game)) told.rules = now.game.text;
   const blob = new Blob([JSON.stringify(told, null, 1)], { type: "application/json" });
   $("save").href = URL.createObjectURL(blob);
 }
