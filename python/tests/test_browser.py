@@ -390,6 +390,13 @@ class Texts(Browser):
         self.element("take").click()
         self.wait(lambda: self.text("title") == "pasted" and self.element("forward").is_enabled())
 
+    def test_turns_of_an_address_that_cannot_be_played_are_dropped(self) -> None:
+        port = self.server.server_address[1]
+        self.browser.get(f"http://127.0.0.1:{port}/#game=matching_pennies&you=a,b&after=(h+x)")
+        self.wait(lambda: "refused H2 NotLegal 1 b" in self.text("status"))
+        self.assertTrue(self.element("game").is_displayed())
+        self.assertEqual(len(self.all("#rows button")), 2)
+
 
 del Browser
 

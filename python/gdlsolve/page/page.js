@@ -169,7 +169,17 @@ async function open(question, { turns = [], you = null, at = null } = {}) {
   document.title = `${told.name.replaceAll("_", " ")} – gdlsolve`;
   drawSeats();
   fillSubject();
-  await show({ auto: !turns.length });
+  try {
+    await show({ auto: !turns.length });
+  } catch (fault) {
+    if (!turns.length) throw fault;
+    // Turns that the game does not have, as an old address tells them: the game is there without them.
+    now.turns = [];
+    now.chosen = [];
+    now.at = 0;
+    await show();
+    say(`${fault.message} The game begins anew.`, true);
+  }
 }
 
 function drawSeats() {
