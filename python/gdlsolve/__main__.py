@@ -15,7 +15,7 @@ from collections.abc import Callable, Sequence
 from dataclasses import asdict, dataclass, replace
 from enum import Enum
 from pathlib import Path
-from typing import Any, NoReturn, TextIO
+from typing import Any, NoReturn
 
 from gdlsolve import program, whole
 from gdlsolve.calls import ASKS_FOR_HELP, Ended, Misuse, Refusal, Reply, Status, lines_of, reply
@@ -23,6 +23,7 @@ from gdlsolve.deepening import Deepest, deepen
 from gdlsolve.engine import Broken
 from gdlsolve.progress import progress
 from gdlsolve.replies import Description, Network, Outside, Position, Standing, Values
+from gdlsolve.streams import StreamFault, on_input, put, say
 
 USAGE = """
 With this package a file of rules may stand among the words, else they are read on standard input. Further options:
@@ -43,10 +44,6 @@ STREAM_FAILED = 4
 NO_PROGRAM = 70
 # By a key.
 STOPPED = 130
-
-
-class StreamFault(Exception):
-    """Standard input or output failed, or is closed. The text is what the program says of it."""
 
 
 @dataclass(frozen=True)
@@ -129,34 +126,6 @@ def plain(value: object) -> object:
     raise TypeError(f"{value!r} is no part of an answer")
 
 
-def hush(stream: TextIO) -> None:
-    """Drops what a stream that failed has not written, so that Python does not try it again at its end."""
-    os.dup2(os.open(os.devnull, os.O_WRONLY), stream.fileno())
-
-
-def put(output: bytes) -> None:
-    """Writes to standard output. Python has none where it is closed."""
-    if sys.stdout is None:
-        raise StreamFault("write fault")
-    try:
-        sys.stdout.buffer.write(output)
-        sys.stdout.buffer.flush()
-    except OSError as fault:
-        hush(sys.stdout)
-        raise StreamFault("write fault") from fault
-
-
-def say(text: str) -> None:
-    """Tells people something, where they can be told."""
-    if sys.stderr is None:
-        return
-    try:
-        sys.stderr.write(text)
-        sys.stderr.flush()
-    except OSError:
-        hush(sys.stderr)
-
-
 def write_json(value: Any) -> None:
     put(json.dumps(value, default=plain).encode() + b"\n")
 
@@ -195,16 +164,6 @@ def write_deepest(line: Line, found: Deepest) -> int:
     else:
         put(b"depth %d\n%s%s" % (found.depth, found.reply.output, b"settled\n" if found.settled else b""))
     return int(Status.ANSWER)
-
-
-def on_input() -> bytes:
-    """The bytes of standard input."""
-    if sys.stdin is None:
-        raise StreamFault("read fault")
-    try:
-        return sys.stdin.buffer.read()
-    except OSError as fault:
-        raise StreamFault("read fault") from fault
 
 
 def rules_of(line: Line) -> bytes:

@@ -157,6 +157,13 @@ class Here(unittest.TestCase):
         done = subprocess.run(words, input=ENDLESS_RULES.encode(), capture_output=True, env=environment(), check=False, timeout=PATIENCE)
         self.assertEqual((done.returncode, done.stdout, done.stderr), (4, b"", b"/no such folder/journal: No such file or directory\n"))
 
+    def test_a_stream_that_is_closed_or_full_is_told_in_a_line(self) -> None:
+        words = shlex.join(package("gdlsolve.cluster", "--processes", 1, "--role", "xplayer", "--depth", 1))
+        for more, want in {"<&-": "read fault\n", f"{MARKS} >&-": "write fault\n", f"{MARKS} >/dev/full": "write fault\n"}.items():
+            with self.subTest(more=more):
+                done = subprocess.run(f"{words} {more}", shell=True, capture_output=True, text=True, env=environment(), check=False)
+                self.assertEqual((done.returncode, done.stdout, done.stderr), (4, "", want))
+
     def test_other_words_are_misuse(self) -> None:
         none: list[str] = []
         for words in (none, ["--role", "a", "--depth", "65", str(MARKS)], ["--processes", "0"]):
