@@ -33,6 +33,7 @@ from gdlsolve.calls import Ended, Refusal, answer
 from gdlsolve.engine import Turn, history
 from gdlsolve.messages import tree
 from gdlsolve.replies import Position, State
+from gdlsolve.streams import StreamFault, put, say
 from gdlsolve.terms import Malformed, trees
 
 RANDOM = "random"
@@ -356,6 +357,14 @@ def options(words: Sequence[str] | None) -> argparse.Namespace:
     return found
 
 
+def told(record: Record) -> str:
+    """How a match stands, for people."""
+    wrong = sum(1 for turn in record.errors for error in turn if error)
+    count = f"{len(record.moves)} turns, {wrong} failed moves"
+    goals = [f"{role} {goal}\n" for role, goal in zip(record.roles, record.goalValues)]
+    return "".join([f"{record.matchId}: {record.state} after {count}\n", *goals])
+
+
 def main(words: Sequence[str] | None = None) -> int:
     """The command `gdlsolve-manager`."""
     given = options(words)
@@ -364,18 +373,13 @@ def main(words: Sequence[str] | None = None) -> int:
         file = given.record or given.resume
         referee = Referee(record, random.Random(given.seed), given.slack, file)
         referee.play(given.turns)
-        for failed in referee.failed:
-            print(f"not ready: {failed}", file=sys.stderr)
-    except (Refusal, ValueError, OSError, ImportError, Ended) as fault:
-        print(fault, file=sys.stderr)
+        say("".join(f"not ready: {failed}\n" for failed in referee.failed))
+        put(told(record).encode())
+    except (Refusal, StreamFault, ValueError, OSError, ImportError, Ended) as fault:
+        say(f"{fault}\n")
         return 1
     except KeyboardInterrupt:
         return STOPPED
-    wrong = sum(1 for turn in record.errors for error in turn if error)
-    count = f"{len(record.moves)} turns, {wrong} failed moves"
-    print(f"{record.matchId}: {record.state} after {count}")
-    for role, goal in zip(record.roles, record.goalValues):
-        print(f"{role} {goal}")
     return 0
 
 

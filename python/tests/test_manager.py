@@ -280,6 +280,12 @@ class Program(unittest.TestCase):
         self.assertEqual((manager.returncode, record.isAborted, record.state), (130, True, "open"))
         self.assertEqual(odd.heard[-1], "(ABORT m)")
 
+    def test_an_output_that_is_full_is_told_in_a_line(self) -> None:
+        with open("/dev/full", "w") as full:
+            command = package("gdlsolve.manager", game("nim"))
+            done = subprocess.run(command, stdout=full, stderr=subprocess.PIPE, env=known(), check=False, text=True)
+        self.assertEqual((done.returncode, done.stderr), (1, "write fault\n"))
+
     def test_words_that_are_none(self) -> None:
         self.assertEqual(self.ran()[0], 2)
         for clock in "-1", "nan", "inf":
