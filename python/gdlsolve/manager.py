@@ -375,7 +375,10 @@ def main(words: Sequence[str] | None = None) -> int:
         referee.play(given.turns)
         say("".join(f"not ready: {failed}\n" for failed in referee.failed))
         put(told(record).encode())
-    except (Refusal, StreamFault, ValueError, OSError, ImportError, Ended) as fault:
+    except Refusal as refusal:
+        say(f"{given.resume or given.rules}: {refusal}\n{refusal.explanation}")
+        return 1
+    except (StreamFault, ValueError, OSError, ImportError, Ended) as fault:
         say(f"{fault}\n")
         return 1
     except KeyboardInterrupt:

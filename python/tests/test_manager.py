@@ -286,6 +286,14 @@ class Program(unittest.TestCase):
             done = subprocess.run(command, stdout=full, stderr=subprocess.PIPE, env=known(), check=False, text=True)
         self.assertEqual((done.returncode, done.stderr), (1, "write fault\n"))
 
+    def test_a_refusal_is_told_with_the_file(self) -> None:
+        with tempfile.TemporaryDirectory() as room:
+            rules = Path(room) / "broken.kif"
+            rules.write_text("(role a")
+            status, output, errors = self.ran(str(rules))
+        self.assertEqual((status, output), (1, ""))
+        self.assertTrue(errors.startswith(f"{rules}: refused K4 Unclosed 0\n"), errors)
+
     def test_words_that_are_none(self) -> None:
         self.assertEqual(self.ran()[0], 2)
         for clock in "-1", "nan", "inf":
