@@ -64,6 +64,10 @@ class Words(unittest.TestCase):
             with self.subTest(words=words):
                 self.assertEqual(self.by_shell(words), (4, "", want))
 
+    def test_a_program_that_is_named_with_an_open_quote_is_told(self) -> None:
+        want = (70, "", "GDLSOLVE_PROGRAM names no command: No closing quotation: 'it\n")
+        self.assertEqual(command(["check", MARKS], GDLSOLVE_PROGRAM="'it"), want)
+
     def test_people_who_cannot_be_told_change_no_status(self) -> None:
         for where in "2>&-", "2>/dev/full":
             with self.subTest(where=where):

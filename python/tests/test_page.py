@@ -363,10 +363,12 @@ class Ends(unittest.TestCase):
             self.assertEqual((done.returncode, done.stdout), (1, ""))
             self.assertIn(want, done.stderr)
 
-    def test_a_port_that_is_none_is_told_in_a_line(self) -> None:
-        done = subprocess.run(package("gdlsolve.page", "--port", 65536), env=known(), capture_output=True, text=True, timeout=120)
-        self.assertEqual((done.returncode, done.stdout), (2, ""))
-        self.assertTrue(done.stderr.endswith("error: --port is a number from 0 to 65535\n"), done.stderr)
+    def test_words_that_are_none_are_told_in_a_line(self) -> None:
+        wrong = {"--port=65536": "--port is a number from 0 to 65535", "--program='it": "--program is no command: No closing quotation"}
+        for word, want in wrong.items():
+            done = subprocess.run(package("gdlsolve.page", word), env=known(), capture_output=True, text=True, timeout=120)
+            self.assertEqual((done.returncode, done.stdout), (2, ""))
+            self.assertTrue(done.stderr.endswith(f"error: {want}\n"), done.stderr)
 
     def test_a_killed_server_leaves_no_process(self) -> None:
         words = package("gdlsolve.page", "--port", 0, "--workers", 2)

@@ -31,6 +31,10 @@ def options() -> argparse.Namespace:
     given = words.parse_args()
     if given.folder is not None and not given.folder.is_dir():
         words.error(f"{given.folder} is no folder")
+    try:
+        given.program = shlex.split(given.program)
+    except ValueError as fault:
+        words.error(f"--program is no command: {fault}")
     if not 0 <= given.port <= 65_535:
         words.error("--port is a number from 0 to 65535")
     if not 1 <= given.workers <= 64:
@@ -47,7 +51,7 @@ def main() -> int:
     """Serves the page until it is ended."""
     given = options()
     folder = given.folder or (CLONE if CLONE.is_dir() else None)
-    command = [*OWN_COMMAND, *shlex.split(given.program)]
+    command = [*OWN_COMMAND, *given.program]
     desk = Desk(Pool(given.workers, command, spare=1), folder)
     try:
         desk.reply(["--version"], b"")
