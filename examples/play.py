@@ -20,6 +20,7 @@ from gdlsolve import Position, State, whole
 from gdlsolve.calls import answer
 from gdlsolve.engine import Children, Engine, Turn
 from gdlsolve.simulation import Question
+from gdlsolve.streams import hush
 from gdlsolve.thinking import Choice, Thinking
 
 # A move of the solver takes no longer, in seconds: a day.
@@ -138,7 +139,12 @@ if __name__ == "__main__":
         main()
     except gdlsolve.Refusal as refusal:
         sys.exit(str(refusal))
+    except ImportError as fault:
+        sys.exit(str(fault))
     except OSError as fault:
-        sys.exit(f"{fault.filename}: {fault.strerror}")
+        if fault.filename:
+            sys.exit(f"{fault.filename}: {fault.strerror}")
+        hush(sys.stdout)
+        sys.exit("write fault")
     except KeyboardInterrupt:
         sys.exit(130)

@@ -44,6 +44,12 @@ class Play(unittest.TestCase):
         self.assertEqual(ran("play.py", ["no such file"], ""), (1, [], "no such file: No such file or directory\n"))
         self.assertEqual(ran("play.py", [str(TOP / "games/nim.kif"), "--time", "nan"], "")[:2], (2, []))
 
+    def test_an_output_that_is_full_is_told_in_a_line(self) -> None:
+        command = [sys.executable, "-B", str(TOP / "examples/play.py"), str(TOP / "games/nim.kif")]
+        with open("/dev/full", "w") as full:
+            done = subprocess.run(command, input="quit\n", stdout=full, stderr=subprocess.PIPE, env=known(), check=False, text=True)
+        self.assertEqual((done.returncode, done.stderr), (1, "write fault\n"))
+
     def test_comments_may_have_any_byte(self) -> None:
         with tempfile.TemporaryDirectory() as room:
             rules = Path(room) / "nim.kif"
