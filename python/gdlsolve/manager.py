@@ -91,7 +91,7 @@ class Record:
         try:
             told = json.loads(file.read_text())
             found = cls(**{name: told[name] for name in cls.__dataclass_fields__ if name in told})
-        except (KeyError, TypeError, ValueError) as fault:
+        except (KeyError, TypeError, ValueError, RecursionError) as fault:
             raise ValueError(f"{file} is no record of a match: {fault!r}") from None
         for name, each in cls.__dataclass_fields__.items():
             if not is_of(getattr(found, name), str(each.type)):

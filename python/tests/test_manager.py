@@ -215,9 +215,10 @@ class Records(unittest.TestCase):
             self.file.write_text(json.dumps(bad))
             with self.subTest(bad=str(bad)[:40]), self.assertRaises(ValueError):
                 Record.read(self.file)
-        self.file.write_text("{")
-        with self.assertRaises(ValueError):
-            Record.read(self.file)
+        for text in "{", "[" * 100_000:
+            self.file.write_text(text)
+            with self.assertRaises(ValueError):
+                Record.read(self.file)
 
     def test_a_record_with_something_else_in_it_is_told_in_a_line(self) -> None:
         good = played([game("nim")])

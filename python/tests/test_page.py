@@ -350,6 +350,9 @@ class Guards(Served):
         for body in (b"", b"[]", b"{", b"\xff"):
             self.assertEqual(self.post("/api/games", body)[0], 400)
         self.assertEqual(self.post("/api/none", b"{}")[0], 404)
+        deep = "[" * 100_000
+        for path, body in ("/api/games", deep.encode()), ("/api/record", json.dumps({"text": f'{{"moves": {deep}'}).encode()):
+            self.assertEqual(self.post(path, body), (400, b'{"error": "Too many lists are open inside each other."}'))
         self.assertEqual(self.post("/api/games", b"", Content_Length="999999999")[0], 413)
 
 

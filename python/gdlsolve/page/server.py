@@ -362,7 +362,7 @@ class Handler(BaseHTTPRequestHandler):
             if not isinstance(told, dict):
                 raise BadQuestion("A question is a JSON object.")
             answer = self._answer(told)
-        except (ValueError, KeyError, Misuse, Refusal, OSError, *NO_ANSWER) as fault:
+        except (ValueError, KeyError, RecursionError, Misuse, Refusal, OSError, *NO_ANSWER) as fault:
             return self._json(400, {"error": looks.said(fault)})
         if answer is None:
             return self._fault(404, "There is no such question.")
