@@ -15,6 +15,7 @@ import http.client
 import json
 import math
 import random
+import re
 import socket
 import sys
 import threading
@@ -303,6 +304,11 @@ def roles_of(rules: str) -> list[str]:
     return list(gdlsolve.check(whole.playable(rules.encode(), answer)).roles)
 
 
+def name_of(text: str) -> str:
+    """A text as one name: with a space or a bracket in it messages would be others."""
+    return re.sub(r"[^A-Za-z0-9_.+-]", "_", text)
+
+
 def made(given: argparse.Namespace) -> Record:
     """The record of a new match."""
     rules = given.rules.read_bytes().decode(errors="replace")
@@ -311,7 +317,7 @@ def made(given: argparse.Namespace) -> Record:
         raise ValueError(f"there are {len(given.player)} players, and {len(roles)} roles")
     players = given.player + [RANDOM] * (len(roles) - len(given.player))
     begun = now()
-    name = given.id or f"{given.rules.stem}.{begun}"
+    name = given.id or f"{name_of(given.rules.stem)}.{begun}"
     clocks = float(given.start), float(given.play)
     return Record(name, given.rules.name, rules, roles, players, *clocks, begun, playerNamesFromHost=list(players))
 
@@ -330,7 +336,7 @@ def resumed(given: argparse.Namespace) -> Record:
             raise ValueError(f"there are {len(record.roles)} roles: name a player for each")
         record.players = given.player
         record.playerNamesFromHost = list(given.player)
-    record.matchId = given.id or f"{record.matchId}.{len(record.moves)}"
+    record.matchId = given.id or f"{name_of(record.matchId)}.{len(record.moves)}"
     return record
 
 
@@ -352,6 +358,8 @@ def options(words: Sequence[str] | None) -> argparse.Namespace:
     found = known.parse_args(words)
     if (found.rules is None) == (found.resume is None):
         known.error("either rules or a record to go on with")
+    if found.id is not None and (not found.id or name_of(found.id) != found.id):
+        known.error("--id is one name of letters, digits, and the signs _ . + -")
     if not all(0 <= clock < math.inf for clock in (found.start, found.play, found.slack)):
         known.error("a clock is no number of seconds from 0 on")
     return found

@@ -159,6 +159,16 @@ class Matches(unittest.TestCase):
         self.assertEqual(play, "(PLAY m NIL)")
         self.assertEqual(stop, f"(STOP m (h {record.moves[0][1]}))")
 
+    def test_a_match_has_one_name_whatever_the_file_is_called(self) -> None:
+        odd = Odd(self, lambda text: "ready" if text.startswith("(START") else "h")
+        with tempfile.TemporaryDirectory() as room:
+            rules = Path(room) / "two (old) pennies.kif"
+            rules.write_bytes(Path(game("matching_pennies")).read_bytes())
+            record = played([str(rules), "--player", odd.url])
+        self.assertRegex(record.matchId, r"^two__old__pennies\.\d+$")
+        self.assertEqual(record.game, "two (old) pennies.kif")
+        self.assertTrue(odd.heard[0].startswith(f"(START {record.matchId} a ("))
+
 
 class Records(unittest.TestCase):
     def setUp(self) -> None:
@@ -299,6 +309,8 @@ class Program(unittest.TestCase):
         self.assertEqual(self.ran()[0], 2)
         for clock in "-1", "nan", "inf":
             self.assertEqual(self.ran(game("nim"), "--play", clock)[0], 2)
+        for name in "a b", "a)", "":
+            self.assertEqual(self.ran(game("nim"), "--id", name)[0], 2)
         self.assertEqual(self.ran("no such file")[0], 1)
         self.assertEqual(self.ran(game("nim"), "--player", "ftp://x")[0], 1)
         self.assertEqual(self.ran(game("nim"), *["--player", "random"] * 3)[0], 1)
