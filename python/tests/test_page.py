@@ -307,6 +307,12 @@ class Stops(Served):
         self.assertTrue(until(lambda: not alive(processes), SOON), alive(processes))
         self.assertTrue(until(lambda: not self.desk.pool.children.at_work, SOON))
 
+    def test_a_position_waits_for_no_look(self) -> None:
+        look, _ = self.begun()
+        game = self.opened("nim")
+        self.assertEqual(self.ask("position", game=game, after=[])["state"], "open")
+        self.ask("stop", look=look)
+
     def test_by_the_button(self) -> None:
         look, processes = self.begun()
         self.ask("stop", look=look)

@@ -82,13 +82,15 @@ class Desk:
     def __init__(self, pool: Pool, folder: Path | None) -> None:
         self.pool, self.folder = pool, folder
         self._lock = threading.Lock()
+        # Looks may take all places of the pool for long, and a page that only steps on waits for none of them.
+        self._places = threading.Semaphore(pool.most)
         self._opened: dict[str, Opened] = {}
         self._looks: dict[int, looks.Look] = {}
         self._numbers = itertools.count(1)
 
     def reply(self, words: Sequence[str], rules: bytes) -> Reply:
         """The reply to a question that is given up after some seconds."""
-        return self.pool.ask(words, rules, Limit(time.monotonic() + PATIENCE))
+        return self.pool.ask(words, rules, Limit(time.monotonic() + PATIENCE), self._places)
 
     def _ask(self, words: Sequence[str], rules: bytes) -> list[str]:
         """The lines of a short answer."""
