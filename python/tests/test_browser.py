@@ -390,6 +390,11 @@ class Texts(Browser):
         self.element("take").click()
         self.wait(lambda: self.text("title") == "pasted" and self.element("forward").is_enabled())
 
+    def test_an_address_that_is_put_in_where_the_page_is_open_is_opened(self) -> None:
+        self.go("game=nim")
+        self.run_js("location.hash = 'game=matching_pennies&you=a,b&after=(h+t)'")
+        self.wait(lambda: self.text("title") == "matching pennies" and "The game has ended: a 0, b 100" in self.text("status"))
+
     def test_turns_of_an_address_that_cannot_be_played_are_dropped(self) -> None:
         port = self.server.server_address[1]
         self.browser.get(f"http://127.0.0.1:{port}/#game=matching_pennies&you=a,b&after=(h+x)")

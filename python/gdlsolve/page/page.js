@@ -802,6 +802,8 @@ function wire() {
   $("tree").addEventListener("keydown", walkTree);
   document.addEventListener("keydown", key);
   addEventListener("pagehide", leave);
+  // Another address that is put in where the page is open changes this part alone.
+  addEventListener("hashchange", guarded(openAddress));
 }
 
 // The turns of a history's text, which the address tells.
@@ -828,13 +830,21 @@ async function begin() {
   document.querySelector("h1").title = `gdlsolve ${version}`;
   $("games").replaceChildren(make("option", { value: "" }, games.length ? "choose a game" : "no games in the folder"),
     ...games.map(({ name }) => make("option", { value: name }, name.replaceAll("_", " "))));
+  await openAddress();
+}
+
+// Opens what the address tells, else a game of the folder.
+async function openAddress() {
   const asked = new URLSearchParams(location.hash.slice(1));
-  const names = games.map(({ name }) => name);
-  const name = names.includes(asked.get("game")) ? asked.get("game") : names.includes("tic_tac_toe") ? "tic_tac_toe" : names[0];
+  const names = now.games.map(({ name }) => name);
+  const wanted = asked.get("game");
+  const known = names.includes(wanted);
+  const name = known ? wanted : names.includes("tic_tac_toe") ? "tic_tac_toe" : names[0];
   if (!name) return openSection("rules", "text");
-  const turns = asked.get("game") === name ? turnsOf(asked.get("after") || "") : [];
-  const you = asked.get("game") === name && asked.has("you") ? asked.get("you").split(",") : null;
-  return open({ name }, { turns, you });
+  const turns = known ? turnsOf(asked.get("after") || "") : [];
+  const you = known && asked.has("you") ? asked.get("you").split(",") : null;
+  await open({ name }, { turns, you });
+  return undefined;
 }
 
 guarded(begin)();
