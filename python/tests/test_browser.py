@@ -395,6 +395,11 @@ class Texts(Browser):
         self.run_js("location.hash = 'game=matching_pennies&you=a,b&after=(h+t)'")
         self.wait(lambda: self.text("title") == "matching pennies" and "The game has ended: a 0, b 100" in self.text("status"))
 
+    def test_an_address_of_a_game_that_is_not_there_is_told(self) -> None:
+        self.browser.get(f"http://127.0.0.1:{self.server.server_address[1]}/#game=no_such_game")
+        self.wait(lambda: "There is no game no_such_game in the folder." in self.text("status"))
+        self.assertEqual(self.text("title"), "tic tac toe")
+
     def test_turns_of_an_address_that_cannot_be_played_are_dropped(self) -> None:
         port = self.server.server_address[1]
         self.browser.get(f"http://127.0.0.1:{port}/#game=matching_pennies&you=a,b&after=(h+x)")

@@ -844,6 +844,7 @@ async function openAddress() {
   const turns = known ? turnsOf(asked.get("after") || "") : [];
   const you = known && asked.has("you") ? asked.get("you").split(",") : null;
   await open({ name }, { turns, you });
+  if (wanted && !known) say(`There is no game ${wanted} in the folder. This is another one.`, true);
   return undefined;
 }
 
