@@ -268,6 +268,17 @@ class Play(Browser):
 
 
 class Long(Browser):
+    def test_a_narrow_page_does_not_go_sideways(self) -> None:
+        narrow = {"width": 360, "height": 740, "deviceScaleFactor": 1, "mobile": False}
+        self.browser.execute_cdp_cmd("Emulation.setDeviceMetricsOverride", narrow)
+        self.addCleanup(self.browser.execute_cdp_cmd, "Emulation.clearDeviceMetricsOverride", {})
+        for name in "tic_tac_toe", "river", ENDLESS:
+            with self.subTest(name=name):
+                self.browser.get("about:blank")
+                self.browser.get(f"http://127.0.0.1:{self.server.server_address[1]}/#game={name}")
+                self.wait(lambda: self.all("#rows .bar"), 20)
+                self.assertLessEqual(self.run_js("return document.documentElement.scrollWidth"), 360)
+
     def test_a_long_look_is_cancelled(self) -> None:
         self.go(f"game={ENDLESS}")
         self.pick("seconds", "")
