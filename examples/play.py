@@ -16,10 +16,15 @@ import time
 from pathlib import Path
 
 import gdlsolve
-from gdlsolve import Position, State
+from gdlsolve import Position, State, whole
+from gdlsolve.calls import answer
 from gdlsolve.engine import Children, Engine, Turn
 from gdlsolve.simulation import Question
+from gdlsolve.streams import hush
 from gdlsolve.thinking import Choice, Thinking
+
+# A move of the solver takes no longer, in seconds: a day.
+LONGEST = 86_400
 
 
 def options() -> argparse.Namespace:
@@ -29,7 +34,10 @@ def options() -> argparse.Namespace:
     words.add_argument("rules", type=Path, help="the rules of the game")
     words.add_argument("--role", help="your role; without it, the first one")
     words.add_argument("--time", type=float, default=2.0, help="seconds for a move of the solver")
-    return words.parse_args()
+    given = words.parse_args()
+    if not 0 <= given.time <= LONGEST:
+        words.error(f"--time is a number of seconds from 0 to {LONGEST}")
+    return given
 
 
 class Table:
@@ -117,7 +125,9 @@ def told(choice: Choice) -> str:
 
 def main() -> None:
     given = options()
-    here = Table(given.rules.read_text(), given.role, given.time).play()
+    # A game as it is found is written out first, and in comments any byte may stand.
+    rules = whole.playable(given.rules.read_bytes(), answer).decode(errors="replace")
+    here = Table(rules, given.role, given.time).play()
     if here.state is State.STUCK:
         print("stuck: some role has no legal move")
     for role, goal in here.goals.items():
@@ -129,5 +139,12 @@ if __name__ == "__main__":
         main()
     except gdlsolve.Refusal as refusal:
         sys.exit(str(refusal))
+    except ImportError as fault:
+        sys.exit(str(fault))
+    except OSError as fault:
+        if fault.filename:
+            sys.exit(f"{fault.filename}: {fault.strerror}")
+        hush(sys.stdout)
+        sys.exit("write fault")
     except KeyboardInterrupt:
         sys.exit(130)

@@ -73,5 +73,5 @@ def main() -> None:
 if __name__ == "__main__":
     try:
         main()
-    except (Refusal, FileNotFoundError) as fault:
+    except (Refusal, OSError, ImportError) as fault:
         raise SystemExit(str(fault))

@@ -23,6 +23,7 @@ from gdlsolve.deepening import Deepest, deepen
 from gdlsolve.engine import Broken
 from gdlsolve.progress import progress
 from gdlsolve.replies import Description, Network, Outside, Position, Standing, Values
+from gdlsolve.streams import StreamFault, on_input, put, say
 
 USAGE = """
 With this package a file of rules may stand among the words, else they are read on standard input. Further options:
@@ -37,11 +38,9 @@ ASKS = {*ASKS_FOR_HELP, "help"}
 FLAGS = {"--deepen", "--lines", "--tighten", "--whole"}
 # Commands that may take long.
 SEARCHES = (["solve"], ["values"])
-# Options that have no value.
-FLAGS = {"--deepen", "--lines", "--tighten", "--whole"}
 # Commands to which a game as it is found is written out.
 OVER_RULES = {"check", "moves", "net", "solve", "state", "values"}
-INPUT_FAILED = 4
+STREAM_FAILED = 4
 NO_PROGRAM = 70
 # By a key.
 STOPPED = 130
@@ -128,22 +127,22 @@ def plain(value: object) -> object:
 
 
 def write_json(value: Any) -> None:
-    print(json.dumps(value, default=plain))
+    put(json.dumps(value, default=plain).encode() + b"\n")
 
 
 def write(line: Line, found: Reply) -> int:
     """Writes a reply as the words ask for, and gives the exit status."""
     if found.status == Status.MISUSE:
         asked = bool(ASKS & set(line.words)) and b"error:" not in found.output
-        stream = sys.stdout if asked else sys.stderr
-        stream.write(found.output.decode())
-        if asked and "-V" not in line.words and "--version" not in line.words:
-            stream.write(USAGE)
-        return 0 if asked else int(Status.MISUSE)
-    sys.stderr.write(found.errors.decode(errors="replace"))
+        if not asked:
+            say(found.output.decode())
+            return int(Status.MISUSE)
+        tells_words = "-V" not in line.words and "--version" not in line.words
+        put(found.output + (USAGE.encode() if tells_words else b""))
+        return 0
+    say(found.errors.decode(errors="replace"))
     if not line.as_json:
-        sys.stdout.buffer.write(found.output)
-        sys.stdout.buffer.flush()
+        put(found.output)
     elif is_linted(line, found):
         write_json({"findings": findings(lines_of(found.output))})
     elif found.status == Status.REFUSED:
@@ -158,10 +157,12 @@ def write_deepest(line: Line, found: Deepest) -> int:
     """Writes the deepest answer that was found in time, and gives the exit status."""
     if found.reply.status != Status.ANSWER:
         return write(line, found.reply)
+    if found.broken:
+        say(f"the search ended before its time: {found.broken}\n")
     if line.as_json:
         write_json({"depth": found.depth, "settled": found.settled, **told("solve", found.reply.output)})
     else:
-        sys.stdout.write(f"depth {found.depth}\n{found.reply.output.decode()}" + ("settled\n" if found.settled else ""))
+        put(b"depth %d\n%s%s" % (found.depth, found.reply.output, b"settled\n" if found.settled else b""))
     return int(Status.ANSWER)
 
 
@@ -169,7 +170,7 @@ def rules_of(line: Line) -> bytes:
     """The bytes of the rules."""
     if ASKS & set(line.words) or not line.words:
         return b""
-    return sys.stdin.buffer.read() if line.game is None else line.game.read_bytes()
+    return on_input() if line.game is None else line.game.read_bytes()
 
 
 def answered(line: Line, rules: bytes) -> Reply:
@@ -222,17 +223,20 @@ def main() -> int:
     try:
         return run(sys.argv[1:])
     except Misuse as misuse:
-        print(misuse, file=sys.stderr)
+        say(f"{misuse}\n")
         return int(Status.MISUSE)
     except MemoryError:
-        print("no memory", file=sys.stderr)
+        say("no memory\n")
         return int(Status.NO_MEMORY)
     except (Ended, Broken, ImportError) as fault:
-        print(str(fault) or "the solver gave no reply", file=sys.stderr)
+        say(f"{str(fault) or 'the solver gave no reply'}\n")
         return NO_PROGRAM
+    except StreamFault as fault:
+        say(f"{fault}\n")
+        return STREAM_FAILED
     except OSError as fault:
-        print(f"{fault.filename}: {fault.strerror}" if fault.filename else "read fault", file=sys.stderr)
-        return INPUT_FAILED
+        say(f"{fault.filename}: {fault.strerror}\n" if fault.filename else f"{fault}\n")
+        return STREAM_FAILED
     except KeyboardInterrupt:
         return STOPPED
 

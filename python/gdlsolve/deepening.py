@@ -9,10 +9,10 @@ from __future__ import annotations
 import math
 import time
 from collections.abc import Iterator, Sequence
-from dataclasses import dataclass
+from dataclasses import dataclass, replace
 
 from gdlsolve.calls import Misuse, Reply, Status
-from gdlsolve.engine import Late, Limit, Pool
+from gdlsolve.engine import Broken, Late, Limit, Pool
 from gdlsolve.progress import progress
 
 # The greatest depth that the program takes.
@@ -22,16 +22,24 @@ OWN_OPTIONS = ("--depth", "--at-bound", "--unfinished")
 
 @dataclass(frozen=True)
 class Deepest:
-    """The deepest answer that was found, or what stands in its place: a refusal, misuse, want of memory."""
+    """The deepest answer that was found, or what stands in its place: a refusal, misuse, want of memory. `broken` says why no deeper one
+    was looked for, where the time was not over."""
 
     depth: int
     reply: Reply
     settled: bool
+    broken: str = ""
 
 
 def _value(found: Reply) -> bytes:
     """The first line of an answer, which tells the value."""
     return found.output.split(b"\n", 1)[0]
+
+
+def _is_sure(found: Reply) -> bool:
+    """Whether an answer in which unfinished play is worth nothing is settled by itself: no more is to be had, or there is no turn to come."""
+    value, *rest = found.output.splitlines()
+    return value == b"value 100" or rest == [b"move none"]
 
 
 def _ask(pool: Pool, words: Sequence[str], rules: bytes, until: float) -> Reply:
@@ -51,7 +59,7 @@ def depths(pool: Pool, words: Sequence[str], rules: bytes, until: float) -> Iter
         yield Deepest(depth, sure, False)
         if sure.status != Status.ANSWER:
             return
-        if _value(_ask(pool, [*asked, "100"], rules, until)) == _value(sure):
+        if _is_sure(sure) or _value(_ask(pool, [*asked, "100"], rules, until)) == _value(sure):
             yield Deepest(depth, sure, True)
             return
 
@@ -70,6 +78,11 @@ def deepen(words: Sequence[str], rules: bytes, seconds: float) -> Deepest:
                 tell(f"{deepest.depth + 1} turns ahead")
         except Late:
             pass
+        except (Broken, MemoryError) as fault:
+            # What was finished counts, as it does where the time is over.
+            if not found:
+                raise
+            found.append(replace(found[-1], broken=str(fault) or "no memory"))
         finally:
             pool.close()
     return found[-1]

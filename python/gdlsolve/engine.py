@@ -294,10 +294,11 @@ class Pool:
         self.places = threading.Semaphore(most)
         self.closed = threading.Event()
 
-    def ask(self, words: Sequence[str], rules: bytes, limit: Limit) -> Reply:
-        """The reply to a command over rules."""
+    def ask(self, words: Sequence[str], rules: bytes, limit: Limit, own: threading.Semaphore | None = None) -> Reply:
+        """The reply to a command over rules. Who has places of its own waits for none of the others."""
         limit.within(self.closed)
-        while not self.places.acquire(timeout=BEAT):
+        places = own or self.places
+        while not places.acquire(timeout=BEAT):
             if limit.left() <= 0:
                 raise Late
         try:
@@ -305,7 +306,7 @@ class Pool:
                 raise Late
             child, [found] = self.children.ask(None, [words], rules, limit)
         finally:
-            self.places.release()
+            places.release()
         self.children.give_back(child)
         return found
 

@@ -13,13 +13,16 @@ import argparse
 import http
 import http.client
 import json
+import math
 import random
+import re
 import socket
 import sys
 import threading
 import time
 from collections.abc import Callable, Sequence
-from concurrent.futures import ThreadPoolExecutor
+from concurrent.futures import Future
+from contextlib import suppress
 from dataclasses import asdict, dataclass, field
 from functools import partial
 from pathlib import Path
@@ -31,6 +34,7 @@ from gdlsolve.calls import Ended, Refusal, answer
 from gdlsolve.engine import Turn, history
 from gdlsolve.messages import tree
 from gdlsolve.replies import Position, State
+from gdlsolve.streams import StreamFault, put, say
 from gdlsolve.terms import Malformed, trees
 
 RANDOM = "random"
@@ -38,6 +42,17 @@ RANDOM = "random"
 MOST_BYTES = 1 << 20
 # So long a player may take for what ends a match, in seconds.
 FAREWELL = 5.0
+# The exit status where a key ends it.
+STOPPED = 130
+
+
+def is_of(value: object, kind: str) -> bool:
+    """Whether a value is of the kind that a field of a record is declared with. A number of seconds is at least 0, and finite."""
+    if kind.startswith("list["):
+        return isinstance(value, list) and all(is_of(each, kind[len("list[") : -1]) for each in value)
+    if kind == "float":
+        return isinstance(value, (int, float)) and not isinstance(value, bool) and 0 <= value < math.inf
+    return type(value).__name__ == kind
 
 
 @dataclass
@@ -77,8 +92,11 @@ class Record:
         try:
             told = json.loads(file.read_text())
             found = cls(**{name: told[name] for name in cls.__dataclass_fields__ if name in told})
-        except (KeyError, TypeError, ValueError) as fault:
+        except (KeyError, TypeError, ValueError, RecursionError) as fault:
             raise ValueError(f"{file} is no record of a match: {fault!r}") from None
+        for name, each in cls.__dataclass_fields__.items():
+            if not is_of(getattr(found, name), str(each.type)):
+                raise ValueError(f"{file} is no record of a match: {name} has something else than {each.type}")
         lengths = {len(found.moves), len(found.errors), len(found.seconds)}
         if len(lengths) != 1 or len(found.players) != len(found.roles):
             raise ValueError(f"{file} is no record of a match: its lists differ in length")
@@ -143,6 +161,20 @@ def post(player: str, message: str, seconds: float) -> Told:
     return Told(text, error, round(took, 3))
 
 
+def begun(work: Callable[[], Told]) -> Future[Told]:
+    """What will have been told, by a thread that is not waited for where the referee ends: a clock may be long."""
+    found: Future[Told] = Future()
+
+    def run() -> None:
+        try:
+            found.set_result(work())
+        except Exception as fault:
+            found.set_exception(fault)
+
+    threading.Thread(target=run, daemon=True).start()
+    return found
+
+
 class Referee:
     """Leads a match: tells the players, takes their moves, and keeps the record."""
 
@@ -176,8 +208,8 @@ class Referee:
                 return Told(None, "", 0.0)
             return post(player, message(role), seconds)
 
-        with ThreadPoolExecutor(len(self.record.roles)) as threads:
-            return list(threads.map(one, self.record.roles, self.record.players))
+        both = zip(self.record.roles, self.record.players)
+        return [found.result() for found in [begun(partial(one, *each)) for each in both]]
 
     def tell_turn(self, word: str, last: Sequence[Turn], seconds: float) -> list[Told]:
         """What each player says to a message with the last of these turns."""
@@ -234,9 +266,28 @@ class Referee:
         self.record.write(self.file)
 
     def play(self, most_turns: int) -> Record:
-        """Plays to the end, or to so many turns."""
-        self.failed = self.start()
+        """Plays to the end, or to so many turns. Where it is ended before, or the record cannot be written, the match is broken off at its
+        players too."""
         self.record.isAborted = False
+        # A record that cannot be written is told before the players have begun.
+        self.note()
+        try:
+            return self.led(most_turns)
+        except BaseException:
+            self.break_off()
+            raise
+
+    def break_off(self) -> None:
+        """Ends the match at its players, who would else wait for turns, and says so in the record."""
+        self.record.isAborted = True
+        with suppress(OSError):
+            self.note()
+        with suppress(ValueError):
+            self.tell(lambda role: f"(ABORT {self.record.matchId})", FAREWELL)
+
+    def led(self, most_turns: int) -> Record:
+        """Begins at the players, and plays to the end, or to so many turns."""
+        self.failed = self.start()
         self.note()
         while self.here.state is State.OPEN and len(self.record.moves) < most_turns:
             self.turn()
@@ -248,15 +299,25 @@ class Referee:
         return self.record
 
 
+def roles_of(rules: str) -> list[str]:
+    """The roles of a game, also of one that has to be written out."""
+    return list(gdlsolve.check(whole.playable(rules.encode(), answer)).roles)
+
+
+def name_of(text: str) -> str:
+    """A text as one name: with a space or a bracket in it messages would be others."""
+    return re.sub(r"[^A-Za-z0-9_.+-]", "_", text)
+
+
 def made(given: argparse.Namespace) -> Record:
     """The record of a new match."""
     rules = given.rules.read_bytes().decode(errors="replace")
-    roles = list(gdlsolve.check(whole.playable(rules.encode(), answer)).roles)
+    roles = roles_of(rules)
     if len(given.player) > len(roles):
         raise ValueError(f"there are {len(given.player)} players, and {len(roles)} roles")
     players = given.player + [RANDOM] * (len(roles) - len(given.player))
     begun = now()
-    name = given.id or f"{given.rules.stem}.{begun}"
+    name = given.id or f"{name_of(given.rules.stem)}.{begun}"
     clocks = float(given.start), float(given.play)
     return Record(name, given.rules.name, rules, roles, players, *clocks, begun, playerNamesFromHost=list(players))
 
@@ -265,6 +326,8 @@ def resumed(given: argparse.Namespace) -> Record:
     """The record of a match that goes on. It has another name, since players may know the old one
     with other turns; at those it is ended."""
     record = Record.read(given.resume)
+    if record.roles != roles_of(record.rules):
+        raise ValueError(f"{given.resume} is no record of a match: its roles are not those of its rules")
     for player in dict.fromkeys(record.players):
         if player != RANDOM:
             post(player, f"(ABORT {record.matchId})", FAREWELL)
@@ -273,7 +336,7 @@ def resumed(given: argparse.Namespace) -> Record:
             raise ValueError(f"there are {len(record.roles)} roles: name a player for each")
         record.players = given.player
         record.playerNamesFromHost = list(given.player)
-    record.matchId = given.id or f"{record.matchId}.{len(record.moves)}"
+    record.matchId = given.id or f"{name_of(record.matchId)}.{len(record.moves)}"
     return record
 
 
@@ -295,9 +358,19 @@ def options(words: Sequence[str] | None) -> argparse.Namespace:
     found = known.parse_args(words)
     if (found.rules is None) == (found.resume is None):
         known.error("either rules or a record to go on with")
-    if min(found.start, found.play, found.slack) < 0:
-        known.error("a clock is below 0")
+    if found.id is not None and (not found.id or name_of(found.id) != found.id):
+        known.error("--id is one name of letters, digits, and the signs _ . + -")
+    if not all(0 <= clock < math.inf for clock in (found.start, found.play, found.slack)):
+        known.error("a clock is no number of seconds from 0 on")
     return found
+
+
+def told(record: Record) -> str:
+    """How a match stands, for people."""
+    wrong = sum(1 for turn in record.errors for error in turn if error)
+    count = f"{len(record.moves)} turns, {wrong} failed moves"
+    goals = [f"{role} {goal}\n" for role, goal in zip(record.roles, record.goalValues)]
+    return "".join([f"{record.matchId}: {record.state} after {count}\n", *goals])
 
 
 def main(words: Sequence[str] | None = None) -> int:
@@ -308,16 +381,16 @@ def main(words: Sequence[str] | None = None) -> int:
         file = given.record or given.resume
         referee = Referee(record, random.Random(given.seed), given.slack, file)
         referee.play(given.turns)
-        for failed in referee.failed:
-            print(f"not ready: {failed}", file=sys.stderr)
-    except (Refusal, ValueError, OSError, ImportError, Ended) as fault:
-        print(fault, file=sys.stderr)
+        say("".join(f"not ready: {failed}\n" for failed in referee.failed))
+        put(told(record).encode())
+    except Refusal as refusal:
+        say(f"{given.resume or given.rules}: {refusal}\n{refusal.explanation}")
         return 1
-    wrong = sum(1 for turn in record.errors for error in turn if error)
-    count = f"{len(record.moves)} turns, {wrong} failed moves"
-    print(f"{record.matchId}: {record.state} after {count}")
-    for role, goal in zip(record.roles, record.goalValues):
-        print(f"{role} {goal}")
+    except (StreamFault, ValueError, OSError, ImportError, Ended) as fault:
+        say(f"{fault}\n")
+        return 1
+    except KeyboardInterrupt:
+        return STOPPED
     return 0
 
 

@@ -11,12 +11,14 @@ from __future__ import annotations
 import argparse
 import json
 import random
+import re
 import signal
 import sys
 import threading
 import time
 from collections.abc import Sequence
 from concurrent.futures import Future
+from contextlib import suppress
 from dataclasses import dataclass
 from http.server import BaseHTTPRequestHandler, ThreadingHTTPServer
 from typing import Any
@@ -33,8 +35,18 @@ from gdlsolve.thinking import Choice, Thinking
 # This part of the time in which a solver that seems to hang is asked again is left for what is
 # worked out without it.
 RESERVE = 0.25
+MOST_PORT = 65_535
+# A line between the chunks of a body is no longer, in bytes.
+MOST_OF_LINE = 4_096
 # What the solver says or does when it gives no answer.
 NO_ANSWER = (Late, Broken, Misuse, MemoryError)
+
+
+def note(told: dict[str, Any]) -> None:
+    """Writes a line on standard error. Where that is full or gone nothing is written, and play goes on."""
+    if sys.stderr is not None:
+        with suppress(OSError):
+            print(json.dumps(told), file=sys.stderr, flush=True)
 
 
 @dataclass(frozen=True)
@@ -225,7 +237,7 @@ class Match:
         """Writes what happened on standard error."""
         if not self.options.is_quiet:
             told = {"match": self.name, "role": self.start.role, "turn": len(self.turns) + 1}
-            print(json.dumps({**told, **what}), file=sys.stderr, flush=True)
+            note({**told, **what})
 
     def tell_choice(self, choice: Choice) -> None:
         """Writes what was chosen."""
@@ -343,6 +355,14 @@ class Player:
         self.children.close()
 
 
+class Unread(Exception):
+    """A body that is not read. `status` is that of HTTP, and the text says why."""
+
+    def __init__(self, status: int, why: str):
+        super().__init__(why)
+        self.status = status
+
+
 class Handler(BaseHTTPRequestHandler):
     """One message over HTTP."""
 
@@ -369,18 +389,52 @@ class Handler(BaseHTTPRequestHandler):
     def do_POST(self) -> None:
         """Answers a message."""
         arrived = time.monotonic()
-        size = self.headers.get("Content-Length", "")
-        if not (size.isascii() and size.isdigit()):
-            return self.tell(411, "a message has a length")
-        if len(size) > 9 or int(size) > MOST_BYTES:
-            return self.tell(413, "too long")
-        text = self.rfile.read(int(size))
-        if len(text) < int(size):
-            return self.tell(400, "cut off")
         try:
+            text = self.body()
             return self.tell(200, self.server.player.answer(text.decode(errors="replace"), arrived))
+        except Unread as fault:
+            return self.tell(fault.status, str(fault))
         except Malformed as fault:
             return self.tell(400, f"malformed: {fault}")
+
+    def body(self) -> bytes:
+        """The body of a message."""
+        if self.headers.get("Transfer-Encoding", "").lower() == "chunked":
+            return self.chunks()
+        size = self.headers.get("Content-Length", "")
+        if not (size.isascii() and size.isdigit()):
+            raise Unread(411, "a message has a length")
+        if len(size) > 9 or int(size) > MOST_BYTES:
+            raise Unread(413, "too long")
+        return self.taken(int(size))
+
+    def taken(self, size: int) -> bytes:
+        """So many bytes of the body."""
+        found = self.rfile.read(size)
+        if len(found) < size:
+            raise Unread(400, "cut off")
+        return found
+
+    def chunks(self) -> bytes:
+        """A body that comes in chunks, as clients send it that do not know its length before: each behind a line with its size, the last
+        one empty."""
+        found = bytearray()
+        while size := self.size_of_chunk():
+            if len(found) + size > MOST_BYTES:
+                raise Unread(413, "too long")
+            found += self.taken(size)
+            self.rfile.readline(MOST_OF_LINE)
+        # What may stand behind the last one is read, so that the client hears the answer.
+        while self.rfile.readline(MOST_OF_LINE).strip():
+            pass
+        return bytes(found)
+
+    def size_of_chunk(self) -> int:
+        """The size of the next chunk."""
+        word = self.rfile.readline(MOST_OF_LINE).partition(b";")[0].strip()
+        if not re.fullmatch(rb"[0-9a-fA-F]{1,8}", word):
+            raise Unread(400, "cut off")
+        return int(word, 16)
 
     def log_message(self, format: str, *words: Any) -> None:
         """Writes nothing: the player tells its turns itself."""
@@ -399,7 +453,7 @@ class Server(ThreadingHTTPServer):
     def handle_error(self, request: Any, client_address: Any) -> None:
         """A connection that breaks is told in one line."""
         if not self.player.options.is_quiet:
-            print(json.dumps({"fault": repr(sys.exc_info()[1])}), file=sys.stderr, flush=True)
+            note({"fault": repr(sys.exc_info()[1])})
 
 
 def options(words: Sequence[str] | None) -> argparse.Namespace:
@@ -420,7 +474,8 @@ def options(words: Sequence[str] | None) -> argparse.Namespace:
     known.add_argument("--whole", action="store_true", help="write out each game before it is played")
     known.add_argument("--quiet", action="store_true", help="do not tell each turn")
     found = known.parse_args(words)
-    if not 1 <= found.depth <= MOST_DEPTH or found.matches < 1 or min(found.margin, found.idle) < 0:
+    is_right = found.margin >= 0 and found.idle >= 0 and 0 <= found.port <= MOST_PORT
+    if not 1 <= found.depth <= MOST_DEPTH or found.matches < 1 or not is_right:
         known.error("a number is out of its range")
     return found
 
@@ -438,7 +493,13 @@ def main(words: Sequence[str] | None = None) -> int:
         given.name, given.matches, given.margin, given.depth, given.idle, given.quiet, given.whole
     )
     player = Player(known)
-    with Server(given.host, given.port, player) as server:
+    try:
+        made = Server(given.host, given.port, player)
+    except OSError as fault:
+        print(f"{given.host}:{given.port}: {fault.strerror}", file=sys.stderr)
+        player.close()
+        return 1
+    with made as server:
         print(f"{given.name} on {given.host}:{server.server_address[1]}", flush=True)
         try:
             server.serve_forever()

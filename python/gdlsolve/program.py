@@ -45,7 +45,10 @@ class Stopped(Exception):
 def named() -> list[str]:
     """The words that start the program that is named, or none where none is."""
     text = os.environ.get(VARIABLE) or ""
-    return [text] if Path(text).is_file() else shlex.split(text)
+    try:
+        return [text] if Path(text).is_file() else shlex.split(text)
+    except ValueError as fault:
+        raise ImportError(f"{VARIABLE} names no command: {fault}: {text}") from None
 
 
 def own() -> Path | None:

@@ -64,7 +64,7 @@ class _Line(threading.Thread):
 @contextmanager
 def progress(text: str) -> Iterator[Tell]:
     """Tells a text, and what it is told later, until the end of the `with`."""
-    if not sys.stderr.isatty():
+    if sys.stderr is None or not sys.stderr.isatty():
         yield lambda text: None
         return
     line = _Line(text)

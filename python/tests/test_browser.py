@@ -7,6 +7,7 @@ from __future__ import annotations
 
 import importlib.util
 import io
+import json
 import os
 import shutil
 import sys
@@ -267,6 +268,17 @@ class Play(Browser):
 
 
 class Long(Browser):
+    def test_a_narrow_page_does_not_go_sideways(self) -> None:
+        narrow = {"width": 360, "height": 740, "deviceScaleFactor": 1, "mobile": False}
+        self.browser.execute_cdp_cmd("Emulation.setDeviceMetricsOverride", narrow)
+        self.addCleanup(self.browser.execute_cdp_cmd, "Emulation.clearDeviceMetricsOverride", {})
+        for name in "tic_tac_toe", "river", ENDLESS:
+            with self.subTest(name=name):
+                self.browser.get("about:blank")
+                self.browser.get(f"http://127.0.0.1:{self.server.server_address[1]}/#game={name}")
+                self.wait(lambda: self.all("#rows .bar"), 20)
+                self.assertLessEqual(self.run_js("return document.documentElement.scrollWidth"), 360)
+
     def test_a_long_look_is_cancelled(self) -> None:
         self.go(f"game={ENDLESS}")
         self.pick("seconds", "")
@@ -367,6 +379,44 @@ class Texts(Browser):
         self.put("record-text", "((mark 1 1) noop)")
         self.element("take").click()
         self.wait(lambda: "does not fit" in self.text("record-fault"))
+
+    def test_a_record_of_pasted_rules_has_the_rules(self) -> None:
+        self.go("game=nim")
+        rules = (TOP / "games/matching_pennies.kif").read_text()
+        self.element("write").click()
+        self.put("text", rules)
+        self.element("open").click()
+        self.wait(lambda: self.text("title") == "pasted")
+        self.wait(lambda: len(self.all("#rows button")) == 2)
+        # What is saved is kept here, in place of a file.
+        self.run_js("URL.createObjectURL = (blob) => { blob.text().then((text) => { window.saved = text; }); return '#'; }")
+        self.element("save").click()
+        self.wait(lambda: self.run_js("return window.saved"))
+        saved = self.run_js("return window.saved")
+        self.assertEqual(json.loads(saved)["rules"], rules)
+        self.browser.get("about:blank")
+        self.go("game=nim")
+        self.element("load").click()
+        self.put("record-text", saved.replace('"moves": []', '"moves": [["h", "t"]]'))
+        self.element("take").click()
+        self.wait(lambda: self.text("title") == "pasted" and self.element("forward").is_enabled())
+
+    def test_an_address_that_is_put_in_where_the_page_is_open_is_opened(self) -> None:
+        self.go("game=nim")
+        self.run_js("location.hash = 'game=matching_pennies&you=a,b&after=(h+t)'")
+        self.wait(lambda: self.text("title") == "matching pennies" and "The game has ended: a 0, b 100" in self.text("status"))
+
+    def test_an_address_of_a_game_that_is_not_there_is_told(self) -> None:
+        self.browser.get(f"http://127.0.0.1:{self.server.server_address[1]}/#game=no_such_game")
+        self.wait(lambda: "There is no game no_such_game in the folder." in self.text("status"))
+        self.assertEqual(self.text("title"), "tic tac toe")
+
+    def test_turns_of_an_address_that_cannot_be_played_are_dropped(self) -> None:
+        port = self.server.server_address[1]
+        self.browser.get(f"http://127.0.0.1:{port}/#game=matching_pennies&you=a,b&after=(h+x)")
+        self.wait(lambda: "refused H2 NotLegal 1 b" in self.text("status"))
+        self.assertTrue(self.element("game").is_displayed())
+        self.assertEqual(len(self.all("#rows button")), 2)
 
 
 del Browser

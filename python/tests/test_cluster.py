@@ -19,7 +19,7 @@ from typing import IO, TypeVar
 
 from gdlsolve import cluster
 from gdlsolve.cluster import program
-from tests import GAMES, PROGRAM, TOP, known, package
+from tests import ENDLESS_RULES, GAMES, PROGRAM, TOP, known, package
 
 T = TypeVar("T")
 MARKS = TOP / "games/tic_tac_toe.kif"
@@ -136,6 +136,33 @@ class Here(unittest.TestCase):
                 command = package("gdlsolve.cluster", *words)
                 done = subprocess.run(command, capture_output=True, env=environment(), check=False)
                 self.assertEqual((done.returncode, done.stdout, done.stderr), want)
+
+    @unittest.skipIf(signal.getsignal(signal.SIGINT) is signal.SIG_IGN, "the key is of no account here")
+    def test_a_key_ends_it_without_a_word(self) -> None:
+        words = package("gdlsolve.cluster", "--processes", 2, "--role", "red", "--depth", 40)
+        mark, pipe = f"key {os.getpid()}", subprocess.PIPE
+        with subprocess.Popen(words, stdin=pipe, stdout=pipe, stderr=pipe, env=environment(MARK=mark)) as run:
+            assert run.stdin is not None
+            run.stdin.write(ENDLESS_RULES.encode())
+            run.stdin.close()
+            run.stdin = None
+            until(lambda: any(map(asks_by_cut, children(run.pid))), "a program runs")
+            run.send_signal(signal.SIGINT)
+            self.assertEqual(run.communicate(timeout=PATIENCE), (b"", b""))
+        self.assertEqual(run.returncode, 130)
+        until(lambda: not marked(mark), "no program is left behind")
+
+    def test_a_journal_that_cannot_be_written_is_told_before_anything_is_asked(self) -> None:
+        words = package("gdlsolve.cluster", "--role", "red", "--depth", 40, "--journal", "/no such folder/journal")
+        done = subprocess.run(words, input=ENDLESS_RULES.encode(), capture_output=True, env=environment(), check=False, timeout=PATIENCE)
+        self.assertEqual((done.returncode, done.stdout, done.stderr), (4, b"", b"/no such folder/journal: No such file or directory\n"))
+
+    def test_a_stream_that_is_closed_or_full_is_told_in_a_line(self) -> None:
+        words = shlex.join(package("gdlsolve.cluster", "--processes", 1, "--role", "xplayer", "--depth", 1))
+        for more, want in {"<&-": "read fault\n", f"{MARKS} >&-": "write fault\n", f"{MARKS} >/dev/full": "write fault\n"}.items():
+            with self.subTest(more=more):
+                done = subprocess.run(f"{words} {more}", shell=True, capture_output=True, text=True, env=environment(), check=False)
+                self.assertEqual((done.returncode, done.stdout, done.stderr), (4, "", want))
 
     def test_other_words_are_misuse(self) -> None:
         none: list[str] = []

@@ -2,6 +2,7 @@
 import importlib.util
 import json
 import os
+import shlex
 import signal
 import subprocess
 import tempfile
@@ -19,6 +20,9 @@ from tests.serving import LONG, processor_time, started_by, until, wait_for_end
 SOON = 20.0
 PENNIES = TOP / "games/matching_pennies.kif"
 MARKS = TOP / "games/tic_tac_toe.kif"
+
+# Turns of it behind which the role that moves wins at once.
+WON = "((mark 1 1) noop) (noop (mark 2 1)) ((mark 1 2) noop) (noop (mark 2 2))"
 
 
 # Where it is the program that has to answer.
@@ -50,6 +54,31 @@ class Words(unittest.TestCase):
             status, output, errors = command(words)
             self.assertEqual((status, output), (1, ""))
             self.assertTrue(errors)
+
+    def test_a_stream_that_is_closed_or_full_is_told_as_the_program_does(self) -> None:
+        marks, role = shlex.quote(str(MARKS)), "solve --role xplayer --time 0.001"
+        wrong = {"check <&-": "read fault\n"}
+        for words in f"check {marks}", f"check --json {marks}", f"{role} {marks}", f"{role} --json {marks}", "--help":
+            wrong |= {f"{words} >&-": "write fault\n", f"{words} >/dev/full": "write fault\n", f"{words} >&- 2>&-": ""}
+        for words, want in wrong.items():
+            with self.subTest(words=words):
+                self.assertEqual(self.by_shell(words), (4, "", want))
+
+    def test_a_program_that_is_named_with_an_open_quote_is_told(self) -> None:
+        want = (70, "", "GDLSOLVE_PROGRAM names no command: No closing quotation: 'it\n")
+        self.assertEqual(command(["check", MARKS], GDLSOLVE_PROGRAM="'it"), want)
+
+    def test_people_who_cannot_be_told_change_no_status(self) -> None:
+        for where in "2>&-", "2>/dev/full":
+            with self.subTest(where=where):
+                self.assertEqual(self.by_shell(f"check {where} < /dev/null"), (2, "refused G6 NoRole\n", ""))
+                self.assertEqual(self.by_shell(f"solve --role xplayer --time 0.001 {MARKS} {where}")[0], 0)
+                self.assertEqual(self.by_shell(f"list {where}"), (1, "", ""))
+
+    def by_shell(self, words: str) -> tuple[int, str, str]:
+        """What the command does in a shell."""
+        done = subprocess.run(f"{shlex.join(package('gdlsolve'))} {words}", shell=True, capture_output=True, text=True, env=known(), check=False)
+        return done.returncode, done.stdout, done.stderr
 
     @needs_program
     def test_requests_are_answered_by_the_program(self) -> None:
@@ -107,10 +136,30 @@ class Time(unittest.TestCase):
         told = json.loads(output)
         self.assertEqual((status, told["settled"], told["value"]), (0, True, 50))
 
+    def test_what_no_turn_can_change_is_settled_in_the_shortest_time(self) -> None:
+        short = ["solve", "--time", "0.001", "--role"]
+        for words, want in [
+            (["a", PENNIES, "--after", "(h t)"], "depth 1\nvalue 0\nmove none\nsettled\n"),
+            (["xplayer", MARKS, "--after", WON], "depth 1\nvalue 100\nmove (mark 1 3)\nline 1 (mark 1 3) noop\nsettled\n"),
+        ]:
+            self.assertEqual(command([*short, *words])[:2], (0, want))
+
     def test_one_turn_is_waited_for(self) -> None:
         status, output, _ = command(["solve", "--role", "xplayer", "--time", "0.001", MARKS])
         self.assertEqual(status, 0)
         self.assertTrue(output.startswith("depth 1\n"))
+
+    def test_what_was_finished_counts_where_the_solver_ends(self) -> None:
+        for failing, why in (("exit 3", "no memory"), ("kill -9 $$", "status -9")):
+            with self.subTest(failing=failing), tempfile.TemporaryDirectory() as room:
+                fake = Path(room) / "fake"
+                told = f'case "$*" in *"--depth 3"*) {failing};; *"--unfinished 100"*) echo value 100;; *) echo value 50;; esac'
+                fake.write_text(f"#!/bin/sh\n{told}\necho move h\necho line 1 h t\n")
+                fake.chmod(0o755)
+                status, output, errors = command(["solve", "--role", "a", "--time", "60", PENNIES], GDLSOLVE_PROGRAM=str(fake))
+                self.assertEqual((status, output), (0, "depth 2\nvalue 50\nmove h\nline 1 h t\n"))
+                self.assertTrue(errors.startswith("the search ended before its time: "), errors)
+                self.assertIn(why, errors)
 
     def test_nothing_is_left_at_work_where_it_is_ended(self) -> None:
         ways = {signal.SIGTERM: -signal.SIGTERM, signal.SIGKILL: -signal.SIGKILL}

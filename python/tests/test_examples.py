@@ -2,7 +2,9 @@
 
 import subprocess
 import sys
+import tempfile
 import unittest
+from pathlib import Path
 
 from tests import PROGRAM, TOP, known, needs_program
 
@@ -39,6 +41,27 @@ class Play(unittest.TestCase):
         status, _, errors = ran("play.py", [str(TOP / "examples/solve.c")], "")
         self.assertEqual(status, 1)
         self.assertTrue(errors.startswith("refused K"))
+        self.assertEqual(ran("play.py", ["no such file"], ""), (1, [], "no such file: No such file or directory\n"))
+        self.assertEqual(ran("play.py", [str(TOP / "games/nim.kif"), "--time", "nan"], "")[:2], (2, []))
+
+    def test_an_output_that_is_full_is_told_in_a_line(self) -> None:
+        command = [sys.executable, "-B", str(TOP / "examples/play.py"), str(TOP / "games/nim.kif")]
+        with open("/dev/full", "w") as full:
+            done = subprocess.run(command, input="quit\n", stdout=full, stderr=subprocess.PIPE, env=known(), check=False, text=True)
+        self.assertEqual((done.returncode, done.stderr), (1, "write fault\n"))
+
+    def test_comments_may_have_any_byte(self) -> None:
+        with tempfile.TemporaryDirectory() as room:
+            rules = Path(room) / "nim.kif"
+            rules.write_bytes(b"; caf\xe9\n" + (TOP / "games/nim.kif").read_bytes())
+            status, lines, errors = ran("play.py", [str(rules)], "quit\n")
+        self.assertEqual((status, errors, lines[0]), (0, "", "you are first"))
+
+    @needs_program
+    def test_a_game_as_it_is_found_is_written_out(self) -> None:
+        status, lines, errors = ran("play.py", [str(TOP / "games/found/hex_3x3.kif")], "quit\n", GDLSOLVE_PROGRAM=" ".join(PROGRAM))
+        self.assertEqual((status, errors), (0, ""))
+        self.assertTrue(any(line.startswith("  9  ") for line in lines), lines)
 
 
 @needs_program

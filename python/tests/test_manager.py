@@ -2,6 +2,7 @@
 
 import json
 import random
+import signal
 import subprocess
 import tempfile
 import threading
@@ -158,6 +159,16 @@ class Matches(unittest.TestCase):
         self.assertEqual(play, "(PLAY m NIL)")
         self.assertEqual(stop, f"(STOP m (h {record.moves[0][1]}))")
 
+    def test_a_match_has_one_name_whatever_the_file_is_called(self) -> None:
+        odd = Odd(self, lambda text: "ready" if text.startswith("(START") else "h")
+        with tempfile.TemporaryDirectory() as room:
+            rules = Path(room) / "two (old) pennies.kif"
+            rules.write_bytes(Path(game("matching_pennies")).read_bytes())
+            record = played([str(rules), "--player", odd.url])
+        self.assertRegex(record.matchId, r"^two__old__pennies\.\d+$")
+        self.assertEqual(record.game, "two (old) pennies.kif")
+        self.assertTrue(odd.heard[0].startswith(f"(START {record.matchId} a ("))
+
 
 class Records(unittest.TestCase):
     def setUp(self) -> None:
@@ -214,9 +225,24 @@ class Records(unittest.TestCase):
             self.file.write_text(json.dumps(bad))
             with self.subTest(bad=str(bad)[:40]), self.assertRaises(ValueError):
                 Record.read(self.file)
-        self.file.write_text("{")
-        with self.assertRaises(ValueError):
-            Record.read(self.file)
+        for text in "{", "[" * 100_000:
+            self.file.write_text(text)
+            with self.assertRaises(ValueError):
+                Record.read(self.file)
+
+    def test_a_record_with_something_else_in_it_is_told_in_a_line(self) -> None:
+        good = played([game("nim")])
+        good.write(self.file)
+        told = json.loads(self.file.read_text())
+        turns = len(good.moves)
+        bad: dict[str, object] = {"rules": 5, "roles": 5, "players": [1, 2], "startClock": "5", "playClock": -1, "states": None}
+        for name, value in {**bad, "moves": [[1, 2]] * turns, "errors": [5] * turns, "seconds": None}.items():
+            self.file.write_text(json.dumps({**told, name: value}))
+            with self.subTest(name=name), self.assertRaisesRegex(ValueError, f"{self.file} is no record of a match: {name} has "):
+                Record.read(self.file)
+        self.file.write_text(json.dumps({**told, "roles": ["one", "two"]}))
+        with self.assertRaisesRegex(ValueError, "its roles are not those of its rules"):
+            played(["--resume", str(self.file)])
 
 
 class Program(unittest.TestCase):
@@ -231,9 +257,60 @@ class Program(unittest.TestCase):
         ended = r"^m: ended after \d+ turns, 0 failed moves\nfirst \d+\nsecond \d+\n$"
         self.assertRegex(output, ended)
 
+    def test_a_record_that_cannot_be_written_is_told_before_a_player_has_begun(self) -> None:
+        odd = Odd(self, lambda text: "ready")
+        status, output, errors = self.ran(game("nim"), "--player", odd.url, "--record", "/no such folder/match.json")
+        self.assertEqual((status, output), (1, ""))
+        self.assertIn("/no such folder/match.json", errors)
+        self.assertEqual(odd.heard, [])
+
+    @unittest.skipIf(signal.getsignal(signal.SIGINT) is signal.SIG_IGN, "the key is of no account here")
+    def test_a_key_breaks_the_match_off_at_once_and_at_the_players_too(self) -> None:
+        ended, is_asked = threading.Event(), threading.Event()
+        self.addCleanup(ended.set)
+
+        def hang(text: str) -> str:
+            if text.startswith("(PLAY"):
+                is_asked.set()
+                ended.wait(600)
+            return "ready"
+
+        odd = Odd(self, hang)
+        with tempfile.TemporaryDirectory() as room:
+            file = Path(room) / "match.json"
+            words = [game("nim"), "--id", "m", "--player", odd.url, "--play", "600", "--record", str(file)]
+            pipe = subprocess.PIPE
+            with subprocess.Popen(package("gdlsolve.manager", *words), stdout=pipe, stderr=pipe, env=known()) as manager:
+                try:
+                    self.assertTrue(is_asked.wait(120))
+                    manager.send_signal(signal.SIGINT)
+                    self.assertEqual(manager.communicate(timeout=120), (b"", b""))
+                finally:
+                    manager.kill()
+            record = Record.read(file)
+        self.assertEqual((manager.returncode, record.isAborted, record.state), (130, True, "open"))
+        self.assertEqual(odd.heard[-1], "(ABORT m)")
+
+    def test_an_output_that_is_full_is_told_in_a_line(self) -> None:
+        with open("/dev/full", "w") as full:
+            command = package("gdlsolve.manager", game("nim"))
+            done = subprocess.run(command, stdout=full, stderr=subprocess.PIPE, env=known(), check=False, text=True)
+        self.assertEqual((done.returncode, done.stderr), (1, "write fault\n"))
+
+    def test_a_refusal_is_told_with_the_file(self) -> None:
+        with tempfile.TemporaryDirectory() as room:
+            rules = Path(room) / "broken.kif"
+            rules.write_text("(role a")
+            status, output, errors = self.ran(str(rules))
+        self.assertEqual((status, output), (1, ""))
+        self.assertTrue(errors.startswith(f"{rules}: refused K4 Unclosed 0\n"), errors)
+
     def test_words_that_are_none(self) -> None:
         self.assertEqual(self.ran()[0], 2)
-        self.assertEqual(self.ran(game("nim"), "--play", "-1")[0], 2)
+        for clock in "-1", "nan", "inf":
+            self.assertEqual(self.ran(game("nim"), "--play", clock)[0], 2)
+        for name in "a b", "a)", "":
+            self.assertEqual(self.ran(game("nim"), "--id", name)[0], 2)
         self.assertEqual(self.ran("no such file")[0], 1)
         self.assertEqual(self.ran(game("nim"), "--player", "ftp://x")[0], 1)
         self.assertEqual(self.ran(game("nim"), *["--player", "random"] * 3)[0], 1)

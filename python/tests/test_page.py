@@ -5,6 +5,7 @@ import json
 import os
 import signal
 import subprocess
+import tempfile
 import threading
 import time
 import unittest
@@ -14,7 +15,7 @@ from typing import Any
 from gdlsolve.calls import Refusal
 from gdlsolve.engine import Limit, Pool
 from gdlsolve.page import looks, places, records, state
-from gdlsolve.page.server import Desk, Server
+from gdlsolve.page.server import MOST_LOOKS, Desk, Server
 from tests import ENDLESS, ENDLESS_RULES, TOP, known, package
 from tests.serving import Held, processor_time, until
 
@@ -123,6 +124,14 @@ class Games(Served):
         self.assertEqual([each["name"] for each in games], stored)
         about = "Tic-tac-toe on a board of three by three cells"
         self.assertIn({"name": "tic_tac_toe", "about": about}, games)
+
+    def test_what_cannot_be_read_in_the_folder_is_passed_over(self) -> None:
+        with tempfile.TemporaryDirectory() as room:
+            (Path(room) / "folder.kif").mkdir()
+            (Path(room) / "gone.kif").symlink_to("no such file")
+            (Path(room) / "nim.kif").write_text("; Nim.")
+            desk = Desk(self.desk.pool, Path(room))
+            self.assertEqual(desk.games()["games"], [{"name": "nim", "about": "Nim"}])
 
     def test_a_game_is_opened_by_name_or_text(self) -> None:
         told = self.ask("open", name="tic_tac_toe")
@@ -242,6 +251,14 @@ class Looks(Served):
         self.assertEqual([each for each in ready if processor_time(each) > ready[each] + 25], [])
         self.assertEqual(self.ask("position", game=game, after=[])["state"], "open")
 
+    def test_a_long_look_is_not_given_up_for_those_that_have_ended(self) -> None:
+        about: dict[str, Any] = {"game": self.opened(ENDLESS), "role": "red", "after": [], "seconds": None}
+        look = self.ask("values", **about)["look"]
+        for _ in range(MOST_LOOKS + 1):
+            self.ended(self.ask("values", game=self.opened("matching_pennies"), role="a", after=[], seconds=60)["look"])
+        self.assertEqual(self.ask("news", look=look, seen=-1)["ended"], "")
+        self.ask("stop", look=look)
+
     def test_bad_questions_about_looks_are_told(self) -> None:
         game = self.opened("nim")
         about: dict[str, Any] = {"game": game, "role": "first", "after": []}
@@ -290,6 +307,12 @@ class Stops(Served):
         self.assertTrue(until(lambda: not alive(processes), SOON), alive(processes))
         self.assertTrue(until(lambda: not self.desk.pool.children.at_work, SOON))
 
+    def test_a_position_waits_for_no_look(self) -> None:
+        look, _ = self.begun()
+        game = self.opened("nim")
+        self.assertEqual(self.ask("position", game=game, after=[])["state"], "open")
+        self.ask("stop", look=look)
+
     def test_by_the_button(self) -> None:
         look, processes = self.begun()
         self.ask("stop", look=look)
@@ -333,6 +356,9 @@ class Guards(Served):
         for body in (b"", b"[]", b"{", b"\xff"):
             self.assertEqual(self.post("/api/games", body)[0], 400)
         self.assertEqual(self.post("/api/none", b"{}")[0], 404)
+        deep = "[" * 100_000
+        for path, body in ("/api/games", deep.encode()), ("/api/record", json.dumps({"text": f'{{"moves": {deep}'}).encode()):
+            self.assertEqual(self.post(path, body), (400, b'{"error": "Too many lists are open inside each other."}'))
         self.assertEqual(self.post("/api/games", b"", Content_Length="999999999")[0], 413)
 
 
@@ -345,6 +371,13 @@ class Ends(unittest.TestCase):
             done = subprocess.run(words, env=nothing, capture_output=True, text=True, timeout=120)
             self.assertEqual((done.returncode, done.stdout), (1, ""))
             self.assertIn(want, done.stderr)
+
+    def test_words_that_are_none_are_told_in_a_line(self) -> None:
+        wrong = {"--port=65536": "--port is a number from 0 to 65535", "--program='it": "--program is no command: No closing quotation"}
+        for word, want in wrong.items():
+            done = subprocess.run(package("gdlsolve.page", word), env=known(), capture_output=True, text=True, timeout=120)
+            self.assertEqual((done.returncode, done.stdout), (2, ""))
+            self.assertTrue(done.stderr.endswith(f"error: {want}\n"), done.stderr)
 
     def test_a_killed_server_leaves_no_process(self) -> None:
         words = package("gdlsolve.page", "--port", 0, "--workers", 2)

@@ -26,6 +26,7 @@ RED = (ENDLESS, "red")
 SOON = 60.0
 # Clocks of a match whose value is settled, so that they are not used.
 LONG_CLOCKS = clocks(60, 60)
+CHUNKED = b"POST / HTTP/1.1\r\nTransfer-Encoding: chunked\r\n\r\n"
 OPENINGS = gdlsolve.moves(HEXAPAWN).legal["white"]
 
 
@@ -157,12 +158,18 @@ class Messages(unittest.TestCase):
             (b"POST / HTTP/1.0\r\nContent-Length: -5\r\n\r\n", b"411"),
             (b"POST / HTTP/1.0\r\nContent-Length: 99999999999999\r\n\r\n", b"413"),
             (b"POST / HTTP/1.0\r\nContent-Length: 9999999\r\n\r\n", b"413"),
+            (CHUNKED + b"3\r\n(IN\r\n3;x=1\r\nFO)\r\n0\r\n\r\n", b"200"),
+            (CHUNKED + b"6\r\n(INFO)\r\n0\r\nMore: 1\r\n\r\n", b"200"),
+            (CHUNKED + b"-6\r\n(INFO)\r\n0\r\n\r\n", b"400"),
+            (CHUNKED + b"(INFO)", b"400"),
+            (CHUNKED + b"999999\r\n", b"413"),
             (b"GET / HTTP/1.0\r\n\r\n", b"501"),
             (b"OPTIONS / HTTP/1.0\r\n\r\n", b"200"),
             (b"\x00\x01\x02\r\n\r\n", b"400"),
         ]:
             with self.subTest(raw=raw), socket.create_connection((host, port), 60) as link:
                 link.sendall(raw)
+                link.shutdown(socket.SHUT_WR)
                 self.assertIn(status, link.recv(400).split(b"\r\n")[0])
         with socket.create_connection((host, port), 60) as link:
             # A body that does not come holds up nobody else.
@@ -334,8 +341,31 @@ class Program(unittest.TestCase):
         self.assertEqual(json.loads(errors.splitlines()[0])["move"], "h")
         self.assertTrue(all(map(wait_for_end, left)))
 
+    def test_a_port_that_is_in_use_is_told_in_a_line(self) -> None:
+        with socket.socket() as taken:
+            taken.bind(("127.0.0.1", 0))
+            taken.listen()
+            port = taken.getsockname()[1]
+            command = package("gdlsolve.player", "--port", port)
+            done = subprocess.run(command, capture_output=True, env=known(), check=False, text=True)
+        self.assertEqual((done.returncode, done.stdout, done.stderr), (1, "", f"127.0.0.1:{port}: Address already in use\n"))
+
+    def test_it_answers_where_nothing_can_be_told_on_standard_error(self) -> None:
+        with open("/dev/full", "w") as full, subprocess.Popen(
+            package("gdlsolve.player", "--port", 0), stdout=subprocess.PIPE, stderr=full, env=known(), text=True
+        ) as player:
+            try:
+                assert player.stdout is not None
+                url = f"http://{player.stdout.readline().split()[-1]}"
+                self.assertEqual(post(url, f"(START m a {rules_of('matching_pennies')} 30 1)"), (200, "ready"))
+                self.assertEqual(post(url, "(PLAY m NIL)"), (200, "h"))
+                self.assertEqual(post(url, "(PLAY m (x x))"), (200, "h"))
+            finally:
+                player.terminate()
+
     def test_words_that_are_none(self) -> None:
-        for words in (["--depth", "0"], ["--depth", "65"], ["--matches", "0"], ["--margin", "-1"]):
+        wrong = ["--depth", "0"], ["--depth", "65"], ["--matches", "0"], ["--margin", "-1"], ["--margin", "nan"], ["--port", "65536"]
+        for words in wrong:
             command = package("gdlsolve.player", *words)
             done = subprocess.run(command, capture_output=True, env=known(), check=False)
             self.assertEqual(done.returncode, 2)

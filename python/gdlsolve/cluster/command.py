@@ -23,9 +23,12 @@ from gdlsolve.cluster import engines, sought
 from gdlsolve.cluster.driver import Driver, Engine, Manner
 from gdlsolve.cluster.engines import Share
 from gdlsolve.cluster.faults import ClusterFault
+from gdlsolve.streams import StreamFault, on_input, put, say
 
-INPUT_FAILED = 4
+STREAM_FAILED = 4
 NO_ANSWER = 69
+# By a key.
+STOPPED = 130
 DESCRIPTION = "Solves a game on many machines. The answer is that of one, or there is none."
 
 
@@ -108,7 +111,7 @@ def engine_of(words: argparse.Namespace) -> AbstractContextManager[Engine]:
 
 def _say(line: str) -> None:
     """Tells people something."""
-    print(line, file=sys.stderr, flush=True)
+    say(f"{line}\n")
 
 
 def run(words: Sequence[str]) -> int:
@@ -116,7 +119,7 @@ def run(words: Sequence[str]) -> int:
     asked = _parser().parse_args(words)
     worth = [] if asked.at_bound is None else ["--at-bound", asked.at_bound]
     worth += [] if asked.unfinished is None else ["--unfinished", asked.unfinished]
-    rules = sys.stdin.buffer.read() if asked.game is None else asked.game.read_bytes()
+    rules = on_input() if asked.game is None else asked.game.read_bytes()
     what = sought(rules, asked.role, asked.depth, worth, asked.after)
     log = _say if asked.verbose else lambda line: None
     manner = Manner(asked.split, asked.journal, asked.patience, log, asked.parts)
@@ -124,9 +127,17 @@ def run(words: Sequence[str]) -> int:
         driver = Driver(what, engine, manner)
         found = driver.reply()
         log(" ".join(f"{name} {round(count, 3)}" for name, count in asdict(driver.counts).items()))
-        sys.stdout.buffer.write(found.output)
-        sys.stdout.buffer.flush()
+        put(found.output)
     return int(found.status)
+
+
+def answered(words: Sequence[str]) -> int:
+    """The same, also where the rules or the history are refused further on."""
+    try:
+        return run(words)
+    except Refusal as refusal:
+        put(f"{refusal}\n".encode())
+        return int(Status.REFUSED)
 
 
 def _end(number: int, frame: object) -> None:
@@ -138,13 +149,10 @@ def main() -> int:
     """The command."""
     signal.signal(signal.SIGTERM, _end)
     try:
-        return run(sys.argv[1:])
+        return answered(sys.argv[1:])
     except Misuse as misuse:
         _say(str(misuse))
         return int(Status.MISUSE)
-    except Refusal as refusal:
-        print(refusal)
-        return int(Status.REFUSED)
     except MemoryError:
         _say("no memory")
         return int(Status.NO_MEMORY)
@@ -154,6 +162,11 @@ def main() -> int:
     except ImportError as fault:
         _say(f"no answer: {fault}")
         return NO_ANSWER
+    except StreamFault as fault:
+        _say(str(fault))
+        return STREAM_FAILED
     except OSError as fault:
         _say(f"{fault.filename}: {fault.strerror}" if fault.filename else f"fault: {fault}")
-        return INPUT_FAILED
+        return STREAM_FAILED
+    except KeyboardInterrupt:
+        return STOPPED

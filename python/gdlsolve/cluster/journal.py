@@ -56,7 +56,9 @@ class Journal:
     def __init__(self, path: Path | None):
         self._path = path
         self._known: dict[str, Known] = {}
-        if path is not None and path.exists():
+        if path is not None:
+            # One that cannot be written is told now, and not behind the first answer, which may take long.
+            path.open("a").close()
             for line in path.read_text(errors="replace").splitlines():
                 found = _read(line)
                 if found is not None:

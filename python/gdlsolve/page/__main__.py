@@ -31,6 +31,12 @@ def options() -> argparse.Namespace:
     given = words.parse_args()
     if given.folder is not None and not given.folder.is_dir():
         words.error(f"{given.folder} is no folder")
+    try:
+        given.program = shlex.split(given.program)
+    except ValueError as fault:
+        words.error(f"--program is no command: {fault}")
+    if not 0 <= given.port <= 65_535:
+        words.error("--port is a number from 0 to 65535")
     if not 1 <= given.workers <= 64:
         words.error("--workers is a number from 1 to 64")
     return given
@@ -45,7 +51,7 @@ def main() -> int:
     """Serves the page until it is ended."""
     given = options()
     folder = given.folder or (CLONE if CLONE.is_dir() else None)
-    command = [*OWN_COMMAND, *shlex.split(given.program)]
+    command = [*OWN_COMMAND, *given.program]
     desk = Desk(Pool(given.workers, command, spare=1), folder)
     try:
         desk.reply(["--version"], b"")
@@ -57,6 +63,7 @@ def main() -> int:
         server = Server(desk, given.port)
     except OSError as fault:
         print(f"port {given.port}: {fault.strerror}", file=sys.stderr)
+        desk.close()
         return 1
     signal.signal(signal.SIGTERM, end)
     address = f"http://127.0.0.1:{server.server_address[1]}/"

@@ -34,6 +34,8 @@ def said(fault: BaseException) -> str:
     """What people are told where there is no answer."""
     if isinstance(fault, MemoryError):
         return "The engine wants more memory than there is."
+    if isinstance(fault, RecursionError):
+        return "Too many lists are open inside each other."
     if isinstance(fault, Late):
         return "The engine gave no answer in time."
     if isinstance(fault, Broken):

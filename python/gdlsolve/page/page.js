@@ -169,7 +169,17 @@ async function open(question, { turns = [], you = null, at = null } = {}) {
   document.title = `${told.name.replaceAll("_", " ")} – gdlsolve`;
   drawSeats();
   fillSubject();
-  await show({ auto: !turns.length });
+  try {
+    await show({ auto: !turns.length });
+  } catch (fault) {
+    if (!turns.length) throw fault;
+    // Turns that the game does not have, as an old address tells them: the game is there without them.
+    now.turns = [];
+    now.chosen = [];
+    now.at = 0;
+    await show();
+    say(`${fault.message} The game begins anew.`, true);
+  }
 }
 
 function drawSeats() {
@@ -531,6 +541,8 @@ function save() {
     isCompleted: state === "ended" && now.at === now.turns.length,
   };
   if (told.isCompleted) told.goalValues = now.game.roles.map((role) => goals[role]);
+  // The folder has no such game, and the page itself forgets it.
+  if (!now.games.some(({ name }) => name === told.game)) told.rules = now.game.text;
   const blob = new Blob([JSON.stringify(told, null, 1)], { type: "application/json" });
   $("save").href = URL.createObjectURL(blob);
 }
@@ -790,6 +802,8 @@ function wire() {
   $("tree").addEventListener("keydown", walkTree);
   document.addEventListener("keydown", key);
   addEventListener("pagehide", leave);
+  // Another address that is put in where the page is open changes this part alone.
+  addEventListener("hashchange", guarded(openAddress));
 }
 
 // The turns of a history's text, which the address tells.
@@ -816,13 +830,22 @@ async function begin() {
   document.querySelector("h1").title = `gdlsolve ${version}`;
   $("games").replaceChildren(make("option", { value: "" }, games.length ? "choose a game" : "no games in the folder"),
     ...games.map(({ name }) => make("option", { value: name }, name.replaceAll("_", " "))));
+  await openAddress();
+}
+
+// Opens what the address tells, else a game of the folder.
+async function openAddress() {
   const asked = new URLSearchParams(location.hash.slice(1));
-  const names = games.map(({ name }) => name);
-  const name = names.includes(asked.get("game")) ? asked.get("game") : names.includes("tic_tac_toe") ? "tic_tac_toe" : names[0];
+  const names = now.games.map(({ name }) => name);
+  const wanted = asked.get("game");
+  const known = names.includes(wanted);
+  const name = known ? wanted : names.includes("tic_tac_toe") ? "tic_tac_toe" : names[0];
   if (!name) return openSection("rules", "text");
-  const turns = asked.get("game") === name ? turnsOf(asked.get("after") || "") : [];
-  const you = asked.get("game") === name && asked.has("you") ? asked.get("you").split(",") : null;
-  return open({ name }, { turns, you });
+  const turns = known ? turnsOf(asked.get("after") || "") : [];
+  const you = known && asked.has("you") ? asked.get("you").split(",") : null;
+  await open({ name }, { turns, you });
+  if (wanted && !known) say(`There is no game ${wanted} in the folder. This is another one.`, true);
+  return undefined;
 }
 
 guarded(begin)();

@@ -10,6 +10,7 @@ import sys
 import threading
 import time
 from collections.abc import Callable, Sequence
+from contextlib import suppress
 from dataclasses import dataclass
 from http.server import BaseHTTPRequestHandler, ThreadingHTTPServer
 from importlib.resources import files
@@ -81,22 +82,26 @@ class Desk:
     def __init__(self, pool: Pool, folder: Path | None) -> None:
         self.pool, self.folder = pool, folder
         self._lock = threading.Lock()
+        # Looks may take all places of the pool for long, and a page that only steps on waits for none of them.
+        self._places = threading.Semaphore(pool.most)
         self._opened: dict[str, Opened] = {}
         self._looks: dict[int, looks.Look] = {}
         self._numbers = itertools.count(1)
 
     def reply(self, words: Sequence[str], rules: bytes) -> Reply:
         """The reply to a question that is given up after some seconds."""
-        return self.pool.ask(words, rules, Limit(time.monotonic() + PATIENCE))
+        return self.pool.ask(words, rules, Limit(time.monotonic() + PATIENCE), self._places)
 
     def _ask(self, words: Sequence[str], rules: bytes) -> list[str]:
         """The lines of a short answer."""
         return self.reply(words, rules).lines()
 
     def games(self) -> dict[str, Any]:
-        """The games of the folder."""
-        found = sorted(self.folder.glob("*.kif")) if self.folder else []
-        told = [{"name": path.stem, "about": about(path.read_text("latin-1"))} for path in found]
+        """The games of the folder. What cannot be read there is passed over."""
+        told = []
+        for path in sorted(self.folder.glob("*.kif")) if self.folder else []:
+            with suppress(OSError):
+                told.append({"name": path.stem, "about": about(path.read_text("latin-1"))})
         return {"games": told, "version": gdlsolve.__version__}
 
     def _stored(self, name: str) -> Path:
@@ -193,7 +198,8 @@ class Desk:
 
     def _drop_old(self) -> None:
         """Gives up looks for which nobody asks, and the oldest where there are too many."""
-        for number, look in list(self._looks.items()):
+        # Those that have ended make room first, so that one goes on as long as no eight others do.
+        for number, look in sorted(self._looks.items(), key=lambda each: not each[1].ended):
             if look.forgotten() or len(self._looks) >= MOST_LOOKS:
                 del self._looks[number]
                 threading.Thread(target=look.stop, daemon=True).start()
@@ -358,7 +364,7 @@ class Handler(BaseHTTPRequestHandler):
             if not isinstance(told, dict):
                 raise BadQuestion("A question is a JSON object.")
             answer = self._answer(told)
-        except (ValueError, KeyError, Misuse, Refusal, OSError, *NO_ANSWER) as fault:
+        except (ValueError, KeyError, RecursionError, Misuse, Refusal, OSError, *NO_ANSWER) as fault:
             return self._json(400, {"error": looks.said(fault)})
         if answer is None:
             return self._fault(404, "There is no such question.")
