@@ -1,4 +1,4 @@
-//! The search of a state by one worker and others who help it.
+//! The search of a state by one worker, and others who help it where it is long.
 ghost use Rattle.std.specs.Prelude.{◌≡◌, ◌<◌, pos, IfSome};
 ghost use Rattle.statement.specs.Value.{value, choice_of};
 ghost use Rattle.maximin.specs.Company.{company_game};
@@ -10,7 +10,7 @@ use game::{Game, Question};
 use maximin::{Company, Room};
 use std::alloc::Global;
 use std::thread::{Threads, map_indices};
-use tasks::{Node, answer_in};
+use tasks::{Node, answer_if_short, answer_in};
 
 /// The tables are made as for so many turns at least: for fewer they would have too few entries to be shared.
 const FEWEST_TURNS: u32 = 3;
@@ -33,6 +33,22 @@ pub fn company_of<G: Game>(
         ..asked
     };
     Company::within(alloc, game, made_for, bytes)
+}
+
+/// The value of a node and the place of its first best move, found over the tables, where the search is short and the memory for it can
+/// be had. What it found before it got too long stands in the tables.
+fn answer_unaided<G: Game>(aid: &Aid<'_, G>) -> Option<(i16, u32)>
+    requires fits { G.fits aid.now.node.now.game.now aid.now.node.now.from.now }
+    requires company { company_game aid.now.company.now ≡ aid.now.node.now.game.now }
+    ensures { IfSome result (λ r. IsFound (G.rules aid.now.node.now.game.now) aid.now.node.now.asked.role aid.now.node.now.asked.depth aid.now.node.now.asked.at
+        (G.state aid.now.node.now.game.now aid.now.node.now.from.now) r.0 r.1) }
+{
+    let node = aid.node;
+    let Ok(mut room) = Room::over_tables(aid.alloc, node.game, node.asked.depth, aid.company) else {
+        return None;
+    };
+    let (value, first) = answer_if_short(node, &mut room)?;
+    Some((value, first))
 }
 
 /// The value of a node and the place of its first best move, found over the tables, where the memory for it can be had.
@@ -98,8 +114,8 @@ fn answer_by_parts<R: Threads + Sync, G: Game>(
     found[0]
 }
 
-/// The value of a node and the place of its first best move, by one thread, with so many others who help it. There is none where the
-/// memory for it is refused.
+/// The value of a node and the place of its first best move, by the calling thread where the search is short, and else by one thread with
+/// so many others who help it. There is none where the memory for it is refused.
 fn answer_with_help<R: Threads + Sync, G: Game>(
     rt: &R,
     node: &Node<'_, G>,
@@ -117,11 +133,14 @@ fn answer_with_help<R: Threads + Sync, G: Game>(
         node,
         company,
     };
+    if let Some(found) = answer_unaided(&aid) {
+        return Some(found);
+    }
     answer_by_parts(rt, &aid, others)
 }
 
-/// The value of a state, and the first move of the role that attains it, by the calling thread, with so many others who help it. There
-/// is none where the state has no node, or where the memory for it is refused.
+/// The value of a state, and the first move of the role that attains it, by one thread, with so many others who help it once the search is
+/// long. There is none where the state has no node, or where the memory for it is refused.
 pub fn answer_helped<R: Threads + Sync, G: Game>(
     rt: &R,
     alloc: Global,

@@ -29,5 +29,5 @@ pub fn help_with<G: Game>(aid: &Aid<'_, G>, before: usize)
     else {
         return;
     };
-    let _ = help(node.game, node.from, node.asked, &mut room);
+    help(node.game, node.from, node.asked, &mut room);
 }

@@ -1,4 +1,4 @@
-//! The search of a state by one worker, whom others help over tables that all of them use.
+//! The search of a state by one worker, whom others help, once it is long, over tables that all of them use.
 #![tactic(auto)]
 
 mod helped;

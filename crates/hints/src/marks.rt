@@ -29,7 +29,7 @@ impl Marks {
     pub fn new(alloc: Global, places: u32) -> Result<Marks, AllocError>
         ensures { IfOk result (λ marks. mark_words marks ≡ places) }
     {
-        let mut words = Vec::new(alloc);
+        let mut words = Vec::with_capacity(alloc, places as usize)?;
         for _ in 0..places {
             words.push(AtomicU64::new(0))?;
         }

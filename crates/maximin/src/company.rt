@@ -10,7 +10,7 @@ use std::alloc::Global;
 use std::sync::Arc;
 
 /// How many states can be marked at once.
-const MARKS: u32 = 16_384;
+const MARKS: u32 = 4_096;
 
 /// What all workers of a search share: bounds of what states are worth, how much moves cut off, and which states are being searched.
 #[derive(Drop)]

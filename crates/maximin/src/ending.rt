@@ -4,7 +4,7 @@ use std::convert::Infallible;
 
 /// Why a search ends without an answer.
 pub trait Ending {
-    /// Ends a search that is to end, by what it sees of others.
+    /// Ends a search that is to end, by what it sees of others or by how long it has been.
     fn check(sight: &Sight) -> Result<(), Self>;
 }
 
@@ -24,6 +24,19 @@ impl Ending for Dismissed {
     fn check(sight: &Sight) -> Result<(), Dismissed> {
         if sight.is_over() {
             return Err(Dismissed);
+        }
+        Ok(())
+    }
+}
+
+/// The search is longer than one that a worker does before it asks for help.
+#[derive(Clone, Copy)]
+pub struct TooLong;
+
+impl Ending for TooLong {
+    fn check(sight: &Sight) -> Result<(), TooLong> {
+        if sight.is_long() {
+            return Err(TooLong);
         }
         Ok(())
     }

@@ -1,5 +1,5 @@
 //! The memory of a search, and the calls that use it.
-ghost use Rattle.std.specs.Prelude.{◌≡◌, ◌-◌, ◌<◌, ◌≤◌, pos, length, slice_get, IfOk, Contains, All};
+ghost use Rattle.std.specs.Prelude.{◌≡◌, ◌-◌, ◌<◌, ◌≤◌, pos, length, slice_get, IfOk, IfSome, Contains, All};
 ghost use Rattle.game.specs.Value.{Answers};
 ghost use Rattle.statement.specs.Value.{value, worst, choice_of, reply_of};
 ghost use Rattle.statement.specs.Within as within;
@@ -11,9 +11,9 @@ ghost use Rattle.maximin.specs.Room.{IsRoomOf, IsRoomFor, IsRoomKept, room_depth
 ghost use Rattle.maximin.specs.Tools.{IsWindow};
 
 use crate::bounded::first_reaching;
-use crate::choosing::{best_move, choice_at};
+use crate::choosing::{best_move, choice_at, try_best_move};
 use crate::company::Company;
-use crate::ending::Dismissed;
+use crate::ending::{Dismissed, TooLong};
 use crate::history::History;
 use crate::known::{KnownMove, choice_worth, reply_worth};
 use crate::level::{Level, new_level};
@@ -81,6 +81,25 @@ impl<G: Game> Room<G> {
         Ok(Room { tools, levels })
     }
 
+    /// The same for one who searches over the tables of a company before it has any worker, and for short searches (`value_and_choice_if_short`).
+    pub fn over_tables(
+        alloc: Global,
+        g: &G,
+        depth: u32,
+        company: &Company<G>,
+    ) -> Result<Room<G>, AllocError>
+        requires { company_game company.now ≡ g.now }
+        ensures room { IfOk result (λ room. IsRoomOf G.Game g.now room) }
+        ensures depth { IfOk result (λ room. room_depth room ≡ depth) }
+    {
+        let levels = new_levels(alloc, g, depth)?;
+        let history = History::of(&company.history, u32::MAX)?;
+        let memory = shared_memory(alloc, g, &company.tables)?;
+        let sight = Sight::unaided(g.key_words());
+        let tools = new_tools(g, history, memory, sight)?;
+        Ok(Room { tools, levels })
+    }
+
     /// The same for the worker of this number, from 0 to 254, of a company: it keeps in their tables what it finds, and sees what the
     /// others search. Each but the first takes the moves of a state with as many turns left as printed, as the first does who looks for
     /// the first best of them.
@@ -133,8 +152,8 @@ pub fn value_in<G: Game>(
 }
 
 /// Searches a state to help a search of it by others, who find what is kept of it in the tables that they share. It ends early once
-/// their search is over. The answer is whether it came to its end.
-pub fn help<G: Game>(g: &G, p: &G::Pos, asked: Question, room: &mut Room<G>) -> bool
+/// their search is over.
+pub fn help<G: Game>(g: &G, p: &G::Pos, asked: Question, room: &mut Room<G>)
     requires fits { G.fits g.now p.now }
     requires room { IsRoomFor G.Game g.now asked.role asked.depth room.old }
     ensures room { IsRoomKept G.Game g.now room.old room.new }
@@ -144,7 +163,7 @@ pub fn help<G: Game>(g: &G, p: &G::Pos, asked: Question, room: &mut Room<G>) -> 
         low: LEAST,
         high: GREATEST,
     };
-    try_known_at::<G, Dismissed>(g, p, asked, whole, &mut room.tools, levels).is_ok()
+    let _ = try_known_at::<G, Dismissed>(g, p, asked, whole, &mut room.tools, levels);
 }
 
 /// The value of a state for a role, where there is a turn to come, and the place of the first legal move of the role, in printed
@@ -167,6 +186,30 @@ pub fn value_and_choice<G: Game>(
     let levels = room.levels.as_mut_slice();
     let best = best_move(g, p, asked, &mut room.tools, levels);
     (best.worth, best.place)
+}
+
+/// The same, by a search that is to be short: it answers unless it comes to more states than its room lets it, which are some hundreds
+/// in a room that `over_tables` makes, and none in another. What it found until then is kept.
+pub fn value_and_choice_if_short<G: Game>(
+    g: &G,
+    p: &G::Pos,
+    asked: Question,
+    room: &mut Room<G>,
+) -> Option<(i16, usize)>
+    requires fits { G.fits g.now p.now }
+    requires turn { IsOpen (G.rules g.now) asked.depth (G.state g.now p.now) }
+    requires room { IsRoomFor G.Game g.now asked.role asked.depth room.old }
+    ensures value { IfSome result (λ r. r.0 ≡ pos (value (G.rules g.now) asked.role asked.depth asked.at (G.state g.now p.now))) }
+    ensures choice { IfSome result (λ r. choice_of (G.rules g.now) asked.role asked.depth asked.at (G.state g.now p.now)
+        ≡ slice_get ((G.rules g.now).legal (G.state g.now p.now) asked.role) r.1) }
+    ensures within { IfSome result (λ r. r.1 < length ((G.rules g.now).legal (G.state g.now p.now) asked.role)) }
+    ensures room { IsRoomKept G.Game g.now room.old room.new }
+{
+    let levels = room.levels.as_mut_slice();
+    let Ok(best) = try_best_move::<G, TooLong>(g, p, asked, &mut room.tools, levels) else {
+        return None;
+    };
+    Some((best.worth, best.place))
 }
 
 /// The first legal move of the role, in printed order, that attains the value of the state. There is none where the game has ended,

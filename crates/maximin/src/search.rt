@@ -1,5 +1,5 @@
-//! The search, level by level. It answers, unless it is to end without an answer, which only a helper's can be (`Ending`); where it ends so
-//! nothing is kept of the states that it was in.
+//! The search, level by level. It answers, unless it is to end without an answer (`Ending`), as a helper's is or one that is to be short;
+//! where it ends so nothing is kept of the states that it was in.
 ghost use Rattle.std.specs.Prelude.{◌≡◌, ◌+◌, ◌<◌, ◌≤◌, ◌<ℤ◌, pos, false, [], length, map, get_or, if◌then◌else◌, IfOk};
 ghost use Rattle.statement.specs.AtBound.{bound_worth};
 ghost use Rattle.statement.specs.Rules.{is_stuck as stuck};
@@ -98,7 +98,7 @@ fn value_at<G: Game, E: Ending>(
 
 /// The least value of a state that can follow where the role plays `own`, within a window.
 #[cycle(search)]
-fn try_worst_at<G: Game, E: Ending>(
+pub fn try_worst_at<G: Game, E: Ending>(
     game: &G,
     from: &G::Pos,
     asked: Question,
@@ -175,7 +175,7 @@ fn least_after<G: Game, E: Ending>(
 
 /// The value of one of the states after a run, within a window.
 #[cycle(search)]
-fn try_child_at<G: Game, E: Ending>(
+pub fn try_child_at<G: Game, E: Ending>(
     game: &G,
     place: usize,
     asked: Question,
@@ -462,32 +462,6 @@ pub fn worst_at<G: Game>(
 {
     let Ok(worst) = try_worst_at::<G, Infallible>(game, from, asked, own, window, tools, levels);
     worst
-}
-
-/// The value of one of the states after a run, within a window.
-pub fn child_at<G: Game>(
-    game: &G,
-    place: usize,
-    asked: Question,
-    window: SearchWindow,
-    tools: &mut Tools<G>,
-    children: &mut Children<G::Pos, G::Many>,
-    levels: &mut [Level<G::Pos, G::Many>],
-) -> i16
-    requires place { place < length (G.states game.now children.old.many) }
-    requires fit { AreFit G.Game game.now asked.role asked.depth tools.old levels.old }
-    requires children { AreLookedAt G.Game game.now asked children.old }
-    requires window { IsWindow window.low window.high }
-    ensures answers { Answers (value (G.rules game.now) asked.role asked.depth asked.at (get_or (G.states game.now children.old.many) place []))
-        window.low window.high result }
-    ensures kept { AreKept G.Game game.now tools.old levels.old tools.new levels.new }
-    ensures children { AreLookedAt G.Game game.now asked children.new }
-    ensures same { AreSameStates G.Game game.now children.old children.new }
-{
-    let Ok(worth) = try_child_at::<G, Infallible>(
-        game, place, asked, window, tools, children, levels,
-    );
-    worth
 }
 
 /// The value of a state within a window, by what is kept of it, or else by a search in what that leaves of the window.

@@ -5,16 +5,30 @@ use game::{Game, Question};
 use hints::Marks;
 use std::alloc::AllocError;
 use std::sync::Arc;
+use std::sync::atomic::{AtomicU64, Ordering};
 use table::hash_of;
 
 /// States with fewer turns left are not marked: they are searched too soon.
 const FEWEST_MARKED: u32 = 4;
 
-/// The marks of what workers are searching, if there are others. No answer rests on them.
+/// How many states a short search comes to at most, where the key of a state has so many words. The longer a key, the longer it takes to
+/// step a state: so many take some two milliseconds.
+fn most_unaided(words: usize) -> u64 {
+    match words {
+        0 | 1 => 1_024,
+        2 => 256,
+        3 | 4 => 128,
+        _ => 64,
+    }
+}
+
+/// The marks of what workers are searching, if there are others. No answer rests on them, nor on how many states were counted.
 #[derive(Drop)]
 pub struct Sight {
     marks: Option<Arc<Marks>>,
     worker: u8,
+    // How many more states a search may come to that ends once it is long.
+    states: AtomicU64,
 }
 
 impl Sight {
@@ -23,6 +37,17 @@ impl Sight {
         Sight {
             marks: None,
             worker: 0,
+            states: AtomicU64::new(0),
+        }
+    }
+
+    /// The same, of a search that is long once it has come to as many states as are too many for one without help, where their keys have
+    /// so many words.
+    pub fn unaided(words: usize) -> Sight {
+        Sight {
+            marks: None,
+            worker: 0,
+            states: AtomicU64::new(most_unaided(words)),
         }
     }
 
@@ -31,6 +56,7 @@ impl Sight {
         Ok(Sight {
             marks: Some(Arc::try_clone(marks)?),
             worker,
+            states: AtomicU64::new(0),
         })
     }
 
@@ -45,6 +71,13 @@ impl Sight {
             Some(marks) => marks.is_over(),
             None => false,
         }
+    }
+
+    /// Counts a state, and tells whether it is one too many for a short search.
+    pub fn is_long(&self) -> bool {
+        let left = self.states.load(Ordering::Relaxed);
+        self.states.store(left.saturating_sub(1), Ordering::Relaxed);
+        left == 0
     }
 
     /// Marks a state, by its hash, while it is searched.

@@ -26,10 +26,11 @@ const STONES: &[u8] = b"(role a) (role b) (s 0 1) (s 1 2) (s 2 3) (s 3 4) (s 4 5
 (<= (goal a 0) (true (control a)))";
 
 /// A ring of eight fields, on which one role goes one or two on, so that states come again. On the fourth it wins, if the other has
-/// said yes as often as it liked.
+/// said yes as often as it liked. A state has many facts that are never true, so that one worker asks for help after few states.
 const RING: &[u8] =
     b"(role a) (role b) (on 0 1) (on 1 2) (on 2 3) (on 3 4) (on 4 5) (on 5 6) (on 6 7) (on 7 0)
 (<= (base (at ?n)) (on ?n ?m)) (base yes)
+(<= (base (never ?k ?l ?m)) (on ?k ?n) (on ?l ?o) (on ?m ?p))
 (input a one) (input a two) (input b yes) (input b no)
 (init (at 1))
 (legal a one) (legal a two) (legal b yes) (legal b no)

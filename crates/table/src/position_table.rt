@@ -14,7 +14,7 @@ use game::AtBound;
 use std::alloc::{AllocError, Global};
 
 /// A table begins with at most so many entries, and takes more of its memory as they are filled.
-const FIRST_ENTRIES: usize = 64;
+const FIRST_ENTRIES: usize = 16;
 
 /// Depths from here on are not kept.
 const DEPTHS: u32 = 127;

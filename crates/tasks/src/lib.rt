@@ -7,7 +7,7 @@ mod plan;
 mod step;
 mod turn;
 
-pub use alone::answer_in;
+pub use alone::{answer_if_short, answer_in};
 pub use node::Node;
 pub use plan::Plan;
 pub use step::{Step, new_step};

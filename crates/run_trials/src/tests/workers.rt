@@ -103,10 +103,12 @@ fn step_at_once<T: Threads + Sync + AllocGlobal>(
     Ok(is_right && !crowd.gave_up.load(Ordering::SeqCst))
 }
 
-// Only the run itself is left out, which searches a game that nobody watches.
+// Only the run itself is left out, which searches a game that nobody watches. With a table one worker would search so few states alone.
 #[test]
 fn as_many_workers_search_as_the_words_ask_for(rt: HostRuntime) -> Result<(), AllocError> {
-    let words = ["solve", "--role", "a", "--depth", "1", "--cut", "4"];
+    let words = [
+        "solve", "--role", "a", "--depth", "1", "--table", "0", "--cut", "4",
+    ];
     assert!(rt; step_at_once(&rt, &words)?);
     Ok(())
 }

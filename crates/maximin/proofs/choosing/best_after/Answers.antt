@@ -6,6 +6,7 @@ use Rattle.statement.specs.Value.{value}
 use Rattle.maximin.specs.Best.{own_worth}
 use Rattle.maximin.specs.Run.{turns_in}
 use Rattle.std.proofs.lemmas.List.{get_or-map}
+use Rattle.std.proofs.lemmas.Result.{IfOk-weaker}
 use Rattle.game.proofs.Facts.{legal_count}
 use Rattle.maximin.proofs.Bounds.{value_at_most}
 use Rattle.maximin.proofs.Kept.{level_kept}
@@ -61,14 +62,12 @@ returns-clause-best g c =
     let size = stepped_count rules.roles run _ (rules.after state) (g.G.Game.states c.args.game.now c.steps.new.out)
     c.requires.level.level.moves.run c.deref.ensures.value c.steps.ensures.after in
     let count = turns_count rules.roles run c.requires.level.level.moves.run in
-    let seen : c.best_among.result.seen ≡ c.args.best.seen + run.count = omega (arith, c.best_among.ensures.seen, size) in
-    record {
-      seen = seen;
-      best = rw (← seen) (c.best_among.ensures.best (own_worth rules c.args.asked.role c.args.asked.depth c.args.asked.at state)
-          (λ k lt. let inside : k < length turns = omega (arith, size) in
-          rw states (rw (get_or-map (rules.after state) turns k [] [] inside) (c.requires.moves.worths k inside)))
-          c.requires.best);
-    }
+    IfOk-weaker c.best_among.result _ _
+    (λ r h. rw size at (h (own_worth rules c.args.asked.role c.args.asked.depth c.args.asked.at state)
+    (λ k lt. let inside : k < length turns = omega (arith, size) in
+    rw states (rw (get_or-map (rules.after state) turns k [] [] inside) (c.requires.moves.worths k inside)))
+    c.requires.best))
+    c.best_among.ensures.best
 
 pub returns-clause-level : goal.returns-clause-level
 returns-clause-level g c =

@@ -51,8 +51,8 @@ gather_own-requires-clause-joint g c κs within =
     turn_known rules state c.args.asked.role 0 c.runs.level.moves.cursor.places.items c.runs.level.moves.cursor.joint.items c.runs.invariant.stands (omega arith)
     (λ q below. law.legal_within c.args.game.now state q below)
 
-pub best_after-best-requires-clause-level : goal.best_after-best-requires-clause-level
-best_after-best-requires-clause-level g c κs within =
+pub best_after-requires-clause-level : goal.best_after-requires-clause-level
+best_after-requires-clause-level g c κs within =
     let kept = c.runs.invariant.level in
     let taken = c.gather_own.ensures.own in
     let some = c.if-level-eq0.false in
@@ -62,8 +62,8 @@ best_after-best-requires-clause-level g c κs within =
       known = taken.known;
     }
 
-pub best_after-best-requires-clause-moves : goal.best_after-best-requires-clause-moves
-best_after-best-requires-clause-moves g c κs within =
+pub best_after-requires-clause-moves : goal.best_after-requires-clause-moves
+best_after-requires-clause-moves g c κs within =
     let rules = g.G.Game.rules c.args.game.now in
     let state = g.G.Game.state c.args.game.now c.args.from.now in
     let legal = rules.legal state c.args.asked.role in
@@ -123,22 +123,38 @@ returns-then-level-eq0-clause-kept g c =
 pub runs-preserved : goal.runs-preserved
 runs-preserved g c =
     let now = c.runs.level in
-    let count = c.best_after-best.ensures.best.seen in
+    let count = c.in_ok-best.ensures.best.seen in
     record {
-      level = c.best_after-best.ensures.level.level;
-      capacities = c.best_after-best.ensures.level.capacities
+      level = c.best_after.ensures.level.level;
+      capacities = c.best_after.ensures.level.capacities
           ∙ level_kept g.G.Game c.args.game.now now record { cursor = now.moves.cursor; run = c.gather_own.new.run } now.children
           (moves_kept now.moves now.moves.cursor c.gather_own.new.run refl c.gather_own.ensures.capacities) refl
           ∙ c.runs.invariant.capacities;
-      kept = kept_then c.runs.invariant.kept c.best_after-best.ensures.kept;
+      kept = kept_then c.runs.invariant.kept c.best_after.ensures.kept;
       deep = omega arith;
-      stands = rw c.best_after-best.ensures.level.moves c.runs.invariant.stands;
+      stands = rw c.best_after.ensures.level.moves c.runs.invariant.stands;
       in_list = omega (arith, count, c.gather_own.ensures.own.within);
-      is_best = rw count c.best_after-best.ensures.best.best;
+      is_best = rw count c.in_ok-best.ensures.best.best;
     }
 
 pub runs-smaller : goal.runs-smaller
 runs-smaller g c =
-    let count = c.best_after-best.ensures.best.seen in
+    let count = c.in_ok-best.ensures.best.seen in
     let some = c.if-level-eq0.false in
     omega (arith, count, c.gather_own.ensures.own.within)
+
+pub returns-in_err-best-clause-kept : goal.returns-in_err-best-clause-kept
+returns-in_err-best-clause-kept g c =
+    let split = c.split_at_mut-first.ensures in
+    let old = get_or c.split_at_mut-first.result.0.now 0 c.index-first-0.result in
+    let now = c.runs.level in
+    let begun : level_capacities g.G.Game c.args.game.now now ≡ level_capacities g.G.Game c.args.game.now old =
+    c.runs.invariant.capacities
+    ∙ level_kept g.G.Game c.args.game.now old record { cursor = c.start_turns.new.cursor; run = old.moves.run } old.children
+    (moves_kept old.moves c.start_turns.new.cursor old.moves.run c.start_turns.ensures.capacities refl) refl in
+    let turned = level_kept g.G.Game c.args.game.now now record { cursor = now.moves.cursor; run = c.gather_own.new.run } now.children
+    (moves_kept now.moves now.moves.cursor c.gather_own.new.run refl c.gather_own.ensures.capacities) refl in
+    all_levels_kept c.args.levels.now c.split_at_mut-first.result.0.now c.split_at_mut-first.result.1.now
+    c.best_after.new.levels c.best_after.new.level c.index-first-0.result split.value split.front_len
+    c.best_after.ensures.level.level (c.best_after.ensures.level.capacities ∙ turned ∙ begun)
+    (kept_then c.runs.invariant.kept c.best_after.ensures.kept)

@@ -1,5 +1,6 @@
 use Rattle.std.proofs.Common.{◌≡◌, ◌≤◌, ◌∙◌, ap, get_or, refl, arith, w16, [], rules as facts}
 use Rattle.std.proofs.lemmas.Int.{to_z-of_z, ints, clamps}
+use Rattle.std.proofs.lemmas.Result.{IfOk-weaker}
 use mir.Val.{SFits, of_z, to_z}
 use Rattle.std.specs.Prelude.{pos}
 use Rattle.std.specs.Int.{int_max}
@@ -33,8 +34,7 @@ returns-clause-answers g c =
     let few : worth ≤ 100 = value_at_most rules c.args.asked.role (λ s r. law.goal_within c.args.game.now s r) c.args.asked.depth c.args.asked.at state in
     let low = to_z w16 (of_z w16 c.max-low.result) in
     let fits_low : SFits w16 c.max-low.result = search facts in
-    let fits_r : SFits w16 c.child_at.result = search facts in
     let low_is : low ≡ int_max c.args.best (pos 0) =
     to_z-of_z w16 c.max-low.result fits_low ∙ c.max-low.ensures.value ∙ ap (λ z. int_max z (pos 0)) (to_z-of_z w16 c.args.best c.ranges.best) in
-    rw (to_z-of_z w16 c.child_at.result fits_r)
-    (within_goals worth c.args.best (pos 101) low (pos 100) c.child_at.result few low_is refl c.child_at.ensures.answers)
+    IfOk-weaker c.try_child_at.result _ _ (λ r h. within_goals worth c.args.best (pos 101) low (pos 100) r few low_is refl h)
+    c.try_child_at.ensures.answers

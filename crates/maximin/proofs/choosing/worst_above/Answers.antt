@@ -1,5 +1,6 @@
 use Rattle.std.proofs.Common.{◌≡◌, ◌≤◌, ◌∙◌, ap, refl, arith, w16, rules as facts}
 use Rattle.std.proofs.lemmas.Int.{to_z-of_z, ints, clamps}
+use Rattle.std.proofs.lemmas.Result.{IfOk-weaker}
 use mir.Val.{SFits, of_z, to_z}
 use Rattle.std.specs.Prelude.{pos}
 use Rattle.std.specs.Int.{int_max}
@@ -35,8 +36,7 @@ returns-clause-answers g c =
     c.args.own in
     let low = to_z w16 (of_z w16 c.max-low.result) in
     let fits_low : SFits w16 c.max-low.result = search facts in
-    let fits_r : SFits w16 c.worst_at.result = search facts in
     let low_is : low ≡ int_max c.args.best (pos 0) =
     to_z-of_z w16 c.max-low.result fits_low ∙ c.max-low.ensures.value ∙ ap (λ z. int_max z (pos 0)) (to_z-of_z w16 c.args.best c.ranges.best) in
-    rw (to_z-of_z w16 c.worst_at.result fits_r)
-    (within_goals worth c.args.best (pos 101) low (pos 100) c.worst_at.result few low_is refl c.worst_at.ensures.answers)
+    IfOk-weaker c.try_worst_at.result _ _ (λ r h. within_goals worth c.args.best (pos 101) low (pos 100) r few low_is refl h)
+    c.try_worst_at.ensures.answers
