@@ -139,7 +139,8 @@ if __name__ == "__main__":
         main()
     except gdlsolve.Refusal as refusal:
         sys.exit(str(refusal))
-    except ImportError as fault:
+    except (ImportError, RuntimeError) as fault:
+        # The second is that of a stream that is closed, or of a program that has ended.
         sys.exit(str(fault))
     except OSError as fault:
         if fault.filename:

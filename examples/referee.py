@@ -9,7 +9,7 @@ import argparse
 import random
 from pathlib import Path
 
-from gdlsolve import Position, Refusal, Session, State
+from gdlsolve import Misuse, Position, Refusal, Session, State
 
 Turn = tuple[str, ...]
 
@@ -73,5 +73,7 @@ def main() -> None:
 if __name__ == "__main__":
     try:
         main()
-    except (Refusal, OSError, ImportError) as fault:
+    except (Refusal, Misuse, OSError, ImportError) as fault:
         raise SystemExit(str(fault))
+    except KeyboardInterrupt:
+        raise SystemExit(130)

@@ -13,6 +13,8 @@ as `MemoryError`.
 >>> position.goals
 {'a': 0, 'b': 100}
 """
+# This one first, so that a key ends a command in silence also while the others are read.
+from gdlsolve import keys as keys
 from gdlsolve.calls import Misuse, Refusal, Reply, Status, reply
 from gdlsolve.commands import Bound, History, check, moves, net, show, solve, solve_within, state, values
 from gdlsolve.replies import Description, Network, Outside, Position, Solution, Standing, State, Values

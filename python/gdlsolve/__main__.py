@@ -17,13 +17,14 @@ from enum import Enum
 from pathlib import Path
 from typing import Any, NoReturn
 
-from gdlsolve import program, whole
+from gdlsolve import keys, program, whole
 from gdlsolve.calls import ASKS_FOR_HELP, Ended, Misuse, Refusal, Reply, Status, lines_of, reply
 from gdlsolve.deepening import Deepest, deepen
-from gdlsolve.engine import Broken
+from gdlsolve.engine import Broken, readable
 from gdlsolve.progress import progress
-from gdlsolve.replies import Description, Network, Outside, Position, Standing, Values
+from gdlsolve.replies import Description, Network, Outside, Position, Solution, Standing, Values
 from gdlsolve.streams import StreamFault, on_input, put, say
+from gdlsolve.terms import terms
 
 USAGE = """
 With this package a file of rules may stand among the words, else they are read on standard input. Further options:
@@ -42,8 +43,6 @@ SEARCHES = (["solve"], ["values"])
 OVER_RULES = {"check", "moves", "net", "solve", "state", "values"}
 STREAM_FAILED = 4
 NO_PROGRAM = 70
-# By a key.
-STOPPED = 130
 
 
 @dataclass(frozen=True)
@@ -105,9 +104,43 @@ def is_linted(line: Line, found: Reply) -> bool:
     return line.words[:1] == ["lint"] and not found.output.startswith(b"refused ")
 
 
-def told(command: str, output: bytes) -> Any:
-    """An answer as what JSON can tell."""
-    lines = lines_of(output)
+def by_depth(lines: Sequence[str]) -> dict[str, Any]:
+    """What `solve --deepen` tells: the answer of each depth, and whether the last is settled."""
+    depths: list[tuple[int, list[str]]] = []
+    for line in lines:
+        word, _, number = line.partition(" ")
+        if word == "depth":
+            depths.append((int(number), []))
+        elif line != "settled":
+            depths[-1][1].append(line)
+    answers = [{"depth": depth, **asdict(Solution.of(answer))} for depth, answer in depths]
+    return {"depths": answers, "settled": lines[-1:] == ["settled"]}
+
+
+def by_move(lines: Sequence[str]) -> dict[str, list[list[str]]]:
+    """The lines of play that `values --lines` tells behind each move."""
+    found: dict[str, list[list[str]]] = {}
+    turns: list[list[str]] = []
+    for word, _, *rest in map(terms, lines):
+        if word == "line":
+            turns.append(rest)
+        elif rest:
+            found[rest[0]] = turns = []
+    return found
+
+
+def told(words: Sequence[str], output: bytes) -> Any:
+    """An answer to words as what JSON can tell."""
+    with readable():
+        return read(words[0], words, lines_of(output))
+
+
+def read(command: str, words: Sequence[str], lines: list[str]) -> Any:
+    """The same, where it is an answer."""
+    if command == "solve" and "--deepen" in words:
+        return by_depth(lines)
+    if command == "values" and "--lines" in words:
+        return {**asdict(Values.of(lines)), "lines": by_move(lines)}
     readers: dict[str, Callable[[list[str]], Any]] = {
         "check": Description.of,
         "net": Network.of,
@@ -149,7 +182,7 @@ def write(line: Line, found: Reply) -> int:
         refusal = Refusal(lines_of(found.output)[0])
         write_json({"refused": refusal.code, "name": refusal.name, "values": refusal.values})
     else:
-        write_json(told(line.words[0], found.output))
+        write_json(told(line.words, found.output))
     return int(found.status)
 
 
@@ -160,7 +193,7 @@ def write_deepest(line: Line, found: Deepest) -> int:
     if found.broken:
         say(f"the search ended before its time: {found.broken}\n")
     if line.as_json:
-        write_json({"depth": found.depth, "settled": found.settled, **told("solve", found.reply.output)})
+        write_json({"depth": found.depth, "settled": found.settled, **told(["solve"], found.reply.output)})
     else:
         put(b"depth %d\n%s%s" % (found.depth, found.reply.output, b"settled\n" if found.settled else b""))
     return int(Status.ANSWER)
@@ -215,9 +248,12 @@ def run(words: Sequence[str]) -> int:
         return write(line, answered(line, rules))
     if line.words[:1] != ["solve"]:
         raise Misuse("--time goes with solve")
-    return write_deepest(line, deepen(line.words, rules, line.seconds))
+    with readable():
+        found = deepen(line.words, rules, line.seconds)
+    return write_deepest(line, found)
 
 
+@keys.quiet
 def main() -> int:
     """The command `gdlsolve` of the package."""
     try:
@@ -237,8 +273,6 @@ def main() -> int:
     except OSError as fault:
         say(f"{fault.filename}: {fault.strerror}\n" if fault.filename else f"{fault}\n")
         return STREAM_FAILED
-    except KeyboardInterrupt:
-        return STOPPED
 
 
 if __name__ == "__main__":

@@ -231,6 +231,11 @@ def reply(words: Sequence[str], rules: bytes | str) -> Reply:
     return by_library(found, words, text) if isinstance(found, Path) else by_program(found, words, text)
 
 
+def is_own(version: Reply) -> bool:
+    """Whether a reply to `--version` is that of this solver, and not of some other program."""
+    return version.output.startswith(b"gdlsolve ")
+
+
 def answer(words: Sequence[str], rules: bytes | str) -> list[str]:
     """The lines of the answer to a command, where it is one."""
     return reply(words, rules).lines()

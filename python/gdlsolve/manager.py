@@ -29,9 +29,9 @@ from pathlib import Path
 from urllib.parse import urlsplit
 
 import gdlsolve
-from gdlsolve import whole
+from gdlsolve import keys, whole
 from gdlsolve.calls import Ended, Refusal, answer
-from gdlsolve.engine import Turn, history
+from gdlsolve.engine import Broken, Turn, history, readable
 from gdlsolve.messages import tree
 from gdlsolve.replies import Position, State
 from gdlsolve.streams import StreamFault, put, say
@@ -42,8 +42,6 @@ RANDOM = "random"
 MOST_BYTES = 1 << 20
 # So long a player may take for what ends a match, in seconds.
 FAREWELL = 5.0
-# The exit status where a key ends it.
-STOPPED = 130
 
 
 def is_of(value: object, kind: str) -> bool:
@@ -119,11 +117,14 @@ class Told:
 
 def reached(player: str, seconds: float) -> tuple[http.client.HTTPConnection, str]:
     """A connection to a player, and its path there."""
-    where = urlsplit(player)
-    if where.scheme != "http" or not where.hostname:
+    try:
+        where = urlsplit(player)
+        host, port = where.hostname, where.port or 80
+    except ValueError:
+        host = None
+    if not host or where.scheme != "http":
         raise ValueError(f"{player} is no http://HOST:PORT")
-    link = http.client.HTTPConnection(where.hostname, where.port or 80, timeout=seconds)
-    return link, where.path or "/"
+    return http.client.HTTPConnection(host, port, timeout=seconds), where.path or "/"
 
 
 def asked(link: http.client.HTTPConnection, path: str, message: str, until: float) -> str:
@@ -301,7 +302,9 @@ class Referee:
 
 def roles_of(rules: str) -> list[str]:
     """The roles of a game, also of one that has to be written out."""
-    return list(gdlsolve.check(whole.playable(rules.encode(), answer)).roles)
+    played = whole.playable(rules.encode(), answer)
+    with readable():
+        return list(gdlsolve.check(played).roles)
 
 
 def name_of(text: str) -> str:
@@ -342,7 +345,9 @@ def resumed(given: argparse.Namespace) -> Record:
 
 def options(words: Sequence[str] | None) -> argparse.Namespace:
     """What the command line asks for."""
-    known = argparse.ArgumentParser(prog="gdlsolve-manager", description="Referees a match.")
+    own = keys.name("gdlsolve-manager", "gdlsolve.manager")
+    known = argparse.ArgumentParser(prog=own, description="Referees a match.")
+    known.add_argument("--version", action="version", version=f"gdlsolve {gdlsolve.__version__}")
     known.add_argument("rules", type=Path, nargs="?", help="the rules of the game")
     known.add_argument("--resume", type=Path, help="go on with the match of this record")
     known.add_argument(
@@ -362,6 +367,8 @@ def options(words: Sequence[str] | None) -> argparse.Namespace:
         known.error("--id is one name of letters, digits, and the signs _ . + -")
     if not all(0 <= clock < math.inf for clock in (found.start, found.play, found.slack)):
         known.error("a clock is no number of seconds from 0 on")
+    if found.turns < 0:
+        known.error("--turns is a number from 0 on")
     return found
 
 
@@ -373,6 +380,7 @@ def told(record: Record) -> str:
     return "".join([f"{record.matchId}: {record.state} after {count}\n", *goals])
 
 
+@keys.quiet
 def main(words: Sequence[str] | None = None) -> int:
     """The command `gdlsolve-manager`."""
     given = options(words)
@@ -386,11 +394,12 @@ def main(words: Sequence[str] | None = None) -> int:
     except Refusal as refusal:
         say(f"{given.resume or given.rules}: {refusal}\n{refusal.explanation}")
         return 1
-    except (StreamFault, ValueError, OSError, ImportError, Ended) as fault:
+    except (StreamFault, ValueError, ImportError, Ended, Broken) as fault:
         say(f"{fault}\n")
         return 1
-    except KeyboardInterrupt:
-        return STOPPED
+    except OSError as fault:
+        say(f"{fault.filename}: {fault.strerror}\n" if fault.filename else f"{fault}\n")
+        return 1
     return 0
 
 

@@ -23,12 +23,13 @@ from dataclasses import dataclass
 from http.server import BaseHTTPRequestHandler, ThreadingHTTPServer
 from typing import Any
 
-from gdlsolve import whole
-from gdlsolve.calls import Ended, Misuse, Refusal, reply
+from gdlsolve import __version__, keys, whole
+from gdlsolve.calls import Ended, Misuse, Refusal, is_own, reply
 from gdlsolve.engine import Broken, Children, Engine, Late, Limit, Turn
 from gdlsolve.messages import MOST_BYTES, Message, clock, parts_of, turn
 from gdlsolve.replies import Position, State
 from gdlsolve.simulation import MOST_DEPTH, Node, Question
+from gdlsolve.streams import StreamFault, put_line, say
 from gdlsolve.terms import Malformed
 from gdlsolve.thinking import Choice, Thinking
 
@@ -459,7 +460,9 @@ class Server(ThreadingHTTPServer):
 def options(words: Sequence[str] | None) -> argparse.Namespace:
     """What the command line asks for."""
     own = Options()
-    known = argparse.ArgumentParser(prog="gdlsolve-player", description="Plays matches over HTTP.")
+    name = keys.name("gdlsolve-player", "gdlsolve.player")
+    known = argparse.ArgumentParser(prog=name, description="Plays matches over HTTP.")
+    known.add_argument("--version", action="version", version=f"gdlsolve {__version__}")
     known.add_argument("--port", type=int, default=9147, help="0 takes one that is free")
     known.add_argument("--host", default="127.0.0.1", help="0.0.0.0 takes messages of all machines")
     known.add_argument("--name", default=own.name)
@@ -480,13 +483,17 @@ def options(words: Sequence[str] | None) -> argparse.Namespace:
     return found
 
 
+@keys.quiet
 def main(words: Sequence[str] | None = None) -> int:
     """The command `gdlsolve-player`."""
     given = options(words)
     try:
-        reply(["--version"], b"")
+        version = reply(["--version"], b"")
     except (ImportError, OSError, Ended) as fault:
-        print(f"nothing answers: {fault}", file=sys.stderr)
+        say(f"nothing answers: {fault}\n")
+        return 1
+    if not is_own(version):
+        say("nothing answers: the program that is named is another one\n")
         return 1
     signal.signal(signal.SIGTERM, lambda *_: sys.exit(0))
     known = Options(
@@ -500,9 +507,12 @@ def main(words: Sequence[str] | None = None) -> int:
         player.close()
         return 1
     with made as server:
-        print(f"{given.name} on {given.host}:{server.server_address[1]}", flush=True)
         try:
+            put_line(f"{given.name} on {given.host}:{server.server_address[1]}")
             server.serve_forever()
+        except StreamFault as fault:
+            say(f"{fault}\n")
+            return 1
         except KeyboardInterrupt:
             pass
         finally:

@@ -28,6 +28,12 @@ def put(output: bytes) -> None:
         raise StreamFault("write fault") from fault
 
 
+def put_line(line: str) -> None:
+    """Writes a line of a server to standard output. That may also be closed: it serves all the same."""
+    if sys.stdout is not None:
+        put(f"{line}\n".encode())
+
+
 def say(text: str) -> None:
     """Tells people something, where they can be told."""
     if sys.stderr is None:

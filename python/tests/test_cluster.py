@@ -17,12 +17,14 @@ from concurrent.futures import ProcessPoolExecutor
 from pathlib import Path
 from typing import IO, TypeVar
 
-from gdlsolve import cluster
+from gdlsolve import Refusal, cluster
 from gdlsolve.cluster import program
-from tests import ENDLESS_RULES, GAMES, PROGRAM, TOP, known, package
+from tests import ENDLESS_RULES, GAMES, PROGRAM, TOP, known, needs_program, package, ran
+from tests.found import BEGINS, FOUND, NEVER
 
 T = TypeVar("T")
 MARKS = TOP / "games/tic_tac_toe.kif"
+FOUND_GAMES = sorted((TOP / "games/found").glob("*.kif"))
 WORKERS = 3
 # So long a test waits for what has to happen at some time, in seconds.
 PATIENCE = 180.0
@@ -137,6 +139,53 @@ class Here(unittest.TestCase):
                 done = subprocess.run(command, capture_output=True, env=environment(), check=False)
                 self.assertEqual((done.returncode, done.stdout, done.stderr), want)
 
+    def told(self, *words: object, rules: bytes = b"") -> tuple[int, bytes, bytes]:
+        """What the command does."""
+        command = package("gdlsolve.cluster", *words)
+        done = subprocess.run(command, input=rules, capture_output=True, env=environment(), check=False)
+        return done.returncode, done.stdout, done.stderr
+
+    @needs_program
+    def test_found_games(self) -> None:
+        self.assertTrue(FOUND_GAMES)
+        for game in FOUND_GAMES:
+            options, answer = stored(game)
+            self.assertIn("--whole", options)
+            with self.subTest(game=game.stem):
+                self.assertEqual(self.told("--processes", "2x1", *options, game), (0, answer, b""))
+
+    @needs_program
+    def test_a_game_as_it_is_found_is_written_out_before_it_is_shared(self) -> None:
+        asked, rules = ["--role", "one", "--depth", "5"], FOUND.encode()
+        for more in (["--whole"], ["--whole", "--tighten"]):
+            status, answer, _ = ran(["solve", *more, *asked], rules)
+            self.assertEqual(status, 0)
+            for engine in (["--processes", "2"], ["--processes", "3x1", "--parts"]):
+                with self.subTest(more=more, engine=engine):
+                    self.assertEqual(self.told(*engine, *more, *asked, rules=rules), (0, answer, b""))
+        self.assertEqual(self.told(*asked, rules=rules)[:2], ran(["check"], rules)[:2])
+        never = NEVER.encode()
+        self.assertEqual(self.told("--whole", *asked, rules=never)[:2], ran(["unroll"], never)[:2])
+        self.assertEqual(self.told("--tighten", *asked, rules=rules), (1, b"", b"--tighten goes with --whole\n"))
+
+    @needs_program
+    def test_the_call_takes_a_game_as_it_is_found(self) -> None:
+        with ProcessPoolExecutor(2) as pool:
+            found = cluster.solve(FOUND, "one", 5, executor=pool, width=2, whole=True, table=8)
+            self.assertEqual((found.value, found.move), (100, BEGINS))
+            with self.assertRaises(Refusal) as caught:
+                cluster.solve(NEVER, "a", 5, executor=pool, width=2, whole=True)
+        self.assertEqual(str(caught.exception), "refused U1 NotStratified 2")
+        self.assertIn("NotStratified: p > not q > p", caught.exception.explanation)
+
+    def test_the_memory_of_positions_is_told_to_each_program(self) -> None:
+        asked = ["--role", "xplayer", "--depth", "9", MARKS]
+        self.assertEqual(self.told("--processes", 1, "--table", 0, *asked)[:2], (0, stored(MARKS)[1]))
+        for wrong in ("-1", "65537", "much"):
+            status, output, errors = self.told("--table", wrong, *asked)
+            self.assertEqual((status, output), (1, b""))
+            self.assertIn(b"--table", errors)
+
     @unittest.skipIf(signal.getsignal(signal.SIGINT) is signal.SIG_IGN, "the key is of no account here")
     def test_a_key_ends_it_without_a_word(self) -> None:
         words = package("gdlsolve.cluster", "--processes", 2, "--role", "red", "--depth", 40)
@@ -163,6 +212,57 @@ class Here(unittest.TestCase):
             with self.subTest(more=more):
                 done = subprocess.run(f"{words} {more}", shell=True, capture_output=True, text=True, env=environment(), check=False)
                 self.assertEqual((done.returncode, done.stdout, done.stderr), (4, "", want))
+
+    def test_words_that_are_no_number_are_told(self) -> None:
+        for words, want in (
+            (["--processes", "0"], "argument --processes: it takes N or NxK, each above 0, and not '0'"),
+            (["--local", "2x"], "argument --local: it takes N or NxK, each above 0, and not '2x'"),
+            (["--split", "nan"], "argument --split: it takes a number of seconds from 0 on, and not 'nan'"),
+            (["--patience=-5"], "argument --patience: it takes a number of seconds from 0 on, and not '-5'"),
+            (["--depth", "five"], "argument --depth: it takes a whole number from 0 to 64, and not 'five'"),
+            (["--table", "65537"], "argument --table: it takes a whole number from 0 to 65536, and not '65537'"),
+        ):
+            with self.subTest(words=words):
+                status, output, errors = self.told("--role", "xplayer", "--depth", 1, *words, MARKS)
+                self.assertEqual((status, output, errors.decode().splitlines()[-1]), (1, b"", want))
+
+    def test_what_is_no_such_program_is_told(self) -> None:
+        with tempfile.TemporaryDirectory() as room:
+            other = Path(room) / "other"
+            silent = "no answer: Failed: the program of this machine gives no answer"
+            for body, status, want in (("", 69, silent), ("exit 1", 1, "the program takes none")):
+                other.write_text(f"#!/bin/sh\n{body}\n")
+                other.chmod(0o755)
+                command = package("gdlsolve.cluster", "--role", "xplayer", "--depth", 1, MARKS)
+                done = subprocess.run(command, capture_output=True, text=True, env=environment(GDLSOLVE_PROGRAM=str(other)), check=False)
+                with self.subTest(body=body):
+                    self.assertEqual((done.returncode, done.stdout), (status, ""))
+                    self.assertTrue(done.stderr.startswith(want), done.stderr)
+                    self.assertEqual(done.stderr.count("\n"), 1)
+
+    def test_a_scheduler_that_is_not_there_is_told_in_a_line(self) -> None:
+        python = with_package("distributed")
+        if python is None:
+            self.skipTest("there is no Dask: Debian has it as python3-distributed")
+        with tempfile.TemporaryDirectory() as room:
+            none, part = Path(room) / "none.json", Path(room) / "part.json"
+            part.write_text('{"address": ')
+            wrong: list[tuple[list[object], str]] = [
+                (["--scheduler-file", none], f"no answer: Lost: there is no {none}\n"),
+                (["--scheduler-file", part], f"no answer: Lost: {part} tells of no scheduler\n"),
+                (["--scheduler", "nonsense"], "no answer: Lost: no scheduler: missing port number in address 'nonsense'\n"),
+                (["--scheduler", "foo://127.0.0.1:1"], "no answer: Lost: no scheduler: unknown address scheme 'foo'"),
+                (["--scheduler", "tls://127.0.0.1:1"], "no answer: Lost: no scheduler: TLS wants its files in the configuration of Dask\n"),
+                (["--scheduler", "tcp://127.0.0.1:1"], "no answer: Lost: no scheduler: "),
+            ]
+            for words, want in wrong:
+                options = ["--patience", 1, "--role", "xplayer", "--depth", 5, MARKS]
+                command = [python, "-m", "gdlsolve.cluster", *map(str, [*words, *options])]
+                done = subprocess.run(command, capture_output=True, text=True, env=environment(), check=False, timeout=PATIENCE)
+                with self.subTest(words=words):
+                    self.assertEqual((done.returncode, done.stdout), (69, ""))
+                    self.assertTrue(done.stderr.startswith(want), done.stderr)
+                    self.assertEqual(done.stderr.count("\n"), 1, done.stderr)
 
     def test_other_words_are_misuse(self) -> None:
         none: list[str] = []
@@ -307,7 +407,7 @@ class OverDask(Slow):
 
     def test_engines_by_name(self) -> None:
         options, answer = stored(MARKS)
-        engines: list[list[object]] = [["--scheduler-file", self.room / "scheduler.json"], ["--local", "2x3"], ["--local", 2]]
+        engines: list[list[object]] = [["--scheduler-file", self.room / "scheduler.json"], ["--local", "2x3"], ["--local", 2, "--table", 7]]
         for engine in engines:
             with self.subTest(engine=engine):
                 self.asked.write_text("")
@@ -316,7 +416,7 @@ class OverDask(Slow):
                 self.assertEqual((started.returncode, output), (0, answer), self.said(told))
         # The last had one worker of two processors, which is asked once.
         asked = [line for line in self.asked.read_text().splitlines() if line.startswith("solve")]
-        self.assertEqual(asked[1:], [" ".join(["solve", *options, "--cut", "2", "--after", ""])])
+        self.assertEqual(asked[1:], [" ".join(["solve", *options, "--table", "7", "--cut", "2", "--after", ""])])
 
     def test_programs_of_this_machine_end_with_the_one_who_asks(self) -> None:
         options, _ = stored(MARKS)

@@ -292,7 +292,12 @@ class Processors(unittest.TestCase):
 
     def test_several_are_a_cut_without_a_window(self) -> None:
         asked = Question(b"", ("--role", "x", "--depth", "3"), "(a b)", 0, 50, "", None)
-        ways = {1: ["--window", "0:50"], 2: ["--cut", "2"], 16: ["--cut", "16"], 40: ["--cut", "16"]}
+        ways = {
+            1: ["--window", "0:50"],
+            2: ["--table", "128", "--cut", "2"],
+            16: ["--table", "1024", "--cut", "16"],
+            40: ["--table", "1024", "--cut", "16"],
+        }
         for processors, how in ways.items():
             want = ["solve", "--role", "x", "--depth", "3", *how, "--after", "(a b)"]
             self.assertEqual(asked.words(processors), want)

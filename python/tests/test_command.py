@@ -24,6 +24,8 @@ MARKS = TOP / "games/tic_tac_toe.kif"
 # Turns of it behind which the role that moves wins at once.
 WON = "((mark 1 1) noop) (noop (mark 2 1)) ((mark 1 2) noop) (noop (mark 2 2))"
 
+# Turns of it behind which that role wins with its second move.
+TURNS = "((mark 1 1) noop) (noop (mark 1 2)) ((mark 2 1) noop) (noop (mark 3 1))"
 
 # Where it is the program that has to answer.
 BY_PROGRAM = {"GDLSOLVE_PROGRAM": " ".join(PROGRAM)}
@@ -68,6 +70,15 @@ class Words(unittest.TestCase):
         want = (70, "", "GDLSOLVE_PROGRAM names no command: No closing quotation: 'it\n")
         self.assertEqual(command(["check", MARKS], GDLSOLVE_PROGRAM="'it"), want)
 
+    def test_what_is_no_such_program_is_told(self) -> None:
+        deep = ["solve", "--role", "xplayer", "--depth", "2", "--deepen", "--json"]
+        for words, other in ((["check", "--json"], "true"), (["solve", "--role", "xplayer", "--time", "5"], "true"), (deep, "echo none")):
+            with self.subTest(words=words):
+                status, output, errors = command([*words, MARKS], GDLSOLVE_PROGRAM=other)
+                self.assertEqual((status, output), (70, ""))
+                self.assertTrue(errors.startswith("no answer: "), errors)
+                self.assertEqual(errors.count("\n"), 1)
+
     def test_people_who_cannot_be_told_change_no_status(self) -> None:
         for where in "2>&-", "2>/dev/full":
             with self.subTest(where=where):
@@ -110,6 +121,31 @@ class Json(unittest.TestCase):
         self.assertEqual(self.told(["check", PENNIES]), {"items": 16, "alternatives": 16, "relations": 7, "roles": ["a", "b"]})
         self.assertEqual(self.told(["moves", PENNIES]), {"state": "open", "goals": {}, "legal": {"a": ["h", "t"], "b": ["h", "t"]}})
         self.assertEqual(self.told(["solve", "--role", "a", "--depth", "1", PENNIES]), {"value": 0, "move": "h", "line": [["h", "t"]]})
+
+    def test_answers_depth_by_depth(self) -> None:
+        line = [["h", "t"]]
+        words = ["solve", "--role", "a", "--depth", "5", "--deepen", PENNIES]
+        want = {"depths": [{"depth": 1, "value": 0, "move": "h", "line": line}], "settled": True}
+        self.assertEqual(self.told(words), want)
+        ended = {"depths": [{"depth": 1, "value": 0, "move": None, "line": []}], "settled": True}
+        self.assertEqual(self.told([*words, "--after", "(h t)"]), ended)
+        found = self.told(["solve", "--role", "xplayer", "--depth", "3", "--deepen", MARKS])
+        assert isinstance(found, dict)
+        self.assertEqual((found["settled"], [len(each["line"]) for each in found["depths"]]), (False, [1, 2, 3]))
+        for each in found["depths"]:
+            depth = each.pop("depth")
+            self.assertEqual(self.told(["solve", "--role", "xplayer", "--depth", str(depth), MARKS]), each)
+
+    def test_the_line_behind_each_move(self) -> None:
+        words = ["values", "--role", "xplayer", "--depth", "3", "--lines", MARKS]
+        found = self.told([*words, "--after", TURNS])
+        assert isinstance(found, dict)
+        self.assertEqual((found["value"], found["moves"]["(mark 2 2)"], set(found["lines"])), (100, 100, set(found["moves"])))
+        win = [["(mark 2 2)", "noop"], ["noop", "(mark 1 3)"], ["(mark 2 3)", "noop"]]
+        self.assertEqual(found["lines"]["(mark 2 2)"], win)
+        self.assertNotIn("lines", str(self.told([*words[:5], MARKS])))
+        ended = ["values", "--role", "a", "--depth", "1", "--lines", "--after", "(h t)", PENNIES]
+        self.assertEqual(self.told(ended), {"value": 0, "moves": {}, "lines": {}})
 
     @needs_program
     def test_findings(self) -> None:

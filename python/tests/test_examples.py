@@ -1,12 +1,15 @@
 """The examples at the terminal, with what is typed on their standard input."""
 
+import shlex
+import signal
 import subprocess
 import sys
 import tempfile
 import unittest
 from pathlib import Path
 
-from tests import PROGRAM, TOP, known, needs_program
+from tests import ENDLESS_RULES, PROGRAM, TOP, known, needs_program
+from tests.serving import LONG, until
 
 
 def ran(example: str, words: list[str], typed: str, **more: str) -> tuple[int, list[str], str]:
@@ -50,6 +53,13 @@ class Play(unittest.TestCase):
             done = subprocess.run(command, input="quit\n", stdout=full, stderr=subprocess.PIPE, env=known(), check=False, text=True)
         self.assertEqual((done.returncode, done.stderr), (1, "write fault\n"))
 
+    def test_a_stream_that_is_closed_is_told_in_a_line(self) -> None:
+        command = shlex.join([sys.executable, "-B", str(TOP / "examples/play.py"), str(TOP / "games/nim.kif")])
+        for more, want in {"<&-": "input(): lost sys.stdin\n", ">&-": "input(): lost sys.stdout\n"}.items():
+            with self.subTest(more=more):
+                done = subprocess.run(f"{command} {more}", shell=True, capture_output=True, env=known(), check=False, text=True)
+                self.assertEqual((done.returncode, done.stderr), (1, want))
+
     def test_comments_may_have_any_byte(self) -> None:
         with tempfile.TemporaryDirectory() as room:
             rules = Path(room) / "nim.kif"
@@ -71,6 +81,29 @@ class Referee(unittest.TestCase):
         status, lines, errors = ran("referee.py", words, "", GDLSOLVE_PROGRAM=" ".join(PROGRAM))
         self.assertEqual((status, errors), (0, ""))
         self.assertEqual([line.split() for line in lines[-2:]], [["first", "100"], ["second", "0"]])
+
+    def test_a_depth_that_is_none_is_told(self) -> None:
+        words = [str(TOP / "games/nim.kif"), "--depth", "65"]
+        status, lines, errors = ran("referee.py", words, "", GDLSOLVE_PROGRAM=" ".join(PROGRAM))
+        self.assertEqual((status, lines), (1, []))
+        self.assertTrue(errors.startswith("error: invalid value '65' for '--depth <TURNS>'"), errors)
+
+    @unittest.skipIf(signal.getsignal(signal.SIGINT) is signal.SIG_IGN, "the key is of no account here")
+    def test_a_key_ends_it_without_a_word(self) -> None:
+        with tempfile.TemporaryDirectory() as room:
+            rules, asked, program = Path(room) / "endless.kif", Path(room) / "asked", Path(room) / "program"
+            rules.write_text(ENDLESS_RULES)
+            program.write_text(f"#!/bin/sh\n: > '{asked}'\nexec {shlex.join(PROGRAM)} \"$@\"\n")
+            program.chmod(0o755)
+            command, pipe = [sys.executable, "-B", str(TOP / "examples/referee.py"), str(rules), "--depth", "60"], subprocess.PIPE
+            with subprocess.Popen(command, stdout=pipe, stderr=pipe, env=known(GDLSOLVE_PROGRAM=str(program))) as run:
+                try:
+                    self.assertTrue(until(asked.exists, LONG))
+                    run.send_signal(signal.SIGINT)
+                    self.assertEqual(run.communicate(timeout=LONG), (b"", b""))
+                finally:
+                    run.kill()
+            self.assertEqual(run.returncode, 130)
 
     def test_faults_are_told(self) -> None:
         program = " ".join(PROGRAM)

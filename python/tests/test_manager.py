@@ -305,8 +305,22 @@ class Program(unittest.TestCase):
         self.assertEqual((status, output), (1, ""))
         self.assertTrue(errors.startswith(f"{rules}: refused K4 Unclosed 0\n"), errors)
 
+    def test_what_is_wrong_is_told_in_a_line_that_names_it(self) -> None:
+        for words, want in (
+            (["no such file"], "no such file: No such file or directory\n"),
+            (["--resume", "no such file"], "no such file: No such file or directory\n"),
+            ([game("nim"), "--player", "http://127.0.0.1:99999"], "http://127.0.0.1:99999 is no http://HOST:PORT\n"),
+            ([game("nim"), "--player", "http://[::1"], "http://[::1 is no http://HOST:PORT\n"),
+        ):
+            with self.subTest(words=words):
+                self.assertEqual(self.ran(*words), (1, "", want))
+        words = package("gdlsolve.manager", game("nim"))
+        done = subprocess.run(words, capture_output=True, env=known(GDLSOLVE_PROGRAM="true"), check=False, text=True)
+        self.assertEqual((done.returncode, done.stdout, done.stderr), (1, "", "no answer: KeyError('items')\n"))
+
     def test_words_that_are_none(self) -> None:
         self.assertEqual(self.ran()[0], 2)
+        self.assertEqual(self.ran(game("nim"), "--turns", "-1")[0], 2)
         for clock in "-1", "nan", "inf":
             self.assertEqual(self.ran(game("nim"), "--play", clock)[0], 2)
         for name in "a b", "a)", "":

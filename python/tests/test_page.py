@@ -372,6 +372,18 @@ class Ends(unittest.TestCase):
             self.assertEqual((done.returncode, done.stdout), (1, ""))
             self.assertIn(want, done.stderr)
 
+    def test_another_program_than_this_is_told(self) -> None:
+        for more, named in (["--program", "true"], ""), (list[str](), "true"):
+            words = package("gdlsolve.page", "--port", 0, *more)
+            done = subprocess.run(words, env=known(GDLSOLVE_PROGRAM=named), capture_output=True, text=True, timeout=120)
+            self.assertEqual((done.returncode, done.stdout, done.stderr), (1, "", "the program that is named is another one\n"))
+
+    def test_an_output_that_is_full_is_told_in_a_line(self) -> None:
+        with open("/dev/full", "w") as full:
+            words = package("gdlsolve.page", "--port", 0)
+            done = subprocess.run(words, env=known(), stdout=full, stderr=subprocess.PIPE, text=True, timeout=120)
+        self.assertEqual((done.returncode, done.stderr), (1, "write fault\n"))
+
     def test_words_that_are_none_are_told_in_a_line(self) -> None:
         wrong = {"--port=65536": "--port is a number from 0 to 65535", "--program='it": "--program is no command: No closing quotation"}
         for word, want in wrong.items():

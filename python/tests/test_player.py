@@ -363,6 +363,17 @@ class Program(unittest.TestCase):
             finally:
                 player.terminate()
 
+    def test_another_program_than_this_is_told(self) -> None:
+        command = package("gdlsolve.player", "--port", 0)
+        done = subprocess.run(command, env=known(GDLSOLVE_PROGRAM="true"), capture_output=True, text=True, timeout=120)
+        self.assertEqual((done.returncode, done.stdout, done.stderr), (1, "", "nothing answers: the program that is named is another one\n"))
+
+    def test_an_output_that_is_full_is_told_in_a_line(self) -> None:
+        with open("/dev/full", "w") as full:
+            command = package("gdlsolve.player", "--port", 0)
+            done = subprocess.run(command, stdout=full, stderr=subprocess.PIPE, env=known(), check=False, text=True, timeout=120)
+        self.assertEqual((done.returncode, done.stderr), (1, "write fault\n"))
+
     def test_words_that_are_none(self) -> None:
         wrong = ["--depth", "0"], ["--depth", "65"], ["--matches", "0"], ["--margin", "-1"], ["--margin", "nan"], ["--port", "65536"]
         for words in wrong:

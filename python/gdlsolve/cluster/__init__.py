@@ -14,7 +14,7 @@ from concurrent.futures import Executor
 from pathlib import Path
 
 from gdlsolve.calls import Misuse, Refusal, Status, lines_of
-from gdlsolve.cluster.driver import Driver, Engine, Manner, Sought
+from gdlsolve.cluster.driver import Driver, Engine, Manner, Sought, written_out
 from gdlsolve.cluster.faults import ClusterFault, Contradiction, Failed, Lost, OtherProgram
 from gdlsolve.commands import Bound, History
 from gdlsolve.replies import Solution
@@ -51,12 +51,20 @@ def _room(width: int | Callable[[], int]) -> Callable[[], int]:
 
 
 def sought(
-    rules: bytes | str, role: str, depth: int, worth: Sequence[str], after: History
+    rules: bytes | str,
+    role: str,
+    depth: int,
+    worth: Sequence[str],
+    after: History,
+    whole: bool = False,
+    tighten: bool = False,
 ) -> Sought:
-    """What is sought, where the depth is one."""
+    """What is sought, where the depth is one. With `whole` the rules are a game as it is found. It is
+    written out here and once, and the workers are asked about what was written."""
     if not 0 <= depth <= MOST_TURNS:
         raise Misuse(f"the depth is a whole number from 0 to {MOST_TURNS}, and not {depth}")
     text = rules.encode() if isinstance(rules, str) else bytes(rules)
+    text = written_out(text, tighten) if whole else text
     return Sought(text, role, depth, tuple(worth), _text(after))
 
 
@@ -75,16 +83,21 @@ def solve(
     patience: float = 120.0,
     processors: int = 1,
     parts: bool = False,
+    whole: bool = False,
+    table: int | None = None,
 ) -> Solution:
     """What `gdlsolve.solve` gives, found by up to `width` tasks of an executor at a time, each by so
     many processors. With 0 processors a task of Dask uses as many as its worker has threads. A task
     that has run for `split` seconds is split where the executor could do more. Answers are kept in
     the file `journal`, and what stands there is not asked for again. An engine may be gone for
-    `patience` seconds. With `parts` the whole question is not asked beside its parts."""
+    `patience` seconds. With `parts` the whole question is not asked beside its parts. With `whole`
+    the rules are a game as it is found, which is written out first. Each program may keep what
+    positions are worth in `table` MiB, from 0 to 65536."""
     worth = ["--at-bound", at_bound] if unfinished is None else ["--unfinished", str(unfinished)]
-    manner = Manner(split, journal, patience, parts=parts)
+    manner = Manner(split, journal, patience, parts=parts, table=table)
     engine = Engine(executor, _room(width), processors=processors)
-    found = Driver(sought(rules, role, depth, worth, after), engine, manner).reply()
+    asked = sought(rules, role, depth, worth, after, whole)
+    found = Driver(asked, engine, manner).reply()
     lines = lines_of(found.output)
     if found.status is Status.REFUSED:
         raise Refusal(lines[0])

@@ -9,26 +9,31 @@ and 69 where the cluster gave no answer.
 from __future__ import annotations
 
 import argparse
+import math
 import os
 import signal
 import sys
-from collections.abc import Sequence
+from collections.abc import Callable, Sequence
 from contextlib import AbstractContextManager
 from dataclasses import asdict
 from pathlib import Path
-from typing import NoReturn
+from typing import NoReturn, TypeVar
 
+from gdlsolve import __version__, keys
 from gdlsolve.calls import Misuse, Refusal, Status
-from gdlsolve.cluster import engines, sought
+from gdlsolve.cluster import MOST_TURNS, engines, sought
 from gdlsolve.cluster.driver import Driver, Engine, Manner
 from gdlsolve.cluster.engines import Share
 from gdlsolve.cluster.faults import ClusterFault
 from gdlsolve.streams import StreamFault, on_input, put, say
 
+Found = TypeVar("Found")
 STREAM_FAILED = 4
 NO_ANSWER = 69
-# By a key.
-STOPPED = 130
+# What a program takes for its table at most, in MiB.
+MOST_TABLE = 65_536
+TURNS = f"a whole number from 0 to {MOST_TURNS}"
+TABLES = f"a whole number from 0 to {MOST_TABLE}"
 DESCRIPTION = "Solves a game on many machines. The answer is that of one, or there is none."
 
 
@@ -60,36 +65,72 @@ def of_mpi(text: str) -> Share:
     return _share(workers, processors if x else "1")
 
 
+def mebibytes(text: str) -> int:
+    """So many MiB as `--table` takes."""
+    found = int(text)
+    if not 0 <= found <= MOST_TABLE:
+        raise ValueError
+    return found
+
+
 def processors() -> int:
     """How many processors this process may use."""
     return len(os.sched_getaffinity(0))
+
+
+def seconds(text: str) -> float:
+    """A number of seconds from 0 on."""
+    found = float(text)
+    if not 0 <= found < math.inf:
+        raise ValueError
+    return found
+
+
+def _one(read: Callable[[str], Found], what: str) -> Callable[[str], Found]:
+    """Reads a word that says what is told here, or tells what is wrong with it."""
+
+    def taken(text: str) -> Found:
+        try:
+            return read(text)
+        except ValueError:
+            raise argparse.ArgumentTypeError(f"it takes {what}, and not {text!r}") from None
+
+    return taken
 
 
 def _add_engines(parser: argparse.ArgumentParser) -> None:
     """The options of which one says who shares the work."""
     which = parser.add_mutually_exclusive_group()
     add = which.add_argument
-    add("--processes", type=here, metavar="N", help="N processors of this machine (all of them)")
+    mine, others = _one(here, "N or NxK, each above 0"), _one(of_mpi, "N or NxK, each above 0")
+    add("--processes", type=mine, metavar="N", help="N processors of this machine (all of them)")
     add("--scheduler", metavar="ADDRESS", help="the workers of a Dask scheduler")
     add("--scheduler-file", metavar="FILE", help="the same, by the file that the scheduler writes")
-    add("--local", type=here, metavar="N", help="a Dask scheduler and a worker of N processors here")
-    add("--mpi", type=of_mpi, metavar="N", help="N processes of MPI; NxK: each has K processors")
+    add("--local", type=mine, metavar="N", help="a Dask scheduler and a worker of N processors here")
+    add("--mpi", type=others, metavar="N", help="N processes of MPI; NxK: each has K processors")
 
 
 def _parser() -> argparse.ArgumentParser:
     """The options of the command."""
-    parser = _Parser(prog="python -m gdlsolve.cluster", description=DESCRIPTION, allow_abbrev=False)
+    own = keys.name("gdlsolve-cluster", "gdlsolve.cluster")
+    parser = _Parser(prog=own, description=DESCRIPTION, allow_abbrev=False)
     _add_engines(parser)
     add = parser.add_argument
+    waits = _one(seconds, "a number of seconds from 0 on")
+    add("--version", action="version", version=f"gdlsolve {__version__}")
     add("--role", required=True, help="whose play it is")
-    add("--depth", required=True, type=int, metavar="TURNS", help="how many turns to look ahead")
+    turns = _one(int, TURNS)
+    add("--depth", required=True, type=turns, metavar="TURNS", help="how many turns to look ahead")
     worth = parser.add_mutually_exclusive_group()
     worth.add_argument("--at-bound", metavar="BOUND", help="zero or goal, as with solve")
     worth.add_argument("--unfinished", metavar="N", help="what unfinished play is worth")
     add("--after", default="", metavar="TEXT", help="a history")
-    add("--split", type=float, default=2.0, metavar="SECONDS", help="when a question may be split")
+    add("--whole", action="store_true", help="a game as it is found, which is written out first")
+    add("--tighten", action="store_true", help="with --whole: as with unroll")
+    add("--split", type=waits, default=2.0, metavar="SECONDS", help="when a question may be split")
     add("--journal", type=Path, metavar="FILE", help="keeps answers, and asks for none again")
-    add("--patience", type=float, default=120.0, metavar="SECONDS", help="how long it may be gone")
+    add("--patience", type=waits, default=120.0, metavar="SECONDS", help="how long it may be gone")
+    add("--table", type=_one(mebibytes, TABLES), metavar="MIB", help="of each program, as with solve")
     add("--parts", action="store_true", help="asks for parts alone, and never for the whole")
     add("--verbose", action="store_true", help="tells on standard error what happens")
     add("game", type=Path, nargs="?", metavar="GAME.kif", help="the rules")
@@ -117,12 +158,15 @@ def _say(line: str) -> None:
 def run(words: Sequence[str]) -> int:
     """Does what the words ask for, and gives the exit status."""
     asked = _parser().parse_args(words)
+    if asked.tighten and not asked.whole:
+        raise Misuse("--tighten goes with --whole")
     worth = [] if asked.at_bound is None else ["--at-bound", asked.at_bound]
     worth += [] if asked.unfinished is None else ["--unfinished", asked.unfinished]
     rules = on_input() if asked.game is None else asked.game.read_bytes()
-    what = sought(rules, asked.role, asked.depth, worth, asked.after)
+    how = asked.whole, asked.tighten
+    what = sought(rules, asked.role, asked.depth, worth, asked.after, *how)
     log = _say if asked.verbose else lambda line: None
-    manner = Manner(asked.split, asked.journal, asked.patience, log, asked.parts)
+    manner = Manner(asked.split, asked.journal, asked.patience, log, asked.parts, asked.table)
     with engine_of(asked) as engine:
         driver = Driver(what, engine, manner)
         found = driver.reply()
@@ -145,6 +189,7 @@ def _end(number: int, frame: object) -> None:
     sys.exit(128 + number)
 
 
+@keys.quiet
 def main() -> int:
     """The command."""
     signal.signal(signal.SIGTERM, _end)
@@ -168,5 +213,3 @@ def main() -> int:
     except OSError as fault:
         _say(f"{fault.filename}: {fault.strerror}" if fault.filename else f"fault: {fault}")
         return STREAM_FAILED
-    except KeyboardInterrupt:
-        return STOPPED

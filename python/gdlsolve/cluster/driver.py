@@ -33,6 +33,7 @@ from gdlsolve.cluster.tree import (
 )
 from gdlsolve.replies import Position, State
 from gdlsolve.terms import terms
+from gdlsolve.whole import words as whole_words
 
 # So often a question is asked of a program or an engine that fails.
 TRIES = 3
@@ -83,14 +84,15 @@ class Sought:
 @dataclass(frozen=True)
 class Manner:
     """How it is sought: after how many seconds a question may be split, where answers are kept, how
-    many seconds the engine may be gone, who is told what happens, and whether the parts alone are
-    asked for, and never the whole."""
+    many seconds the engine may be gone, who is told what happens, whether the parts alone are asked
+    for, and never the whole, and how many MiB of a program may keep what positions are worth."""
 
     split: float = 2.0
     journal: Path | None = None
     patience: float = 120.0
     log: Callable[[str], None] = lambda line: None
     parts: bool = False
+    table: int | None = None
 
 
 @dataclass
@@ -123,10 +125,19 @@ def _local(words: list[str], rules: bytes) -> Reply:
     if ran.status == Status.NO_MEMORY:
         raise MemoryError
     if ran.status == Status.MISUSE:
-        raise Misuse(ran.errors.decode(errors="replace").strip())
+        said = ran.errors.decode(errors="replace").strip()
+        raise Misuse(said or "the program takes none of these words")
     if ran.status not in (Status.ANSWER, Status.REFUSED):
         raise Failed(f"the program ended with {ran.status} on this machine")
     return Reply(Status(ran.status), ran.output, ran.errors)
+
+
+def written_out(rules: bytes, tighten: bool) -> bytes:
+    """A game as it is found, written out on this machine as rules that every command takes."""
+    found = _local(whole_words(tighten), rules)
+    if found.status == Status.REFUSED:
+        found.lines()
+    return found.output
 
 
 class Driver:
@@ -151,7 +162,7 @@ class Driver:
 
     def reply(self) -> Reply:
         """The reply of `solve`."""
-        closed = self._closed()
+        closed = self._asked_here()
         if closed is not None:
             return closed
         root = Node((), self.sought.depth)
@@ -170,6 +181,15 @@ class Driver:
             for future in list(self._running):
                 self._stop(future)
             shutil.rmtree(self._stops, ignore_errors=True)
+
+    def _asked_here(self) -> Reply | None:
+        """The same, where what answers is such a program."""
+        try:
+            return self._closed()
+        except Misuse:
+            raise
+        except (ValueError, LookupError) as fault:
+            raise Failed(f"the program of this machine gives no answer: {fault!r}") from None
 
     def _closed(self) -> Reply | None:
         """The reply where there is no turn to come: a refusal, or the value of the state itself."""
@@ -294,7 +314,7 @@ class Driver:
         low, high = widest(need.low, need.high, self._goals)
         stop = self._stops / str(self.counts.sent)
         options, after = self.sought.options(node.depth), self.sought.history(node.turns)
-        how = low, high, self._digest, str(stop), self.engine.processors
+        how = low, high, self._digest, str(stop), self.engine.processors, self.manner.table
         question = Question(self.sought.rules, options, after, *how)
         try:
             future = self.engine.executor.submit(task.answer, question)

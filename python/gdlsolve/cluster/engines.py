@@ -2,6 +2,7 @@
 
 from __future__ import annotations
 
+import json
 import logging
 import time
 from collections.abc import Iterator
@@ -9,6 +10,7 @@ from concurrent.futures import ThreadPoolExecutor
 from contextlib import contextmanager
 from dataclasses import dataclass
 from importlib import import_module
+from pathlib import Path
 from typing import Any
 
 from gdlsolve.cluster.driver import Engine
@@ -83,13 +85,46 @@ def _client(patience: float, **where: Any) -> Any:
 @contextmanager
 def dask(address: str, patience: float) -> Iterator[Engine]:
     """The workers of the Dask scheduler at an address."""
+    _hold(address)
     with _client(patience, address=address) as client, _dask(client, patience) as engine:
         yield engine
+
+
+def _hold(address: str) -> None:
+    """Holds that a client can be made of an address. One that was not made is told of once more where
+    it is dropped, and not in a line."""
+    comm: Any = import_module("distributed.comm")
+    security: Any = import_module("distributed.security")
+    try:
+        comm.get_address_host_port(address)
+        known = security.Security().get_connection_args("client")
+    except (OSError, ValueError, NotImplementedError) as fault:
+        raise Lost(f"no scheduler: {fault}") from None
+    if address.startswith("tls:") and known.get("ssl_context") is None:
+        raise Lost("no scheduler: TLS wants its files in the configuration of Dask")
+
+
+def _address(file: Path, patience: float) -> str:
+    """Where a scheduler is, once it tells so in a file. Dask itself would wait without an end."""
+    until = time.monotonic() + patience
+    while True:
+        try:
+            return str(json.loads(file.read_text())["address"])
+        except FileNotFoundError:
+            pass
+        except (ValueError, LookupError, TypeError):
+            # It may be that only a part is written.
+            if time.monotonic() > until:
+                raise Lost(f"{file} tells of no scheduler") from None
+        if time.monotonic() > until:
+            raise Lost(f"there is no {file}")
+        time.sleep(0.1)
 
 
 @contextmanager
 def dask_by_file(path: str, patience: float) -> Iterator[Engine]:
     """The workers of the Dask scheduler that a file tells of."""
+    _hold(_address(Path(path), patience))
     with _client(patience, scheduler_file=path) as client, _dask(client, patience) as engine:
         yield engine
 

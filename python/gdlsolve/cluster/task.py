@@ -22,12 +22,17 @@ OPEN = (-1, 101)
 MOST_OF_CUT = 16
 
 
+# What a program takes for its table if nothing is told, in MiB.
+TABLE = 64
+
+
 @dataclass(frozen=True)
 class Question:
     """The value of the state after a history, asked for between two bounds. `options` are those of
     `solve` but for history and window, `digest` is the sum of the program that has to answer, and
     `stop` the file that is there once the answer is not wanted any more. So many processors may
-    answer it; 0 are those that Dask knows the worker to have."""
+    answer it; 0 are those that Dask knows the worker to have. So many MiB may keep what positions are
+    worth, or 64 for each processor where that is not told."""
 
     rules: bytes
     options: tuple[str, ...]
@@ -37,6 +42,7 @@ class Question:
     digest: str
     stop: str | None
     processors: int = 1
+    table: int | None = None
 
     def words(self, processors: int) -> list[str]:
         """The words of the program. Within a window one worker searches, whatever the cut; so where
@@ -45,7 +51,14 @@ class Question:
             how = ["--cut", str(min(processors, MOST_OF_CUT))]
         else:
             how = [] if (self.low, self.high) == OPEN else ["--window", f"{self.low}:{self.high}"]
-        return ["solve", *self.options, *how, "--after", self.after]
+        return ["solve", *self.options, *self._kept(processors), *how, "--after", self.after]
+
+    def _kept(self, processors: int) -> list[str]:
+        """How much the table takes: where that is not told, as much for each processor as one alone has. Several
+        fill a table as much sooner, and what is pushed out of it has to be searched again."""
+        if self.table is not None:
+            return ["--table", str(self.table)]
+        return ["--table", str(TABLE * min(processors, MOST_OF_CUT))] if processors > 1 else []
 
 
 class End(Enum):

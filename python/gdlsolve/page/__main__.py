@@ -10,8 +10,11 @@ import sys
 import webbrowser
 from pathlib import Path
 
+from gdlsolve import __version__, keys
+from gdlsolve.calls import is_own
 from gdlsolve.engine import OWN_COMMAND, Broken, Late, Pool
 from gdlsolve.page.server import Desk, Server
+from gdlsolve.streams import StreamFault, put_line, say
 
 PORT = 9160
 CLONE = Path(__file__).resolve().parent.parent.parent.parent / "games"
@@ -19,7 +22,9 @@ CLONE = Path(__file__).resolve().parent.parent.parent.parent / "games"
 
 def options() -> argparse.Namespace:
     """The words of the command line."""
-    words = argparse.ArgumentParser(prog="python -m gdlsolve.page", description=__doc__)
+    own = keys.name("gdlsolve-page", "gdlsolve.page")
+    words = argparse.ArgumentParser(prog=own, description="Serves a page for people, on this machine alone.")
+    words.add_argument("--version", action="version", version=f"gdlsolve {__version__}")
     words.add_argument("folder", type=Path, nargs="?", metavar="FOLDER",
                        help="the games to choose from, files NAME.kif; else those of the clone")
     words.add_argument("--port", type=int, default=PORT, help=f"{PORT} if not given; 0: a free one")
@@ -47,6 +52,7 @@ def end(number: int, frame: object) -> None:
     raise KeyboardInterrupt
 
 
+@keys.quiet
 def main() -> int:
     """Serves the page until it is ended."""
     given = options()
@@ -54,9 +60,10 @@ def main() -> int:
     command = [*OWN_COMMAND, *given.program]
     desk = Desk(Pool(given.workers, command, spare=1), folder)
     try:
-        desk.reply(["--version"], b"")
+        if not is_own(desk.reply(["--version"], b"")):
+            raise Broken("the program that is named is another one")
     except (Broken, Late) as fault:
-        print(str(fault) or "the engine does not answer", file=sys.stderr)
+        say(f"{str(fault) or 'the engine does not answer'}\n")
         desk.close()
         return 1
     try:
@@ -67,11 +74,14 @@ def main() -> int:
         return 1
     signal.signal(signal.SIGTERM, end)
     address = f"http://127.0.0.1:{server.server_address[1]}/"
-    print(f"The page is at {address}", flush=True)
-    if given.open:
-        webbrowser.open(address)
     try:
+        put_line(f"The page is at {address}")
+        if given.open:
+            webbrowser.open(address)
         server.serve_forever()
+    except StreamFault as fault:
+        say(f"{fault}\n")
+        return 1
     except KeyboardInterrupt:
         pass
     finally:
