@@ -227,7 +227,9 @@ def reply(words: Sequence[str], rules: bytes | str) -> Reply:
     text = rules.encode() if isinstance(rules, str) else bytes(rules)
     found = answers()
     if (words[:1] in OF_PROGRAM or "--whole" in words) and isinstance(found, Path):
-        found = program.words() or found
+        found = program.words()
+        if not found:
+            raise Misuse(f"{' '.join(words)} is answered by the program alone: ./gdlsolve --prove builds it, or {program.VARIABLE} names one")
     return by_library(found, words, text) if isinstance(found, Path) else by_program(found, words, text)
 
 

@@ -16,6 +16,7 @@ from collections.abc import Callable
 from concurrent.futures import ProcessPoolExecutor
 from pathlib import Path
 from typing import IO, TypeVar
+from unittest import mock
 
 from gdlsolve import Refusal, cluster
 from gdlsolve.cluster import program
@@ -170,7 +171,7 @@ class Here(unittest.TestCase):
 
     @needs_program
     def test_the_call_takes_a_game_as_it_is_found(self) -> None:
-        with ProcessPoolExecutor(2) as pool:
+        with mock.patch.dict(os.environ, environment()), ProcessPoolExecutor(2) as pool:
             found = cluster.solve(FOUND, "one", 5, executor=pool, width=2, whole=True, table=8)
             self.assertEqual((found.value, found.move), (100, BEGINS))
             with self.assertRaises(Refusal) as caught:
