@@ -5,6 +5,7 @@ ghost use Rattle.maximin.specs.Company.{company_game};
 ghost use Rattle.helped.specs.Found.{IsFound};
 
 use crate::helper::{Aid, help_with};
+use crate::line::play_ahead;
 use cut::Cut;
 use game::{Game, Question};
 use maximin::{Company, Room};
@@ -115,7 +116,7 @@ fn answer_by_parts<R: Threads + Sync, G: Game>(
 }
 
 /// The value of a node and the place of its first best move, by the calling thread where the search is short, and else by one thread with
-/// so many others who help it. There is none where the memory for it is refused.
+/// so many others who help it, also with the line of best play behind it. There is none where the memory for it is refused.
 fn answer_with_help<R: Threads + Sync, G: Game>(
     rt: &R,
     node: &Node<'_, G>,
@@ -136,7 +137,9 @@ fn answer_with_help<R: Threads + Sync, G: Game>(
     if let Some(found) = answer_unaided(&aid) {
         return Some(found);
     }
-    answer_by_parts(rt, &aid, others)
+    let (value, first) = answer_by_parts(rt, &aid, others)?;
+    play_ahead(rt, &aid, others as usize + 1, value, first);
+    Some((value, first))
 }
 
 /// The value of a state, and the first move of the role that attains it, by one thread, with so many others who help it once the search is

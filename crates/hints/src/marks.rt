@@ -39,6 +39,14 @@ impl Marks {
         })
     }
 
+    /// Takes all marks away, and says that what will be searched for is wanted. Searches that ended early have left marks.
+    pub fn begin(&self) {
+        for place in &self.places {
+            place.store(0, Ordering::Relaxed);
+        }
+        self.over.store(0, Ordering::Relaxed);
+    }
+
     /// Says that nothing that is searched for is wanted any more.
     pub fn end(&self) {
         self.over.store(1, Ordering::Relaxed);

@@ -7,6 +7,8 @@ pub use Rattle.maximin.proofs.Best.{worst_at_place, choice_found, best_none, bes
 pub use Rattle.maximin.proofs.Bounds.{value_at_most, worst_at_most}
 -- The choices of a turn by number.
 pub use Rattle.maximin.proofs.Choices.{length-choices, choices_own, choices_other, choices_some, legal_some}
+-- A choice is legal, and there is one only where play goes on.
+pub use Rattle.maximin.proofs.Chosen.{choice_legal, chosen_open}
 -- What a search leaves as it was.
 pub use Rattle.maximin.proofs.Stays.{choice_stays, reply_stays}
 -- Values by the worths of moves.

@@ -1,5 +1,6 @@
 mod TurnLemmas
 mod Choices
+mod Chosen
 mod CursorSteps
 mod Windows
 mod Values

@@ -38,6 +38,11 @@ impl<G: Game> Company<G> {
         })
     }
 
+    /// Says that a search begins, before any worker does: nobody has a state in hand.
+    pub fn begin(&self) {
+        self.marks.begin();
+    }
+
     /// Says that the search is over: what others search to help with it is not wanted any more.
     pub fn end(&self) {
         self.marks.end();

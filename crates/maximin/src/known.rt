@@ -1,58 +1,62 @@
-//! The choice and the reply where it is known what they are worth.
-ghost use Rattle.std.specs.Prelude.{◌≡◌, ◌+◌, ◌<◌, ◌≤◌, pos, false, Some, All, length};
+//! The choice and the reply where it is known what they are worth. These searches answer unless they are to end without an answer.
+ghost use Rattle.std.specs.Prelude.{◌≡◌, ◌+◌, ◌<◌, ◌≤◌, pos, false, Some, All, length, IfOk, OnOk};
 ghost use Rattle.statement.specs.Rules.{is_stuck as stuck};
 ghost use Rattle.statement.specs.Value.{choice_of, reply_of, value, worst};
 ghost use Rattle.maximin.specs.Replies.{IsWritten};
 ghost use Rattle.maximin.specs.Tools.{AreFit, AreKept};
 
 use crate::cursor::{next_turn, start_turns, write_joint};
+use crate::ending::Ending;
 use crate::level::Level;
-use crate::search::{value_within, worst_at};
+use crate::search::{try_value_within, try_worst_at};
 use crate::tools::Tools;
 use crate::window::SearchWindow;
 use game::{Game, Joint, Question, is_stuck};
 
 /// The first move of the role that attains the value of the state, which is `worth`. A move that has no other behind it attains it
 /// where none before it does.
-pub fn choice_worth<G: Game>(
+pub fn try_choice_worth<G: Game, E: Ending>(
     game: &G,
     from: &G::Pos,
     asked: Question,
     worth: i16,
     tools: &mut Tools<G>,
     levels: &mut [Level<G::Pos, G::Many>],
-) -> Option<u32>
+) -> Result<Option<u32>, E>
     requires fits { G.fits game.now from.now }
     requires fit { AreFit G.Game game.now asked.role asked.depth tools.old levels.old }
     requires worth { worth ≡ pos (value (G.rules game.now) asked.role asked.depth asked.at (G.state game.now from.now)) }
-    ensures choice { result ≡ choice_of (G.rules game.now) asked.role asked.depth asked.at (G.state game.now from.now) }
+    ensures choice { IfOk result (λ choice. choice ≡ choice_of (G.rules game.now) asked.role asked.depth asked.at (G.state game.now from.now)) }
     ensures kept { AreKept G.Game game.now tools.old levels.old tools.new levels.new }
 {
     if asked.depth == 0 || game.ended(from) || is_stuck(game, from) {
-        return None;
+        return Ok(None);
     }
-    let first = game.legal(from, asked.role, 0);
+    let Some(first) = game.legal(from, asked.role, 0) else {
+        return Ok(None);
+    };
     if worth == 0 {
-        return first;
+        return Ok(Some(first));
     }
     let next = Question {
         depth: asked.depth - 1,
         ..asked
     };
-    let mut own = first?;
+    let mut own = first;
     let mut place = 0;
     while let Some(further) = game.legal(from, asked.role, place + 1) {
         let window = SearchWindow {
             low: worth - 1,
             high: worth,
         };
-        if worst_at(game, from, next, own, window, tools, levels) >= worth {
-            return Some(own);
+        let least = try_worst_at::<G, E>(game, from, next, own, window, tools, levels)?;
+        if least >= worth {
+            return Ok(Some(own));
         }
         own = further;
         place += 1;
     }
-    Some(own)
+    Ok(Some(own))
 }
 
 /// A move of the role, and the least value that it leaves.
@@ -64,7 +68,7 @@ pub struct KnownMove {
 
 /// Writes the first joint move that leaves the least value where the role plays a move of which that is known. A joint move that has
 /// no other behind it leaves it where none before it does.
-pub fn reply_worth<G: Game>(
+pub fn try_reply_worth<G: Game, E: Ending>(
     game: &G,
     from: &G::Pos,
     asked: Question,
@@ -72,14 +76,15 @@ pub fn reply_worth<G: Game>(
     tools: &mut Tools<G>,
     levels: &mut [Level<G::Pos, G::Many>],
     out: &mut Joint,
-)
+) -> Result<(), E>
     requires fits { G.fits game.now from.now }
     requires fit { AreFit G.Game game.now asked.role (asked.depth + 1) tools.old levels.old }
     requires own { known.own < (G.rules game.now).moves asked.role }
     requires open { stuck (G.rules game.now) (G.state game.now from.now) ≡ false }
     requires worth { known.worth ≡ pos (worst (G.rules game.now) asked.role asked.depth asked.at (G.state game.now from.now) known.own) }
     requires out { (G.rules game.now).roles ≤ out.old.capacity }
-    ensures reply { IsWritten (reply_of (G.rules game.now) asked.role asked.depth asked.at (G.state game.now from.now) known.own) out.old out.new }
+    ensures reply { OnOk result (IsWritten (reply_of (G.rules game.now) asked.role asked.depth asked.at (G.state game.now from.now) known.own) out.old out.new) }
+    ensures capacity { out.new.capacity ≡ out.old.capacity }
     ensures kept { AreKept G.Game game.now tools.old levels.old tools.new levels.new }
 {
     let (first, rest) = levels.split_at_mut(1);
@@ -93,12 +98,13 @@ pub fn reply_worth<G: Game>(
     'turns: loop {
         write_joint(&level.moves.cursor.joint, out);
         if !next_turn(game, from, role, known.own, &mut level.moves.cursor) {
-            return;
+            return Ok(());
         }
         let position = &mut level.children.position;
         game.step(from, out, position);
-        if value_within(game, position, asked, window, tools, rest) <= known.worth {
-            return;
+        let value = try_value_within::<G, E>(game, position, asked, window, tools, rest)?;
+        if value <= known.worth {
+            return Ok(());
         }
     }
 }

@@ -1,5 +1,5 @@
 //! The memory of a search, and the calls that use it.
-ghost use Rattle.std.specs.Prelude.{◌≡◌, ◌-◌, ◌<◌, ◌≤◌, pos, length, slice_get, IfOk, IfSome, Contains, All};
+ghost use Rattle.std.specs.Prelude.{◌≡◌, ◌-◌, ◌<◌, ◌≤◌, pos, true, length, slice_get, IfOk, IfSome, Contains, All};
 ghost use Rattle.game.specs.Value.{Answers};
 ghost use Rattle.statement.specs.Value.{value, worst, choice_of, reply_of};
 ghost use Rattle.statement.specs.Within as within;
@@ -15,7 +15,7 @@ use crate::choosing::{best_move, choice_at, try_best_move};
 use crate::company::Company;
 use crate::ending::{Dismissed, TooLong};
 use crate::history::History;
-use crate::known::{KnownMove, choice_worth, reply_worth};
+use crate::known::{KnownMove, try_choice_worth, try_reply_worth};
 use crate::level::{Level, new_level};
 use crate::memory::{new_memory, shared_memory};
 use crate::search::{GREATEST, LEAST, reply_at, try_known_at, value_within, worst_at};
@@ -24,6 +24,7 @@ use crate::tools::{Tools, new_tools};
 use crate::window::SearchWindow;
 use game::{AtBound, Game, Joint, Question};
 use std::alloc::{AllocError, Global};
+use std::convert::Infallible;
 
 /// All the memory of a search: room to step many joint moves at once, what is remembered of moves, and for each turn that it looks
 /// ahead a run of joint moves, the states after them, and one state.
@@ -240,7 +241,41 @@ pub fn choice_by_value<G: Game>(
     ensures room { IsRoomKept G.Game g.now room.old room.new }
 {
     let levels = room.levels.as_mut_slice();
-    choice_worth(g, p, asked, worth, &mut room.tools, levels)
+    let Ok(choice) = try_choice_worth::<G, Infallible>(g, p, asked, worth, &mut room.tools, levels);
+    choice
+}
+
+/// The same by a search that is to be short (`value_and_choice_if_short`).
+pub fn choice_if_short<G: Game>(
+    g: &G,
+    p: &G::Pos,
+    asked: Question,
+    worth: i16,
+    room: &mut Room<G>,
+) -> Option<Option<u32>>
+    requires fits { G.fits g.now p.now }
+    requires room { IsRoomFor G.Game g.now asked.role asked.depth room.old }
+    requires worth { worth ≡ pos (value (G.rules g.now) asked.role asked.depth asked.at (G.state g.now p.now)) }
+    ensures choice { IfSome result (λ choice. choice ≡ choice_of (G.rules g.now) asked.role asked.depth asked.at (G.state g.now p.now)) }
+    ensures room { IsRoomKept G.Game g.now room.old room.new }
+{
+    room.tools.sight.restart(g.key_words());
+    let levels = room.levels.as_mut_slice();
+    match try_choice_worth::<G, TooLong>(g, p, asked, worth, &mut room.tools, levels) {
+        Ok(choice) => Some(choice),
+        Err(TooLong) => None,
+    }
+}
+
+/// Helps others who look for the choice by the value of a state (`help`).
+pub fn help_choose<G: Game>(g: &G, p: &G::Pos, asked: Question, worth: i16, room: &mut Room<G>)
+    requires fits { G.fits g.now p.now }
+    requires room { IsRoomFor G.Game g.now asked.role asked.depth room.old }
+    requires worth { worth ≡ pos (value (G.rules g.now) asked.role asked.depth asked.at (G.state g.now p.now)) }
+    ensures room { IsRoomKept G.Game g.now room.old room.new }
+{
+    let levels = room.levels.as_mut_slice();
+    let _ = try_choice_worth::<G, Dismissed>(g, p, asked, worth, &mut room.tools, levels);
 }
 
 /// Writes the first joint legal move that leaves the least value where the role plays `own`, which stands in its place. Joint moves are
@@ -295,7 +330,68 @@ pub fn reply_by_value<G: Game>(
     };
     let levels = room.levels.as_mut_slice();
     let known = KnownMove { own, worth };
-    reply_worth(g, p, next, known, &mut room.tools, levels, out)
+    let Ok(()) = try_reply_worth::<G, Infallible>(g, p, next, known, &mut room.tools, levels, out);
+}
+
+/// The same by a search that is to be short (`value_and_choice_if_short`). The answer is whether it came to its end.
+pub fn reply_if_short<G: Game>(
+    g: &G,
+    p: &G::Pos,
+    asked: Question,
+    own: u32,
+    worth: i16,
+    room: &mut Room<G>,
+    out: &mut Joint,
+) -> bool
+    requires fits { G.fits g.now p.now }
+    requires own { Contains ((G.rules g.now).legal (G.state g.now p.now) asked.role) own }
+    requires turn { IsOpen (G.rules g.now) asked.depth (G.state g.now p.now) }
+    requires room { IsRoomFor G.Game g.now asked.role asked.depth room.old }
+    requires worth { worth ≡ pos (worst (G.rules g.now) asked.role (asked.depth - 1) asked.at (G.state g.now p.now) own) }
+    requires out { (G.rules g.now).roles ≤ out.old.capacity }
+    ensures reply { result ≡ true → IsWritten (reply_of (G.rules g.now) asked.role (asked.depth - 1) asked.at (G.state g.now p.now) own) out.old out.new }
+    ensures capacity { out.new.capacity ≡ out.old.capacity }
+    ensures room { IsRoomKept G.Game g.now room.old room.new }
+{
+    let next = Question {
+        depth: asked.depth - 1,
+        ..asked
+    };
+    room.tools.sight.restart(g.key_words());
+    let levels = room.levels.as_mut_slice();
+    let known = KnownMove { own, worth };
+    let Ok(()) = try_reply_worth::<G, TooLong>(g, p, next, known, &mut room.tools, levels, out)
+    else {
+        return false;
+    };
+    true
+}
+
+/// Helps others who look for the reply by what a move leaves (`help`). `out` has to have room for a move of each role.
+pub fn help_reply<G: Game>(
+    g: &G,
+    p: &G::Pos,
+    asked: Question,
+    own: u32,
+    worth: i16,
+    room: &mut Room<G>,
+    out: &mut Joint,
+)
+    requires fits { G.fits g.now p.now }
+    requires own { Contains ((G.rules g.now).legal (G.state g.now p.now) asked.role) own }
+    requires turn { IsOpen (G.rules g.now) asked.depth (G.state g.now p.now) }
+    requires room { IsRoomFor G.Game g.now asked.role asked.depth room.old }
+    requires worth { worth ≡ pos (worst (G.rules g.now) asked.role (asked.depth - 1) asked.at (G.state g.now p.now) own) }
+    requires out { (G.rules g.now).roles ≤ out.old.capacity }
+    ensures room { IsRoomKept G.Game g.now room.old room.new }
+{
+    let next = Question {
+        depth: asked.depth - 1,
+        ..asked
+    };
+    let levels = room.levels.as_mut_slice();
+    let known = KnownMove { own, worth };
+    let _ = try_reply_worth::<G, Dismissed>(g, p, next, known, &mut room.tools, levels, out);
 }
 
 /// The first legal move of the role, in printed order, that makes sure of `bound` or more, if one does. There is none where the game has

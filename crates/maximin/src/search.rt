@@ -489,6 +489,29 @@ pub const LEAST: i16 = 0;
 pub const GREATEST: i16 = 100;
 
 /// The value of a state within a window, searched for within the part of the window where values can be.
+pub fn try_value_within<G: Game, E: Ending>(
+    game: &G,
+    from: &G::Pos,
+    asked: Question,
+    window: SearchWindow,
+    tools: &mut Tools<G>,
+    levels: &mut [Level<G::Pos, G::Many>],
+) -> Result<i16, E>
+    requires fits { G.fits game.now from.now }
+    requires fit { AreFit G.Game game.now asked.role asked.depth tools.old levels.old }
+    requires order { window.low <ℤ window.high }
+    ensures answers { IfOk result (Answers (value (G.rules game.now) asked.role asked.depth asked.at (G.state game.now from.now)) window.low window.high) }
+    ensures kept { AreKept G.Game game.now tools.old levels.old tools.new levels.new }
+{
+    let low = window.low.max(LEAST);
+    let high = window.high.min(GREATEST);
+    if low >= high {
+        return Ok(high);
+    }
+    try_known_at::<G, E>(game, from, asked, SearchWindow { low, high }, tools, levels)
+}
+
+/// The same, by a search that always answers.
 pub fn value_within<G: Game>(
     game: &G,
     from: &G::Pos,
@@ -503,12 +526,8 @@ pub fn value_within<G: Game>(
     ensures answers { Answers (value (G.rules game.now) asked.role asked.depth asked.at (G.state game.now from.now)) window.low window.high result }
     ensures kept { AreKept G.Game game.now tools.old levels.old tools.new levels.new }
 {
-    let low = window.low.max(LEAST);
-    let high = window.high.min(GREATEST);
-    if low >= high {
-        return high;
-    }
-    known_at(game, from, asked, SearchWindow { low, high }, tools, levels)
+    let Ok(value) = try_value_within::<G, Infallible>(game, from, asked, window, tools, levels);
+    value
 }
 
 /// Writes the first joint move that leaves the least value where the role plays `own`.

@@ -51,6 +51,11 @@ impl Sight {
         }
     }
 
+    /// Begins another short search.
+    pub fn restart(&self, words: usize) {
+        self.states.store(most_unaided(words), Ordering::Relaxed);
+    }
+
     /// Of the worker of this number, from 0 to 254.
     pub fn among(marks: &Arc<Marks>, worker: u8) -> Result<Sight, AllocError> {
         Ok(Sight {

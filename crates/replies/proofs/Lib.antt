@@ -10,7 +10,6 @@ mod Ranges
 mod Describing
 mod Leading
 mod OneTree
-mod LineLemmas
 mod Lines
 mod OneSolve
 mod NoRole

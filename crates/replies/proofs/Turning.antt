@@ -8,7 +8,6 @@ use Rattle.statement.specs.Rules.{Rules, State, Turn, is_stuck}
 use Rattle.statement.specs.Value.{value, worst, choice_of, reply_of, line_of}
 use Rattle.statement.specs.Solving.{turn_line, turn_lines}
 use Rattle.statement.specs.MoveLines.{line_behind}
-use Rattle.maximin.specs.Open.{IsOpen}
 
 -- the turns that begin with an own move, by its reply
 pub begins : (g : Rules) (role depth : ℕ) (at : AtBound) (s : State) (own : ℕ) (j : Turn) → reply_of g role depth at s own ≡ Some j
@@ -30,19 +29,6 @@ line_more g role depth at s own j chosen replied = goes_on g role depth at s own
 pub no_line : (g : Rules) (role depth : ℕ) (at : AtBound) (s : State) → choice_of g role depth at s ≡ None → line_of g role depth at s ≡ []
 no_line g role zero at s e = refl
 no_line g role (suc depth) at s e = ap (λ (o : Option ℕ). option_map_or (line_behind g role depth at s) o []) e
-
--- a state with a choice has a turn to come
-pub chosen_open : (g : Rules) (role depth : ℕ) (at : AtBound) (s : State) (own : ℕ) → choice_of g role depth at s ≡ Some own → IsOpen g depth s
-chosen_open g role zero at s own e = absurd cc
-chosen_open g role (suc depth) at s own e =
-    either (g.ended s) (is_stuck g s) refl refl e
-  where
-    either : (b c : Bool) → g.ended s ≡ b → is_stuck g s ≡ c
-        → cond (b || c) None (find (λ m. worst g role depth at s m == value g role (suc depth) at s) (g.legal s role)) ≡ Some own
-        → IsOpen g (suc depth) s
-    either true c going free h = absurd cc
-    either false true going free h = absurd cc
-    either false false going free h = record { turn = λ zero_is. omega (arith, zero_is); going = going; free = free }
 
 -- The lines of turns, in the pieces in which they are written.
 

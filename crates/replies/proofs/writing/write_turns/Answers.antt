@@ -4,7 +4,8 @@ use mir.Val.{SFits}
 use Rattle.replies.proofs.Held.{further, broken, on_err}
 use Rattle.statement.specs.Value.{choice_of}
 use Rattle.replies.specs.Histories.{named}
-use Rattle.replies.proofs.Turning.{line_pieces, chosen_open}
+use Rattle.maximin.proofs.Facts.{chosen_open}
+use Rattle.replies.proofs.Turning.{line_pieces}
 use Rattle.replies.proofs.writing.write_turns.Goals as goal
 
 pub returns-in_err-write_turn-clause-front : goal.returns-in_err-write_turn-clause-front

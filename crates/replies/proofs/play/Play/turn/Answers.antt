@@ -2,9 +2,7 @@ use Rattle.std.proofs.Common.{◌≡◌, ◌-◌, w16, sym, ap, ◌∙◌}
 use Rattle.std.proofs.lemmas.Int.{to_z-of_z}
 use Rattle.std.specs.Prelude.{pos}
 use Rattle.statement.specs.Value.{value, worst}
-use Rattle.maximin.proofs.Facts.{choice_stays}
-use Rattle.replies.proofs.LineLemmas.{choice_legal}
-use Rattle.replies.proofs.Turning.{chosen_open}
+use Rattle.maximin.proofs.Facts.{choice_legal, choice_stays, chosen_open}
 use Rattle.replies.proofs.play.Play.turn.Goals as goal
 
 pub own_turn-requires-clause-open : goal.own_turn-requires-clause-open

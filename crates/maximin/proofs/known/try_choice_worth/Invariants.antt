@@ -2,7 +2,7 @@ use Rattle.std.proofs.Common.{◌≡◌, ℕ, ◌<◌, ◌-◌, length, get_or}
 use Rattle.statement.specs.Value.{value}
 use Rattle.maximin.specs.Tools.{AreKept}
 use Rattle.maximin.proofs.Best.{worst_at_place}
-use Rattle.maximin.proofs.known.choice_worth.Given as goal
+use Rattle.maximin.proofs.known.try_choice_worth.Given as goal
 
 -- no move before the one at hand attains the value
 abbrev pub invariant-loop-further : goal.invariant-loop-further

@@ -5,7 +5,7 @@ use Rattle.maximin.specs.Turns.{StandsAt, later}
 use Rattle.maximin.specs.Tools.{AreKept}
 use Rattle.maximin.specs.Level.{IsLevelOf, level_capacities}
 use Rattle.maximin.proofs.Beside.{IsAhead}
-use Rattle.maximin.proofs.known.reply_worth.Given as goal
+use Rattle.maximin.proofs.known.try_reply_worth.Given as goal
 
 -- the joint move at the cursor is the first that can leave the least value
 abbrev pub invariant-turns : goal.invariant-turns

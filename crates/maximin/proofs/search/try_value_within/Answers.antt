@@ -1,5 +1,6 @@
 use Rattle.std.proofs.Common.{◌≡◌, ◌∙◌, ap, w16, rules as facts}
 use Rattle.std.proofs.lemmas.Int.{to_z-of_z}
+use Rattle.std.proofs.lemmas.Result.{IfOk-weaker}
 use mir.Val.{SFits, of_z, to_z}
 use Rattle.std.specs.Prelude.{pos}
 use Rattle.std.specs.Int.{int_min, int_max}
@@ -7,7 +8,7 @@ use Rattle.statement.specs.Value.{value}
 use Rattle.maximin.proofs.Bounds.{value_at_most}
 use Rattle.maximin.proofs.Windows.{le_z_true, le_z_false}
 use Rattle.maximin.proofs.Beside.{within_goals, outside_goals, goals_window}
-use Rattle.maximin.proofs.search.value_within.Goals as goal
+use Rattle.maximin.proofs.search.try_value_within.Goals as goal
 
 pub returns-then-low-high-clause-answers : goal.returns-then-low-high-clause-answers
 returns-then-low-high-clause-answers g c =
@@ -37,16 +38,15 @@ returns-clause-answers g c =
     let high = to_z w16 (of_z w16 c.min-high.result) in
     let fits_low : SFits w16 c.max-low.result = search facts in
     let fits_high : SFits w16 c.min-high.result = search facts in
-    let fits_r : SFits w16 c.known_at.result = search facts in
     let low_is : low ≡ int_max c.args.window.low (pos 0) =
     to_z-of_z w16 c.max-low.result fits_low ∙ c.max-low.ensures.value ∙ ap (λ z. int_max z (pos 0)) (to_z-of_z w16 c.args.window.low (search facts)) in
     let high_is : high ≡ int_min c.args.window.high (pos 100) =
     to_z-of_z w16 c.min-high.result fits_high ∙ c.min-high.ensures.value ∙ ap (λ z. int_min z (pos 100)) (to_z-of_z w16 c.args.window.high (search facts)) in
-    rw (to_z-of_z w16 c.known_at.result fits_r)
-    (within_goals worth c.args.window.low c.args.window.high low high c.known_at.result few low_is high_is c.known_at.ensures.answers)
+    IfOk-weaker c.try_known_at.result _ _ (λ r h. within_goals worth c.args.window.low c.args.window.high low high r few low_is high_is h)
+    c.try_known_at.ensures.answers
 
-pub known_at-requires-clause-window : goal.known_at-requires-clause-window
-known_at-requires-clause-window g c κs within =
+pub try_known_at-requires-clause-window : goal.try_known_at-requires-clause-window
+try_known_at-requires-clause-window g c κs within =
     let fits_low : SFits w16 c.max-low.result = search facts in
     let fits_high : SFits w16 c.min-high.result = search facts in
     let same_low = to_z-of_z w16 c.max-low.result fits_low in

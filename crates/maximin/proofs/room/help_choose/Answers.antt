@@ -1,0 +1,8 @@
+use Rattle.maximin.proofs.Kept.{room_kept}
+use Rattle.maximin.proofs.room.help_choose.Goals as goal
+
+pub returns : goal.returns
+returns g c = record {
+  room = room_kept c.args.room.now c.try_choice_worth.new.tools c.as_mut_slice-levels.result.now c.try_choice_worth.new.levels
+      c.as_mut_slice-levels.ensures.value c.try_choice_worth.ensures.kept;
+}
