@@ -229,7 +229,8 @@ def reply(words: Sequence[str], rules: bytes | str) -> Reply:
     if (words[:1] in OF_PROGRAM or "--whole" in words) and isinstance(found, Path):
         found = program.words()
         if not found:
-            raise Misuse(f"{' '.join(words)} is answered by the program alone: ./gdlsolve --prove builds it, or {program.VARIABLE} names one")
+            said = f"{' '.join(words)} is answered by the program alone: ./gdlsolve --prove builds it, or {program.VARIABLE} names one\n"
+            return Reply(Status.MISUSE, said.encode())
     return by_library(found, words, text) if isinstance(found, Path) else by_program(found, words, text)
 
 
