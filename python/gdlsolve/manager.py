@@ -21,7 +21,7 @@ import sys
 import threading
 import time
 from collections.abc import Callable, Sequence
-from concurrent.futures import Future
+from concurrent.futures import Future, wait
 from contextlib import suppress
 from dataclasses import asdict, dataclass, field
 from functools import partial
@@ -38,6 +38,8 @@ from gdlsolve.streams import StreamFault, put, say
 from gdlsolve.terms import Malformed, trees
 
 RANDOM = "random"
+# For so many seconds a wait lasts at most, before it is begun again.
+BEAT = 0.5
 # An answer is no longer, in bytes.
 MOST_BYTES = 1 << 20
 # So long a player may take for what ends a match, in seconds.
@@ -176,6 +178,13 @@ def begun(work: Callable[[], Told]) -> Future[Told]:
     return found
 
 
+def told_by(found: Future[Told]) -> Told:
+    """What was told, once it is. A key that is struck just before a wait begins is seen at its end, so none is long."""
+    while not wait([found], BEAT).done:
+        pass
+    return found.result()
+
+
 class Referee:
     """Leads a match: tells the players, takes their moves, and keeps the record."""
 
@@ -210,7 +219,7 @@ class Referee:
             return post(player, message(role), seconds)
 
         both = zip(self.record.roles, self.record.players)
-        return [found.result() for found in [begun(partial(one, *each)) for each in both]]
+        return [told_by(found) for found in [begun(partial(one, *each)) for each in both]]
 
     def tell_turn(self, word: str, last: Sequence[Turn], seconds: float) -> list[Told]:
         """What each player says to a message with the last of these turns."""
