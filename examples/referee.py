@@ -3,13 +3,14 @@
 
     PYTHONPATH=python examples/referee.py games/tic_tac_toe.kif --depth 4 --seed 7
 
-It prints a table of the turns, and the goals. The same seed gives the same match. All is asked in one session of the program, which
-reads the rules once."""
+It prints a table of the turns, and the goals. The same seed gives the same match. A game as it is found is written out first. All that
+is asked of a match is asked in one session of the program, which reads the rules once."""
 import argparse
 import random
 from pathlib import Path
 
-from gdlsolve import Misuse, Position, Refusal, Session, State
+from gdlsolve import Misuse, Position, Refusal, Session, State, whole
+from gdlsolve.calls import answer
 
 Turn = tuple[str, ...]
 
@@ -53,7 +54,7 @@ def print_table(rows: list[list[str]]) -> None:
 
 def main() -> None:
     given = options()
-    with Session(given.rules.read_bytes()) as session:
+    with Session(whole.playable(given.rules.read_bytes(), answer)) as session:
         roles = session.check().roles
         given.role = given.role or roles[0]
         if given.role not in roles:

@@ -82,6 +82,12 @@ class Referee(unittest.TestCase):
         self.assertEqual((status, errors), (0, ""))
         self.assertEqual([line.split() for line in lines[-2:]], [["first", "100"], ["second", "0"]])
 
+    def test_a_match_of_a_game_as_it_is_found(self) -> None:
+        words = [str(TOP / "games/found/hex_3x3.kif"), "--depth", "3", "--seed", "1"]
+        status, lines, errors = ran("referee.py", words, "", GDLSOLVE_PROGRAM=" ".join(PROGRAM))
+        self.assertEqual((status, errors), (0, ""))
+        self.assertEqual(sorted(int(line.split()[1]) for line in lines[-2:]), [0, 100])
+
     def test_a_depth_that_is_none_is_told(self) -> None:
         words = [str(TOP / "games/nim.kif"), "--depth", "65"]
         status, lines, errors = ran("referee.py", words, "", GDLSOLVE_PROGRAM=" ".join(PROGRAM))
