@@ -53,7 +53,7 @@ fn search_for<G: Game>(errand: &Errand<'_, G>, number: u8)
 fn do_part<G: Game>(errand: &Errand<'_, G>, worker: usize)
     requires { IsErrandOf G.Game errand.now }
 {
-    search_for(errand, (worker % 128) as u8 + 1);
+    search_for(errand, (worker % 255) as u8);
     if worker == 0 {
         errand.company.end();
     }

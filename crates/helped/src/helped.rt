@@ -93,12 +93,8 @@ fn take_part<G: Game>(aid: &Aid<'_, G>, worker: usize) -> Option<(i16, u32)>
     answer_and_tell(aid)
 }
 
-/// What the first of so many workers answers, each in a thread of its own.
-fn answer_by_parts<R: Threads + Sync, G: Game>(
-    rt: &R,
-    aid: &Aid<'_, G>,
-    others: u32,
-) -> Option<(i16, u32)>
+/// What the first of the workers answers, each in a thread of its own.
+fn answer_by_parts<R: Threads + Sync, G: Game>(rt: &R, aid: &Aid<'_, G>) -> Option<(i16, u32)>
     requires fits { G.fits aid.now.node.now.game.now aid.now.node.now.from.now }
     requires company { company_game aid.now.company.now ≡ aid.now.node.now.game.now }
     ensures { IfSome result (λ r. IsFound (G.rules aid.now.node.now.game.now) aid.now.node.now.asked.role aid.now.node.now.asked.depth aid.now.node.now.asked.at
@@ -109,7 +105,7 @@ fn answer_by_parts<R: Threads + Sync, G: Game>(
         ensures { IfSome result (λ r. IsFound (G.rules aid.entry.now.node.now.game.now) aid.entry.now.node.now.asked.role aid.entry.now.node.now.asked.depth aid.entry.now.node.now.asked.at
             (G.state aid.entry.now.node.now.game.now aid.entry.now.node.now.from.now) r.0 r.1) }
     { take_part(aid, worker) };
-    let Ok(found) = map_indices(rt, aid.alloc, others as usize + 1, &part) else {
+    let Ok(found) = map_indices(rt, aid.alloc, aid.others as usize + 1, &part) else {
         return None;
     };
     found[0]
@@ -133,12 +129,13 @@ fn answer_with_help<R: Threads + Sync, G: Game>(
         alloc,
         node,
         company,
+        others,
     };
     if let Some(found) = answer_unaided(&aid) {
         return Some(found);
     }
-    let (value, first) = answer_by_parts(rt, &aid, others)?;
-    play_ahead(rt, &aid, others as usize + 1, value, first);
+    let (value, first) = answer_by_parts(rt, &aid)?;
+    play_ahead(rt, &aid, value, first);
     Some((value, first))
 }
 

@@ -16,6 +16,8 @@ pub struct Aid<'a, G: Game> {
     pub alloc: Global,
     pub node: &'a Node<'a, G>,
     pub company: &'a Company<G>,
+    /// How many help the first worker.
+    pub others: u32,
 }
 
 /// Helps with a search, beside so many other helpers who came before.

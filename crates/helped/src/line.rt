@@ -13,16 +13,15 @@ ghost use Rattle.helped.specs.Found.{IsFound};
 use crate::errand::{Errand, do_together};
 use crate::helper::Aid;
 use game::{Game, Joint, Question, new_joint};
-use maximin::{Room, choice_by_value, choice_if_short, reply_by_value, reply_if_short};
+use maximin::{KnownMove, Room, choice_by_value, choice_if_short, reply_by_value, reply_if_short};
 use std::alloc::{AllocError, Global};
 use std::mem;
 use std::thread::Threads;
 
-/// The first move that attains the value of a state, which is `worth`. So many workers search for it where that is long.
+/// The first move that attains the value of a state, which is `worth`. All workers search for it where that is long.
 fn choose<R: Threads + Sync, G: Game>(
     rt: &R,
     aid: &Aid<'_, G>,
-    workers: usize,
     here: &G::Pos,
     asked: Question,
     worth: i16,
@@ -48,19 +47,17 @@ fn choose<R: Threads + Sync, G: Game>(
         own: None,
         company: aid.company,
     };
-    do_together(rt, &errand, workers);
+    do_together(rt, &errand, aid.others as usize + 1);
     choice_by_value(game, here, asked, worth, room)
 }
 
-/// Writes the first reply to a move that leaves the least value, which is `worth`. So many workers search for it where that is long.
+/// Writes the first reply to a move that leaves the least value, which is known. All workers search for it where that is long.
 fn reply<R: Threads + Sync, G: Game>(
     rt: &R,
     aid: &Aid<'_, G>,
-    workers: usize,
     here: &G::Pos,
     asked: Question,
-    own: u32,
-    worth: i16,
+    known: KnownMove,
     room: &mut Room<G>,
     out: &mut Joint,
 )
@@ -68,14 +65,15 @@ fn reply<R: Threads + Sync, G: Game>(
     requires company { company_game aid.now.company.now ≡ aid.now.node.now.game.now }
     requires room { IsRoomFor G.Game aid.now.node.now.game.now asked.role asked.depth room.old }
     requires turn { IsOpen (G.rules aid.now.node.now.game.now) asked.depth (G.state aid.now.node.now.game.now here.now) }
-    requires own { Contains ((G.rules aid.now.node.now.game.now).legal (G.state aid.now.node.now.game.now here.now) asked.role) own }
-    requires worth { worth ≡ pos (worst (G.rules aid.now.node.now.game.now) asked.role (asked.depth - 1) asked.at (G.state aid.now.node.now.game.now here.now) own) }
+    requires own { Contains ((G.rules aid.now.node.now.game.now).legal (G.state aid.now.node.now.game.now here.now) asked.role) known.own }
+    requires worth { known.worth ≡ pos (worst (G.rules aid.now.node.now.game.now) asked.role (asked.depth - 1) asked.at (G.state aid.now.node.now.game.now here.now) known.own) }
     requires out { (G.rules aid.now.node.now.game.now).roles ≤ out.old.capacity }
-    ensures reply { IsWritten (reply_of (G.rules aid.now.node.now.game.now) asked.role (asked.depth - 1) asked.at (G.state aid.now.node.now.game.now here.now) own)
+    ensures reply { IsWritten (reply_of (G.rules aid.now.node.now.game.now) asked.role (asked.depth - 1) asked.at (G.state aid.now.node.now.game.now here.now) known.own)
         out.old out.new }
     ensures room { IsRoomKept G.Game aid.now.node.now.game.now room.old room.new }
 {
     let game = aid.node.game;
+    let KnownMove { own, worth } = known;
     if reply_if_short(game, here, asked, own, worth, room, out) {
         return;
     }
@@ -88,7 +86,7 @@ fn reply<R: Threads + Sync, G: Game>(
         own: Some(own),
         company: aid.company,
     };
-    do_together(rt, &errand, workers);
+    do_together(rt, &errand, aid.others as usize + 1);
     reply_by_value(game, here, asked, own, worth, room, out);
 }
 
@@ -100,15 +98,9 @@ fn blank_joint<G: Game>(alloc: Global, game: &G) -> Result<Joint, AllocError>
     Ok(joint)
 }
 
-/// Plays the line from a node, of which the value and the place of the first best move are known, with so many workers, as far as the
+/// Plays the line from a node, of which the value and the place of the first best move are known, with all workers, as far as the
 /// memory for it can be had. Nothing comes of it but what stands in the tables.
-pub fn play_ahead<R: Threads + Sync, G: Game>(
-    rt: &R,
-    aid: &Aid<'_, G>,
-    workers: usize,
-    worth: i16,
-    first: u32,
-)
+pub fn play_ahead<R: Threads + Sync, G: Game>(rt: &R, aid: &Aid<'_, G>, worth: i16, first: u32)
     requires fits { G.fits aid.now.node.now.game.now aid.now.node.now.from.now }
     requires company { company_game aid.now.company.now ≡ aid.now.node.now.game.now }
     requires found { IsFound (G.rules aid.now.node.now.game.now) aid.now.node.now.asked.role aid.now.node.now.asked.depth aid.now.node.now.asked.at
@@ -132,15 +124,14 @@ pub fn play_ahead<R: Threads + Sync, G: Game>(
     let mut chosen = game.legal(node.from, node.asked.role, first as usize);
     let mut asked = node.asked;
     while let Some(own) = chosen {
-        reply(
-            rt, aid, workers, &here, asked, own, worth, &mut room, &mut joint,
-        );
+        let known = KnownMove { own, worth };
+        reply(rt, aid, &here, asked, known, &mut room, &mut joint);
         game.step(&here, &joint, &mut next);
         mem::swap(&mut here, &mut next);
         asked = Question {
             depth: asked.depth - 1,
             ..asked
         };
-        chosen = choose(rt, aid, workers, &here, asked, worth, &mut room);
+        chosen = choose(rt, aid, &here, asked, worth, &mut room);
     }
 }

@@ -28,12 +28,14 @@ const MOST_DOUBLINGS: u32 = 48;
 const FEWEST_TURNS: u32 = 2;
 
 /// How much each move of each role cut off. It says in which order moves are searched, and no answer rests on it. Where a search has
-/// several workers they have one.
+/// several workers they have one, in which the first of them counts.
 #[derive(Drop)]
 pub struct History {
     counts: Arc<SharedHistory>,
     /// Moves with more turns behind them are searched as they are printed.
     ranked: u32,
+    /// Whether cuts are counted here.
+    counts_cuts: bool,
 }
 
 /// What no search has cut off yet.
@@ -52,14 +54,26 @@ impl History {
         Ok(History {
             counts: Arc::new(alloc, counts)?,
             ranked: u32::MAX,
+            counts_cuts: true,
         })
     }
 
-    /// The history that others have too, by which moves are put in order that have at most so many turns behind them.
-    pub fn of(counts: &Arc<SharedHistory>, ranked: u32) -> Result<History, AllocError> {
+    /// The history that others have too.
+    pub fn of(counts: &Arc<SharedHistory>) -> Result<History, AllocError> {
+        Ok(History {
+            counts: Arc::try_clone(counts)?,
+            ranked: u32::MAX,
+            counts_cuts: true,
+        })
+    }
+
+    /// The same for one who helps another: moves are put in order that have at most so many turns behind them, by the cuts of the other
+    /// alone. Who helps is in another part of the game, where other moves cut off most.
+    pub fn of_another(counts: &Arc<SharedHistory>, ranked: u32) -> Result<History, AllocError> {
         Ok(History {
             counts: Arc::try_clone(counts)?,
             ranked,
+            counts_cuts: false,
         })
     }
 
@@ -80,6 +94,9 @@ impl History {
     /// Counts for the movers' moves that the search of a joint move, with so many turns behind it, cut off those that were left. A cut
     /// counts twice as much with each turn that was to come, as it saves more where more of them are.
     pub fn note_cut(&self, joint: &Joint, movers: Movers, turns: u32) {
+        if !self.counts_cuts {
+            return;
+        }
         let weight = 1u64 << turns.min(MOST_DOUBLINGS);
         for (role, number) in joint.as_slice().iter().enumerate() {
             if movers.has(role) {

@@ -50,6 +50,18 @@ fn new_levels<G: Game>(
     Ok(levels)
 }
 
+/// The history of the worker of a number, who looks so many turns ahead.
+fn history_of<G: Game>(
+    company: &Company<G>,
+    depth: u32,
+    worker: u8,
+) -> Result<History, AllocError> {
+    if worker == 0 {
+        return History::of(&company.history);
+    }
+    History::of_another(&company.history, depth.saturating_sub(2))
+}
+
 impl<G: Game> Room<G> {
     /// A room for searches of this game to at most this depth, in turns. Nothing else here takes memory.
     pub fn new(alloc: Global, g: &G, depth: u32) -> Result<Room<G>, AllocError>
@@ -82,7 +94,7 @@ impl<G: Game> Room<G> {
         Ok(Room { tools, levels })
     }
 
-    /// The same for one who searches over the tables of a company before it has any worker, and for short searches (`value_and_choice_if_short`).
+    /// The same for one who searches over the tables of a company while it has no workers.
     pub fn over_tables(
         alloc: Global,
         g: &G,
@@ -94,16 +106,15 @@ impl<G: Game> Room<G> {
         ensures depth { IfOk result (λ room. room_depth room ≡ depth) }
     {
         let levels = new_levels(alloc, g, depth)?;
-        let history = History::of(&company.history, u32::MAX)?;
+        let history = History::of(&company.history)?;
         let memory = shared_memory(alloc, g, &company.tables)?;
-        let sight = Sight::unaided(g.key_words());
-        let tools = new_tools(g, history, memory, sight)?;
+        let tools = new_tools(g, history, memory, Sight::alone())?;
         Ok(Room { tools, levels })
     }
 
     /// The same for the worker of this number, from 0 to 254, of a company: it keeps in their tables what it finds, and sees what the
     /// others search. Each but the first takes the moves of a state with as many turns left as printed, as the first does who looks for
-    /// the first best of them.
+    /// the first best of them, and lets the first alone say which moves cut off most.
     pub fn in_company(
         alloc: Global,
         g: &G,
@@ -116,12 +127,7 @@ impl<G: Game> Room<G> {
         ensures depth { IfOk result (λ room. room_depth room ≡ depth) }
     {
         let levels = new_levels(alloc, g, depth)?;
-        let ranked = if worker == 0 {
-            u32::MAX
-        } else {
-            depth.saturating_sub(2)
-        };
-        let history = History::of(&company.history, ranked)?;
+        let history = history_of(company, depth, worker)?;
         let memory = shared_memory(alloc, g, &company.tables)?;
         let sight = Sight::among(&company.marks, worker)?;
         let tools = new_tools(g, history, memory, sight)?;
@@ -189,8 +195,8 @@ pub fn value_and_choice<G: Game>(
     (best.worth, best.place)
 }
 
-/// The same, by a search that is to be short: it answers unless it comes to more states than its room lets it, which are some hundreds
-/// in a room that `over_tables` makes, and none in another. What it found until then is kept.
+/// The same, by a search that is to be short: it gives up once it has come to some tens to a thousand states, the fewer the longer their
+/// keys are. What it found until then is kept.
 pub fn value_and_choice_if_short<G: Game>(
     g: &G,
     p: &G::Pos,
@@ -206,6 +212,7 @@ pub fn value_and_choice_if_short<G: Game>(
     ensures within { IfSome result (λ r. r.1 < length ((G.rules g.now).legal (G.state g.now p.now) asked.role)) }
     ensures room { IsRoomKept G.Game g.now room.old room.new }
 {
+    room.tools.sight.restart(g.key_words());
     let levels = room.levels.as_mut_slice();
     let Ok(best) = try_best_move::<G, TooLong>(g, p, asked, &mut room.tools, levels) else {
         return None;

@@ -41,17 +41,8 @@ impl Sight {
         }
     }
 
-    /// The same, of a search that is long once it has come to as many states as are too many for one without help, where their keys have
-    /// so many words.
-    pub fn unaided(words: usize) -> Sight {
-        Sight {
-            marks: None,
-            worker: 0,
-            states: AtomicU64::new(most_unaided(words)),
-        }
-    }
-
-    /// Begins another short search.
+    /// Begins a search that is long once it has come to as many states as are too many for one without help, where their keys have so
+    /// many words.
     pub fn restart(&self, words: usize) {
         self.states.store(most_unaided(words), Ordering::Relaxed);
     }
