@@ -1,5 +1,5 @@
 //! What a role can be sure of within one turn, within two, and so on, written as it is found.
-ghost use Rattle.std.specs.Prelude.{◌≡◌, ◌<◌, pos, codes, [], IfOk, OnOk, OnErr};
+ghost use Rattle.std.specs.Prelude.{◌≡◌, ◌≢◌, ◌<◌, pos, codes, [], IfOk, OnOk, OnErr};
 ghost use Rattle.std.specs.Io.KnownBytes.{Appends};
 ghost use Rattle.kif.specs.Written.{AppendsFront};
 ghost use Rattle.statement.specs.Value.{value};
@@ -17,6 +17,7 @@ use crate::reply::{Reply, answered};
 use crate::search::Search;
 use crate::settling::Settling;
 use crate::writing::{write_count, write_found};
+use flushing::Flushing;
 use game::{Game, Question};
 use kif::{WriteFault, write_bytes};
 use maximin::Room;
@@ -24,18 +25,19 @@ use std::alloc::{AllocError, Global};
 use std::io::Write;
 
 /// Flushes a writer.
-fn flush<W: Write>(out: &mut W) -> Result<(), WriteFault>
+fn flush<W: Flushing>(out: &mut W) -> Result<(), WriteFault>
     ensures whole { OnOk result (Appends (W.contents out.old) (W.contents out.new) []) }
     ensures front { OnErr result (AppendsFront (W.contents out.old) (W.contents out.new) []) }
+    ensures flushed { OnOk result (W.is_flushed out.new) }
 {
-    if out.flush().is_err() {
+    if out.flush_all().is_err() {
         return Err(WriteFault);
     }
     Ok(())
 }
 
 /// Writes the depth of a question, and what the role can be sure of within so many turns, and flushes the writer. Answers the value.
-fn write_depth<G: Game, W: Write>(
+fn write_depth<G: Game, W: Flushing>(
     g: &G,
     root: &G::Pos,
     asked: Question,
@@ -50,6 +52,7 @@ fn write_depth<G: Game, W: Write>(
         (depth_lines (named (G.rules g.now) (G.role_name g.now) (G.move_name g.now)) asked.role asked.at (G.state g.now root.now) asked.depth)) }
     ensures value { IfOk result (λ worth. worth ≡ pos (value (G.rules g.now) asked.role asked.depth asked.at (G.state g.now root.now))) }
     ensures play { OnOk result (IsPlayKept G.Game g.now play.old play.new) }
+    ensures flushed { OnOk result (W.is_flushed out.new) }
 {
     let found = found_in(g, root, asked, &mut play.room);
     play.stand(g, root);
@@ -60,16 +63,18 @@ fn write_depth<G: Game, W: Write>(
 }
 
 /// Writes that a value is settled, and flushes the writer.
-fn write_settled<W: Write>(out: &mut W) -> Result<(), WriteFault>
+fn write_settled<W: Flushing>(out: &mut W) -> Result<(), WriteFault>
     ensures whole { OnOk result (Appends (W.contents out.old) (W.contents out.new) (codes "settled\n")) }
     ensures front { OnErr result (AppendsFront (W.contents out.old) (W.contents out.new) (codes "settled\n")) }
+    ensures flushed { OnOk result (W.is_flushed out.new) }
 {
     write_bytes(out, b"settled\n")?;
     flush(out)
 }
 
-/// Writes what the role can be sure of within one turn, within two and so on to the depth of the question, or until that is settled.
-fn write_depths<G: Game, W: Write>(
+/// Writes what the role can be sure of within one turn, within two and so on to the depth of the question, or until that is settled, and flushes
+/// the writer behind each.
+fn write_depths<G: Game, W: Flushing>(
     g: &G,
     root: &G::Pos,
     asked: Question,
@@ -85,6 +90,7 @@ fn write_depths<G: Game, W: Write>(
     ensures front { OnErr result (AppendsFront (W.contents out.old) (W.contents out.new)
         (deepen_lines (named (G.rules g.now) (G.role_name g.now) (G.move_name g.now)) asked.role asked.depth asked.at (G.state g.now root.now))) }
     ensures play { OnOk result (IsPlayKept G.Game g.now play.old play.new) }
+    ensures flushed { OnOk result (asked.depth ≢ 0 → W.is_flushed out.new) }
 {
     let mut depth = 0;
     while depth < asked.depth {

@@ -16,6 +16,7 @@ use crate::fault::RunFault;
 use crate::input::read_input;
 use crate::sizes::Sizes;
 use crate::working::{Work, work_of};
+use flushing::Flushing;
 use game::Game;
 use kif::write_bytes;
 use netgame::NetGame;
@@ -34,7 +35,17 @@ pub fn write_out<W: Write>(output: &mut W, bytes: &[u8]) -> Result<(), RunFault>
     ensures front { OnErr result (AppendsFront (W.contents output.old) (W.contents output.new) bytes.now) }
     ensures fault { IfErr result (λ fault. fault ≡ RunFault.Write) }
 {
-    if write_bytes(output, bytes).is_err() || output.flush().is_err() {
+    write_and_flush(output, bytes)
+}
+
+/// Writes all the bytes, and flushes the writer behind them.
+fn write_and_flush<W: Flushing>(output: &mut W, bytes: &[u8]) -> Result<(), RunFault>
+    ensures whole { OnOk result (Appends (W.contents output.old) (W.contents output.new) bytes.now) }
+    ensures front { OnErr result (AppendsFront (W.contents output.old) (W.contents output.new) bytes.now) }
+    ensures fault { IfErr result (λ fault. fault ≡ RunFault.Write) }
+    ensures flushed { OnOk result (W.is_flushed output.new) }
+{
+    if write_bytes(output, bytes).is_err() || output.flush_all().is_err() {
         return Err(RunFault::Write);
     }
     Ok(())

@@ -21,6 +21,7 @@ loop-depth-init g c =
       further = c.requires.settling;
       lines = subst (λ (xs : List ℕ). Written (g.W.Write.contents c.args.out.now) (g.W.Write.contents c.args.out.now)
           (deepen_lines game asked.role asked.depth asked.at state) xs) start (begun _ _);
+      flushed = λ some. absurd (some refl);
     }
 
 pub returns-in_err-worth-clause-front : goal.returns-in_err-worth-clause-front
@@ -63,6 +64,9 @@ returns-then-is_settled-clause-front g c =
     c.in_ok-worth.ensures.whole in
     on_err_map c.write_settled.result _ _ (λ h. broken _ _ _ _ _ _ _ depth (sym (append-nil (codes "settled\n"))) h) c.write_settled.ensures.front
 
+pub returns-then-is_settled-clause-flushed : goal.returns-then-is_settled-clause-flushed
+returns-then-is_settled-clause-flushed g c = on_ok_map c.write_settled.result _ _ (λ h _. h) c.write_settled.ensures.flushed
+
 pub loop-depth-preserved : goal.loop-depth-preserved
 loop-depth-preserved g c =
     let game = named (g.G.Game.rules c.args.g.now) (g.G.Game.role_name c.args.g.now) (g.G.Game.move_name c.args.g.now) in
@@ -85,6 +89,7 @@ loop-depth-preserved g c =
       further = c.is_settled.ensures.kept asked.depth c.loop-depth.invariant.further;
       lines = further _ _ _ _ _ _ _ c.loop-depth.invariant.lines (here ∙ further_depths game asked.role asked.at state first (asked.depth - first) not)
           c.in_ok-worth.ensures.whole;
+      flushed = λ _. c.in_ok-worth.ensures.flushed;
     }
 
 pub returns-clause-whole : goal.returns-clause-whole
@@ -94,3 +99,6 @@ returns-clause-whole g c =
     let asked = c.args.asked in
     let none : asked.depth - c.loop-depth.depth ≡ 0 = omega (arith, c.loop-depth.invariant.within) in
     ended _ _ _ _ c.loop-depth.invariant.lines (ap (λ (n : ℕ). lines_from game asked.role asked.at state (c.loop-depth.depth + 1) n) none)
+
+pub returns-clause-flushed : goal.returns-clause-flushed
+returns-clause-flushed g c = λ some. c.loop-depth.invariant.flushed (λ none. some (omega (arith, none, c.loop-depth.invariant.within)))

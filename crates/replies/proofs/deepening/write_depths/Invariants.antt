@@ -1,4 +1,4 @@
-use Rattle.std.proofs.Common.{◌≡◌, ◌+◌, ◌-◌, ◌≤◌}
+use Rattle.std.proofs.Common.{◌≡◌, ◌≢◌, ◌+◌, ◌-◌, ◌≤◌}
 use Rattle.maximin.specs.Room.{room_depth}
 use Rattle.replies.proofs.Held.{Written}
 use Rattle.statement.specs.Deepening.{deepen_lines}
@@ -8,7 +8,7 @@ use Rattle.replies.specs.Settling.{IsSettlingFor}
 use Rattle.replies.proofs.Deepened.{lines_from}
 use Rattle.replies.proofs.deepening.write_depths.Given as goal
 
--- no depth to this one is settled, and their lines are written
+-- no depth to this one is settled, and their lines are written and flushed
 abbrev pub invariant-loop-depth : goal.invariant-loop-depth
 invariant-loop-depth g l =
     let rules = g.G.Game.rules l.g in
@@ -21,6 +21,7 @@ invariant-loop-depth g l =
       further : IsSettlingFor g.G.Game l.g l.asked.role l.asked.depth l.asked.at l.settling;
       lines : Written (g.W.Write.contents l.fn.out) (g.W.Write.contents l.out) (deepen_lines game l.asked.role l.asked.depth l.asked.at state)
           (lines_from game l.asked.role l.asked.at state (l.depth + 1) (l.asked.depth - l.depth));
+      flushed : l.depth ≢ 0 → g.W.Flushing.is_flushed l.out;
     }
 
 abbrev pub decreases-loop-depth : goal.decreases-loop-depth
