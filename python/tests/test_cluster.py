@@ -124,14 +124,12 @@ class Here(unittest.TestCase):
 
     def test_the_command(self) -> None:
         options, answer = stored(MARKS)
-        no_one = ["--role", "no one", "--depth", "3"]
         no_turns = ["--role", "xplayer", "--depth", "0"]
         runs: list[tuple[list[str], tuple[int, bytes, bytes]]] = [
             ([*options, str(MARKS)], (0, answer, b"")),
             (["--processes", "2", *options, str(MARKS)], (0, answer, b"")),
             (["--processes", "2x2", *options, str(MARKS)], (0, answer, b"")),
             (["--processes", "2x1", "--parts", *options, str(MARKS)], (0, answer, b"")),
-            ([*no_one, str(MARKS)], (2, b"refused S1 NoSuchRole\n", b"")),
             ([*no_turns, str(MARKS)], (0, b"value 0\nmove none\n", b"")),
         ]
         for words, want in runs:
@@ -145,6 +143,21 @@ class Here(unittest.TestCase):
         command = package("gdlsolve.cluster", *words)
         done = subprocess.run(command, input=rules, capture_output=True, env=environment(), check=False)
         return done.returncode, done.stdout, done.stderr
+
+    def test_a_refusal_is_that_of_one_machine(self) -> None:
+        status, output, errors = self.told("--role", "no one", "--depth", "3", MARKS)
+        self.assertEqual((status, output), (2, b"refused S1 NoSuchRole\n"))
+        self.assertIn(b"the roles are xplayer oplayer", errors)
+
+    @needs_program
+    def test_a_refusal_is_explained_as_by_the_program(self) -> None:
+        for rules in (b"(role a)\n(init x\n", b"(role a)\n(<= (next ?x) (true p))", MARKS.read_bytes()):
+            for asked in (["--role", "no one", "--depth", "3"], ["--role", "a", "--depth", "3", "--after", "(b"]):
+                with self.subTest(rules=rules[:20], asked=asked):
+                    refused = ran(["solve", *asked], rules)
+                    self.assertEqual(refused[0], 2)
+                    self.assertTrue(refused[2])
+                    self.assertEqual(self.told(*asked, rules=rules), refused)
 
     @needs_program
     def test_found_games(self) -> None:
@@ -164,9 +177,9 @@ class Here(unittest.TestCase):
             for engine in (["--processes", "2"], ["--processes", "3x1", "--parts"]):
                 with self.subTest(more=more, engine=engine):
                     self.assertEqual(self.told(*engine, *more, *asked, rules=rules), (0, answer, b""))
-        self.assertEqual(self.told(*asked, rules=rules)[:2], ran(["check"], rules)[:2])
+        self.assertEqual(self.told(*asked, rules=rules), ran(["check"], rules))
         never = NEVER.encode()
-        self.assertEqual(self.told("--whole", *asked, rules=never)[:2], ran(["unroll"], never)[:2])
+        self.assertEqual(self.told("--whole", *asked, rules=never), ran(["unroll"], never))
         self.assertEqual(self.told("--tighten", *asked, rules=rules), (1, b"", b"--tighten goes with --whole\n"))
 
     @needs_program

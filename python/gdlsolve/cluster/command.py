@@ -172,6 +172,7 @@ def run(words: Sequence[str]) -> int:
         found = driver.reply()
         log(" ".join(f"{name} {round(count, 3)}" for name, count in asdict(driver.counts).items()))
         put(found.output)
+        say(found.errors.decode(errors="replace"))
     return int(found.status)
 
 
@@ -181,6 +182,7 @@ def answered(words: Sequence[str]) -> int:
         return run(words)
     except Refusal as refusal:
         put(f"{refusal}\n".encode())
+        say(refusal.explanation)
         return int(Status.REFUSED)
 
 
