@@ -173,7 +173,7 @@ def write(line: Line, found: Reply) -> int:
         tells_words = "-V" not in line.words and "--version" not in line.words
         put(found.output + (USAGE.encode() if tells_words else b""))
         return 0
-    say(found.errors.decode(errors="replace"))
+    say(found.told())
     if not line.as_json:
         put(found.output)
     elif is_linted(line, found):

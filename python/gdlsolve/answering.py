@@ -112,8 +112,9 @@ def told(answers: Answers, batch: Sequence[Sequence[str]], rules: bytes) -> Iter
         yield from (b"%d 0 %d\n" % (NO_REPLY, len(said)) + said for _ in batch)
         return
     for each in found:
-        yield b"%d %d %d\n" % (each.status, len(each.output), len(each.errors))
-        yield each.output + each.errors
+        said = each.told().encode()
+        yield b"%d %d %d\n" % (each.status, len(each.output), len(said))
+        yield each.output + said
 
 
 def watch(socket: int) -> None:

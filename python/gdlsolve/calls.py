@@ -101,6 +101,12 @@ class Reply:
     errors: bytes = b""
     explain: Callable[[], str] | None = field(default=None, compare=False, repr=False)
 
+    def told(self) -> str:
+        """What is said to people. What explains a refusal is asked for where it was not said with it."""
+        if self.explain and self.status == Status.REFUSED:
+            return self.explain()
+        return self.errors.decode(errors="replace")
+
     def lines(self) -> list[str]:
         """The lines of an answer. What is none is raised."""
         if self.status == Status.NO_MEMORY:
@@ -109,7 +115,7 @@ class Reply:
             raise Misuse(self.output.decode(errors="replace").rstrip("\n"))
         lines = lines_of(self.output)
         if self.status == Status.REFUSED:
-            raise Refusal(lines[0], self.explain or (lambda: self.errors.decode(errors="replace")))
+            raise Refusal(lines[0], self.told)
         return lines
 
 

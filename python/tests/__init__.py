@@ -50,8 +50,6 @@ if PROGRAM and (NO_LIBRARY or program.named()):
     os.environ[program.VARIABLE] = " ".join(PROGRAM)
 if NO_LIBRARY and not PROGRAM:
     raise RuntimeError(f"there is nothing to test: no program, and {NO_LIBRARY}")
-# Where the library answers, nothing is said beside a reply to people.
-SAYS_NOTHING = not program.named()
 
 
 def known(**more: str) -> dict[str, str]:

@@ -13,7 +13,7 @@ from collections.abc import Sequence
 from pathlib import Path
 
 import gdlsolve
-from tests import ENDLESS_RULES, PROGRAM, SAYS_NOTHING, TOP, known, needs_program, package, ran
+from tests import ENDLESS_RULES, PROGRAM, TOP, known, needs_program, package, ran
 from tests.serving import LONG, processor_time, started_by, until, wait_for_end
 
 # What is ended is gone within so many seconds.
@@ -34,9 +34,7 @@ BY_PROGRAM = {"GDLSOLVE_PROGRAM": " ".join(PROGRAM)}
 def command(words: Sequence[object], rules: bytes = b"", **more: str) -> tuple[int, str, str]:
     """What the command does: its exit status, its output, and what it says to people."""
     done = subprocess.run(package("gdlsolve", *words), input=rules, capture_output=True, env=known(**more), check=False)
-    # A program says more beside a refusal than the library does.
-    errors = done.stderr.decode() if SAYS_NOTHING or done.returncode != 2 else ""
-    return done.returncode, done.stdout.decode(), errors
+    return done.returncode, done.stdout.decode(), done.stderr.decode()
 
 
 class Words(unittest.TestCase):
@@ -48,7 +46,9 @@ class Words(unittest.TestCase):
         self.assertEqual(command(["moves", "--after", "(h t)"], PENNIES.read_bytes()), want)
 
     def test_statuses_are_those_of_the_program(self) -> None:
-        self.assertEqual(command(["check"], b"(role a"), (2, "refused K4 Unclosed 0\n", ""))
+        status, output, errors = command(["check"], b"(role a")
+        self.assertEqual((status, output), (2, "refused K4 Unclosed 0\n"))
+        self.assertIn("<input>:1:1: refused K4 Unclosed: this bracket is closed nowhere\n(role a\n^\n", errors)
         self.assertEqual(command(["check", "no such file"])[0], 4)
         far = ["solve", "--role", "a", "--depth", "65", PENNIES]
         wrong: list[Sequence[object]] = [[], ["list"], ["solve", PENNIES], far]
@@ -240,7 +240,8 @@ class Time(unittest.TestCase):
         self.assertEqual(command(["moves", "--time", "1", PENNIES])[0], 1)
 
     def test_refusals_are_told(self) -> None:
-        self.assertEqual(command(["solve", "--role", "c", "--time", "1", PENNIES]), (2, "refused S1 NoSuchRole\n", ""))
+        told = "--role: refused S1 NoSuchRole: the roles are a b\n"
+        self.assertEqual(command(["solve", "--role", "c", "--time", "1", PENNIES]), (2, "refused S1 NoSuchRole\n", told))
 
 
 def with_lines() -> str:

@@ -172,7 +172,7 @@ def run(words: Sequence[str]) -> int:
         found = driver.reply()
         log(" ".join(f"{name} {round(count, 3)}" for name, count in asdict(driver.counts).items()))
         put(found.output)
-        say(found.errors.decode(errors="replace"))
+        say(found.told())
     return int(found.status)
 
 
