@@ -1,7 +1,7 @@
 //! What workers search of a state on the line of best play.
 //!
-//! Each of them searches for the same as who plays the line, over the tables that they share, and puts off the states that another has
-//! in hand. All that is wanted of it is what then stands in the tables, which holds whatever a search finds: no answer rests on it.
+//! Each of them searches for the same as who plays the line, over the tables that they share, and all but the first put off the states
+//! that another has in hand. All that is wanted of it is what then stands in the tables, which holds whatever a search finds: no answer rests on it.
 ghost use Rattle.helped.specs.Errand.{IsErrandOf};
 
 use game::{Game, Question, new_joint};

@@ -103,6 +103,12 @@ impl Sight {
         turns >= FEWEST_MARKED && self.has_others()
     }
 
+    /// Whether states with so many turns left are put off that others have in hand. The first worker puts off none, so its search is that of
+    /// one worker who finds more in the tables.
+    pub fn puts_off(&self, turns: u32) -> bool {
+        self.worker != 0 && self.sees(turns)
+    }
+
     /// Whether another is searching the state at a place, by the hashes of states.
     pub fn is_in_hand(&self, hashes: &[u64; LONGEST_RUN], place: usize) -> bool {
         place < LONGEST_RUN && self.is_marked_by_another(hashes[place])
