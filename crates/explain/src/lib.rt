@@ -10,8 +10,6 @@ mod misuses;
 mod refusals;
 mod rests;
 mod spots;
-#[cfg(test)]
-mod tests;
 mod told_play;
 mod told_rules;
 mod told_text;

@@ -6,8 +6,6 @@ mod gathering;
 mod goals;
 mod holds;
 mod pointer;
-#[cfg(test)]
-mod tests;
 mod told;
 mod whole;
 mod words;

@@ -1,12 +1,17 @@
-//! Worked texts: trees and their order, over each allocator, lines and places, and what descriptions say as rules.
+//! Worked texts: trees and their order, over each allocator, lines and places, what descriptions say as rules, and what people are told of
+//! them.
 #![tactic(auto)]
 
 #[cfg(test)]
 mod descriptions;
 #[cfg(test)]
+mod findings;
+#[cfg(test)]
 mod lines;
 #[cfg(test)]
 mod links;
+#[cfg(test)]
+mod notices;
 #[cfg(test)]
 mod orders;
 #[cfg(test)]

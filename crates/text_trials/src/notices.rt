@@ -1,5 +1,5 @@
 //! Worked notices: of each fault, at the ends of texts, with tabs, comments and bytes above 127.
-use crate::{
+use explain::{
     Before, PlayFault, Source, explain_history, explain_limit, explain_role, explain_rules,
     explain_text, rule_fault_in,
 };

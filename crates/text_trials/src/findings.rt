@@ -1,6 +1,6 @@
 //! Worked findings: six silent mistakes in a small game, each at its line, and a game without any.
-use crate::finding_lines;
 use kif::read;
+use lint::finding_lines;
 use std::alloc::{AllocError, Global};
 use std::str::from_utf8;
 use std::test::Fail;
