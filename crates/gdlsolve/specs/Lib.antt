@@ -1,0 +1,2 @@
+-- What contracts of the program name.
+pub mod Sources
