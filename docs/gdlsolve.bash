@@ -1,7 +1,7 @@
 # Completion of gdlsolve's words in bash: source this file, or put it among the files of bash-completion under the name gdlsolve.
 # Where it offers no word, as behind a <, bash completes the names of files.
 
-# The command: the first word behind the name of the program that is no < or >, nor the file behind one. --proved is a word of the
+# The command: the first word behind the name of the program that is no <, no > and no --rules, nor the file behind one. --proved is a word of the
 # script ./gdlsolve alone, and stands before the command.
 _gdlsolve_command() {
   local at
@@ -9,6 +9,7 @@ _gdlsolve_command() {
     case ${COMP_WORDS[at]} in
       *[\<\>]) at=$((at + 1)) ;;
       --proved) ;;
+      --rules) [ "${COMP_WORDS[at + 1]-}" = '=' ] && at=$((at + 1)); at=$((at + 1)) ;;
       *) command=${COMP_WORDS[at]}; return ;;
     esac
   done
@@ -24,19 +25,20 @@ _gdlsolve() {
     --at-bound) words='zero goal' ;;
     --cut) words='1 2 4 8 16 2x2 4x2 4x4 8x2 2x2x2 4x2x2' ;;
     --table) words='0 16 64 256 1024 4096' ;;
-    --role | --depth | --unfinished | --window | --after) return 0 ;;
+    --role | --depth | --unfinished | --window | --after | --rules) return 0 ;;
     *)
       case $command in
         '')
           words='show check lint unroll net moves state solve values serve help --help --version'
           [ "${COMP_WORDS[0]}" = ./gdlsolve ] && words+=' --prove --proved'
           ;;
-        show | lint) words='--help' ;;
-        check | net | serve) words='--whole --tighten --help' ;;
-        unroll) words='--tighten --help' ;;
-        moves | state) words='--after --whole --tighten --help' ;;
-        solve) words='--role --depth --at-bound --unfinished --window --deepen --cut --table --after --whole --tighten --help' ;;
-        values) words='--role --depth --at-bound --unfinished --lines --cut --table --after --whole --tighten --help' ;;
+        show | lint) words='--rules --help' ;;
+        check | net) words='--whole --tighten --rules --help' ;;
+        serve) words='--whole --tighten --help' ;;
+        unroll) words='--tighten --rules --help' ;;
+        moves | state) words='--after --whole --tighten --rules --help' ;;
+        solve) words='--role --depth --at-bound --unfinished --window --deepen --cut --table --after --whole --tighten --rules --help' ;;
+        values) words='--role --depth --at-bound --unfinished --lines --cut --table --after --whole --tighten --rules --help' ;;
         help) words='show check lint unroll net moves state solve values serve' ;;
       esac
       ;;

@@ -3,7 +3,8 @@
     gdlsolve COMMAND [OPTIONS] [GAME.kif] [--json]
     gdlsolve solve --role ROLE --time SECONDS [OPTIONS] [GAME.kif] [--json]
 
-Where no file is named the rules come on standard input. The exit statuses are those of the program.
+Where no file is named the rules come on standard input. `--rules GAME.kif` names one as with the program. The exit statuses are those of
+the program.
 """
 
 from __future__ import annotations
@@ -27,7 +28,7 @@ from gdlsolve.streams import StreamFault, on_input, put, say
 from gdlsolve.terms import terms
 
 USAGE = """
-With this package a file of rules may stand among the words, else they are read on standard input. Further options:
+With this package a file of rules may stand among the words, also without --rules, else they are read on standard input. Further options:
       --json            Tell the answer, or the refusal, as JSON
       --time <SECONDS>  With solve: deeper and deeper for so long, in place of --depth
       --whole           Take a game as it is found, and have `unroll` write it out first
@@ -67,6 +68,20 @@ def _seconds(text: str) -> float:
     return found
 
 
+def named(value: str, before: Path | None) -> Path:
+    """The file that `--rules` names, where no other is named before."""
+    if not value:
+        raise Misuse("error: a value is required for '--rules <FILE>' but none was supplied")
+    if before is not None:
+        raise Misuse("error: the argument '--rules <FILE>' cannot be used with another file of rules")
+    return Path(value)
+
+
+def no_option(word: str) -> str:
+    """The word, or nothing where it is an option."""
+    return "" if word.startswith("-") else word
+
+
 def parse(words: Sequence[str]) -> Line:
     """Takes the package's own options and the file of rules out of the words."""
     left: list[str] = []
@@ -82,6 +97,8 @@ def parse(words: Sequence[str]) -> Line:
             is_whole = True
         elif name == "--time":
             seconds = _seconds(value if has_value else next(rest, ""))
+        elif name == "--rules":
+            game = named(value if has_value else no_option(next(rest, "")), game)
         elif word.startswith("-"):
             left.append(word)
             if word.startswith("--") and not has_value and word not in ASKS | FLAGS:

@@ -45,6 +45,22 @@ class Words(unittest.TestCase):
         self.assertEqual(command(["moves", "--after=(h t)", PENNIES]), want)
         self.assertEqual(command(["moves", "--after", "(h t)"], PENNIES.read_bytes()), want)
 
+    def test_a_file_may_be_named_as_with_the_program(self) -> None:
+        want = (0, "state ended\ngoal a 0\ngoal b 100\n", "")
+        self.assertEqual(command(["moves", "--rules", PENNIES, "--after", "(h t)"]), want)
+        self.assertEqual(command([f"--rules={PENNIES}", "moves", "--after=(h t)"]), want)
+        self.assertEqual(command(["solve", "--role", "--rules", "--depth", "1", PENNIES])[:2], (2, "refused S1 NoSuchRole\n"))
+        self.assertEqual(command(["check", "--rules", "no such file"]), (4, "", "no such file: No such file or directory\n"))
+        nameless = (1, "", "error: a value is required for '--rules <FILE>' but none was supplied\n")
+        wrong: list[Sequence[object]] = [["check", "--rules"], ["check", "--rules="], ["check", "--rules", "--json", PENNIES]]
+        for words in wrong:
+            self.assertEqual(command(words), nameless)
+        twice = (1, "", "error: the argument '--rules <FILE>' cannot be used with another file of rules\n")
+        self.assertEqual(command(["check", "--rules", PENNIES, "--rules", PENNIES]), twice)
+        self.assertEqual(command(["check", PENNIES, "--rules", PENNIES]), twice)
+        self.assertEqual(command(["check", "--rules", PENNIES, PENNIES])[:2], (1, ""))
+        self.assertEqual(command(["serve", "--rules", PENNIES]), (1, "", "serve takes requests alone\n"))
+
     def test_statuses_are_those_of_the_program(self) -> None:
         status, output, errors = command(["check"], b"(role a")
         self.assertEqual((status, output), (2, "refused K4 Unclosed 0\n"))

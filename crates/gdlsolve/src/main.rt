@@ -1,11 +1,23 @@
-//! The program `gdlsolve`: the rules of a game on standard input, answers on standard output.
+//! The program `gdlsolve`: the rules of a game on standard input or in a file, answers on standard output.
 #![tactic(auto)]
 
 use serving::main_program;
+use source::{source_of, tell_unread, without_rules};
+use std::alloc::Global;
 use std::io::{ErrorKind, Read, Write};
 use std::process::ExitCode;
+use std::rt::Files;
 use std::thread::Threads;
 use std::{env, io};
+
+/// The status where the words are no command.
+const MISUSE: u8 = 1;
+
+/// The status for want of memory.
+const NO_MEMORY: u8 = 3;
+
+/// The status where the input failed.
+const READ_FAULT: u8 = 4;
 
 /// The arguments, of which the first is the program's name. They fail for want of memory, or where one of them is no UTF-8.
 fn arguments(rt: &HostRuntime) -> io::Result<Vec<String>> {
@@ -13,30 +25,45 @@ fn arguments(rt: &HostRuntime) -> io::Result<Vec<String>> {
     Ok(owned)
 }
 
-/// The exit status of the program with these arguments.
-fn ended<T: Threads + Sync + AllocGlobal, R: Read, W: Write, E: Write>(
+/// The exit status of the program with these words.
+fn ended<T: Threads + Sync + AllocGlobal + Files, R: Read + Drop, W: Write, E: Write>(
     rt: &T,
-    arguments: &[String],
-    input: &mut R,
+    words: &[&str],
+    input: R,
     output: &mut W,
     errors: &mut E,
 ) -> io::Result<u8> {
-    let mut words = Vec::new(rt.alloc());
+    let words = match without_rules(rt.alloc(), words)? {
+        Ok(words) => words,
+        Err(misuse) => {
+            let _ = writeln!(errors, "{}", misuse.line());
+            return Ok(MISUSE);
+        }
+    };
+    match source_of(rt, words.file, input) {
+        Ok(mut input) => Ok(main_program(rt, &words.left, &mut input, output, errors)),
+        Err(fault) => {
+            tell_unread(errors, words.file.unwrap_or(""), &fault);
+            Ok(READ_FAULT)
+        }
+    }
+}
+
+/// The words behind the program's name.
+fn words_of(alloc: Global, arguments: &[String]) -> io::Result<Vec<&str>> {
+    let mut words = Vec::new(alloc);
     for word in arguments.iter().skip(1) {
         words.push(word.as_str())?;
     }
-    Ok(main_program(rt, &words, input, output, errors))
+    Ok(words)
 }
 
 fn main(rt: HostRuntime) -> ExitCode {
     let status = match arguments(&rt) {
-        Ok(arguments) => ended(
-            &rt,
-            &arguments,
-            &mut rt.stdin(),
-            &mut rt.stdout(),
-            &mut rt.stderr(),
-        ),
+        Ok(arguments) => match words_of(rt.alloc(), &arguments) {
+            Ok(words) => ended(&rt, &words, rt.stdin(), &mut rt.stdout(), &mut rt.stderr()),
+            Err(fault) => Err(fault),
+        },
         Err(fault) => Err(fault),
     };
     match status {
@@ -49,7 +76,7 @@ fn main(rt: HostRuntime) -> ExitCode {
                 "a word is no UTF-8"
             };
             let _ = eprintln!(rt; "{words}");
-            ExitCode::from(if starved { 3 } else { 1 })
+            ExitCode::from(if starved { NO_MEMORY } else { MISUSE })
         }
     }
 }

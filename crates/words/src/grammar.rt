@@ -15,7 +15,10 @@ const DEPTH_LIMIT: i64 = 64;
 const TABLE_LIMIT: i64 = 65_536;
 
 /// What stands below the help of the program.
-const CLOSING: &str = "Exit status:
+const CLOSING: &str = "A file of rules:
+  --rules <FILE>  With any command but serve: read the rules from this file in place of standard input
+
+Exit status:
   0  an answer, or help
   1  words that are no command
   2  a refusal: one line that names the fault
@@ -24,6 +27,7 @@ const CLOSING: &str = "Exit status:
 
 Examples:
   gdlsolve check < game.kif
+  gdlsolve check --rules game.kif
   gdlsolve moves --after \"((mark 1 1) noop)\" < game.kif
   gdlsolve solve --role xplayer --depth 9 < game.kif";
 

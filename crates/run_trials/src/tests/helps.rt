@@ -25,6 +25,9 @@ Options:
   -h, --help     Print help
   -V, --version  Print version
 
+A file of rules:
+  --rules <FILE>  With any command but serve: read the rules from this file in place of standard input
+
 Exit status:
   0  an answer, or help
   1  words that are no command
@@ -34,6 +37,7 @@ Exit status:
 
 Examples:
   gdlsolve check < game.kif
+  gdlsolve check --rules game.kif
   gdlsolve moves --after \"((mark 1 1) noop)\" < game.kif
   gdlsolve solve --role xplayer --depth 9 < game.kif
 ";
