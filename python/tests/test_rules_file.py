@@ -59,7 +59,7 @@ class RulesOfAFile(unittest.TestCase):
         rules = PENNIES.read_bytes()
         self.assertEqual(ran(["solve", "--depth", "1", "--role", "--rules"], rules)[:2], (2, b"refused S1 NoSuchRole\n"))
         self.assertEqual(ran(["moves", "--after", "--rules=none"], rules)[:2], (2, b"refused H1 BadForm 1\n"))
-        self.assertIn(b"required for '--depth <TURNS>'", ran(["solve", "--role", "a", "--depth", "--rules"], rules)[2])
+        self.assertEqual(ran(["solve", "--role", "a", "--depth", "--rules"], rules)[:2], (1, b""))
         self.assertEqual(ran(["check", "--", "--rules", str(PENNIES)], b"")[0], 1)
 
     def test_a_file_that_cannot_be_read_is_told(self) -> None:
