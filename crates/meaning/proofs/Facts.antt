@@ -16,7 +16,9 @@ pub use Rattle.meaning.proofs.Ordered.{
   place_below,
 }
 -- What holds by derivations of bounded length: their bound doesn't matter past the number of rules.
-pub use Rattle.meaning.proofs.Derivations.{relation-under, relation-literal_under, ordinary_not_distinct}
+pub use Rattle.meaning.proofs.Derivations.{relation-under, relation-literal_under, ordinary_not_distinct, derived_heads, derived_once, IsRight-local}
+-- Kept instances are derived by rules.
+pub use Rattle.meaning.proofs.KeptLaw.{kept_by_a_rule}
 -- Matching finds exactly the maps that make an atom a given one.
 pub use Rattle.meaning.proofs.Matches.{same_some, Extends, map_of-Agrees, atom_sound}
 -- The listing has exactly the kept instances.

@@ -18,6 +18,6 @@ pub use laws::{
     relations_stand_in_order, the_fault_is_the_first,
 };
 pub use limits::{ALTERNATIVES_LIMIT, ITEMS_LIMIT, ROLES_LIMIT, VARIABLES_LIMIT};
-pub use roles::role_of;
+pub use roles::{are_same_trees, role_of};
 pub use statement::{RuleExcess, RuleFault};
 pub use words::Word;

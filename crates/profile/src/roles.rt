@@ -28,8 +28,9 @@ fn is_same_tree<A: Allocator>(one: &Expr<A>, other: &Expr<A>) -> bool
     }
 }
 
+/// Whether two lists have the same trees, in the same order.
 #[cycle(sameness)]
-fn are_same_trees<A: Allocator>(ones: &[Expr<A>], others: &[Expr<A>]) -> bool
+pub fn are_same_trees<A: Allocator>(ones: &[Expr<A>], others: &[Expr<A>]) -> bool
     ensures { result ≡ trees_eq (trees_of (trees_in ones.now)) (trees_of (trees_in others.now)) }
 {
     if ones.len() != others.len() {

@@ -1,3 +1,4 @@
 mod Strata
 mod Heights
 mod Acyclic
+mod Extension

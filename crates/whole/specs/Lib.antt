@@ -1,3 +1,4 @@
 pub mod Derivable
 pub mod Literals
 pub mod Possible
+pub mod Extension

@@ -1,15 +1,12 @@
 -- This crate's own: what `run` promises does not rest on it.
--- What may ever be true and done in a description, and what it is to write it out without recursion.
+-- What may ever be true and done by rules in which relations may depend on themselves, and which rules are played as these.
 use Rattle.std.specs.Prelude.{ℕ, ◌≡◌, ◌≢◌, ◌⊎◌, ◌↔◌, ⊤, List, Some, IsTrue}
 use Rattle.statement.specs.Tree.{Tree}
 use Rattle.statement.specs.Words.{w_role, w_base, w_input, w_init, w_next, w_legal}
 use Rattle.statement.specs.Clause.{Atom, Literal, positive, negative, Alternative, Relation, relation_of}
 use Rattle.statement.specs.Dependence.{IsAmong, IsFixed}
-use Rattle.statement.specs.Profile.{HasNoFault, roles}
-use Rattle.statement.specs.Items.{alternatives}
 use Rattle.statement.specs.Meaning.{StateOfTerms, Joint, Source, now, does, distinct, ordinary, source_of, nothing, nobody, atom1, atom2, IsDerivedIn, Holds, IsBase, IsInput}
 use Rattle.whole.specs.Derivable.{HoldsWhole}
-use Rattle.whole.specs.Literals.{whole_alternatives}
 
 abbrev pub HoldsWholeAlways : List Alternative → Atom → Type 0
 HoldsWholeAlways rules x = HoldsWhole rules nothing nobody x
@@ -63,13 +60,10 @@ IsWithinWholeBase rules S = (p : Tree) → IsTrue (S p) → IsWholeBase rules p
 abbrev pub IsWithinWholeInput : List Alternative → Joint → Type 0
 IsWithinWholeInput rules J = (r m : Tree) → J r ≡ Some m → IsWholeInput rules r m
 
--- The second list of items writes the first out: it is accepted, states the same roles in the same order, and within what
--- may be true and done each atom of a relation that the first states holds in it exactly as in the first.
-pub record WritesOut (items out : List Tree) : Type 0 where
-  pub accepted : HasNoFault out
-  pub roles : roles out ≡ roles items
-  pub base : (p : Tree) → IsWholeBase (whole_alternatives items) p → IsBase (alternatives out) p
-  pub inputs : (r m : Tree) → IsWholeInput (whole_alternatives items) r m → IsInput (alternatives out) r m
-  pub same : (S : StateOfTerms) (J : Joint) → IsWithinWholeBase (whole_alternatives items) S → IsWithinWholeInput (whole_alternatives items) J
-      → (x : Atom) → IsStated (whole_alternatives items) (relation_of x)
-      → Holds (alternatives out) S J x ↔ HoldsWhole (whole_alternatives items) S J x
+-- The second rules are played as the first: what may be true and done by the first are base propositions and inputs of the second, and within
+-- these each atom of a relation that the first state holds in the second exactly as in the first.
+pub record PlaysAs (rules out : List Alternative) : Type 0 where
+  pub base : (p : Tree) → IsWholeBase rules p → IsBase out p
+  pub inputs : (r m : Tree) → IsWholeInput rules r m → IsInput out r m
+  pub same : (S : StateOfTerms) (J : Joint) → IsWithinWholeBase rules S → IsWithinWholeInput rules J
+      → (x : Atom) → IsStated rules (relation_of x) → Holds out S J x ↔ HoldsWhole rules S J x

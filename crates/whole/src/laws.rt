@@ -4,8 +4,10 @@ ghost use Rattle.statement.specs.Clause.{Atom, Alternative};
 ghost use Rattle.statement.specs.Dependence.{IsAcyclic};
 ghost use Rattle.statement.specs.Meaning.{StateOfTerms, Joint, Holds, IsDerived, IsRight};
 ghost use Rattle.whole.specs.Derivable.{HoldsWhole, IsStratified, IsStable};
+ghost use Rattle.whole.specs.Extension.{IsExtension, IsClosed};
+ghost use Rattle.whole.specs.Possible.{PlaysAs};
 
-use meaning::holds_by_a_rule;
+use meaning::{holds_by_a_rule, what_is_possible_and_fixed_holds};
 use profile::acyclic_sets_are_ranked;
 
 /// Where the rules are stratified, an atom holds exactly where some rule, and some map from its variables to ground terms,
@@ -32,5 +34,14 @@ pub fn the_whole_meaning_extends_todays()
         → Holds rules S J x ↔ HoldsWhole rules S J x }
 {
     holds_by_a_rule();
+    acyclic_sets_are_ranked();
+}
+
+/// Rules without recursion to which others are added, of which they say nothing, are played the same, if what may come of these is stated.
+pub fn an_extension_is_played_the_same()
+    ensures { (rules out : List Alternative) → IsAcyclic out → IsExtension rules out → IsClosed rules out → PlaysAs rules out }
+{
+    holds_by_a_rule();
+    what_is_possible_and_fixed_holds();
     acyclic_sets_are_ranked();
 }

@@ -3,4 +3,7 @@
 
 mod laws;
 
-pub use laws::{the_whole_meaning_extends_todays, what_holds_has_a_rule, what_holds_is_stable};
+pub use laws::{
+    an_extension_is_played_the_same, the_whole_meaning_extends_todays, what_holds_has_a_rule,
+    what_holds_is_stable,
+};

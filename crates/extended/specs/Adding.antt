@@ -1,0 +1,28 @@
+-- This crate's own: what `run` promises does not rest on it.
+-- Items to which others are added that they say nothing of, and when it is known what may come of these.
+use Rattle.std.specs.Prelude.{◌≡◌, ◌⊎◌, Bool, false, ◌||◌, List, ◌++◌}
+use Rattle.statement.specs.Tree.{Tree}
+use Rattle.statement.specs.Clause.{Relation, relation_of}
+use Rattle.statement.specs.Dependence.{IsAmong, is_among}
+use Rattle.statement.specs.Items.{item_head, alternatives}
+use Rattle.statement.specs.GoalsAndMoves.{dropped}
+use Rattle.outline.specs.Asking.{heads_it, asks_it, some_item}
+use Rattle.whole.specs.Possible.{IsStated}
+use Rattle.whole.specs.Extension.{base_relation, input_relation}
+
+-- no item has the relation as its head or in its body
+abbrev pub IsUnspokenIn : List Tree → Relation → Type 0
+IsUnspokenIn items p = (some_item (heads_it p) items ≡ false) × (some_item (asks_it p) items ≡ false)
+
+-- the items, and behind them others with heads of which they say nothing
+abbrev pub AddsTo : List Tree → List Tree → Type 0
+AddsTo items out = (more : List Tree) × (out ≡ items ++ more) × ((t : Tree) → IsAmong t more → IsUnspokenIn items (relation_of (item_head t)))
+
+-- the first state `base` and `input`, or no possible head of the second is without effect
+abbrev pub HasItsRanges : List Tree → List Tree → Type 0
+HasItsRanges items out =
+    (IsStated (alternatives items) base_relation × IsStated (alternatives items) input_relation) ⊎ (dropped (alternatives out) ≡ 0)
+
+-- the item heads a relation of one of two lists
+abbrev pub heads_one_of : List Relation → List Relation → Tree → Bool
+heads_one_of ps qs t = is_among (relation_of (item_head t)) ps || is_among (relation_of (item_head t)) qs
