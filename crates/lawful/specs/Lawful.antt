@@ -1,8 +1,7 @@
 -- This crate's own: what `run` promises does not rest on it.
--- Items that are lawful in the whole language, why others are refused, and texts that are accepted.
+-- Items that are lawful in the whole language, why others are refused, and items that are accepted.
 use Rattle.std.specs.Prelude.{ℕ, ◌≡◌, ◌⊎◌, ⊤, List, [], Some, All, map}
 use Rattle.statement.specs.Tree.{Tree, trees_of, text}
-use Rattle.statement.specs.Reading.{Reads}
 use Rattle.statement.specs.Profile.{HasNoFault, roles, item_fault_in, recursive}
 use Rattle.statement.specs.TextFaults.{IsTextFault}
 use Rattle.statement.specs.RuleFaults.{IsRuleFault}
@@ -54,9 +53,7 @@ IsUnread text (errors.NotStratified n) = ⊥
 IsUnread text (errors.TooMany excess) = ⊥
 IsUnread text errors.NoMemory = ⊤
 
--- the text stands for items without a fault whose roles are these, in this order
-pub record IsAccepted (wanted : List (List ℕ)) (out : List ℕ) : Type 0 where
-  pub items : List Tree
-  pub reads : Reads out (trees_of items)
+-- items without a fault whose roles have these texts, in this order
+pub record IsAccepted (wanted : List (List ℕ)) (items : List Tree) : Type 0 where
   pub faultless : HasNoFault items
   pub roles : map text (roles items) ≡ wanted

@@ -1,7 +1,8 @@
 //! Whether a text is accepted, and has the roles of items.
 ghost use Rattle.std.specs.Prelude.{◌≡◌, [], ◌∷◌, List, IfOk, IfErr, OnOk, map};
 ghost use Rattle.std.specs.Bool.{OnTrue};
-ghost use Rattle.statement.specs.Tree.{Tree, text as canonical};
+ghost use Rattle.statement.specs.Tree.{Tree, trees_of, text as canonical};
+ghost use Rattle.statement.specs.Reading.{Reads};
 ghost use Rattle.statement.specs.Profile.{roles};
 ghost use Rattle.kif.specs.View.{trees_in};
 ghost use Rattle.profile.specs.Stated.{role_stated, roles_at};
@@ -44,17 +45,24 @@ fn has_roles(items: &[Expr<Global>], places: &[usize], rules: &RuleSet) -> bool
     true
 }
 
-/// The rule set of what was written.
-fn written_rules(alloc: Global, out: &[u8]) -> Result<RuleSet, UnrollFault>
-    ensures accepted { IfOk result (λ rules. IsAccepted (roles_in rules) out.now) }
+/// The items of a text that was written.
+pub fn read_back(alloc: Global, out: &[u8]) -> Result<Vec<Expr<Global>>, UnrollFault>
+    ensures items { IfOk result (λ items. Reads out.now (trees_of (trees_in items.items))) }
     ensures fault { IfErr result (λ fault. (items : List Tree) → IsRefusal items fault) }
 {
-    let items = match read(alloc, out) {
-        Ok(items) => items,
-        Err(KifFault::NoMemory) => return Err(UnrollFault::NoMemory),
-        Err(_) => return Err(UnrollFault::TooMany(Excess::Text)),
-    };
-    match RuleSet::check(alloc, &items) {
+    match read(alloc, out) {
+        Ok(items) => Ok(items),
+        Err(KifFault::NoMemory) => Err(UnrollFault::NoMemory),
+        Err(_) => Err(UnrollFault::TooMany(Excess::Text)),
+    }
+}
+
+/// The rule set of what was written.
+fn written_rules(alloc: Global, written: &[Expr<Global>]) -> Result<RuleSet, UnrollFault>
+    ensures accepted { IfOk result (λ rules. IsAccepted (roles_in rules) (trees_in written.now)) }
+    ensures fault { IfErr result (λ fault. (items : List Tree) → IsRefusal items fault) }
+{
+    match RuleSet::check(alloc, written) {
         Ok(rules) => Ok(rules),
         Err(RuleFault::NoMemory) => Err(UnrollFault::NoMemory),
         Err(_) => Err(UnrollFault::TooMany(Excess::Items)),
@@ -67,16 +75,16 @@ pub fn accept(
     alloc: Global,
     items: &[Expr<Global>],
     places: &[usize],
-    out: &[u8],
+    written: &[Expr<Global>],
 ) -> Result<(), UnrollFault>
     requires { roles_at (trees_in items.now) places.now ≡ roles (trees_in items.now) }
-    ensures accepted { OnOk result (IsAccepted (map canonical (roles (trees_in items.now))) out.now) }
+    ensures accepted { OnOk result (IsAccepted (map canonical (roles (trees_in items.now))) (trees_in written.now)) }
     ensures fault { IfErr result (IsRefusal (trees_in items.now)) }
 {
     if places.is_empty() {
         return Err(UnrollFault::Rules(RuleFault::NoRole));
     }
-    let rules = match written_rules(alloc, out) {
+    let rules = match written_rules(alloc, written) {
         Ok(rules) => rules,
         Err(fault) => return Err(fault),
     };

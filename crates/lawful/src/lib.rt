@@ -5,6 +5,6 @@ mod accepted;
 mod fault;
 mod items;
 
-pub use accepted::accept;
+pub use accepted::{accept, read_back};
 pub use fault::UnrollFault;
 pub use items::{found_items, is_recursive, refuse_crossed, role_places};

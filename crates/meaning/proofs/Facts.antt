@@ -16,15 +16,15 @@ pub use Rattle.meaning.proofs.Ordered.{
   place_below,
 }
 -- What holds by derivations of bounded length: their bound doesn't matter past the number of rules.
-pub use Rattle.meaning.proofs.Derivations.{relation-under, relation-literal_under, ordinary_not_distinct, derived_heads, derived_once, IsRight-local}
--- Kept instances are derived by rules.
-pub use Rattle.meaning.proofs.KeptLaw.{kept_by_a_rule}
+pub use Rattle.meaning.proofs.Derivations.{relation-under, relation-literal_under, ordinary_not_distinct, derived_heads, derived_by_a_rule, derived_once, IsRight-local}
+-- Kept instances are derived by rules, and what is fixed holds everywhere alike.
+pub use Rattle.meaning.proofs.KeptLaw.{kept_by_a_rule, fixed_alike}
 -- Matching finds exactly the maps that make an atom a given one.
 pub use Rattle.meaning.proofs.Matches.{same_some, Extends, map_of-Agrees, atom_sound}
 -- The listing has exactly the kept instances.
 pub use Rattle.meaning.proofs.ListedLaw.{source_under, is_atom_yes, is_atom_in_yes}
 -- Possible atoms, and what the tests of the listing say of literals.
-pub use Rattle.meaning.proofs.Possible.{now_is, does_is, kept_always}
+pub use Rattle.meaning.proofs.Possible.{now_is, does_is, fixed_decide, kept_always, always_kept}
 -- One step of the listing: the kept instances of one relation.
 pub use Rattle.meaning.proofs.Steps.{possible_plain}
 -- The listing, relation by relation.

@@ -1,9 +1,14 @@
 -- This crate's own: what `run` promises does not rest on it.
 -- What is written for a text, and why none is.
-use Rattle.std.specs.Prelude.{ℕ, ◌⊎◌, List, map}
+use Rattle.std.specs.Prelude.{ℕ, ◌≡◌, ◌⊎◌, List, map}
 use Rattle.statement.specs.Tree.{Tree, trees_of, text}
 use Rattle.statement.specs.Reading.{Reads}
-use Rattle.statement.specs.Profile.{roles}
+use Rattle.statement.specs.Items.{alternatives}
+use Rattle.statement.specs.Profile.{HasNoFault, roles}
+use Rattle.whole.specs.Possible.{PlaysAs}
+use Rattle.extended.specs.Adding.{HasItsRanges}
+use Rattle.writing.specs.declared.written.Bounds.{Bounds}
+use Rattle.writing.specs.declared.written.Bounds.TheVariants.{AsStated}
 use Rattle.plain.specs.Plain.{plain_items}
 use Rattle.lawful.specs.Lawful.{IsAccepted, IsLawful, IsRefusal, IsUnread}
 use Rattle.lawful.specs.declared.fault.UnrollFault.{UnrollFault}
@@ -12,9 +17,17 @@ use Rattle.lawful.specs.declared.fault.UnrollFault.{UnrollFault}
 abbrev pub IsUnrollFault : List ℕ → UnrollFault → Type 0
 IsUnrollFault text fault = IsUnread text fault ⊎ ((items : List Tree) × Reads text (trees_of items) × IsRefusal (plain_items items) fault)
 
--- What is written for a text: it is accepted, and has the same roles in the same order. The items of the text are lawful.
-pub record IsWrittenFor (source out : List ℕ) : Type 0 where
+-- What is written for items: it stands for others that are accepted, and have the same roles in the same order. Where no relation rests on
+-- itself, and what is stated of `base` and `input` stays as it is, they are played as these, if these state both or nothing is dropped there.
+pub record IsWrittenOut (bounds : Bounds) (found : List Tree) (out : List ℕ) : Type 0 where
+  pub items : List Tree
+  pub reads : Reads out (trees_of items)
+  pub accepted : IsAccepted (map text (roles found)) items
+  pub played : bounds ≡ AsStated → HasNoFault found → HasItsRanges found items → PlaysAs (alternatives found) (alternatives items)
+
+-- what is written for a text: its items, put into the form of the profile, are lawful, and it is written for these
+pub record IsWrittenFor (bounds : Bounds) (source out : List ℕ) : Type 0 where
   pub found : List Tree
   pub reads : Reads source (trees_of found)
   pub lawful : IsLawful (plain_items found)
-  pub written : IsAccepted (map text (roles (plain_items found))) out
+  pub written : IsWrittenOut bounds (plain_items found) out

@@ -1,15 +1,18 @@
 //! From the text of a found description to one that is accepted.
-ghost use Rattle.std.specs.Prelude.{◌≡◌, List, IfOk, IfErr, OnOk, map};
+ghost use Rattle.std.specs.Prelude.{◌≡◌, false, List, IfOk, IfErr, OnOk};
 ghost use Rattle.std.specs.Bool.{OnTrue};
-ghost use Rattle.statement.specs.Tree.{Tree, text as canonical};
-ghost use Rattle.statement.specs.Profile.{roles};
+ghost use Rattle.statement.specs.Tree.{Tree};
 ghost use Rattle.kif.specs.View.{trees_in};
-ghost use Rattle.lawful.specs.Lawful.{IsAccepted, IsLawful, IsRecursive, IsRefusal};
-ghost use Rattle.unroll.specs.Written.{IsUnrollFault, IsWrittenFor};
+ghost use Rattle.extended.specs.Adding.{AddsTo};
+ghost use Rattle.lawful.specs.Lawful.{IsLawful, IsRecursive, IsRefusal};
+ghost use Rattle.unroll.specs.Written.{IsUnrollFault, IsWrittenFor, IsWrittenOut};
 
-use atoms::LimitFault;
+use atoms::{Excess, LimitFault};
+use extended::{adds_to, what_is_added_to_is_played_the_same};
 use kif::Expr;
-use lawful::{UnrollFault, accept, found_items, is_recursive, refuse_crossed, role_places};
+use lawful::{
+    UnrollFault, accept, found_items, is_recursive, read_back, refuse_crossed, role_places,
+};
 use plain::plain_forms;
 use statement::RuleFault;
 use std::alloc::Global;
@@ -75,25 +78,53 @@ fn written_out(
     written(&mut draft, bounds)
 }
 
+/// Whether items stay as they are where they may: where no relation rests on itself, and what is stated of `base` and `input` is not cut.
+/// If not it is told as items that are too many.
+fn keep_items(
+    alloc: Global,
+    items: &[Expr<Global>],
+    written: &[Expr<Global>],
+    bounds: Bounds,
+    rests_on_itself: bool,
+) -> Result<(), UnrollFault>
+    ensures kept { OnOk result (bounds ≡ Bounds.AsStated → rests_on_itself ≡ false → AddsTo (trees_in items.now) (trees_in written.now)) }
+    ensures fault { IfErr result (IsRefusal (trees_in items.now)) }
+{
+    if rests_on_itself || bounds == Bounds::Tightened {
+        return Ok(());
+    }
+    match adds_to(alloc, items, written) {
+        Ok(true) => Ok(()),
+        Ok(false) => Err(UnrollFault::TooMany(Excess::Items)),
+        Err(_) => Err(UnrollFault::NoMemory),
+    }
+}
+
 /// The text of items of the profile, in which relations may rest on themselves, without recursion and with `base` and `input`.
 fn rewritten(alloc: Global, items: &[Expr<Global>], bounds: Bounds) -> Result<Vec<u8>, UnrollFault>
     ensures lawful { OnOk result (IsLawful (trees_in items.now)) }
-    ensures written { IfOk result (λ out. IsAccepted (map canonical (roles (trees_in items.now))) out.items) }
+    ensures written { IfOk result (λ out. IsWrittenOut bounds (trees_in items.now) out.items) }
     ensures fault { IfErr result (IsRefusal (trees_in items.now)) }
 {
     let places = role_places(items)?;
     let rests_on_itself = is_recursive(alloc, items)?;
     refuse_crossed(alloc, items)?;
     let out = written_out(alloc, items, bounds, rests_on_itself)?;
-    accept(alloc, items, &places, &out)?;
+    let written = match read_back(alloc, &out) {
+        Ok(written) => written,
+        Err(fault) => return Err(fault),
+    };
+    accept(alloc, items, &places, &written)?;
+    keep_items(alloc, items, &written, bounds, rests_on_itself)?;
+    what_is_added_to_is_played_the_same();
     Ok(out)
 }
 
 /// The text of a description without recursion and with `base` and `input`, in which each state and each value is that of the
-/// text. That it is accepted and states the same roles is proved, by a look at what was written; that it is played the same is tested, and no
-/// clause says so.
+/// text. That it is accepted and states the same roles is proved, by a look at what was written, and of a text in which no relation rests on
+/// itself that it is played the same, as far as `IsWrittenFor` says; that any other is played the same is tested, and no clause says so.
 pub fn unrolled(alloc: Global, text: &[u8], bounds: Bounds) -> Result<Vec<u8>, UnrollFault>
-    ensures written { IfOk result (λ out. IsWrittenFor text.now out.items) }
+    ensures written { IfOk result (λ out. IsWrittenFor bounds text.now out.items) }
     ensures fault { IfErr result (IsUnrollFault text.now) }
 {
     let found = found_items(alloc, text)?;
