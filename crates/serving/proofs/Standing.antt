@@ -18,6 +18,8 @@ use Rattle.running.proofs.Facts.{replies_to}
 use Rattle.unrolling.proofs.Facts.{written_over, refuses_over}
 use Rattle.requests.specs.Desks.{Stand}
 use Rattle.requests.specs.Sessions.{Answers}
+use Rattle.writing.specs.declared.written.Bounds.{Bounds}
+use Rattle.writing.specs.declared.written.Bounds.TheVariants as bounds
 use Rattle.serving.specs.Telling.{IsToldOf, IsToldOfLint, IsTold, IsToldFound, IsToldIn}
 
 few_left : (limit : ℕ) (rules : List ℕ) → length (take limit rules) < limit → drop limit rules ≡ []
@@ -56,15 +58,16 @@ told_over : (kept rules : List ℕ) (status : ℕ) (bytes : List ℕ) → Stand 
 told_over kept rules status bytes stand (inl h) = inl (h.0, told_of_over h.0 kept rules status bytes stand h.1)
 told_over kept rules status bytes stand (inr h) = inr (lint_over kept rules status bytes stand h)
 
-found_over : (kept rules : List ℕ) (status : ℕ) (bytes : List ℕ) → Stand kept rules → IsToldFound kept status bytes → IsToldFound rules status bytes
-found_over kept rules status bytes stand (inl h) = inl (h.0, written_over kept rules h.0 stand h.1, h.2)
-found_over kept rules status bytes stand (inr h) = inr (h.0, refuses_over kept rules h.0 stand h.1, h.2, h.3)
+found_over : (ranges : Bounds) (kept rules : List ℕ) (status : ℕ) (bytes : List ℕ) → Stand kept rules → IsToldFound ranges kept status bytes
+    → IsToldFound ranges rules status bytes
+found_over ranges kept rules status bytes stand (inl h) = inl (h.0, written_over ranges kept rules h.0 stand h.1, h.2)
+found_over ranges kept rules status bytes stand (inr h) = inr (h.0, refuses_over kept rules h.0 stand h.1, h.2, h.3)
 
 told_in_over : (language : Language) (kept rules : List ℕ) (status : ℕ) (bytes : List ℕ) → Stand kept rules → IsToldIn language kept status bytes
     → IsToldIn language rules status bytes
 told_in_over Profile kept rules status bytes stand h = told_over kept rules status bytes stand h
-told_in_over Whole kept rules status bytes stand h = found_over kept rules status bytes stand h
-told_in_over Tightened kept rules status bytes stand h = found_over kept rules status bytes stand h
+told_in_over Whole kept rules status bytes stand h = found_over bounds.AsStated kept rules status bytes stand h
+told_in_over Tightened kept rules status bytes stand h = found_over bounds.Tightened kept rules status bytes stand h
 
 pub answers_over : (language : Language) (kept rules out : List ℕ) → Stand kept rules → Answers (IsToldIn language) kept out
     → Answers (IsToldIn language) rules out

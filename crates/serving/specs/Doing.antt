@@ -6,14 +6,18 @@ use Rattle.words.specs.declared.command.Language.{Language}
 use Rattle.running.specs.Fulfilling.{Streams}
 use Rattle.running.specs.Explained.{IsExplained}
 use Rattle.running.specs.Linted.{IsLintRun}
+use Rattle.writing.specs.declared.written.Bounds.{Bounds}
 use Rattle.unrolling.specs.Unrolled.{IsUnrollRun}
 use Rattle.unrolling.specs.Found.{IsFoundRun}
 use Rattle.serving.specs.Serving.{IsServed}
 
 -- a command was run over rules as they are found, or it was `lint`, or some request was fulfilled over rules in the profile
 abbrev pub IsAskedRun : ℕ → Streams → Streams → Type 0
-IsAskedRun status old new = ((command : Command) × IsFoundRun command status old new) ⊎ (IsLintRun status old new ⊎ IsExplained status old new)
+IsAskedRun status old new =
+    ((bounds : Bounds) × (command : Command) × IsFoundRun bounds command status old new) ⊎ (IsLintRun status old new ⊎ IsExplained status old new)
 
 -- a session was held, or rules were written out, or the words asked for something else
 abbrev pub IsProgramRun : ℕ → Streams → Streams → Type 0
-IsProgramRun status old new = ((language : Language) × IsServed language status old new) ⊎ (IsUnrollRun status old new ⊎ IsAskedRun status old new)
+IsProgramRun status old new =
+    ((language : Language) × IsServed language status old new)
+    ⊎ (((bounds : Bounds) × IsUnrollRun bounds status old new) ⊎ IsAskedRun status old new)

@@ -9,6 +9,8 @@ use Rattle.words.specs.declared.command.Language.{Language}
 use Rattle.words.specs.declared.command.Language.TheVariants.{Profile, Whole, Tightened}
 use Rattle.replies.specs.declared.reply.Reply.{Reply}
 use Rattle.replies.specs.Replies.{reply_of}
+use Rattle.writing.specs.declared.written.Bounds.{Bounds}
+use Rattle.writing.specs.declared.written.Bounds.TheVariants as bounds
 use Rattle.unrolling.specs.Unrolled.{IsUnrollReply}
 use Rattle.requests.specs.declared.desk.Taken.{Taken}
 use Rattle.serving.specs.declared.game_kept.KeptGame.{KeptGame}
@@ -21,15 +23,15 @@ IsKeptGame of source bytes kept =
     × IfSome kept.search (IsKeptSearch of kept.game)
 
 -- nothing is kept of rules as they are found, or what is told of them, and a game, if there is one, plays the text that is written
-abbrev pub AreKeptFound : {X : Type 0} → (List ℕ → X → Type 0) → List ℕ → Option Reply → Option X → Type 0
-AreKeptFound Plays rules None made = ⊤
-AreKeptFound Plays rules (Some reply) made = IsUnrollReply rules (reply_of reply) × IfSome made (Plays reply.output.items)
+abbrev pub AreKeptFound : {X : Type 0} → (List ℕ → X → Type 0) → Bounds → List ℕ → Option Reply → Option X → Type 0
+AreKeptFound Plays ranges rules None made = ⊤
+AreKeptFound Plays ranges rules (Some reply) made = IsUnrollReply ranges rules (reply_of reply) × IfSome made (Plays reply.output.items)
 
 -- what is kept of rules in a language: a game that plays them, or what is kept of them as they are found
 abbrev pub AreKept : {X : Type 0} → (List ℕ → X → Type 0) → Language → List ℕ → Option Reply → Option X → Type 0
 AreKept Plays Profile rules written made = IfSome made (Plays rules)
-AreKept Plays Whole rules written made = AreKeptFound Plays rules written made
-AreKept Plays Tightened rules written made = AreKeptFound Plays rules written made
+AreKept Plays Whole rules written made = AreKeptFound Plays bounds.AsStated rules written made
+AreKept Plays Tightened rules written made = AreKeptFound Plays bounds.Tightened rules written made
 
 -- what is kept after this was taken: nothing, where other rules may stand
 abbrev pub kept_after : {X : Type 0} → Taken → Option X → Option X

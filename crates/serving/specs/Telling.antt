@@ -10,6 +10,8 @@ use Rattle.words.specs.declared.grammar.Request.{Request}
 use Rattle.words.specs.declared.grammar.Request.TheVariants.{Run, Help, Misuse}
 use Rattle.running.specs.Exits.{exit_status}
 use Rattle.running.specs.Linted.{IsLintReply}
+use Rattle.writing.specs.declared.written.Bounds.{Bounds}
+use Rattle.writing.specs.declared.written.Bounds.TheVariants as bounds
 use Rattle.unroll.specs.Written.{IsWrittenFor}
 use Rattle.unrolling.specs.Unrolled.{RefusesToUnroll}
 use Rattle.serving.specs.declared.framing.Frame.{Frame}
@@ -38,14 +40,14 @@ IsToldRefusal rules status bytes =
     (reply : Reply) × RefusesToUnroll rules reply × (status ≡ exit_status (Ok reply.status)) × (bytes ≡ reply.output)
 
 -- of rules as they are found is told what is told of the text that is written for them, or why none is
-abbrev pub IsToldFound : List ℕ → ℕ → List ℕ → Type 0
-IsToldFound rules status bytes = ((out : List ℕ) × IsWrittenFor rules out × IsTold out status bytes) ⊎ IsToldRefusal rules status bytes
+abbrev pub IsToldFound : Bounds → List ℕ → ℕ → List ℕ → Type 0
+IsToldFound ranges rules status bytes = ((out : List ℕ) × IsWrittenFor ranges rules out × IsTold out status bytes) ⊎ IsToldRefusal rules status bytes
 
 -- what is told of rules in a language
 abbrev pub IsToldIn : Language → List ℕ → ℕ → List ℕ → Type 0
 IsToldIn Profile = IsTold
-IsToldIn Whole = IsToldFound
-IsToldIn Tightened = IsToldFound
+IsToldIn Whole = IsToldFound bounds.AsStated
+IsToldIn Tightened = IsToldFound bounds.Tightened
 
 -- the bytes of a frame
 abbrev pub frame_bytes : Frame → List ℕ

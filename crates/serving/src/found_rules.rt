@@ -50,8 +50,8 @@ fn taken_out<G: GroundGame, T: AllocGlobal>(
     bounds: Bounds,
     kept: &mut Kept<G>,
 ) -> Result<Reply, AllocError>
-    requires { AreKeptFound (IsKeptGame G.Game G.source) rules.now kept.old.written kept.old.made }
-    ensures reply { IfOk result (λ reply. IsUnrollReply rules.now (reply_of reply)
+    requires { AreKeptFound (IsKeptGame G.Game G.source) bounds rules.now kept.old.written kept.old.made }
+    ensures reply { IfOk result (λ reply. IsUnrollReply bounds rules.now (reply_of reply)
         × IfSome kept.new.made (IsKeptGame G.Game G.source reply.output.items)) }
     ensures none { kept.new.written ≡ None }
 {
@@ -72,8 +72,8 @@ fn told_of_written<G: GroundGame, T: Threads + Sync + AllocGlobal>(
     made: &mut Option<KeptGame<G>>,
 ) -> Result<Told, AllocError>
     requires { IfSome made.old (IsKeptGame G.Game G.source reply.now.output.items) }
-    ensures told { (rules : List ℕ) → IsUnrollReply rules (reply_of reply.now)
-        → IfOk result (λ told. IsToldFound rules told.status told.bytes.items) }
+    ensures told { (bounds : Bounds) (rules : List ℕ) → IsUnrollReply bounds rules (reply_of reply.now)
+        → IfOk result (λ told. IsToldFound bounds rules told.status told.bytes.items) }
     ensures made { IfSome made.new (IsKeptGame G.Game G.source reply.now.output.items) }
 {
     match reply.status {
@@ -90,9 +90,9 @@ fn told_of_found<G: GroundGame, T: Threads + Sync + AllocGlobal>(
     bounds: Bounds,
     kept: &mut Kept<G>,
 ) -> Result<Told, AllocError>
-    requires { AreKeptFound (IsKeptGame G.Game G.source) rules.now kept.old.written kept.old.made }
-    ensures told { IfOk result (λ told. IsToldFound rules.now told.status told.bytes.items) }
-    ensures kept { AreKeptFound (IsKeptGame G.Game G.source) rules.now kept.new.written kept.new.made }
+    requires { AreKeptFound (IsKeptGame G.Game G.source) bounds rules.now kept.old.written kept.old.made }
+    ensures told { IfOk result (λ told. IsToldFound bounds rules.now told.status told.bytes.items) }
+    ensures kept { AreKeptFound (IsKeptGame G.Game G.source) bounds rules.now kept.new.written kept.new.made }
 {
     let reply = taken_out(rt, rules, bounds, kept)?;
     let told = told_of_written(rt, line, &reply, &mut kept.made);

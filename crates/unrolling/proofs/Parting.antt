@@ -13,22 +13,24 @@ use Rattle.running.specs.Input.{IsReadFrom}
 use Rattle.running.specs.Exits.{exit_status, AreErrorsTold}
 use Rattle.running.specs.Fulfilling.{streams}
 use Rattle.running.specs.Explained.{TellsMore}
+use Rattle.writing.specs.declared.written.Bounds.{Bounds}
 use Rattle.unroll.specs.Written.{IsWrittenFor}
 use Rattle.unrolling.specs.Unrolled.{IsUnrollReply, RefusesToUnroll, HasTold, IsExplainedRunOf, IsReplyTold}
 
 -- an answer is the text that is written
-pub written_by : (bytes : List ℕ) (reply : Reply) → reply.status ≡ Answer → IsUnrollReply bytes reply → IsWrittenFor bytes reply.output
-written_by bytes reply answered (inl h) =
+pub written_by : (bounds : Bounds) (bytes : List ℕ) (reply : Reply) → reply.status ≡ Answer → IsUnrollReply bounds bytes reply
+    → IsWrittenFor bounds bytes reply.output
+written_by bounds bytes reply answered (inl h) =
     let same : h.0 ≡ reply.output = sym (ap (λ (r : Reply). r.output) h.2) in
-    subst (λ (out : List ℕ). IsWrittenFor bytes out) same h.1
-written_by bytes reply answered (inr h) =
+    subst (λ (out : List ℕ). IsWrittenFor bounds bytes out) same h.1
+written_by bounds bytes reply answered (inr h) =
     let other : reply.status ≡ Refused = ap (λ (r : Reply). r.status) h.3 in absurd cc
 
 -- and a refusal names a fault
-pub refused_by : (bytes : List ℕ) (reply : Reply) → reply.status ≡ Refused → IsUnrollReply bytes reply → RefusesToUnroll bytes reply
-refused_by bytes reply refused (inl h) =
+pub refused_by : (bounds : Bounds) (bytes : List ℕ) (reply : Reply) → reply.status ≡ Refused → IsUnrollReply bounds bytes reply → RefusesToUnroll bytes reply
+refused_by bounds bytes reply refused (inl h) =
     let other : reply.status ≡ Answer = ap (λ (r : Reply). r.status) h.2 in absurd cc
-refused_by bytes reply refused (inr h) = h
+refused_by bounds bytes reply refused (inr h) = h
 
 -- nothing more was told
 pub tells_none : (may : Type 0) (errors : Option (List ℕ)) → TellsMore may errors errors

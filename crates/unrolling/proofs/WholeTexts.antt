@@ -13,6 +13,7 @@ use Rattle.statement.specs.declared.text_fault.KifFault.TheVariants as texts
 use Rattle.lawful.specs.Lawful.{IsUnread}
 use Rattle.lawful.specs.declared.fault.UnrollFault.{UnrollFault}
 use Rattle.lawful.specs.declared.fault.UnrollFault.TheVariants as faults
+use Rattle.writing.specs.declared.written.Bounds.{Bounds}
 use Rattle.unroll.specs.Written.{IsUnrollFault, IsWrittenFor}
 use Rattle.replies.proofs.Facts.{one_text_fault}
 use Rattle.unrolling.specs.Unrolled.{RefusesToUnroll}
@@ -37,11 +38,12 @@ kept_whole kept whole stand less =
     let short : length (take read_limit whole) < read_limit = subst (λ n. n < read_limit) same less in
     stand ∙ read_whole read_limit whole short
 
-pub written_over : (kept whole out : List ℕ) → kept ≡ take read_limit whole → IsWrittenFor kept out → IsWrittenFor whole out
-written_over kept whole out stand h =
+pub written_over : (bounds : Bounds) (kept whole out : List ℕ) → kept ≡ take read_limit whole → IsWrittenFor bounds kept out
+    → IsWrittenFor bounds whole out
+written_over bounds kept whole out stand h =
     let short = h.reads.short in
     let less : length kept < read_limit = omega (arith, short) in
-    subst (λ (l : List ℕ). IsWrittenFor l out) (kept_whole kept whole stand less) h
+    subst (λ (l : List ℕ). IsWrittenFor bounds l out) (kept_whole kept whole stand less) h
 
 below_is_true : (m n : ℕ) → m < n → nat_lt m n ≡ true
 below_is_true m n h = search (rules, h)

@@ -5,17 +5,18 @@ use Rattle.words.specs.declared.command.Command.{Command}
 use Rattle.running.specs.Input.{IsReadFrom}
 use Rattle.running.specs.Fulfilling.{Streams, streams}
 use Rattle.running.specs.Explained.{IsRunExplained}
+use Rattle.writing.specs.declared.written.Bounds.{Bounds}
 use Rattle.unroll.specs.Written.{IsWrittenFor}
 use Rattle.unrolling.specs.Unrolled.{RefusesToUnroll, IsExplainedRunOf}
 
 -- A text is written for the input that was read, and the command was run where this text is all that there is to read: the output, the errors
 -- and the status are those of that run.
-abbrev pub IsRunOverWritten : Command → ℕ → Streams → Streams → Type 0
-IsRunOverWritten command status old new =
+abbrev pub IsRunOverWritten : Bounds → Command → ℕ → Streams → Streams → Type 0
+IsRunOverWritten bounds command status old new =
     (bytes : List ℕ) × (out : List ℕ) × (left : Option (List ℕ))
-    × IsReadFrom old.input new.input bytes × IsWrittenFor bytes out
+    × IsReadFrom old.input new.input bytes × IsWrittenFor bounds bytes out
     × IsRunExplained command status (streams (Some out) old.output old.errors) (streams left new.output new.errors)
 
 -- the command was run over what is written for the input; or the refusal to write it out was told and explained, or why there was none
-abbrev pub IsFoundRun : Command → ℕ → Streams → Streams → Type 0
-IsFoundRun command status old new = IsRunOverWritten command status old new ⊎ IsExplainedRunOf RefusesToUnroll status old new
+abbrev pub IsFoundRun : Bounds → Command → ℕ → Streams → Streams → Type 0
+IsFoundRun bounds command status old new = IsRunOverWritten bounds command status old new ⊎ IsExplainedRunOf RefusesToUnroll status old new

@@ -14,6 +14,7 @@ use Rattle.running.specs.Explained.{TellsMore, before_more}
 use Rattle.lawful.specs.FaultTexts.{unroll_fault_words}
 use Rattle.lawful.specs.declared.fault.UnrollFault.{UnrollFault}
 use Rattle.lawful.specs.declared.fault.UnrollFault.TheVariants as faults
+use Rattle.writing.specs.declared.written.Bounds.{Bounds}
 use Rattle.unroll.specs.Written.{IsUnrollFault, IsWrittenFor}
 
 -- the text has a fault, and the reply names it
@@ -22,8 +23,8 @@ RefusesToUnroll bytes reply =
     (fault : UnrollFault) × (fault ≢ faults.NoMemory) × IsUnrollFault bytes fault × (reply ≡ refusal (unroll_fault_words fault))
 
 -- the reply is what is written for a text, or names its fault
-abbrev pub IsUnrollReply : List ℕ → Reply → Type 0
-IsUnrollReply bytes reply = ((out : List ℕ) × IsWrittenFor bytes out × (reply ≡ answer out)) ⊎ RefusesToUnroll bytes reply
+abbrev pub IsUnrollReply : Bounds → List ℕ → Reply → Type 0
+IsUnrollReply bounds bytes reply = ((out : List ℕ) × IsWrittenFor bounds bytes out × (reply ≡ answer out)) ⊎ RefusesToUnroll bytes reply
 
 -- What was written where a run ended so, to which such replies are made: one to the bytes that were read, with this status; nothing; or,
 -- where the writer failed, a beginning of one.
@@ -48,8 +49,8 @@ IsExplainedRunOf Is status old new =
     (told : Option (List ℕ)) × IsRunOf Is status old (before_more new told) × TellsMore (status ≡ 2) told new.errors
 
 -- what is written for the text of the input was written, or its fault
-abbrev pub IsUnrollRun : ℕ → Streams → Streams → Type 0
-IsUnrollRun = IsExplainedRunOf IsUnrollReply
+abbrev pub IsUnrollRun : Bounds → ℕ → Streams → Streams → Type 0
+IsUnrollRun bounds = IsExplainedRunOf (IsUnrollReply bounds)
 
 -- How the writing of a reply ended: it was written, or a beginning of it where the writer failed, which the errors are told; the status says
 -- which, and then more was told to the errors, if it is a refusal.

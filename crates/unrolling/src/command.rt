@@ -18,7 +18,7 @@ pub fn run_unroll<T: AllocGlobal, R: Read, W: Write, E: Write>(
     errors: &mut E,
     bounds: Bounds,
 ) -> u8
-    ensures run { IsUnrollRun result
+    ensures run { IsUnrollRun bounds result
         (streams (R.remaining input.old) (W.contents output.old) (E.contents errors.old))
         (streams (R.remaining input.new) (W.contents output.new) (E.contents errors.new)) }
     ensures statuses { result ≤ 4 }

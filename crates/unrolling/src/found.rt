@@ -22,7 +22,7 @@ pub fn run_found<T: Threads + Sync + AllocGlobal, R: Read, W: Write, E: Write>(
     errors: &mut E,
     bounds: Bounds,
 ) -> u8
-    ensures run { IsFoundRun command.now result
+    ensures run { IsFoundRun bounds command.now result
         (streams (R.remaining input.old) (W.contents output.old) (E.contents errors.old))
         (streams (R.remaining input.new) (W.contents output.new) (E.contents errors.new)) }
     ensures statuses { result ≤ 4 }

@@ -30,7 +30,7 @@ pub(crate) struct Told {
 
 /// What is told of bytes.
 fn told_of(alloc: Global, bytes: Vec<u8>, bounds: Bounds) -> Result<Told, RunFault>
-    ensures told { IfOk result (λ told. (told.bytes.items ≡ bytes.items) × IsUnrollReply bytes.items (reply_of told.reply)) }
+    ensures told { IfOk result (λ told. (told.bytes.items ≡ bytes.items) × IsUnrollReply bounds bytes.items (reply_of told.reply)) }
     ensures fault { IfErr result (λ fault. fault ≡ RunFault.Memory) }
 {
     match unrolled(alloc, &bytes, bounds) {
@@ -63,7 +63,7 @@ pub(crate) fn unroll_read<T: AllocGlobal, R: Read>(
     bounds: Bounds,
 ) -> Result<Told, RunFault>
     ensures reply { IfOk result (λ told. IsReadFrom (R.remaining input.old) (R.remaining input.new) told.bytes.items
-        × IsUnrollReply told.bytes.items (reply_of told.reply)) }
+        × IsUnrollReply bounds told.bytes.items (reply_of told.reply)) }
     ensures fault { IfErr result (λ fault. fault ≢ RunFault.Write) }
 {
     let bytes = read_input(rt.alloc(), input)?;

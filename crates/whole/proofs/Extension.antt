@@ -31,7 +31,7 @@ stated_or_not (rule ∷ rules) p = go (relation_eq (relation_of rule.head) p) re
             let three = relation_eq_self p in cc
         out r (inr among) heads = none (r, among, heads)
 
-along : (S : StateOfTerms) (J : Joint) (A B : Type 0) (k : Source) → (A → B) → RightAs S J A k → RightAs S J B k
+pub along : (S : StateOfTerms) (J : Joint) (A B : Type 0) (k : Source) → (A → B) → RightAs S J A k → RightAs S J B k
 along S J A B (now p) e h = h
 along S J A B (does r m) e h = h
 along S J A B (distinct s t) e h = h

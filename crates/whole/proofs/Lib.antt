@@ -2,3 +2,4 @@ mod Strata
 mod Heights
 mod Acyclic
 mod Extension
+mod Rewriting

@@ -1,12 +1,13 @@
 -- This crate's own: what `run` promises does not rest on it.
 -- Rules to which others are added that they say nothing of, and when what may come of these is stated.
-use Rattle.std.specs.Prelude.{◌≡◌, ◌⊎◌, List}
+use Rattle.std.specs.Prelude.{◌≡◌, ◌⊎◌, Bool, true, false, List}
 use Rattle.statement.specs.Tree.{Tree}
 use Rattle.statement.specs.Words.{w_base, w_input, w_init, w_next, w_legal}
-use Rattle.statement.specs.Clause.{Literal, Alternative, Relation, relation_of, atom_of}
-use Rattle.statement.specs.Dependence.{IsAmong}
-use Rattle.statement.specs.Meaning.{atom1, atom2, IsRole, IsBase, IsInput}
+use Rattle.statement.specs.Clause.{Atom, Literal, Alternative, Relation, relation_of, atom_of}
+use Rattle.statement.specs.Dependence.{IsAmong, IsFixed, is_distinct}
+use Rattle.statement.specs.Meaning.{nothing, nobody, atom1, atom2, IsRight, IsDerived, HoldsAlways, IsRole, IsBase, IsInput}
 use Rattle.meaning.specs.Kept.{HeadsKept}
+use Rattle.whole.specs.Derivable.{IsDerivable}
 use Rattle.whole.specs.Possible.{IsStated}
 
 -- some rule has the relation in its body
@@ -16,6 +17,21 @@ IsAsked rules p = (rule : Alternative) × IsAmong rule rules × ((l : Literal) �
 -- no rule has the relation as its head or in its body
 abbrev pub IsUnspoken : List Alternative → Relation → Type 0
 IsUnspoken rules p = (IsStated rules p → ⊥) × (IsAsked rules p → ⊥)
+
+-- Own relations are stated in another way: they rest on own ones alone and are fixed, and what holds of them is closed under the rules, and
+-- has derivations by them.
+pub record AreFounded (rules out : List Alternative) (own : Relation → Bool) : Type 0 where
+  pub below : (rule : Alternative) → IsAmong rule rules → own (relation_of rule.head) ≡ true
+      → (l : Literal) → IsAmong l rule.body → is_distinct (relation_of (atom_of l)) ≡ false → own (relation_of (atom_of l)) ≡ true
+  pub fixed : (p : Relation) → own p ≡ true → IsFixed out p
+  pub closed : (x : Atom) → own (relation_of x) ≡ true → IsDerived rules (IsRight nothing nobody (HoldsAlways out)) x → HoldsAlways out x
+  pub founded : (x : Atom) → own (relation_of x) ≡ true → HoldsAlways out x → IsDerivable rules nothing nobody (HoldsAlways out) x
+
+-- each rule of a relation that is not own is there, and all others are of relations of which the rules say nothing
+pub record IsRewriting (rules out : List Alternative) (own : Relation → Bool) : Type 0 where
+  pub has : (rule : Alternative) → IsAmong rule rules → own (relation_of rule.head) ≡ false → IsAmong rule out
+  pub more : (rule : Alternative) → IsAmong rule out → own (relation_of rule.head) ≡ false → IsAmong rule rules ⊎ IsUnspoken rules (relation_of rule.head)
+  pub stated : AreFounded rules out own
 
 -- each of the rules is there, and all others are of relations of which they say nothing
 pub record IsExtension (rules out : List Alternative) : Type 0 where

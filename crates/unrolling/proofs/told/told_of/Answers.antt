@@ -7,7 +7,7 @@ pub returns-in-Ok-refused : goal.returns-in-Ok-refused
 returns-in-Ok-refused c = record {
   told = (
     refl,
-    subst (λ (l : List ℕ). IsUnrollReply l (reply_of c.in-Ok-refused.reply)) c.deref-in-Err.ensures.value c.in-Ok-refused.ensures,
+    subst (λ (l : List ℕ). IsUnrollReply c.args.bounds l (reply_of c.in-Ok-refused.reply)) c.deref-in-Err.ensures.value (c.in-Ok-refused.ensures c.args.bounds),
   );
   fault = tt;
 }
