@@ -1,2 +1,3 @@
 mod Readings
 mod AddedItems
+pub mod Facts

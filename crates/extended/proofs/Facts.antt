@@ -1,0 +1,4 @@
+-- The facts of this crate that proofs of the crates above may rest on. All other modules of proofs are its own.
+
+-- A literal of an alternative of an item stands in the item's body.
+pub use Rattle.extended.proofs.Readings.{stands_in_item}
