@@ -1,6 +1,8 @@
 -- What is written of own relations is closed under their rules, and has derivations by them, where the game of their steps shows it.
 use Rattle.std.proofs.Common.{ℕ, zero, suc, Bool, true, false, not, ◌&&◌, ◌||◌, cond, ◌≡◌, ◌≢◌, ◌⊎◌, ◌↔◌, inl, inr, List, [], ◌∷◌, length, map, filter, refl, sym, ap, subst, ◌∙◌}
 use Rattle.statement.specs.Tree.{Tree, name, list, Trees, no_trees, tree, name_eq}
+use Rattle.kif.proofs.Facts.{name_eq_yes}
+use Rattle.std.specs.Prelude.{◌==◌}
 use Rattle.statement.specs.Words.{w_base, w_true, w_does, w_next, w_distinct}
 use Rattle.statement.specs.Clause.{Atom, Literal, positive, negative, Alternative, Relation, relation_of, atom_of, is_variable, count_trees, tree_at, tree_of}
 use Rattle.statement.specs.Dependence.{IsAmong, is_among, is_distinct, is_moving, DependsDirectly, DependsIn, Depends, IsAcyclic, IsFixed}
@@ -12,7 +14,7 @@ use Rattle.meaning.specs.Kept.{PossibleAs, UndecidedAs, Keeps, HeadsKept, IsKept
 use Rattle.meaning.specs.Listed.{IsKeptInstance, IsAlternativeAt, IsWellFormed}
 use Rattle.meaning.proofs.Facts.{relation-under, relation-literal_under, ordinary_not_distinct, now_is, does_is, derived_heads, derived_once, IsRight-local, kept_by_a_rule, among_filter, among_filter_in, among_map_out, among_map_in}
 use Rattle.whole.specs.Derivable.{IsRightOver, IsDerivable}
-use Rattle.whole.specs.Extension.{base_relation}
+use Rattle.whole.specs.Extension.{AreFounded, base_relation}
 use Rattle.founded.specs.Steps.{stepped_literal, stepped}
 use Rattle.founded.specs.Founded.{next_relation, based, StandAlone, IsStepGame, IsReached}
 
@@ -64,6 +66,29 @@ not_next t u e = let k : true ≡ false = ap (λ (x : Atom). name_eq x.word w_ne
 
 not_base : (t u : Tree) → atom1 w_base t ≡ atom1 w_next u → ⊥
 not_base t u e = let k : true ≡ false = ap (λ (x : Atom). name_eq x.word w_base) e in let bad : ⊥ = cc in bad
+
+distinct_source_at : (w : List ℕ) (ts : Trees) → is_distinct (record { word = w; arity = count_trees ts }) ≡ true
+    → (s : Tree) × (t : Tree) × (source_at w ts ≡ distinct s t)
+distinct_source_at w no_trees e = absurd (none (name_eq w w_distinct) e)
+  where
+    none : (b : Bool) → (b && false) ≡ true → ⊥
+    none true f = let bad : ⊥ = cc in bad
+    none false f = let bad : ⊥ = cc in bad
+distinct_source_at w (tree p no_trees) e = absurd (none (name_eq w w_distinct) e)
+  where
+    none : (b : Bool) → (b && false) ≡ true → ⊥
+    none true f = let bad : ⊥ = cc in bad
+    none false f = let bad : ⊥ = cc in bad
+distinct_source_at w (tree p (tree q no_trees)) e = (p, q, go (name_eq w w_distinct) refl e)
+  where
+    go : (b : Bool) → name_eq w w_distinct ≡ b → (b && true) ≡ true → cond (name_eq w w_does) (does p q) (cond (name_eq w w_distinct) (distinct p q) ordinary) ≡ distinct p q
+    go true f g = ap (λ (v : List ℕ). cond (name_eq v w_does) (does p q) (cond (name_eq v w_distinct) (distinct p q) ordinary)) (name_eq_yes w w_distinct f)
+    go false f g = absurd (let bad : ⊥ = cc in bad)
+distinct_source_at w (tree p (tree q (tree r rs))) e = absurd (none (name_eq w w_distinct) e)
+  where
+    none : (b : Bool) → (b && (suc (suc (suc (count_trees rs))) == 2)) ≡ true → ⊥
+    none true f = let bad : ⊥ = cc in bad
+    none false f = let bad : ⊥ = cc in bad
 
 one_term : (w : List ℕ) (t u : Tree) → atom1 w t ≡ atom1 w u → t ≡ u
 one_term w t u e = ap (λ (x : Atom). first_term x.terms) e
@@ -392,3 +417,150 @@ module _ (own below : List Relation) (rules out steps : List Alternative) (alone
     keeps_distinct y s t e h =
         subst (λ (k : Source). PossibleAs steps (IsFixed steps (relation_of y)) (HoldsAlways steps y) (HeadsKept steps y) k) (sym e)
         (subst (λ (k : Source). RightAs nothing nobody (HoldsAlways out y) k) e h)
+
+    keeps_negative : (y : Atom) → (is_distinct (relation_of y) ≡ false → IsOwn (relation_of y)) → IsRight nothing nobody (HoldsAlways out) (negative y)
+        → Keeps steps (HeadsKept steps) (negative y)
+    keeps_negative y owns wrong = go (source_of y) refl wrong
+      where
+        go : (k : Source) → source_of y ≡ k → (RightAs nothing nobody (HoldsAlways out y) k → ⊥)
+            → UndecidedAs (IsFixed steps (relation_of y)) (HoldsAlways steps y) k
+        go (now p) e h = tt
+        go (does r m) e h = tt
+        go (distinct s t) e h = h
+        go ordinary e h = λ fixed holds. h ((alike y (alone.own_below (relation_of y) (owns (ordinary_not_distinct y e)))).1 holds)
+
+    keeps_stepped : (l : Literal) (m : Map) → (is_distinct (relation_of (atom_of l)) ≡ false → IsOwn (relation_of (atom_of l)))
+        → IsRight nothing nobody (HoldsAlways out) (literal_under m l) → Keeps steps (HeadsKept steps) (literal_under m (stepped_literal own l))
+    keeps_stepped (positive y) m owns h = go (is_among (relation_of y) own) refl
+      where
+        distinct_there : is_distinct (relation_of (atom_under m y)) ≡ true → Keeps steps (HeadsKept steps) (positive (atom_under m y))
+        distinct_there e =
+            let k = distinct_source_at (atom_under m y).word (atom_under m y).terms e in keeps_distinct (atom_under m y) k.0 k.1 k.2 h
+
+        other : (b : Bool) → is_distinct (relation_of y) ≡ b → is_among (relation_of y) own ≡ false
+            → Keeps steps (HeadsKept steps) (positive (atom_under m y))
+        other true e f = distinct_there (ap is_distinct (relation-under m y) ∙ e)
+        other false e f = let o = owns e in absurd (let bad : ⊥ = cc in bad)
+
+        go : (b : Bool) → is_among (relation_of y) own ≡ b
+            → Keeps steps (HeadsKept steps) (positive (atom_under m (cond b (atom1 w_true (tree_of y)) y)))
+        go true e = keeps_own y m e h
+        go false e = other (is_distinct (relation_of y)) refl e
+    keeps_stepped (negative y) m owns h =
+        keeps_negative (atom_under m y) (λ e. ap (λ (p : Relation). is_among p own) (relation-under m y) ∙ owns (ap is_distinct (sym (relation-under m y)) ∙ e)) h
+
+    own_of : (rule : Alternative) → IsAmong rule rules → IsOwn (relation_of rule.head) → (l : Literal) → IsAmong l rule.body
+        → is_distinct (relation_of (atom_of l)) ≡ false → IsOwn (relation_of (atom_of l))
+    own_of rule a o l in_body other = alone.own_asked rule a o l in_body other
+
+    closed : (x : Atom) → IsOwn (relation_of x) → IsDerived rules (IsRight nothing nobody (HoldsAlways out)) x → HoldsAlways out x
+    closed x o d =
+        let heads = sym (relation-under d.map d.rule.head) ∙ ap relation_of d.heads in
+        let is_own : IsOwn (relation_of d.rule.head) = ap (λ (p : Relation). is_among p own) heads ∙ o in
+        base_out x (comes_there (tree_of x) ((kept_by_a_rule steps well.acyclic (atom1 w_next (tree_of x))).1 (record {
+          rule = stepped own d.rule;
+          map = d.map;
+          is_rule = game.nexts d.rule d.is_rule is_own;
+          maps_to_ground = d.maps_to_ground;
+          heads = ap (atom1 w_next) (tree_under d.map d.rule.head (constant_head d.rule is_own) ∙ ap tree_of d.heads);
+          fits = λ l in_body.
+              let k = among_map_out (stepped_literal own) l d.rule.body in_body in
+              subst (λ (q : Literal). Keeps steps (HeadsKept steps) (literal_under d.map q)) (sym k.2)
+              (keeps_stepped k.0 d.map (λ e. own_of d.rule d.is_rule is_own k.0 k.1 e) (d.fits k.0 k.1));
+        })))
+
+    -- What play comes to has a derivation.
+    module _ (exact : (i : Instance) → IsAmong i (listing steps).kept → IsKeptInstance steps i) where
+      abbrev Over : ℕ → Atom → Type 0
+      Over n y = IsDerivedIn rules (IsRightOver nothing nobody (HoldsAlways out)) n y
+
+      over_stepped : (n : ℕ) → ((y : Atom) → IsOwn (relation_of y) → IsReached steps n (tree_of y) → Over n y)
+          → (l : Literal) (m : Map) → (is_distinct (relation_of (atom_of l)) ≡ false → IsOwn (relation_of (atom_of l)))
+          → Keeps steps (HeadsKept steps) (literal_under m (stepped_literal own l))
+          → ((u : Tree) → literal_under m (stepped_literal own l) ≡ positive (atom1 w_true u) → IsReached steps n u)
+          → IsRightOver nothing nobody (HoldsAlways out) (Over n) (literal_under m l)
+      over_stepped n below_n (positive y) m owns keeps reached = go (is_among (relation_of y) own) refl keeps reached
+        where
+          under : relation_of (atom_under m y) ≡ relation_of y
+          under = relation-under m y
+
+          other : (b : Bool) → is_distinct (relation_of y) ≡ b → is_among (relation_of y) own ≡ false
+              → Keeps steps (HeadsKept steps) (positive (atom_under m y)) → IsRightOver nothing nobody (HoldsAlways out) (Over n) (positive (atom_under m y))
+          other true e f k =
+              let d = distinct_source_at (atom_under m y).word (atom_under m y).terms (ap is_distinct under ∙ e) in
+              subst (λ (s : Source). RightAs nothing nobody (Over n (atom_under m y)) s) (sym d.2)
+              (subst (λ (s : Source). PossibleAs steps (IsFixed steps (relation_of (atom_under m y))) (HoldsAlways steps (atom_under m y))
+              (HeadsKept steps (atom_under m y)) s) d.2 k)
+          other false e f k = let o = owns e in absurd (let bad : ⊥ = cc in bad)
+
+          go : (b : Bool) → is_among (relation_of y) own ≡ b
+              → Keeps steps (HeadsKept steps) (positive (atom_under m (cond b (atom1 w_true (tree_of y)) y)))
+              → ((u : Tree) → positive (atom_under m (cond b (atom1 w_true (tree_of y)) y)) ≡ positive (atom1 w_true u) → IsReached steps n u)
+              → IsRightOver nothing nobody (HoldsAlways out) (Over n) (positive (atom_under m y))
+          go true e k r =
+              let there : IsOwn (relation_of (atom_under m y)) = ap (λ (p : Relation). is_among p own) under ∙ e in
+              let tree_there = tree_under m y (alone.own_constant (relation_of y) e) in
+              subst (λ (s : Source). RightAs nothing nobody (Over n (atom_under m y)) s) (sym (own_ordinary (atom_under m y) there))
+              (below_n (atom_under m y) there (r (tree_of (atom_under m y)) (ap (λ (t : Tree). positive (atom1 w_true t)) tree_there)))
+          go false e k r = other (is_distinct (relation_of y)) refl e k
+      over_stepped n below_n (negative y) m owns keeps reached = go (source_of (atom_under m y)) refl keeps
+        where
+          go : (k : Source) → source_of (atom_under m y) ≡ k
+              → UndecidedAs (IsFixed steps (relation_of (atom_under m y))) (HoldsAlways steps (atom_under m y)) k
+              → RightAs nothing nobody (HoldsAlways out (atom_under m y)) k → ⊥
+          go (now p) e u r = let bad : ⊥ = cc in bad
+          go (does a b) e u r = let bad : ⊥ = cc in bad
+          go (distinct s t) e u r = u r
+          go ordinary e u r =
+              let plain = ap is_distinct (sym (relation-under m y)) ∙ ordinary_not_distinct (atom_under m y) e in
+              let there : IsOwn (relation_of (atom_under m y)) = ap (λ (p : Relation). is_among p own) (relation-under m y) ∙ owns plain in
+              u (fixed_there (relation_of (atom_under m y)) there) ((alike (atom_under m y) (alone.own_below (relation_of (atom_under m y)) there)).0 r)
+
+      derived : (n : ℕ) (x : Atom) → IsOwn (relation_of x) → IsReached steps n (tree_of x) → Over n x
+      derived zero x o r = absurd r
+      derived (suc n) x o r = let i = exact r.0 r.1 in go (λ y p k. derived n y p k) i (game.only i.rule i.kept.is_rule)
+        where
+          go : ((y : Atom) → IsOwn (relation_of y) → IsReached steps n (tree_of y) → Over n y) → (i : IsKeptInstance steps r.0)
+              → (IsAmong i.rule out × (is_among (relation_of i.rule.head) below ≡ true))
+              ⊎ (((q : Alternative) × IsAmong q out × (is_among (relation_of q.head) own ≡ true) × (i.rule ≡ based q))
+              ⊎ ((q : Alternative) × IsAmong q rules × (is_among (relation_of q.head) own ≡ true) × (i.rule ≡ stepped own q))) → Over (suc n) x
+          go later i (inl f) =
+              let head : atom_under i.map i.rule.head ≡ atom1 w_next (tree_of x) = ap (λ (j : Instance). j.head) i.same ∙ r.2 in
+              let same = sym (relation-under i.map i.rule.head) ∙ ap relation_of head in
+              let not_there = alone.no_next in
+              let there : is_among next_relation below ≡ true = ap (λ (p : Relation). is_among p below) (sym same) ∙ f.1 in
+              absurd (let bad : ⊥ = cc in bad)
+          go later i (inr (inl f)) =
+              let head : atom_under i.map i.rule.head ≡ atom1 w_next (tree_of x) = ap (λ (j : Instance). j.head) i.same ∙ r.2 in
+              let other : atom1 w_base (substitute i.map (tree_of f.0.head)) ≡ atom1 w_next (tree_of x) =
+              ap (λ (q : Alternative). atom_under i.map q.head) (sym f.3) ∙ head in
+              absurd (not_base _ _ other)
+          go later i (inr (inr f)) =
+              let q = f.0 in
+              let head : atom_under i.map i.rule.head ≡ atom1 w_next (tree_of x) = ap (λ (j : Instance). j.head) i.same ∙ r.2 in
+              let other : atom1 w_next (substitute i.map (tree_of q.head)) ≡ atom1 w_next (tree_of x) =
+              ap (λ (p : Alternative). atom_under i.map p.head) (sym f.3) ∙ head in
+              let here : tree_of (atom_under i.map q.head) ≡ tree_of x =
+              sym (tree_under i.map q.head (constant_head q f.2)) ∙ one_term w_next _ _ other in
+              record {
+                rule = q;
+                map = i.map;
+                is_rule = f.1;
+                maps_to_ground = i.kept.maps_to_ground;
+                heads = same_atom (atom_under i.map q.head) x here;
+                fits = λ l in_body.
+                    let in_rule : IsAmong (stepped_literal own l) i.rule.body =
+                    subst (λ (p : Alternative). IsAmong (stepped_literal own l) p.body) (sym f.3) (among_map_in (stepped_literal own) l q.body in_body) in
+                    over_stepped n later l i.map (λ e. own_of q f.1 f.2 l in_body e) (i.kept.keeps (stepped_literal own l) in_rule)
+                    (λ u e. r.3 u (subst (λ (j : Instance). IsAmong (positive (atom1 w_true u)) j.body) i.same
+                    (subst (λ (k : Literal). IsAmong k (map (literal_under i.map) i.rule.body)) e
+                    (among_map_in (literal_under i.map) (stepped_literal own l) i.rule.body in_rule))));
+              }
+
+      pub are_founded : ((t : Tree) → IsBase steps t → (n : ℕ) × IsReached steps n t) → AreFounded rules out (λ p. is_among p own)
+      are_founded comes = record {
+        below = alone.own_asked;
+        fixed = own_fixed;
+        closed = closed;
+        founded = λ x o h. let r = comes (tree_of x) (base_in x o h) in (r.0, derived r.0 x o r.1);
+      }
