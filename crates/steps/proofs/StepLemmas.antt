@@ -1,15 +1,15 @@
 -- The alternatives of an item as a step are those of the item, each as a step.
-use Rattle.std.proofs.Common.{ℕ, suc, zero, Bool, true, false, cond, ◌||◌, ◌≡◌, List, [], ◌∷◌, ◌++◌, map, refl, sym, ap, subst, ◌∙◌}
+use Rattle.std.proofs.Common.{ℕ, Bool, true, false, cond, ◌||◌, ◌≡◌, List, [], ◌∷◌, ◌++◌, map, refl, sym, ap, subst, ◌∙◌}
 use Rattle.std.proofs.lemmas.List.{map-append}
 use Rattle.statement.specs.Tree.{Tree, name, list, Trees, no_trees, tree, name_eq}
 use Rattle.statement.specs.Words.{w_if, w_not, w_or, w_and, w_true, w_next, w_base}
-use Rattle.statement.specs.Clause.{Atom, Literal, positive, negative, Alternative, Relation, relation_of, tree_of, tree_at}
+use Rattle.statement.specs.Clause.{Atom, Literal, positive, Alternative, Relation, relation_of, tree_of, tree_at}
 use Rattle.statement.specs.Dependence.{is_among}
 use Rattle.statement.specs.Items.{atom_in, item_head, body_trees, behind_each, picks, negated, readings, list_readings, readings_in_turn, readings_of_all, item_alternatives, is_connective}
 use Rattle.statement.specs.Meaning.{atom1}
 use Rattle.kif.proofs.Facts.{name_eq_yes}
 use Rattle.profile.specs.Connectives.{IsNoConnective}
-use Rattle.steps.specs.Steps.{stepped_literal, stepped, pair, step_atom, step_literal, step_list, step_literals, step_item, open_from, open_terms, open_atom, base_item, base_rule}
+use Rattle.steps.specs.Steps.{stepped_literal, stepped, pair, step_atom, step_literal, step_list, step_literals, step_item, open_terms, open_atom, base_item, base_rule}
 
 -- each literal of each list as a step
 abbrev changed : List Relation → List (List Literal) → List (List Literal)

@@ -4,7 +4,7 @@
 use Rattle.std.specs.Prelude.{ℕ, zero, suc, ◌+◌, cond, ◌||◌, Bool, List, [], ◌∷◌, ◌++◌, map, filter, codes, decimal}
 use Rattle.statement.specs.Tree.{Tree, name, list, Trees, no_trees, tree, name_eq}
 use Rattle.statement.specs.Words.{w_if, w_not, w_or, w_and, w_role, w_base, w_true, w_next}
-use Rattle.statement.specs.Clause.{Atom, Literal, positive, negative, Alternative, Relation, relation_of, tree_of}
+use Rattle.statement.specs.Clause.{Atom, Literal, positive, negative, Alternative, Relation, relation_of, tree_of, tree_at}
 use Rattle.statement.specs.Dependence.{is_among}
 use Rattle.statement.specs.Items.{atom_in, item_head, body_trees}
 use Rattle.statement.specs.Meaning.{atom1}
@@ -66,10 +66,13 @@ open_terms n = open_from 0 n
 abbrev pub open_atom : Relation → Atom
 open_atom p = record { word = p.word; terms = open_terms p.arity }
 
+-- an atom that has been derived can be in a state
+abbrev pub base_of : List ℕ → Trees → Tree
+base_of w ts = list (tree (name w_if) (tree (pair w_base (tree_at w ts)) (tree (tree_at w ts) no_trees)))
+
 -- what has been derived of a relation can be in a state
 abbrev pub base_item : Relation → Tree
-base_item p =
-    let t = tree_of (open_atom p) in list (tree (name w_if) (tree (pair w_base t) (tree t no_trees)))
+base_item p = base_of p.word (open_terms p.arity)
 
 abbrev pub base_rule : Relation → Alternative
 base_rule p = record { head = atom1 w_base (tree_of (open_atom p)); body = positive (open_atom p) ∷ [] }
