@@ -108,7 +108,7 @@ module _ (rules out : List Alternative)
     kept_is_not_dropped : (x : Atom) → IsPossible out x → is_dropped out x ≡ true → ⊥
     kept_is_not_dropped x possible t = none_filtered (is_dropped out) (listing out).atoms x none ((atoms x).1 possible) t
 
-    base_there : (x : Atom) (p : Tree) → IsPossible out x → (is_tree_in p (base_list out) ≡ false → is_dropped out x ≡ true) → IsBase out p
+    pub base_there : (x : Atom) (p : Tree) → IsPossible out x → (is_tree_in p (base_list out) ≡ false → is_dropped out x ≡ true) → IsBase out p
     base_there x p possible misses = go (is_tree_in p (base_list out)) refl
       where
         go : (b : Bool) → is_tree_in p (base_list out) ≡ b → IsBase out p
@@ -126,6 +126,9 @@ module _ (rules out : List Alternative)
             missed true b f = ap not f
             missed false b f = refl
 
+    pub next_there : (p : Tree) → HeadsKept out (atom1 w_next p) → IsBase out p
+    next_there p h = base_there (atom1 w_next p) p h (λ e. ap (λ (b : Bool). not b || false) e)
+
     pub closed : IsClosed rules out
     closed = record {
       base = λ unstated p comes. base_of p comes;
@@ -134,7 +137,7 @@ module _ (rules out : List Alternative)
       where
         base_of : (p : Tree) → HeadsKept out (atom1 w_init p) ⊎ HeadsKept out (atom1 w_next p) → IsBase out p
         base_of p (inl h) = base_there (atom1 w_init p) p h (λ e. ap (λ (b : Bool). not b || false) e)
-        base_of p (inr h) = base_there (atom1 w_next p) p h (λ e. ap (λ (b : Bool). not b || false) e)
+        base_of p (inr h) = next_there p h
 
 -- where both are stated nothing has to be shown
 pub closed_by_words : (rules out : List Alternative) → IsStated rules base_relation → IsStated rules input_relation → IsClosed rules out

@@ -1,8 +1,9 @@
 -- What is written of own relations is closed under their rules, and has derivations by them, where the game of their steps shows it.
-use Rattle.std.proofs.Common.{ℕ, zero, suc, Bool, true, false, not, ◌&&◌, ◌||◌, cond, ◌≡◌, ◌≢◌, ◌⊎◌, ◌↔◌, inl, inr, List, [], ◌∷◌, length, map, filter, refl, sym, ap, subst, ◌∙◌}
+use Rattle.std.proofs.Common.{ℕ, zero, suc, Bool, true, false, not, ◌&&◌, ◌||◌, cond, ◌≡◌, ◌≢◌, ◌⊎◌, ◌↔◌, inl, inr, List, [], ◌∷◌, length, map, filter, refl, sym, ap, subst, ◌∙◌, arith}
 use Rattle.statement.specs.Tree.{Tree, name, list, Trees, no_trees, tree, name_eq}
 use Rattle.kif.proofs.Facts.{name_eq_yes}
 use Rattle.std.specs.Prelude.{◌==◌}
+use Rattle.std.proofs.lemmas.Bool.Decides.{nat_tests}
 use Rattle.statement.specs.Words.{w_base, w_true, w_does, w_next, w_distinct}
 use Rattle.statement.specs.Clause.{Atom, Literal, positive, negative, Alternative, Relation, relation_of, atom_of, is_variable, count_trees, tree_at, tree_of}
 use Rattle.statement.specs.Dependence.{IsAmong, is_among, is_distinct, is_moving, DependsDirectly, DependsIn, Depends, IsAcyclic, IsFixed}
@@ -86,8 +87,11 @@ distinct_source_at w (tree p (tree q no_trees)) e = (p, q, go (name_eq w w_disti
     go false f g = absurd (let bad : ⊥ = cc in bad)
 distinct_source_at w (tree p (tree q (tree r rs))) e = absurd (none (name_eq w w_distinct) e)
   where
+    no : (suc (suc (suc (count_trees rs))) == 2) ≡ false
+    no = grind (arith, nat_tests)
+
     none : (b : Bool) → (b && (suc (suc (suc (count_trees rs))) == 2)) ≡ true → ⊥
-    none true f = let bad : ⊥ = cc in bad
+    none true f = let k = no in let bad : ⊥ = cc in bad
     none false f = let bad : ⊥ = cc in bad
 
 one_term : (w : List ℕ) (t u : Tree) → atom1 w t ≡ atom1 w u → t ≡ u
