@@ -99,45 +99,49 @@ tree_there t (u ∷ us) h = go (λ k. tree_there t us k) (tree_eq t u) refl h
     go later true e k = inl (tree_eq_yes t u e)
     go later false e k = inr (later k)
 
-module _ (rules out : List Alternative)
+module _ (out : List Alternative)
     (atoms : (x : Atom) → IsAmong x (listing out).atoms ↔ IsPossible out x)
     (bases : (p : Tree) → IsAmong p (base_list out) ↔ IsBase out p)
-    (inputs : (r m : Tree) → IsRole out r → IsAmong m (input_list out r) ↔ IsInput out r m)
     (none : dropped out ≡ 0)
   where
     kept_is_not_dropped : (x : Atom) → IsPossible out x → is_dropped out x ≡ true → ⊥
     kept_is_not_dropped x possible t = none_filtered (is_dropped out) (listing out).atoms x none ((atoms x).1 possible) t
 
-    pub base_there : (x : Atom) (p : Tree) → IsPossible out x → (is_tree_in p (base_list out) ≡ false → is_dropped out x ≡ true) → IsBase out p
+    base_there : (x : Atom) (p : Tree) → IsPossible out x → (is_tree_in p (base_list out) ≡ false → is_dropped out x ≡ true) → IsBase out p
     base_there x p possible misses = go (is_tree_in p (base_list out)) refl
       where
         go : (b : Bool) → is_tree_in p (base_list out) ≡ b → IsBase out p
         go true e = (bases p).0 (tree_there p (base_list out) e)
         go false e = absurd (kept_is_not_dropped x possible (misses e))
 
-    input_there : (r m : Tree) → IsRole out r → IsPossible out (atom2 w_legal r m) → IsInput out r m
-    input_there r m role possible = go (is_tree_in m (input_list out r)) refl
-      where
-        go : (b : Bool) → is_tree_in m (input_list out r) ≡ b → IsInput out r m
-        go true e = (inputs r m role).0 (tree_there m (input_list out r) e)
-        go false e = absurd (kept_is_not_dropped (atom2 w_legal r m) possible (missed (is_tree_in r (role_list out)) (is_tree_in m (input_list out r)) e))
-          where
-            missed : (a b : Bool) → b ≡ false → not (a && b) ≡ true
-            missed true b f = ap not f
-            missed false b f = refl
+    init_there : (p : Tree) → HeadsKept out (atom1 w_init p) → IsBase out p
+    init_there p h = base_there (atom1 w_init p) p h (λ e. ap (λ (b : Bool). not b || false) e)
 
+    -- what may come next can be in a state
     pub next_there : (p : Tree) → HeadsKept out (atom1 w_next p) → IsBase out p
     next_there p h = base_there (atom1 w_next p) p h (λ e. ap (λ (b : Bool). not b || false) e)
 
-    pub closed : IsClosed rules out
-    closed = record {
-      base = λ unstated p comes. base_of p comes;
-      inputs = λ unstated r m role heads. input_there r m role heads;
-    }
-      where
-        base_of : (p : Tree) → HeadsKept out (atom1 w_init p) ⊎ HeadsKept out (atom1 w_next p) → IsBase out p
-        base_of p (inl h) = base_there (atom1 w_init p) p h (λ e. ap (λ (b : Bool). not b || false) e)
-        base_of p (inr h) = next_there p h
+    module _ (rules : List Alternative) (inputs : (r m : Tree) → IsRole out r → IsAmong m (input_list out r) ↔ IsInput out r m) where
+      input_there : (r m : Tree) → IsRole out r → IsPossible out (atom2 w_legal r m) → IsInput out r m
+      input_there r m role possible = go (is_tree_in m (input_list out r)) refl
+        where
+          go : (b : Bool) → is_tree_in m (input_list out r) ≡ b → IsInput out r m
+          go true e = (inputs r m role).0 (tree_there m (input_list out r) e)
+          go false e = absurd (kept_is_not_dropped (atom2 w_legal r m) possible (missed (is_tree_in r (role_list out)) (is_tree_in m (input_list out r)) e))
+            where
+              missed : (a b : Bool) → b ≡ false → not (a && b) ≡ true
+              missed true b f = ap not f
+              missed false b f = refl
+
+      pub closed : IsClosed rules out
+      closed = record {
+        base = λ unstated p comes. base_of p comes;
+        inputs = λ unstated r m role heads. input_there r m role heads;
+      }
+        where
+          base_of : (p : Tree) → HeadsKept out (atom1 w_init p) ⊎ HeadsKept out (atom1 w_next p) → IsBase out p
+          base_of p (inl h) = init_there p h
+          base_of p (inr h) = next_there p h
 
 -- where both are stated nothing has to be shown
 pub closed_by_words : (rules out : List Alternative) → IsStated rules base_relation → IsStated rules input_relation → IsClosed rules out

@@ -2,3 +2,5 @@
 
 -- A literal of an alternative of an item stands in the item's body.
 pub use Rattle.extended.proofs.Readings.{stands_in_item}
+-- What may come next is stated, where nothing is dropped.
+pub use Rattle.extended.proofs.AddedItems.{next_there}

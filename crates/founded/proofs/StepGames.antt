@@ -16,8 +16,8 @@ use Rattle.meaning.specs.Listed.{IsKeptInstance, IsAlternativeAt, IsWellFormed}
 use Rattle.meaning.proofs.Facts.{relation-under, relation-literal_under, ordinary_not_distinct, now_is, does_is, derived_heads, derived_once, IsRight-local, kept_by_a_rule, among_filter, among_filter_in, among_map_out, among_map_in}
 use Rattle.whole.specs.Derivable.{IsRightOver, IsDerivable}
 use Rattle.whole.specs.Extension.{AreFounded, base_relation}
-use Rattle.founded.specs.Steps.{stepped_literal, stepped}
-use Rattle.founded.specs.Founded.{next_relation, based, StandAlone, IsStepGame, IsReached}
+use Rattle.steps.specs.Steps.{stepped_literal, stepped, based}
+use Rattle.founded.specs.Founded.{next_relation, StandAlone, IsStepGame, IsReached}
 
 -- Atoms as terms.
 
@@ -109,66 +109,65 @@ module _ (own below : List Relation) (rules out : List Alternative) (alone : Sta
   few = filter (λ (r : Alternative). is_among (relation_of r.head) below) out
 
   module _ (some : List Alternative) (law : (x : Atom) → HoldsAlways some x ↔ IsDerived some (IsRight nothing nobody (HoldsAlways some)) x)
-    (into : (rule : Alternative) → IsAmong rule some → is_among (relation_of rule.head) below ≡ true → IsAmong rule few)
-    (from : (rule : Alternative) → IsAmong rule few → IsAmong rule some) (acyclic : IsAcyclic few) where
-      abbrev B : Atom → Type 0
-      B x = (is_among (relation_of x) below ≡ true) × HoldsAlways some x
+      (into : (rule : Alternative) → IsAmong rule some → is_among (relation_of rule.head) below ≡ true → IsAmong rule few)
+      (from : (rule : Alternative) → IsAmong rule few → IsAmong rule some) (acyclic : IsAcyclic few) where
+    abbrev B : Atom → Type 0
+    B x = (is_among (relation_of x) below ≡ true) × HoldsAlways some x
 
-      below_literal : (rule : Alternative) → IsAmong rule few → (l : Literal) → IsAmong l rule.body → (m : Map)
-          → is_distinct (relation_of (atom_of (literal_under m l))) ≡ false → is_among (relation_of (atom_of (literal_under m l))) below ≡ true
-      below_literal rule a l in_body m other =
-          let f = among_filter (λ (r : Alternative). is_among (relation_of r.head) below) rule out a in
-          let same = relation-literal_under m l in
-          ap (λ (p : Relation). is_among p below) same ∙ alone.below_asked rule f.0 f.1 l in_body (ap is_distinct (sym same) ∙ other)
+    below_literal : (rule : Alternative) → IsAmong rule few → (l : Literal) → IsAmong l rule.body → (m : Map)
+        → is_distinct (relation_of (atom_of (literal_under m l))) ≡ false → is_among (relation_of (atom_of (literal_under m l))) below ≡ true
+    below_literal rule a l in_body m other =
+        let f = among_filter (λ (r : Alternative). is_among (relation_of r.head) below) rule out a in
+        let same = relation-literal_under m l in
+        ap (λ (p : Relation). is_among p below) same ∙ alone.below_asked rule f.0 f.1 l in_body (ap is_distinct (sym same) ∙ other)
 
-      to_few : (l : Literal) → (is_distinct (relation_of (atom_of l)) ≡ false → is_among (relation_of (atom_of l)) below ≡ true)
-          → IsRight nothing nobody (HoldsAlways some) l ↔ IsRight nothing nobody B l
-      to_few (positive y) stands = (
-        along_always (HoldsAlways some y) (B y) (source_of y) (λ plain h. (stands (ordinary_not_distinct y plain), h)),
-        along_always (B y) (HoldsAlways some y) (source_of y) (λ plain h. h.1),
-      )
-      to_few (negative y) stands = (
-        λ wrong r. wrong (along_always (B y) (HoldsAlways some y) (source_of y) (λ plain h. h.1) r),
-        λ wrong r. wrong (along_always (HoldsAlways some y) (B y) (source_of y) (λ plain h. (stands (ordinary_not_distinct y plain), h)) r),
-      )
+    to_few : (l : Literal) → (is_distinct (relation_of (atom_of l)) ≡ false → is_among (relation_of (atom_of l)) below ≡ true)
+        → IsRight nothing nobody (HoldsAlways some) l ↔ IsRight nothing nobody B l
+    to_few (positive y) stands = (
+      along_always (HoldsAlways some y) (B y) (source_of y) (λ plain h. (stands (ordinary_not_distinct y plain), h)),
+      along_always (B y) (HoldsAlways some y) (source_of y) (λ plain h. h.1),
+    )
+    to_few (negative y) stands = (
+      λ wrong r. wrong (along_always (B y) (HoldsAlways some y) (source_of y) (λ plain h. h.1) r),
+      λ wrong r. wrong (along_always (HoldsAlways some y) (B y) (source_of y) (λ plain h. (stands (ordinary_not_distinct y plain), h)) r),
+    )
 
-      down : (x : Atom) → B x → IsDerived few (IsRight nothing nobody B) x
-      down x h =
-          let d = (law x).0 h.1 in
-          let heads = sym (relation-under d.map d.rule.head) ∙ ap relation_of d.heads in
-          let is_rule = into d.rule d.is_rule (ap (λ (p : Relation). is_among p below) heads ∙ h.0) in
-          record {
+    down : (x : Atom) → B x → IsDerived few (IsRight nothing nobody B) x
+    down x h =
+        let d = (law x).0 h.1 in
+        let heads = sym (relation-under d.map d.rule.head) ∙ ap relation_of d.heads in
+        let is_rule = into d.rule d.is_rule (ap (λ (p : Relation). is_among p below) heads ∙ h.0) in
+        record {
+          rule = d.rule;
+          map = d.map;
+          is_rule = is_rule;
+          maps_to_ground = d.maps_to_ground;
+          heads = d.heads;
+          fits = λ l in_body. (to_few (literal_under d.map l) (below_literal d.rule is_rule l in_body d.map)).0 (d.fits l in_body);
+        }
+
+    up : (x : Atom) → IsDerived few (IsRight nothing nobody B) x → B x
+    up x d =
+        let f = among_filter (λ (r : Alternative). is_among (relation_of r.head) below) d.rule out d.is_rule in (
+          ap (λ (p : Relation). is_among p below) (ap relation_of (sym d.heads) ∙ relation-under d.map d.rule.head) ∙ f.1,
+          (law x).1 (record {
             rule = d.rule;
             map = d.map;
-            is_rule = is_rule;
+            is_rule = from d.rule d.is_rule;
             maps_to_ground = d.maps_to_ground;
             heads = d.heads;
-            fits = λ l in_body. (to_few (literal_under d.map l) (below_literal d.rule is_rule l in_body d.map)).0 (d.fits l in_body);
-          }
+            fits = λ l in_body. (to_few (literal_under d.map l) (below_literal d.rule d.is_rule l in_body d.map)).1 (d.fits l in_body);
+          }),
+        )
 
-      up : (x : Atom) → IsDerived few (IsRight nothing nobody B) x → B x
-      up x d =
-          let f = among_filter (λ (r : Alternative). is_among (relation_of r.head) below) d.rule out d.is_rule in
-          (
-            ap (λ (p : Relation). is_among p below) (ap relation_of (sym d.heads) ∙ relation-under d.map d.rule.head) ∙ f.1,
-            (law x).1 (record {
-              rule = d.rule;
-              map = d.map;
-              is_rule = from d.rule d.is_rule;
-              maps_to_ground = d.maps_to_ground;
-              heads = d.heads;
-              fits = λ l in_body. (to_few (literal_under d.map l) (below_literal d.rule d.is_rule l in_body d.map)).1 (d.fits l in_body);
-            }),
-          )
-
-      pub as_few : (x : Atom) → B x ↔ Holds few nothing nobody x
-      as_few x = derived_once few acyclic (IsRight nothing nobody) (IsRight-local nothing nobody) B (λ y. (down y, up y)) x
+    pub as_few : (x : Atom) → B x ↔ Holds few nothing nobody x
+    as_few x = derived_once few acyclic (IsRight nothing nobody) (IsRight-local nothing nobody) B (λ y. (down y, up y)) x
 
 module _ (own below : List Relation) (rules out steps : List Alternative) (alone : StandAlone own below rules out)
-  (game : IsStepGame own below rules out steps) (acyclic : IsAcyclic out) (well : IsWellFormed steps)
-  (law : (some : List Alternative) → IsAcyclic some → (x : Atom) → HoldsAlways some x ↔ IsDerived some (IsRight nothing nobody (HoldsAlways some)) x)
-  (kept_fixed : (x : Atom) → IsFixed steps (relation_of x) → HeadsKept steps x ↔ HoldsAlways steps x)
-  (comes_there : (t : Tree) → HeadsKept steps (atom1 w_next t) → IsBase steps t)
+    (game : IsStepGame own below rules out steps) (acyclic : IsAcyclic out) (well : IsWellFormed steps)
+    (law : (some : List Alternative) → IsAcyclic some → (x : Atom) → HoldsAlways some x ↔ IsDerived some (IsRight nothing nobody (HoldsAlways some)) x)
+    (kept_fixed : (x : Atom) → IsFixed steps (relation_of x) → HeadsKept steps x ↔ HoldsAlways steps x)
+    (comes_there : (t : Tree) → HeadsKept steps (atom1 w_next t) → IsBase steps t)
   where
     abbrev IsBelow : Relation → Type 0
     IsBelow p = is_among p below ≡ true

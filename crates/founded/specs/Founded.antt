@@ -2,20 +2,16 @@
 -- How a game whose turns are steps of derivation shows that what is written of own relations is what is derived of them.
 use Rattle.std.specs.Prelude.{ℕ, zero, suc, ◌≡◌, ◌⊎◌, Bool, true, false, List}
 use Rattle.statement.specs.Tree.{Tree}
-use Rattle.statement.specs.Words.{w_base, w_true, w_next}
-use Rattle.statement.specs.Clause.{Atom, Literal, positive, Alternative, Relation, relation_of, atom_of, is_variable, tree_of}
+use Rattle.statement.specs.Words.{w_true, w_next}
+use Rattle.statement.specs.Clause.{Atom, Literal, positive, Alternative, Relation, relation_of, atom_of, is_variable}
 use Rattle.statement.specs.Dependence.{IsAmong, is_among, is_distinct, is_moving}
 use Rattle.statement.specs.Meaning.{atom1}
 use Rattle.statement.specs.Listing.{Instance, listing}
 use Rattle.whole.specs.Extension.{base_relation}
-use Rattle.founded.specs.Steps.{stepped}
+use Rattle.steps.specs.Steps.{based, stepped}
 
 abbrev pub next_relation : Relation
 next_relation = record { word = w_next; arity = 1 }
-
--- what a rule derives can be in a state
-abbrev pub based : Alternative → Alternative
-based rule = record { head = atom1 w_base (tree_of rule.head); body = rule.body }
 
 -- Own relations are no words of play, and their rules ask own ones alone. What is written of them, and of all that this asks, stands below,
 -- and neither `base` nor `next` does.

@@ -3,13 +3,13 @@ use Rattle.std.proofs.Common.{ℕ, Bool, true, false, cond, ◌||◌, ◌≡◌,
 use Rattle.std.proofs.lemmas.List.{map-append}
 use Rattle.statement.specs.Tree.{Tree, name, list, Trees, no_trees, tree, name_eq}
 use Rattle.statement.specs.Words.{w_if, w_not, w_or, w_and, w_true, w_next, w_base}
-use Rattle.statement.specs.Clause.{Atom, Literal, positive, Alternative, Relation, relation_of, tree_of, tree_at}
+use Rattle.statement.specs.Clause.{Atom, Literal, positive, Alternative, Relation, relation_of, tree_of}
 use Rattle.statement.specs.Dependence.{is_among}
-use Rattle.statement.specs.Items.{atom_in, item_head, body_trees, behind_each, picks, negated, readings, list_readings, readings_in_turn, readings_of_all, item_alternatives, is_connective}
+use Rattle.statement.specs.Items.{atom_in, item_head, body_trees, behind_each, picks, negated, readings, list_readings, readings_in_turn, readings_of_all, item_alternatives}
 use Rattle.statement.specs.Meaning.{atom1}
 use Rattle.kif.proofs.Facts.{name_eq_yes}
 use Rattle.profile.specs.Connectives.{IsNoConnective}
-use Rattle.steps.specs.Steps.{stepped_literal, stepped, pair, step_atom, step_literal, step_list, step_literals, step_item, open_terms, open_atom, base_item, base_rule}
+use Rattle.steps.specs.Steps.{stepped_literal, stepped, pair, step_atom, step_literal, step_list, step_literals, step_item, based, based_item}
 
 -- each literal of each list as a step
 abbrev changed : List Relation → List (List Literal) → List (List Literal)
@@ -93,29 +93,9 @@ step_alternatives own t =
 
 -- What can be in a state.
 
-left_false : (a b : Bool) → (a || b) ≡ false → a ≡ false
-left_false true b h = absurd (let bad : ⊥ = cc in bad)
-left_false false b h = refl
+based_rules : (h : Atom) (bs : List (List Literal)) → rules_of (atom1 w_base (tree_of h)) bs ≡ map based (rules_of h bs)
+based_rules h [] = refl
+based_rules h (b ∷ bs) = ap (λ (rs : List Alternative). based (record { head = h; body = b }) ∷ rs) (based_rules h bs)
 
-right_false : (a b : Bool) → (a || b) ≡ false → b ≡ false
-right_false true b h = absurd (let bad : ⊥ = cc in bad)
-right_false false b h = h
-
-no_connective : (c : List ℕ) → is_connective c ≡ false → IsNoConnective c
-no_connective c h =
-    let k = right_false (name_eq c w_if) (name_eq c w_not || (name_eq c w_or || name_eq c w_and)) h in
-    let m = right_false (name_eq c w_not) (name_eq c w_or || name_eq c w_and) k in
-    record {
-      no_or = left_false (name_eq c w_or) (name_eq c w_and) m;
-      no_and = right_false (name_eq c w_or) (name_eq c w_and) m;
-      no_not = left_false (name_eq c w_not) (name_eq c w_or || name_eq c w_and) k;
-    }
-
-tree_readings : (c : List ℕ) (ts : Trees) → IsNoConnective c → readings (tree_at c ts) ≡ (positive (record { word = c; terms = ts }) ∷ []) ∷ []
-tree_readings c no_trees n = refl
-tree_readings c (tree t ts) n = plain_readings c (tree t ts) n
-
-pub base_alternatives : (p : Relation) → is_connective p.word ≡ false → item_alternatives (base_item p) ≡ base_rule p ∷ []
-base_alternatives p h =
-    ap (λ (bs : List (List Literal)). rules_of (atom1 w_base (tree_of (open_atom p))) (picks bs ([] ∷ [])))
-    (tree_readings p.word (open_terms p.arity) (no_connective p.word h))
+pub based_alternatives : (t : Tree) → item_alternatives (based_item t) ≡ map based (item_alternatives t)
+based_alternatives t = based_rules (item_head t) (readings_of_all (body_trees t))

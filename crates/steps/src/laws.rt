@@ -1,16 +1,16 @@
 //! The laws of items that are turned into steps.
-ghost use Rattle.std.specs.Prelude.{◌≡◌, List, [], ◌∷◌, map, false};
+ghost use Rattle.std.specs.Prelude.{◌≡◌, List, map};
 ghost use Rattle.statement.specs.Tree.{Tree};
 ghost use Rattle.statement.specs.Clause.{Relation};
-ghost use Rattle.statement.specs.Items.{item_alternatives, is_connective};
-ghost use Rattle.steps.specs.Steps.{stepped, step_item, base_item, base_rule};
+ghost use Rattle.statement.specs.Items.{item_alternatives};
+ghost use Rattle.steps.specs.Steps.{based, based_item, stepped, step_item};
 
 /// The alternatives of an item as a step are those of the item, each as a step.
 pub fn stepped_items_say_the_steps()
     ensures { (own : List Relation) (t : Tree) → item_alternatives (step_item own t) ≡ map (stepped own) (item_alternatives t) }
 {}
 
-/// The item that says what can be in a state has one alternative, if no connective is taken for a relation.
-pub fn base_items_say_what_can_be()
-    ensures { (p : Relation) → is_connective p.word ≡ false → item_alternatives (base_item p) ≡ base_rule p ∷ [] }
+/// The alternatives of an item as what a state can have are those of the item, each as what a state can have.
+pub fn based_items_say_what_can_be()
+    ensures { (t : Tree) → item_alternatives (based_item t) ≡ map based (item_alternatives t) }
 {}

@@ -8,5 +8,5 @@ mod literals;
 mod making;
 mod parts;
 
-pub use laws::{base_items_say_what_can_be, stepped_items_say_the_steps};
+pub use laws::{based_items_say_what_can_be, stepped_items_say_the_steps};
 pub use making::step_game;

@@ -37,20 +37,8 @@ pub(crate) fn pair(alloc: Global, word: &[u8], e: Expr<Global>) -> Result<Expr<G
     Ok(Expr::List(parts))
 }
 
-/// A list of two words.
-pub(crate) fn two_words(
-    alloc: Global,
-    word: &[u8],
-    other: &[u8],
-) -> Result<Expr<Global>, AllocError>
-    ensures { IfOk result (λ both. tree_of both ≡ word_and word.now (name other.now)) }
-{
-    let second = named(alloc, other)?;
-    pair(alloc, word, second)
-}
-
 /// Adds copies of trees.
-fn add_copies(
+pub(crate) fn add_copies(
     alloc: Global,
     parts: &[Expr<Global>],
     made: &mut Vec<Expr<Global>>,
@@ -65,11 +53,7 @@ fn add_copies(
 }
 
 /// An atom as a tree: without terms it is its name.
-pub(crate) fn atom(
-    alloc: Global,
-    word: &[u8],
-    terms: &[Expr<Global>],
-) -> Result<Expr<Global>, AllocError>
+fn atom(alloc: Global, word: &[u8], terms: &[Expr<Global>]) -> Result<Expr<Global>, AllocError>
     ensures { IfOk result (λ made. tree_of made ≡ tree_at word.now (trees_of (trees_in terms.now))) }
 {
     if terms.is_empty() {

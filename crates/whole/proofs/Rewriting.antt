@@ -238,14 +238,14 @@ module _ (rules out : List Alternative) (own : Relation → Bool) (re : IsRewrit
                 heads = d.heads;
                 fits = λ l in_body. full_literal p (λ q direct. below q direct) (literal_under d.map l) (spoken_asked d.rule is_rule l in_body d.map)
                     (λ plain. record {
-                    rule = d.rule;
-                    literal = l;
-                    is_rule = d.is_rule;
-                    heads = head_of d.rule d.map x d.heads ∙ e;
-                    in_body = in_body;
-                    names = sym (relation-literal_under d.map l);
-                    not_distinct = plain;
-                  }) (d.fits l in_body);
+                      rule = d.rule;
+                      literal = l;
+                      is_rule = d.is_rule;
+                      heads = head_of d.rule d.map x d.heads ∙ e;
+                      in_body = in_body;
+                      names = sym (relation-literal_under d.map l);
+                      not_distinct = plain;
+                    }) (d.fits l in_body);
               })
               by_rule other d (inr unspoken) = absurd (never (subst IsSpoken (sym (head_of d.rule d.map x d.heads)) h.0))
                 where

@@ -11,8 +11,8 @@ returns c = λ items out faultless adds ranges.
     let well = c.accepted_items_are_well_formed.ensures out faultless in
     let is_closed : HasItsRanges items out → IsClosed (alternatives items) (alternatives out) = λ known. elim known [
       | inl both ↦ closed_by_words (alternatives items) (alternatives out) both.0 both.1
-      | inr none ↦ closed (alternatives items) (alternatives out) (λ x. c.the_listing_is_exact.ensures.atoms (alternatives out) well x)
-          (λ p. c.the_context_is_listed.ensures.base (alternatives out) well p)
-          (λ r m role. c.the_context_is_listed.ensures.inputs (alternatives out) well r m role) none
+      | inr none ↦ closed (alternatives out) (λ x. c.the_listing_is_exact.ensures.atoms (alternatives out) well x)
+          (λ p. c.the_context_is_listed.ensures.base (alternatives out) well p) none (alternatives items)
+          (λ r m role. c.the_context_is_listed.ensures.inputs (alternatives out) well r m role)
     ] in
     c.an_extension_is_played_the_same.ensures (alternatives items) (alternatives out) well.acyclic (extends items out adds) (is_closed ranges)
