@@ -1,5 +1,5 @@
--- Items to which others are added, as rules.
-use Rattle.std.proofs.Common.{ℕ, Bool, true, false, not, ◌&&◌, ◌||◌, ◌≡◌, ◌⊎◌, ◌↔◌, inl, inr, List, [], ◌∷◌, ◌++◌, length, map, take, drop, filter, refl, sym, ap, subst, ◌∙◌, append_assoc}
+-- Items of which some relations are stated in another way, as rules.
+use Rattle.std.proofs.Common.{ℕ, zero, suc, ◌+◌, ◌<◌, arith, get_or, cond, append-nil, Bool, true, false, not, ◌&&◌, ◌||◌, ◌≡◌, ◌⊎◌, ◌↔◌, inl, inr, List, [], ◌∷◌, ◌++◌, length, map, take, drop, filter, refl, sym, ap, subst, ◌∙◌, append_assoc}
 use Rattle.std.specs.Bool.{OnTrue}
 use Rattle.std.proofs.lemmas.List.{map-append, take-append-drop}
 use Rattle.statement.specs.Tree.{Tree, Trees, no_trees, tree, tree_eq, trees_eq, trees_of}
@@ -20,8 +20,9 @@ use Rattle.outline.specs.Asking.{heads_it, asks_it, some_item}
 use Rattle.outline.specs.Probes.{some_of}
 use Rattle.meaning.specs.Kept.{HeadsKept, PossibleIf, IsPossible}
 use Rattle.whole.specs.Possible.{IsStated}
-use Rattle.whole.specs.Extension.{IsAsked, IsUnspoken, IsExtension, IsClosed, base_relation, input_relation}
-use Rattle.extended.specs.Adding.{IsUnspokenIn, AddsTo, HasItsRanges, heads_one_of}
+use Rattle.whole.specs.Extension.{IsAsked, IsUnspoken, IsRewriting, AreFounded, IsClosed, base_relation, input_relation}
+use Rattle.extended.specs.Adding.{IsUnspokenIn, Rewrites, HasItsRanges, heads_own, kept_items, heads_one_of}
+use Rattle.meaning.proofs.Facts.{among_filter, among_filter_in}
 use Rattle.extended.proofs.Readings.{join, split, stands_in_item}
 
 alternatives_append : (xs ys : List Tree) → alternatives (xs ++ ys) ≡ alternatives xs ++ alternatives ys
@@ -63,22 +64,44 @@ unspoken items p u = (
       (no_item (asks_it p) items i.0 u.1 i.1) (stands_in_item i.0 s.0 i.2 l s.2.1)) s.2.2,
 )
 
-pub extends : (items out : List Tree) → AddsTo items out → IsExtension (alternatives items) (alternatives out)
-extends items out adds = record {
-  has = λ rule a. subst (λ (rs : List Alternative). IsAmong rule rs) (sym whole) (join rule (alternatives items) (alternatives adds.0) (inl a));
-  more = λ rule a. go rule (split rule (alternatives items) (alternatives adds.0) (subst (λ (rs : List Alternative). IsAmong rule rs) whole a));
-}
-  where
-    whole : alternatives out ≡ alternatives items ++ alternatives adds.0
-    whole = ap alternatives adds.1 ∙ alternatives_append items adds.0
+-- the rules of an item of a list are among those of the list
+pub item_rule : (items : List Tree) (t : Tree) (rule : Alternative) → IsAmong t items → IsAmong rule (item_alternatives t)
+    → IsAmong rule (alternatives items)
+item_rule [] t rule a r = absurd a
+item_rule (u ∷ items) t rule (inl e) r =
+    join rule (item_alternatives u) (alternatives items) (inl (subst (λ (v : Tree). IsAmong rule (item_alternatives v)) e r))
+item_rule (u ∷ items) t rule (inr a) r = join rule (item_alternatives u) (alternatives items) (inr (item_rule items t rule a r))
 
-    go : (rule : Alternative) → IsAmong rule (alternatives items) ⊎ IsAmong rule (alternatives adds.0)
+pub rewriting : (own : List Relation) (items out : List Tree) → Rewrites own items out
+    → AreFounded (alternatives items) (alternatives out) (λ p. is_among p own) → IsRewriting (alternatives items) (alternatives out) (λ p. is_among p own)
+rewriting own items out re founded = record { has = has; more = λ rule a other. more rule other (rule_item out rule a); stated = founded }
+  where
+    kept : List Tree
+    kept = kept_items own items
+
+    other_head : (t : Tree) (rule : Alternative) → IsAmong rule (item_alternatives t) → relation_of rule.head ≡ relation_of (item_head t)
+    other_head t rule r = ap relation_of (same_head (item_head t) _ rule r)
+
+    has : (rule : Alternative) → IsAmong rule (alternatives items) → is_among (relation_of rule.head) own ≡ false → IsAmong rule (alternatives out)
+    has rule a other =
+        let i = rule_item items rule a in
+        let free : not (heads_own own i.0) ≡ true = ap (λ (p : Relation). not (is_among p own)) (sym (other_head i.0 rule i.2)) ∙ ap not other in
+        let stands = among_filter_in (λ (t : Tree). not (heads_own own t)) i.0 items i.1 free in
+        item_rule out i.0 rule (subst (λ (ts : List Tree). IsAmong i.0 ts) (sym re.1) (join i.0 kept re.0 (inl stands))) i.2
+
+    more : (rule : Alternative) → is_among (relation_of rule.head) own ≡ false → (t : Tree) × IsAmong t out × IsAmong rule (item_alternatives t)
         → IsAmong rule (alternatives items) ⊎ IsUnspoken (alternatives items) (relation_of rule.head)
-    go rule (inl a) = inl a
-    go rule (inr a) =
-        let i = rule_item adds.0 rule a in
-        inr (subst (IsUnspoken (alternatives items)) (ap relation_of (sym (same_head (item_head i.0) _ rule i.2)))
-        (unspoken items (relation_of (item_head i.0)) (adds.2 i.0 i.1)))
+    more rule other i = go (split i.0 kept re.0 (subst (λ (ts : List Tree). IsAmong i.0 ts) re.1 i.1))
+      where
+        added : (heads_own own i.0 ≡ true) ⊎ IsUnspokenIn items (relation_of (item_head i.0))
+            → IsAmong rule (alternatives items) ⊎ IsUnspoken (alternatives items) (relation_of rule.head)
+        added (inl is_own) =
+            let e = ap (λ (p : Relation). is_among p own) (other_head i.0 rule i.2) in absurd (let bad : ⊥ = cc in bad)
+        added (inr u) = inr (subst (IsUnspoken (alternatives items)) (sym (other_head i.0 rule i.2)) (unspoken items (relation_of (item_head i.0)) u))
+
+        go : IsAmong i.0 kept ⊎ IsAmong i.0 re.0 → IsAmong rule (alternatives items) ⊎ IsUnspoken (alternatives items) (relation_of rule.head)
+        go (inl a) = inl (item_rule items i.0 rule (among_filter (λ (t : Tree). not (heads_own own t)) i.0 items a).0 i.2)
+        go (inr a) = added (re.2 i.0 a)
 
 -- What may come, where nothing is dropped.
 
@@ -163,21 +186,94 @@ parts_back (t ∷ ts) = ap (λ (us : List Tree). t ∷ us) (parts_back ts)
 same_list : (ts us : List Tree) → trees_eq (trees_of ts) (trees_of us) ≡ true → ts ≡ us
 same_list ts us h = sym (parts_back ts) ∙ ap parts (trees_eq_yes (trees_of ts) (trees_of us) h) ∙ parts_back us
 
+pub on_true : (b : Bool) (P : Type 0) → (b ≡ true → P) → OnTrue b P
+on_true true P h = h refl
+on_true false P h = tt
+
+pub true_on : (b : Bool) (P : Type 0) → OnTrue b P → b ≡ true → P
+true_on true P h e = h
+true_on false P h e = absurd (let bad : ⊥ = cc in bad)
+
 pub on_not : (b : Bool) (P : Type 0) → (b ≡ false → P) → OnTrue (not b) P
 on_not true P h = tt
 on_not false P h = h refl
 
-pub added : {A : Type 0} (items out front more : List (Expr A)) (n : ℕ) (stated asked : List Relation)
-    → trees_eq (trees_of (trees_in items)) (trees_of (trees_in front)) ≡ true → front ≡ take n out → more ≡ drop n out
+-- an item that stands in neither set, and heads no own relation, is one of which nothing is said
+pub rewritten_items : {A : Type 0} (items out more : List (Expr A)) (n : ℕ) (own stated asked : List Relation)
+    → trees_in (take n out) ≡ kept_items own (trees_in items) → more ≡ drop n out
     → ((p : Relation) → is_among p stated ≡ some_item (heads_it p) (trees_in items))
     → ((p : Relation) → is_among p asked ≡ some_item (asks_it p) (trees_in items))
-    → some_item (heads_one_of stated asked) (trees_in more) ≡ false → AddsTo (trees_in items) (trees_in out)
-added {A} items out front more n stated asked same begin rest heads asks none = (
+    → some_item (heads_one_of own stated asked) (trees_in more) ≡ false → Rewrites own (trees_in items) (trees_in out)
+rewritten_items {A} items out more n own stated asked begin rest heads asks none = (
   trees_in more,
   ap trees_in (sym (take-append-drop n out)) ∙ map-append (tree_of {A = A}) (take n out) (drop n out)
-      ∙ (λ i. trees_in (sym begin i) ++ trees_in (sym rest i)) ∙ ap (λ (ts : List Tree). ts ++ trees_in more) (sym (same_list _ _ same)),
-  λ t a.
-      let p = relation_of (item_head t) in
-      let k = no_item (heads_one_of stated asked) (trees_in more) t none a in
-      (sym (heads p) ∙ left_false (is_among p stated) (is_among p asked) k, sym (asks p) ∙ right_false (is_among p stated) (is_among p asked) k),
+      ∙ (λ i. begin i ++ trees_in (sym rest i)),
+  λ t a. go t (heads_own own t) refl (no_item (heads_one_of own stated asked) (trees_in more) t none a),
 )
+  where
+    go : (t : Tree) (b : Bool) → heads_own own t ≡ b
+        → (not (heads_own own t) && (is_among (relation_of (item_head t)) stated || is_among (relation_of (item_head t)) asked)) ≡ false
+        → (heads_own own t ≡ true) ⊎ IsUnspokenIn (trees_in items) (relation_of (item_head t))
+    go t true e k = inl e
+    go t false e k =
+        let p = relation_of (item_head t) in
+        let m : (is_among p stated || is_among p asked) ≡ false = ap (λ (b : Bool). not b && (is_among p stated || is_among p asked)) (sym e) ∙ k in
+        inr (sym (heads p) ∙ left_false (is_among p stated) (is_among p asked) m, sym (asks p) ∙ right_false (is_among p stated) (is_among p asked) m)
+
+pub one_same : (ts us : List Tree) → trees_eq (trees_of ts) (trees_of us) ≡ true → ts ≡ us
+one_same ts us h = same_list ts us h
+
+pub same_places : {A : Type 0} (b : Bool) (one other ones firsts others seconds : List (Expr A)) (at place : ℕ) → at < length one → place < length other
+    → ones ≡ drop at one → firsts ≡ take 1 ones → others ≡ drop place other → seconds ≡ take 1 others
+    → b ≡ trees_eq (trees_of (trees_in firsts)) (trees_of (trees_in seconds))
+    → OnTrue b ((at < length one) × (place < length other) × (trees_in (take 1 (drop at one)) ≡ trees_in (take 1 (drop place other))))
+same_places b one other ones firsts others seconds at place inside there e f g h same = on_true b _ (λ k. (inside, there, here k))
+  where
+    here : b ≡ true → trees_in (take 1 (drop at one)) ≡ trees_in (take 1 (drop place other))
+    here k =
+        (λ i. trees_in (take 1 (sym e i))) ∙ ap trees_in (sym f) ∙ one_same (trees_in firsts) (trees_in seconds) (sym same ∙ k) ∙ ap trees_in h
+        ∙ (λ i. trees_in (take 1 (g i)))
+
+take_next : {X : Type 0} (n : ℕ) (xs : List X) → take (suc n) xs ≡ take n xs ++ take 1 (drop n xs)
+take_next zero xs = refl
+take_next (suc n) [] = refl
+take_next {X} (suc n) (x ∷ xs) = ap (λ (ys : List X). x ∷ ys) (take_next n xs)
+
+take_one : {X : Type 0} (n : ℕ) (xs : List X) → take (n + 1) xs ≡ take n xs ++ take 1 (drop n xs)
+take_one n xs = let same : n + 1 ≡ suc n = omega arith in ap (λ (k : ℕ). take k xs) same ∙ take_next n xs
+
+one_there : {X : Type 0} (xs : List X) (i : ℕ) (x : X) → i < length xs → x ≡ get_or xs i x → take 1 (drop i xs) ≡ x ∷ []
+one_there [] i x h e = absurd (let bad : ⊥ = omega (arith, h) in bad)
+one_there (y ∷ xs) zero x h e = ap (λ z. z ∷ []) (sym e)
+one_there (y ∷ xs) (suc i) x h e = one_there xs i x (omega (arith, h)) e
+
+kept_append : (own : List Relation) (ts us : List Tree) → kept_items own (ts ++ us) ≡ kept_items own ts ++ kept_items own us
+kept_append own [] us = refl
+kept_append own (t ∷ ts) us = go (not (heads_own own t)) (kept_append own ts us)
+  where
+    go : (b : Bool) → kept_items own (ts ++ us) ≡ kept_items own ts ++ kept_items own us
+        → cond b (t ∷ kept_items own (ts ++ us)) (kept_items own (ts ++ us)) ≡ cond b (t ∷ kept_items own ts) (kept_items own ts) ++ kept_items own us
+    go true e = ap (λ (vs : List Tree). t ∷ vs) e
+    go false e = e
+
+parts_more : {A : Type 0} (es : List (Expr A)) (n : ℕ) → trees_in (take (n + 1) es) ≡ trees_in (take n es) ++ trees_in (take 1 (drop n es))
+parts_more {A} es n = ap trees_in (take_one n es) ∙ map-append (tree_of {A = A}) (take n es) (take 1 (drop n es))
+
+module _ {A : Type 0} (own : List Relation) (items out : List (Expr A)) (place next : ℕ) (e : Expr A) (inside : place < length items)
+  (is : e ≡ get_or items place e) (before : trees_in (take next out) ≡ kept_items own (trees_in (take place items)))
+  where
+    one_kept : (b : Bool) → heads_own own (tree_of e) ≡ b
+        → kept_items own (trees_in (take (place + 1) items)) ≡ trees_in (take next out) ++ cond (not b) (tree_of e ∷ []) []
+    one_kept b h =
+        ap (kept_items own) (parts_more items place) ∙ kept_append own (trees_in (take place items)) (trees_in (take 1 (drop place items)))
+        ∙ (λ i. sym before i ++ kept_items own (trees_in (one_there items place e inside is i)))
+        ∙ ap (λ (c : Bool). trees_in (take next out) ++ cond (not c) (tree_of e ∷ []) []) h
+
+    pub still_kept : heads_own own (tree_of e) ≡ true → trees_in (take next out) ≡ kept_items own (trees_in (take (place + 1) items))
+    still_kept h = sym (one_kept true h ∙ append-nil (trees_in (take next out)))
+
+    pub kept_more : heads_own own (tree_of e) ≡ false → trees_in (take 1 (drop place items)) ≡ trees_in (take 1 (drop next out))
+        → trees_in (take (next + 1) out) ≡ kept_items own (trees_in (take (place + 1) items))
+    kept_more h same =
+        parts_more out next ∙ ap (λ (ts : List Tree). trees_in (take next out) ++ ts) (sym same ∙ ap trees_in (one_there items place e inside is))
+        ∙ sym (one_kept false h)

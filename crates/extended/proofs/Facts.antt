@@ -4,3 +4,5 @@
 pub use Rattle.extended.proofs.Readings.{stands_in_item}
 -- What may come next is stated, where nothing is dropped.
 pub use Rattle.extended.proofs.AddedItems.{next_there}
+-- The rules of an item of a list are among those of the list.
+pub use Rattle.extended.proofs.AddedItems.{item_rule}

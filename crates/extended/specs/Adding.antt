@@ -1,6 +1,6 @@
 -- This crate's own: what `run` promises does not rest on it.
--- Items to which others are added that they say nothing of, and when it is known what may come of these.
-use Rattle.std.specs.Prelude.{◌≡◌, ◌⊎◌, Bool, false, ◌||◌, List, ◌++◌}
+-- Items of which some relations are stated in another way, and to which others are added that they say nothing of.
+use Rattle.std.specs.Prelude.{◌≡◌, ◌⊎◌, Bool, true, false, not, ◌&&◌, ◌||◌, List, ◌++◌, filter}
 use Rattle.statement.specs.Tree.{Tree}
 use Rattle.statement.specs.Clause.{Relation, relation_of}
 use Rattle.statement.specs.Dependence.{IsAmong, is_among}
@@ -14,15 +14,26 @@ use Rattle.whole.specs.Extension.{base_relation, input_relation}
 abbrev pub IsUnspokenIn : List Tree → Relation → Type 0
 IsUnspokenIn items p = (some_item (heads_it p) items ≡ false) × (some_item (asks_it p) items ≡ false)
 
--- the items, and behind them others with heads of which they say nothing
-abbrev pub AddsTo : List Tree → List Tree → Type 0
-AddsTo items out = (more : List Tree) × (out ≡ items ++ more) × ((t : Tree) → IsAmong t more → IsUnspokenIn items (relation_of (item_head t)))
+-- the item heads one of these relations
+abbrev pub heads_own : List Relation → Tree → Bool
+heads_own own t = is_among (relation_of (item_head t)) own
+
+-- the items of all relations but the own ones
+abbrev pub kept_items : List Relation → List Tree → List Tree
+kept_items own items = filter (λ t. not (heads_own own t)) items
+
+-- the items of all relations but the own ones, and behind them others that head own relations, or such of which the items say nothing
+abbrev pub Rewrites : List Relation → List Tree → List Tree → Type 0
+Rewrites own items out =
+    (more : List Tree) × (out ≡ kept_items own items ++ more)
+    × ((t : Tree) → IsAmong t more → (heads_own own t ≡ true) ⊎ IsUnspokenIn items (relation_of (item_head t)))
 
 -- the first state `base` and `input`, or no possible head of the second is without effect
 abbrev pub HasItsRanges : List Tree → List Tree → Type 0
 HasItsRanges items out =
     (IsStated (alternatives items) base_relation × IsStated (alternatives items) input_relation) ⊎ (dropped (alternatives out) ≡ 0)
 
--- the item heads a relation of one of two lists
-abbrev pub heads_one_of : List Relation → List Relation → Tree → Bool
-heads_one_of ps qs t = is_among (relation_of (item_head t)) ps || is_among (relation_of (item_head t)) qs
+-- the item heads a relation that is no own one and stands in one of two lists
+abbrev pub heads_one_of : List Relation → List Relation → List Relation → Tree → Bool
+heads_one_of own ps qs t =
+    not (heads_own own t) && (is_among (relation_of (item_head t)) ps || is_among (relation_of (item_head t)) qs)

@@ -1,58 +1,110 @@
-//! Whether items are added to others that say nothing of them.
-ghost use Rattle.std.specs.Prelude.{◌≡◌, IfOk};
+//! Whether items stand in others, but for those of some relations, and say nothing of what is added.
+ghost use Rattle.std.specs.Prelude.{◌≡◌, ◌≤◌, ◌<◌, ◌+◌, IfOk, MatchOption, length, take, drop, ⊤};
 ghost use Rattle.std.specs.Bool.{OnTrue};
 ghost use Rattle.kif.specs.View.{tree_of, trees_in};
 ghost use Rattle.outline.specs.Asking.{some_item};
-ghost use Rattle.extended.specs.Adding.{AddsTo, heads_one_of};
+ghost use Rattle.extended.specs.Adding.{Rewrites, heads_one_of, heads_own, kept_items};
 
 use kif::Expr;
 use outline::{RelationSet, asked_in, head_of, stated_in};
 use profile::are_same_trees;
 use std::alloc::{AllocError, Allocator, Global};
 
-/// Whether an item heads a relation that is in one of two sets.
+/// Whether an item heads a relation that is not own, and is in one of two sets.
 fn is_spoken_of<'a, A: Allocator>(
+    own: &RelationSet<'a>,
     stated: &RelationSet<'a>,
     asked: &RelationSet<'a>,
     item: &'a Expr<A>,
 ) -> bool
-    ensures { result ≡ heads_one_of stated.now asked.now (tree_of item.now) }
+    ensures { result ≡ heads_one_of own.now stated.now asked.now (tree_of item.now) }
 {
-    stated.contains(head_of(item)) || asked.contains(head_of(item))
+    !own.contains(head_of(item))
+        && (stated.contains(head_of(item)) || asked.contains(head_of(item)))
 }
 
-/// Whether some item heads a relation that is in one of two sets.
+/// Whether some item heads a relation that is not own, and is in one of two sets.
 fn is_any_spoken_of<'a, A: Allocator>(
+    own: &RelationSet<'a>,
     stated: &RelationSet<'a>,
     asked: &RelationSet<'a>,
     items: &'a [Expr<A>],
 ) -> bool
-    ensures { result ≡ some_item (heads_one_of stated.now asked.now) (trees_in items.now) }
+    ensures { result ≡ some_item (heads_one_of own.now stated.now asked.now) (trees_in items.now) }
 {
     for item in items {
-        if is_spoken_of(stated, asked, item) {
+        if is_spoken_of(own, stated, asked, item) {
             return true;
         }
     }
     false
 }
 
-/// Whether a list begins with these items, and none of them heads or asks what a later one heads.
-pub fn adds_to<'a, A: Allocator>(
+/// Whether two lists have the same tree at a place of each.
+fn is_same_at<A: Allocator>(one: &[Expr<A>], at: usize, other: &[Expr<A>], place: usize) -> bool
+    ensures { OnTrue result ((at < length one.now) × (place < length other.now)
+        × (trees_in (take 1 (drop at one.now)) ≡ trees_in (take 1 (drop place other.now)))) }
+{
+    if at >= one.len() || place >= other.len() {
+        return false;
+    }
+    let (_, ones) = one.split_at(at);
+    let (_, others) = other.split_at(place);
+    are_same_trees(ones.split_at(1).0, others.split_at(1).0)
+}
+
+/// How many items a list begins with that are kept, where it is known of those before one more.
+fn kept_with_one<'a, A: Allocator>(
+    own: &RelationSet<'a>,
+    items: &'a [Expr<A>],
+    place: usize,
+    out: &'a [Expr<A>],
+    next: usize,
+) -> Option<usize>
+    requires place { place < length items.now }
+    requires next { next ≤ length out.now }
+    requires before { trees_in (take next out.now) ≡ kept_items own.now (trees_in (take place items.now)) }
+    ensures { MatchOption result ⊤ (λ n. (n ≤ length out.now)
+        × (trees_in (take n out.now) ≡ kept_items own.now (trees_in (take (place + 1) items.now)))) }
+{
+    if own.contains(head_of(&items[place])) {
+        return Some(next);
+    }
+    if !is_same_at(items, place, out, next) {
+        return None;
+    }
+    Some(next + 1)
+}
+
+/// How many items a list begins with that are those of all relations but the own ones, if it begins with these.
+fn kept_before<'a, A: Allocator>(
+    own: &RelationSet<'a>,
+    items: &'a [Expr<A>],
+    out: &'a [Expr<A>],
+) -> Option<usize>
+    ensures { MatchOption result ⊤ (λ n. (n ≤ length out.now) × (trees_in (take n out.now) ≡ kept_items own.now (trees_in items.now))) }
+{
+    let mut next = 0;
+    for place in 0..items.len() {
+        next = kept_with_one(own, items, place, out, next)?;
+    }
+    Some(next)
+}
+
+/// Whether a list begins with the items of all relations but the own ones, and says of no other relation that items head or ask anything more.
+pub fn rewrites<'a, A: Allocator>(
     alloc: Global,
+    own: &RelationSet<'a>,
     items: &'a [Expr<A>],
     out: &'a [Expr<A>],
 ) -> Result<bool, AllocError>
-    ensures { IfOk result (λ is_so. OnTrue is_so (AddsTo (trees_in items.now) (trees_in out.now))) }
+    ensures { IfOk result (λ is_so. OnTrue is_so (Rewrites own.now (trees_in items.now) (trees_in out.now))) }
 {
-    if items.len() > out.len() {
+    let Some(next) = kept_before(own, items, out) else {
         return Ok(false);
-    }
-    let (front, more) = out.split_at(items.len());
-    if !are_same_trees(items, front) {
-        return Ok(false);
-    }
+    };
+    let (_, more) = out.split_at(next);
     let stated = stated_in(alloc, items)?;
     let asked = asked_in(alloc, items)?;
-    Ok(!is_any_spoken_of(&stated, &asked, more))
+    Ok(!is_any_spoken_of(own, &stated, &asked, more))
 }

@@ -1,8 +1,9 @@
-//! Items to which others are added that they say nothing of, and that these are then played the same.
+//! Items of which some relations are stated in another way, and to which others are added that they say nothing of; and that these are then
+//! played the same.
 #![tactic(auto)]
 
 mod adding;
 mod laws;
 
-pub use adding::adds_to;
-pub use laws::what_is_added_to_is_played_the_same;
+pub use adding::rewrites;
+pub use laws::what_is_rewritten_is_played_the_same;

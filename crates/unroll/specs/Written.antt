@@ -1,6 +1,6 @@
 -- This crate's own: what `run` promises does not rest on it.
 -- What is written for a text, and why none is.
-use Rattle.std.specs.Prelude.{ℕ, ◌≡◌, ◌⊎◌, List, map}
+use Rattle.std.specs.Prelude.{ℕ, ◌≡◌, ◌⊎◌, List, [], ◌∷◌, ◌++◌, map, codes}
 use Rattle.statement.specs.Tree.{Tree, trees_of, text}
 use Rattle.statement.specs.Reading.{Reads}
 use Rattle.statement.specs.Items.{alternatives}
@@ -17,13 +17,23 @@ use Rattle.lawful.specs.declared.fault.UnrollFault.{UnrollFault}
 abbrev pub IsUnrollFault : List ℕ → UnrollFault → Type 0
 IsUnrollFault text fault = IsUnread text fault ⊎ ((items : List Tree) × Reads text (trees_of items) × IsRefusal (plain_items items) fault)
 
--- What is written for items: it stands for others that are accepted, and have the same roles in the same order. Where no relation rests on
--- itself, and what is stated of `base` and `input` stays as it is, they are played as these, if these state both or nothing is dropped there.
+-- the comment in front of what is shown to be played as what it was written for
+abbrev pub shown_line : List ℕ
+shown_line = codes "; Shown: played as what it was written for, if that states base and input or nothing is dropped." ++ 10 ∷ []
+
+-- the text begins with this comment
+abbrev pub IsShown : List ℕ → Type 0
+IsShown out = (rest : List ℕ) × (out ≡ shown_line ++ rest)
+
+-- What is written for items: it stands for others that are accepted, and have the same roles in the same order. Where it says that this is
+-- shown, they are played as these, if these state `base` and `input`, or nothing is dropped there; and it says so where no relation rests on
+-- itself and what is stated of `base` and `input` stays as it is.
 pub record IsWrittenOut (bounds : Bounds) (found : List Tree) (out : List ℕ) : Type 0 where
   pub items : List Tree
   pub reads : Reads out (trees_of items)
   pub accepted : IsAccepted (map text (roles found)) items
-  pub played : bounds ≡ AsStated → HasNoFault found → HasItsRanges found items → PlaysAs (alternatives found) (alternatives items)
+  pub played : IsShown out → HasItsRanges found items → PlaysAs (alternatives found) (alternatives items)
+  pub shown : bounds ≡ AsStated → HasNoFault found → IsShown out
 
 -- what is written for a text: its items, put into the form of the profile, are lawful, and it is written for these
 pub record IsWrittenFor (bounds : Bounds) (source out : List ℕ) : Type 0 where

@@ -32,7 +32,7 @@ fn writes_what_is_fixed_as_facts(rt: HostRuntime) -> Result<(), Fail> {
     let text =
         b"(role r) (succ a b) (succ b c) (<= (lt ?x ?y) (succ ?x ?y)) (<= (lt ?x ?z) (lt ?x ?y) (succ ?y ?z)) \
         (init p) (<= (legal r go)) (<= (next p) (does r go)) (<= (goal r 100) (lt a c))";
-    let out = unrolled(rt.alloc(), text, Bounds::AsStated)?;
+    let out = unrolled(&rt, text, Bounds::AsStated)?;
     assert_lines(
         &rt,
         &out,
@@ -52,7 +52,7 @@ fn writes_what_is_fixed_as_facts(rt: HostRuntime) -> Result<(), Fail> {
 fn writes_what_moves_as_layers(rt: HostRuntime) -> Result<(), Fail> {
     let text = b"(role r) (succ a b) (base a) (base b) (input r go) (init a) (<= (legal r go)) \
         (<= (next ?x) (true ?x)) (<= (lit ?x) (true ?x)) (<= (lit ?y) (succ ?x ?y) (lit ?x)) (<= terminal (lit b))";
-    let out = unrolled(rt.alloc(), text, Bounds::AsStated)?;
+    let out = unrolled(&rt, text, Bounds::AsStated)?;
     assert_lines(
         &rt,
         &out,
@@ -69,13 +69,13 @@ fn writes_what_moves_as_layers(rt: HostRuntime) -> Result<(), Fail> {
 #[test]
 fn refuses_what_cannot_be_written(rt: HostRuntime) -> Result<(), Fail> {
     let crossed = unrolled(
-        rt.alloc(),
+        &rt,
         b"(role r) (<= p (not q)) (<= q (not p))",
         Bounds::AsStated,
     );
     assert_eq!(rt; crossed.err(), Some(UnrollFault::NotStratified(2)));
     let endless = unrolled(
-        rt.alloc(),
+        &rt,
         b"(role r) (num z) (<= (num (s ?x)) (num ?x))",
         Bounds::AsStated,
     );

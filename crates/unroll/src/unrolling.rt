@@ -1,22 +1,37 @@
 //! From the text of a found description to one that is accepted.
-ghost use Rattle.std.specs.Prelude.{◌≡◌, false, List, IfOk, IfErr, OnOk};
+ghost use Rattle.std.specs.Prelude.{◌≡◌, ◌++◌, true, cond, List, IfOk, IfErr, OnOk};
 ghost use Rattle.std.specs.Bool.{OnTrue};
-ghost use Rattle.statement.specs.Tree.{Tree};
+ghost use Rattle.statement.specs.Tree.{Tree, trees_of};
+ghost use Rattle.statement.specs.Items.{alternatives};
+ghost use Rattle.statement.specs.Profile.{HasNoFault};
+ghost use Rattle.statement.specs.Reading.{Reads};
 ghost use Rattle.kif.specs.View.{trees_in};
-ghost use Rattle.extended.specs.Adding.{AddsTo};
+ghost use Rattle.whole.specs.Derivable.{IsStratified};
+ghost use Rattle.whole.specs.Possible.{PlaysAs};
+ghost use Rattle.extended.specs.Adding.{HasItsRanges};
 ghost use Rattle.lawful.specs.Lawful.{IsLawful, IsRecursive, IsRefusal};
-ghost use Rattle.unroll.specs.Written.{IsUnrollFault, IsWrittenFor, IsWrittenOut};
+ghost use Rattle.unroll.specs.Written.{IsShown, IsUnrollFault, IsWrittenFor, IsWrittenOut};
 
+use crate::showing::is_shown;
 use atoms::{Excess, LimitFault};
-use extended::{adds_to, what_is_added_to_is_played_the_same};
 use kif::Expr;
 use lawful::{
     UnrollFault, accept, found_items, is_recursive, read_back, refuse_crossed, role_places,
 };
 use plain::plain_forms;
+use profile::are_same_trees;
 use statement::RuleFault;
-use std::alloc::Global;
+use std::alloc::{AllocGlobal, Global};
+use stratified::items_that_cross_nothing_are_stratified;
 use writing::{Bounds, Draft};
+
+/// The first line of what is shown to be played as what it was written for.
+pub const SHOWN: &[u8] =
+    b"; Shown: played as what it was written for, if that states base and input or nothing is dropped.\n";
+
+/// The first line of what is not.
+pub const NOT_SHOWN: &[u8] =
+    b"; Tested, and not shown: played as what it was written for.\n";
 
 /// A limit that is passed.
 fn too_many(fault: LimitFault) -> UnrollFault
@@ -63,74 +78,136 @@ fn draft_of(alloc: Global, items: &[Expr<Global>]) -> Result<Draft, UnrollFault>
     }
 }
 
+/// What is written of items, and of each of them whether the relation that it heads is fixed and rests on itself.
+#[derive(Drop)]
+struct Written {
+    text: Vec<u8>,
+    circles: Vec<bool>,
+}
+
 /// The items written out, where it is known whether they rest on themselves.
 fn written_out(
     alloc: Global,
     items: &[Expr<Global>],
     bounds: Bounds,
     rests_on_itself: bool,
-) -> Result<Vec<u8>, UnrollFault>
+) -> Result<Written, UnrollFault>
     requires { OnTrue rests_on_itself (IsRecursive (trees_in items.now)) }
     ensures { IfErr result (IsRefusal (trees_in items.now)) }
 {
     let mut draft = draft_of(alloc, items)?;
     refuse_bad(&mut draft, rests_on_itself)?;
-    written(&mut draft, bounds)
+    let text = written(&mut draft, bounds)?;
+    match draft.fixed_circles() {
+        Ok(circles) => Ok(Written { text, circles }),
+        Err(_) => Err(UnrollFault::NoMemory),
+    }
 }
 
-/// Whether items stay as they are where they may: where no relation rests on itself, and what is stated of `base` and `input` is not cut.
-/// If not it is told as items that are too many.
-fn keep_items(
+/// A line and a text behind it.
+fn joined(alloc: Global, line: &[u8], text: &[u8]) -> Result<Vec<u8>, UnrollFault>
+    ensures joined { IfOk result (λ out. out.items ≡ line.now ++ text.now) }
+    ensures fault { IfErr result (λ fault. (items : List Tree) → IsRefusal items fault) }
+{
+    let mut out = Vec::new(alloc);
+    if out.extend_from_slice(line).is_err() || out.extend_from_slice(text).is_err() {
+        return Err(UnrollFault::NoMemory);
+    }
+    Ok(out)
+}
+
+/// A text that stands for items behind a line that says whether it is shown to be played as what it was written for.
+fn with_claim(
     alloc: Global,
+    written: &[Expr<Global>],
+    text: &[u8],
+    is_shown: bool,
+) -> Result<Vec<u8>, UnrollFault>
+    ensures reads { IfOk result (λ out. Reads out.items (trees_of (trees_in written.now))) }
+    ensures said { IfOk result (λ out. cond is_shown (IsShown out.items) (IsShown out.items → ⊥)) }
+    ensures fault { IfErr result (λ fault. (items : List Tree) → IsRefusal items fault) }
+{
+    let line = if is_shown { SHOWN } else { NOT_SHOWN };
+    let out = joined(alloc, line, text)?;
+    let again = read_back(alloc, &out)?;
+    if !are_same_trees(&again, written) {
+        return Err(UnrollFault::TooMany(Excess::Text));
+    }
+    Ok(out)
+}
+
+/// Whether what is written is shown to be played as the items. Where no relation of these rests on itself, and what is stated of `base` and
+/// `input` stays as it is, it has to be, and if it is not it is told as items that are too many.
+fn shown<T: AllocGlobal>(
+    rt: &T,
     items: &[Expr<Global>],
     written: &[Expr<Global>],
-    bounds: Bounds,
-    rests_on_itself: bool,
-) -> Result<(), UnrollFault>
-    ensures kept { OnOk result (bounds ≡ Bounds.AsStated → rests_on_itself ≡ false → AddsTo (trees_in items.now) (trees_in written.now)) }
+    circles: &[bool],
+    has_to_be: bool,
+) -> Result<bool, UnrollFault>
+    ensures shown { IfOk result (λ is_so. OnTrue is_so (HasNoFault (trees_in written.now) → IsStratified (alternatives (trees_in items.now))
+        → HasItsRanges (trees_in items.now) (trees_in written.now)
+        → PlaysAs (alternatives (trees_in items.now)) (alternatives (trees_in written.now)))) }
+    ensures always { IfOk result (λ is_so. OnTrue has_to_be (is_so ≡ true)) }
     ensures fault { IfErr result (IsRefusal (trees_in items.now)) }
 {
-    if rests_on_itself || bounds == Bounds::Tightened {
-        return Ok(());
-    }
-    match adds_to(alloc, items, written) {
-        Ok(true) => Ok(()),
-        Ok(false) => Err(UnrollFault::TooMany(Excess::Items)),
+    match is_shown(rt, items, written, circles) {
+        Ok(true) => Ok(true),
+        Ok(false) => {
+            if has_to_be {
+                return Err(UnrollFault::TooMany(Excess::Items));
+            }
+            Ok(false)
+        }
         Err(_) => Err(UnrollFault::NoMemory),
     }
 }
 
 /// The text of items of the profile, in which relations may rest on themselves, without recursion and with `base` and `input`.
-fn rewritten(alloc: Global, items: &[Expr<Global>], bounds: Bounds) -> Result<Vec<u8>, UnrollFault>
+fn rewritten<T: AllocGlobal>(
+    rt: &T,
+    items: &[Expr<Global>],
+    bounds: Bounds,
+) -> Result<Vec<u8>, UnrollFault>
     ensures lawful { OnOk result (IsLawful (trees_in items.now)) }
     ensures written { IfOk result (λ out. IsWrittenOut bounds (trees_in items.now) out.items) }
     ensures fault { IfErr result (IsRefusal (trees_in items.now)) }
 {
+    let alloc = rt.alloc();
     let places = role_places(items)?;
     let rests_on_itself = is_recursive(alloc, items)?;
     refuse_crossed(alloc, items)?;
-    let out = written_out(alloc, items, bounds, rests_on_itself)?;
-    let written = match read_back(alloc, &out) {
+    let draft = written_out(alloc, items, bounds, rests_on_itself)?;
+    let written = match read_back(alloc, &draft.text) {
         Ok(written) => written,
         Err(fault) => return Err(fault),
     };
     accept(alloc, items, &places, &written)?;
-    keep_items(alloc, items, &written, bounds, rests_on_itself)?;
-    what_is_added_to_is_played_the_same();
-    Ok(out)
+    let has_to_be = !rests_on_itself && bounds == Bounds::AsStated;
+    let is_shown = shown(rt, items, &written, &draft.circles, has_to_be)?;
+    items_that_cross_nothing_are_stratified();
+    match with_claim(alloc, &written, &draft.text, is_shown) {
+        Ok(out) => Ok(out),
+        Err(fault) => Err(fault),
+    }
 }
 
 /// The text of a description without recursion and with `base` and `input`, in which each state and each value is that of the
-/// text. That it is accepted and states the same roles is proved, by a look at what was written, and of a text in which no relation rests on
-/// itself that it is played the same, as far as `IsWrittenFor` says; that any other is played the same is tested, and no clause says so.
-pub fn unrolled(alloc: Global, text: &[u8], bounds: Bounds) -> Result<Vec<u8>, UnrollFault>
+/// text. That it is accepted and states the same roles is proved, by a look at what was written. Its first line says whether it is shown to
+/// be played as the text, as far as `IsWrittenOut` says: always where no relation rests on itself, but where `base` and `input` are cut, and
+/// mostly where none that rests on itself rests on the state or on moves. Of any other it is tested, and no clause says so.
+pub fn unrolled<T: AllocGlobal>(
+    rt: &T,
+    text: &[u8],
+    bounds: Bounds,
+) -> Result<Vec<u8>, UnrollFault>
     ensures written { IfOk result (λ out. IsWrittenFor bounds text.now out.items) }
     ensures fault { IfErr result (IsUnrollFault text.now) }
 {
-    let found = found_items(alloc, text)?;
-    let items = match plain_forms(alloc, &found) {
+    let found = found_items(rt.alloc(), text)?;
+    let items = match plain_forms(rt.alloc(), &found) {
         Ok(items) => items,
         Err(_) => return Err(UnrollFault::NoMemory),
     };
-    rewritten(alloc, &items, bounds)
+    rewritten(rt, &items, bounds)
 }

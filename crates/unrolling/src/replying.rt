@@ -33,7 +33,7 @@ pub fn unroll_reply<T: AllocGlobal>(
 ) -> Result<Reply, AllocError>
     ensures { IfOk result (λ reply. IsUnrollReply bounds bytes.now (reply_of reply)) }
 {
-    match unrolled(rt.alloc(), bytes, bounds) {
+    match unrolled(rt, bytes, bounds) {
         Ok(output) => Ok(Reply {
             output,
             status: Status::Answer,

@@ -29,11 +29,11 @@ pub(crate) struct Told {
 }
 
 /// What is told of bytes.
-fn told_of(alloc: Global, bytes: Vec<u8>, bounds: Bounds) -> Result<Told, RunFault>
+fn told_of<T: AllocGlobal>(rt: &T, bytes: Vec<u8>, bounds: Bounds) -> Result<Told, RunFault>
     ensures told { IfOk result (λ told. (told.bytes.items ≡ bytes.items) × IsUnrollReply bounds bytes.items (reply_of told.reply)) }
     ensures fault { IfErr result (λ fault. fault ≡ RunFault.Memory) }
 {
-    match unrolled(alloc, &bytes, bounds) {
+    match unrolled(rt, &bytes, bounds) {
         Ok(output) => Ok(Told {
             bytes,
             reply: Reply {
@@ -44,7 +44,7 @@ fn told_of(alloc: Global, bytes: Vec<u8>, bounds: Bounds) -> Result<Told, RunFau
         }),
         Err(UnrollFault::NoMemory) => Err(RunFault::Memory),
         Err(fault) => {
-            let Ok(reply) = refused(alloc, &bytes, &fault) else {
+            let Ok(reply) = refused(rt.alloc(), &bytes, &fault) else {
                 return Err(RunFault::Memory);
             };
             Ok(Told {
@@ -67,7 +67,7 @@ pub(crate) fn unroll_read<T: AllocGlobal, R: Read>(
     ensures fault { IfErr result (λ fault. fault ≢ RunFault.Write) }
 {
     let bytes = read_input(rt.alloc(), input)?;
-    told_of(rt.alloc(), bytes, bounds)
+    told_of(rt, bytes, bounds)
 }
 
 /// Writes a reply.

@@ -1,5 +1,5 @@
 mod Strata
 mod Heights
 mod Acyclic
-mod Extension
+mod Stated
 mod Rewriting

@@ -1,18 +1,18 @@
 -- Rules of which some relations are stated in another way, and to which others are added, of which they say nothing: what holds by both.
-use Rattle.std.proofs.Common.{ℕ, zero, suc, Bool, true, false, ◌≡◌, ◌≢◌, ◌⊎◌, ◌↔◌, inl, inr, List, [], ◌∷◌, length, Some, refl, sym, ap, subst, ◌∙◌}
+use Rattle.std.proofs.Common.{ℕ, zero, suc, Bool, true, false, ◌≡◌, ◌⊎◌, ◌↔◌, inl, inr, List, length, refl, sym, ap, subst, ◌∙◌}
 use Rattle.statement.specs.Tree.{Tree}
 use Rattle.statement.specs.Words.{w_role, w_base, w_input, w_init, w_next, w_legal}
 use Rattle.statement.specs.Clause.{Atom, Literal, positive, negative, Alternative, Relation, relation_of, atom_of}
-use Rattle.statement.specs.Dependence.{IsAmong, is_distinct, is_moving, DependsDirectly, DependsIn, Depends, IsAcyclic, IsFixed}
+use Rattle.statement.specs.Dependence.{IsAmong, is_distinct, is_moving, DependsDirectly, DependsIn, IsAcyclic, IsFixed}
 use Rattle.statement.specs.Substitution.{Map, atom_under, literal_under}
 use Rattle.statement.specs.Meaning.{StateOfTerms, Joint, Source, now, does, distinct, ordinary, source_of, RightAs, IsRight, IsDerived, IsDerivedIn, Holds, HoldsAlways, nothing, nobody, atom1, atom2, IsRole, IsBase, IsInput}
 use Rattle.profile.proofs.Facts.{IsHead, along_dependence}
 use Rattle.meaning.specs.Kept.{PossibleAs, UndecidedAs, Keeps, HeadsKept}
 use Rattle.meaning.proofs.Facts.{relation-under, relation-literal_under, ordinary_not_distinct, now_is, does_is, derived_heads, kept_by_a_rule, fixed_alike}
-use Rattle.whole.specs.Derivable.{IsRightOver, IsDerivable, HoldsWhole, AreStrata, IsStratified, IsStable}
-use Rattle.whole.specs.Possible.{HoldsWholeAlways, IsStated, MayBe, MayFail, MayFit, MayHold, IsWholeBase, IsWholeInput, PlaysAs}
+use Rattle.whole.specs.Derivable.{IsRightOver, IsDerivable, HoldsWhole, IsStratified, IsStable}
+use Rattle.whole.specs.Possible.{HoldsWholeAlways, IsStated, MayBe, MayFail, MayFit, MayHold, PlaysAs}
 use Rattle.whole.specs.Extension.{IsAsked, IsUnspoken, IsRewriting, IsClosed, base_relation, input_relation}
-use Rattle.whole.proofs.Extension.{stated_or_not, along}
+use Rattle.whole.proofs.Stated.{stated_or_not, along}
 use Rattle.whole.proofs.Strata.{only_stable, stable}
 use Rattle.whole.proofs.Heights.{derivable_by_a_rule, stable_by_a_rule}
 

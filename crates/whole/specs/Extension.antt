@@ -1,5 +1,5 @@
 -- This crate's own: what `run` promises does not rest on it.
--- Rules to which others are added that they say nothing of, and when what may come of these is stated.
+-- Rules of which some relations are stated in another way, and to which others are added that they say nothing of.
 use Rattle.std.specs.Prelude.{◌≡◌, ◌⊎◌, Bool, true, false, List}
 use Rattle.statement.specs.Tree.{Tree}
 use Rattle.statement.specs.Words.{w_base, w_input, w_init, w_next, w_legal}
@@ -32,11 +32,6 @@ pub record IsRewriting (rules out : List Alternative) (own : Relation → Bool) 
   pub has : (rule : Alternative) → IsAmong rule rules → own (relation_of rule.head) ≡ false → IsAmong rule out
   pub more : (rule : Alternative) → IsAmong rule out → own (relation_of rule.head) ≡ false → IsAmong rule rules ⊎ IsUnspoken rules (relation_of rule.head)
   pub stated : AreFounded rules out own
-
--- each of the rules is there, and all others are of relations of which they say nothing
-pub record IsExtension (rules out : List Alternative) : Type 0 where
-  pub has : (rule : Alternative) → IsAmong rule rules → IsAmong rule out
-  pub more : (rule : Alternative) → IsAmong rule out → IsAmong rule rules ⊎ IsUnspoken rules (relation_of rule.head)
 
 abbrev pub base_relation : Relation
 base_relation = record { word = w_base; arity = 1 }

@@ -1,10 +1,10 @@
 //! The laws of the meaning of the whole language.
 ghost use Rattle.std.specs.Prelude.{◌≡◌, ◌↔◌, Bool, IsTrue, List};
-ghost use Rattle.statement.specs.Clause.{Atom, Alternative};
+ghost use Rattle.statement.specs.Clause.{Atom, Alternative, Relation};
 ghost use Rattle.statement.specs.Dependence.{IsAcyclic};
 ghost use Rattle.statement.specs.Meaning.{StateOfTerms, Joint, Holds, IsDerived, IsRight};
 ghost use Rattle.whole.specs.Derivable.{HoldsWhole, IsStratified, IsStable};
-ghost use Rattle.whole.specs.Extension.{IsExtension, IsClosed};
+ghost use Rattle.whole.specs.Extension.{IsRewriting, IsClosed};
 ghost use Rattle.whole.specs.Possible.{PlaysAs};
 
 use meaning::{holds_by_a_rule, what_is_possible_and_fixed_holds};
@@ -37,11 +37,12 @@ pub fn the_whole_meaning_extends_todays()
     acyclic_sets_are_ranked();
 }
 
-/// Rules without recursion to which others are added, of which they say nothing, are played the same, if what may come of these is stated.
-pub fn an_extension_is_played_the_same()
-    ensures { (rules out : List Alternative) → IsAcyclic out → IsExtension rules out → IsClosed rules out → PlaysAs rules out }
+/// Stratified rules of which some relations are stated in another way, and to which others are added, of which they say nothing, are played
+/// the same, if what may come of these is stated.
+pub fn rules_stated_in_another_way_are_played_the_same()
+    ensures { (rules out : List Alternative) (own : Relation → Bool) → IsStratified rules → IsAcyclic out → IsRewriting rules out own
+        → IsClosed rules out → PlaysAs rules out }
 {
     holds_by_a_rule();
     what_is_possible_and_fixed_holds();
-    acyclic_sets_are_ranked();
 }

@@ -4,6 +4,6 @@
 mod laws;
 
 pub use laws::{
-    an_extension_is_played_the_same, the_whole_meaning_extends_todays, what_holds_has_a_rule,
+    rules_stated_in_another_way_are_played_the_same, the_whole_meaning_extends_todays, what_holds_has_a_rule,
     what_holds_is_stable,
 };

@@ -202,6 +202,20 @@ impl<'a> Draft<'a> {
         first_bad(&mut self.book, &self.described)
     }
 
+    /// Of each item whether the relation that it heads rests on itself, and neither on the state nor on moves.
+    pub fn fixed_circles(&mut self) -> Result<Vec<bool>, AllocError> {
+        let kinds = &self.described.kinds;
+        let mut circles = Vec::new(self.book.alloc);
+        for item in self.items {
+            let (head, _) = split_item(item);
+            let (word, terms) = split_atom(head);
+            let relation = self.book.relation(word, terms.len())?;
+            let is_fixed = !is_marked(&kinds.is_moving, relation);
+            circles.push(is_fixed && is_marked(&kinds.is_recursive, relation))?;
+        }
+        Ok(circles)
+    }
+
     /// The items written out without recursion, with `base` and `input`.
     pub fn written(&mut self, bounds: Bounds) -> Result<Vec<u8>, LimitFault> {
         write_all(&mut self.book, &self.described, self.items, bounds)

@@ -6,4 +6,4 @@ use Rattle.extended.proofs.adding.is_any_spoken_of.Given as goal
 
 abbrev pub invariant-loop-item : goal.invariant-loop-item
 invariant-loop-item g l =
-    some_item (heads_one_of l.stated l.asked) (trees_in l.items) ≡ some_item (heads_one_of l.stated l.asked) (trees_in (drop l.item-index l.items))
+    some_item (heads_one_of l.own l.stated l.asked) (trees_in l.items) ≡ some_item (heads_one_of l.own l.stated l.asked) (trees_in (drop l.item-index l.items))
