@@ -1,1 +1,3 @@
 mod StepGames
+mod MadeGames
+mod AloneTests

@@ -1,9 +1,9 @@
 -- This crate's own: what `run` promises does not rest on it.
 -- How a game whose turns are steps of derivation shows that what is written of own relations is what is derived of them.
-use Rattle.std.specs.Prelude.{ℕ, zero, suc, ◌≡◌, ◌⊎◌, Bool, true, false, List}
+use Rattle.std.specs.Prelude.{ℕ, zero, suc, ◌≡◌, ◌⊎◌, true, false, List}
 use Rattle.statement.specs.Tree.{Tree}
 use Rattle.statement.specs.Words.{w_true, w_next}
-use Rattle.statement.specs.Clause.{Atom, Literal, positive, Alternative, Relation, relation_of, atom_of, is_variable}
+use Rattle.statement.specs.Clause.{Literal, positive, Alternative, Relation, relation_of, atom_of, is_variable}
 use Rattle.statement.specs.Dependence.{IsAmong, is_among, is_distinct, is_moving}
 use Rattle.statement.specs.Meaning.{atom1}
 use Rattle.statement.specs.Listing.{Instance, listing}

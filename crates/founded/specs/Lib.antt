@@ -1,1 +1,2 @@
 pub mod Founded
+pub mod Alone
