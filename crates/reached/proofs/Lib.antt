@@ -1,0 +1,2 @@
+mod Sometime
+mod ByNumber

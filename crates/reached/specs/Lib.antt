@@ -1,0 +1,2 @@
+pub mod ReachedByNumber
+pub mod Marks
