@@ -17,7 +17,7 @@ struct Chosen<'a> {
 impl<'a> Chosen<'a> {
     /// Adds a relation, but `distinct`.
     fn add(&mut self, relation: Relation<'a>) -> Result<(), AllocError> {
-        if relation.word == b"distinct" && relation.arity == 2 {
+        if relation.word == b"distinct".as_slice() && relation.arity == 2 {
             return Ok(());
         }
         if self.known.insert(relation)? {

@@ -80,7 +80,7 @@ fn draft_of(alloc: Global, items: &[Expr<Global>]) -> Result<Draft, UnrollFault>
 
 /// What is written of items, and of each of them whether the relation that it heads is fixed and rests on itself.
 #[derive(Drop)]
-struct Written {
+struct Drafted {
     text: Vec<u8>,
     circles: Vec<bool>,
 }
@@ -91,7 +91,7 @@ fn written_out(
     items: &[Expr<Global>],
     bounds: Bounds,
     rests_on_itself: bool,
-) -> Result<Written, UnrollFault>
+) -> Result<Drafted, UnrollFault>
     requires { OnTrue rests_on_itself (IsRecursive (trees_in items.now)) }
     ensures { IfErr result (IsRefusal (trees_in items.now)) }
 {
@@ -99,7 +99,7 @@ fn written_out(
     refuse_bad(&mut draft, rests_on_itself)?;
     let text = written(&mut draft, bounds)?;
     match draft.fixed_circles() {
-        Ok(circles) => Ok(Written { text, circles }),
+        Ok(circles) => Ok(Drafted { text, circles }),
         Err(_) => Err(UnrollFault::NoMemory),
     }
 }
@@ -138,7 +138,7 @@ fn with_claim(
 
 /// Whether what is written is shown to be played as the items. Where no relation of these rests on itself, and what is stated of `base` and
 /// `input` stays as it is, it has to be, and if it is not it is told as items that are too many.
-fn shown<T: AllocGlobal>(
+fn claim_of<T: AllocGlobal>(
     rt: &T,
     items: &[Expr<Global>],
     written: &[Expr<Global>],
@@ -184,7 +184,7 @@ fn rewritten<T: AllocGlobal>(
     };
     accept(alloc, items, &places, &written)?;
     let has_to_be = !rests_on_itself && bounds == Bounds::AsStated;
-    let is_shown = shown(rt, items, &written, &draft.circles, has_to_be)?;
+    let is_shown = claim_of(rt, items, &written, &draft.circles, has_to_be)?;
     items_that_cross_nothing_are_stratified();
     match with_claim(alloc, &written, &draft.text, is_shown) {
         Ok(out) => Ok(out),
