@@ -1,20 +1,20 @@
 -- What play comes to by numbers it comes to by the rules.
-use Rattle.std.proofs.Common.{ℕ, zero, suc, ◌<◌, Bool, true, false, not, ◌&&◌, cond, ◌≡◌, ◌≢◌, ◌⊎◌, inl, inr, List, [], ◌∷◌, length, map, refl, sym, ap, subst, ◌∙◌, arith, Option, Some, None}
-use Rattle.std.specs.Prelude.{slice_index_or, filter}
+use Rattle.std.proofs.Common.{ℕ, zero, suc, ◌<◌, Bool, true, false, not, cond, ◌≡◌, ◌≢◌, ◌⊎◌, inl, inr, List, [], ◌∷◌, length, map, refl, sym, ap, subst, ◌∙◌, arith, Option, Some, None}
+use Rattle.std.specs.Prelude.{filter}
 use Rattle.std.specs.Option.{option_map}
 use Rattle.std.proofs.lemmas.List.{length-map}
 use Rattle.statement.specs.Tree.{Tree, name, Trees, no_trees, tree, text, tree_eq}
 use Rattle.kif.proofs.Facts.{tree_eq_yes, tree_eq_self}
 use Rattle.statement.specs.Words.{w_true, w_next}
-use Rattle.statement.specs.Clause.{Atom, Literal, positive, Alternative, Relation, relation_of, atom_eq}
-use Rattle.statement.specs.Dependence.{IsAmong, IsAcyclic, is_moving, is_fixed, is_fixed_in}
+use Rattle.statement.specs.Clause.{Atom, positive, Alternative, Relation, relation_of, atom_eq}
+use Rattle.statement.specs.Dependence.{IsAmong, is_moving, is_fixed, is_fixed_in}
 use Rattle.statement.specs.Meaning.{atom1}
 use Rattle.statement.specs.Printed.{first_place}
 use Rattle.statement.specs.Listing.{Instance, listing, base_list}
 use Rattle.statement.specs.Kept.{Kept, number_of, is_read, reading, gate, numbered}
 use Rattle.statement.specs.Kinds.{place_in, kind_of}
 use Rattle.statement.specs.declared.kind.Kind.{Kind}
-use Rattle.statement.specs.declared.kind.Kind.TheVariants.{Fixed, Now, Does, Next, Legal, Goal, Terminal, Other}
+use Rattle.statement.specs.declared.kind.Kind.TheVariants.{Now, Next, Other}
 use Rattle.meaning.specs.Kinds.{MeansKind}
 use Rattle.meaning.proofs.Facts.{among_map_out, among_map_in, among_filter_in, atom_test}
 use Rattle.ground.specs.declared.flat_ground.FlatGround.{FlatGround}

@@ -1,6 +1,6 @@
 -- What play comes to by numbers, and how one more mark is right.
-use Rattle.std.proofs.Common.{ℕ, zero, suc, ◌+◌, ◌<◌, ◌≤◌, Bool, true, false, ◌≡◌, ◌≢◌, ◌⊎◌, inl, inr, List, [], ◌∷◌, length, get_or, refl, sym, ap, subst, ◌∙◌, arith}
-use Rattle.std.specs.Prelude.{slice_index_or, slice_set, replicate}
+use Rattle.std.proofs.Common.{ℕ, zero, suc, ◌+◌, ◌≤◌, Bool, true, false, ◌≡◌, ◌≢◌, ◌⊎◌, inl, inr, List, [], ◌∷◌, refl, sym, subst, ◌∙◌, arith}
+use Rattle.std.specs.Prelude.{slice_set, replicate}
 use Rattle.std.specs.List.{All}
 use Rattle.std.specs.Bool.{OnTrue}
 use Rattle.std.proofs.lemmas.List.{get_or-set_other}
@@ -9,7 +9,7 @@ use Rattle.statement.specs.Kept.{Kept}
 use Rattle.statement.specs.declared.kind.Kind.{Kind}
 use Rattle.statement.specs.declared.kind.Kind.TheVariants.{Now, Next}
 use Rattle.reached.specs.ReachedByNumber.{kind_in, IsReachedIn, IsReachedSometime}
-use Rattle.reached.specs.Marks.{IsMarked, AreReached, Asks, AsksMarked}
+use Rattle.reached.specs.Marks.{IsMarked, AreReached, AsksMarked}
 
 equal_or : (x y : ℕ) → (x ≡ y) ⊎ (x ≢ y)
 equal_or x y = grind arith

@@ -1,4 +1,3 @@
-use Rattle.meaning.specs.Listed.{IsWellFormed}
 use Rattle.reached.proofs.ByNumber.{reached_of}
 use Rattle.reached.proofs.laws.what_is_reached_by_number_is_reached.Goals as goal
 
