@@ -6,3 +6,5 @@ pub use Rattle.extended.proofs.Readings.{stands_in_item}
 pub use Rattle.extended.proofs.AddedItems.{next_there}
 -- The rules of an item of a list are among those of the list.
 pub use Rattle.extended.proofs.AddedItems.{item_rule}
+-- Lists of trees that are the same by test are one.
+pub use Rattle.extended.proofs.AddedItems.{one_same}

@@ -17,11 +17,15 @@ use Rattle.lawful.specs.declared.fault.UnrollFault.{UnrollFault}
 abbrev pub IsUnrollFault : List ℕ → UnrollFault → Type 0
 IsUnrollFault text fault = IsUnread text fault ⊎ ((items : List Tree) × Reads text (trees_of items) × IsRefusal (plain_items items) fault)
 
--- the comment in front of what is shown to be played as what it was written for
+-- the first line of what is shown to be played as what it was written for
 abbrev pub shown_line : List ℕ
 shown_line = codes "; Shown: played as what it was written for, if that states base and input or nothing is dropped." ++ 10 ∷ []
 
--- the text begins with this comment
+-- and of what is not
+abbrev pub tested_line : List ℕ
+tested_line = codes "; Tested and not shown: played as what it was written for." ++ 10 ∷ []
+
+-- the text begins with the first of them
 abbrev pub IsShown : List ℕ → Type 0
 IsShown out = (rest : List ℕ) × (out ≡ shown_line ++ rest)
 

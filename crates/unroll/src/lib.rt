@@ -14,5 +14,5 @@ mod unrolling;
 
 pub use atoms::Excess;
 pub use lawful::UnrollFault;
-pub use unrolling::{NOT_SHOWN, SHOWN, unrolled};
+pub use unrolling::{SHOWN, TESTED, unrolled};
 pub use writing::Bounds;

@@ -10,7 +10,7 @@ ghost use Rattle.whole.specs.Derivable.{IsStratified};
 ghost use Rattle.whole.specs.Possible.{PlaysAs};
 ghost use Rattle.extended.specs.Adding.{HasItsRanges};
 ghost use Rattle.lawful.specs.Lawful.{IsLawful, IsRecursive, IsRefusal};
-ghost use Rattle.unroll.specs.Written.{IsShown, IsUnrollFault, IsWrittenFor, IsWrittenOut};
+ghost use Rattle.unroll.specs.Written.{IsShown, IsUnrollFault, IsWrittenFor, IsWrittenOut, shown_line, tested_line};
 
 use crate::showing::is_shown;
 use atoms::{Excess, LimitFault};
@@ -30,8 +30,7 @@ pub const SHOWN: &[u8] =
     b"; Shown: played as what it was written for, if that states base and input or nothing is dropped.\n";
 
 /// The first line of what is not.
-pub const NOT_SHOWN: &[u8] =
-    b"; Tested, and not shown: played as what it was written for.\n";
+pub const TESTED: &[u8] = b"; Tested and not shown: played as what it was written for.\n";
 
 /// A limit that is passed.
 fn too_many(fault: LimitFault) -> UnrollFault
@@ -97,17 +96,47 @@ fn written_out(
 {
     let mut draft = draft_of(alloc, items)?;
     refuse_bad(&mut draft, rests_on_itself)?;
-    let text = written(&mut draft, bounds)?;
+    let text = match written(&mut draft, bounds) {
+        Ok(text) => text,
+        Err(fault) => return Err(fault),
+    };
     match draft.fixed_circles() {
         Ok(circles) => Ok(Drafted { text, circles }),
         Err(_) => Err(UnrollFault::NoMemory),
     }
 }
 
+/// The items of a text that was written for others.
+fn items_written(
+    alloc: Global,
+    items: &[Expr<Global>],
+    text: &[u8],
+) -> Result<Vec<Expr<Global>>, UnrollFault>
+    ensures reads { IfOk result (λ written. Reads text.now (trees_of (trees_in written.items))) }
+    ensures fault { IfErr result (IsRefusal (trees_in items.now)) }
+{
+    match read_back(alloc, text) {
+        Ok(written) => Ok(written),
+        Err(fault) => Err(fault),
+    }
+}
+
+/// The first line of a text, by whether it is shown to be played as what it was written for.
+fn first_line(is_shown: bool) -> &'static [u8]
+    ensures { result.now ≡ cond is_shown shown_line tested_line }
+{
+    if is_shown { SHOWN } else { TESTED }
+}
+
 /// A line and a text behind it.
-fn joined(alloc: Global, line: &[u8], text: &[u8]) -> Result<Vec<u8>, UnrollFault>
+fn joined(
+    alloc: Global,
+    items: &[Expr<Global>],
+    line: &[u8],
+    text: &[u8],
+) -> Result<Vec<u8>, UnrollFault>
     ensures joined { IfOk result (λ out. out.items ≡ line.now ++ text.now) }
-    ensures fault { IfErr result (λ fault. (items : List Tree) → IsRefusal items fault) }
+    ensures fault { IfErr result (IsRefusal (trees_in items.now)) }
 {
     let mut out = Vec::new(alloc);
     if out.extend_from_slice(line).is_err() || out.extend_from_slice(text).is_err() {
@@ -116,20 +145,20 @@ fn joined(alloc: Global, line: &[u8], text: &[u8]) -> Result<Vec<u8>, UnrollFaul
     Ok(out)
 }
 
-/// A text that stands for items behind a line that says whether it is shown to be played as what it was written for.
+/// A text that stands for what is written for items, behind the line that says whether it is shown to be played as these.
 fn with_claim(
     alloc: Global,
+    items: &[Expr<Global>],
     written: &[Expr<Global>],
     text: &[u8],
     is_shown: bool,
 ) -> Result<Vec<u8>, UnrollFault>
     ensures reads { IfOk result (λ out. Reads out.items (trees_of (trees_in written.now))) }
     ensures said { IfOk result (λ out. cond is_shown (IsShown out.items) (IsShown out.items → ⊥)) }
-    ensures fault { IfErr result (λ fault. (items : List Tree) → IsRefusal items fault) }
+    ensures fault { IfErr result (IsRefusal (trees_in items.now)) }
 {
-    let line = if is_shown { SHOWN } else { NOT_SHOWN };
-    let out = joined(alloc, line, text)?;
-    let again = read_back(alloc, &out)?;
+    let out = joined(alloc, items, first_line(is_shown), text)?;
+    let again = items_written(alloc, items, &out)?;
     if !are_same_trees(&again, written) {
         return Err(UnrollFault::TooMany(Excess::Text));
     }
@@ -178,18 +207,12 @@ fn rewritten<T: AllocGlobal>(
     let rests_on_itself = is_recursive(alloc, items)?;
     refuse_crossed(alloc, items)?;
     let draft = written_out(alloc, items, bounds, rests_on_itself)?;
-    let written = match read_back(alloc, &draft.text) {
-        Ok(written) => written,
-        Err(fault) => return Err(fault),
-    };
+    let written = items_written(alloc, items, &draft.text)?;
     accept(alloc, items, &places, &written)?;
     let has_to_be = !rests_on_itself && bounds == Bounds::AsStated;
     let is_shown = claim_of(rt, items, &written, &draft.circles, has_to_be)?;
     items_that_cross_nothing_are_stratified();
-    match with_claim(alloc, &written, &draft.text, is_shown) {
-        Ok(out) => Ok(out),
-        Err(fault) => Err(fault),
-    }
+    with_claim(alloc, items, &written, &draft.text, is_shown)
 }
 
 /// The text of a description without recursion and with `base` and `input`, in which each state and each value is that of the

@@ -1,5 +1,5 @@
 use Rattle.kif.specs.View.{trees_in}
 use Rattle.unroll.proofs.unrolling.written_out.Goals as goal
 
-pub returns : goal.returns
-returns c = c.written.ensures (trees_in c.args.items.now)
+pub returns-in-Err : goal.returns-in-Err
+returns-in-Err c = c.in-Err.ensures (trees_in c.args.items.now)
