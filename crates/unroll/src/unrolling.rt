@@ -1,5 +1,5 @@
 //! From the text of a found description to one that is accepted.
-ghost use Rattle.std.specs.Prelude.{◌≡◌, ◌++◌, true, cond, List, IfOk, IfErr, OnOk};
+ghost use Rattle.std.specs.Prelude.{◌≡◌, ◌++◌, true, false, cond, List, IfOk, IfErr, OnOk};
 ghost use Rattle.std.specs.Bool.{OnTrue};
 ghost use Rattle.statement.specs.Tree.{Tree, trees_of};
 ghost use Rattle.statement.specs.Items.{alternatives};
@@ -165,6 +165,13 @@ fn with_claim(
     Ok(out)
 }
 
+/// Whether items stay as they are but for what is added.
+fn stay(rests_on_itself: bool, bounds: Bounds) -> bool
+    ensures { rests_on_itself ≡ false → bounds ≡ Bounds.AsStated → result ≡ true }
+{
+    !rests_on_itself && bounds == Bounds::AsStated
+}
+
 /// Whether what is written is shown to be played as the items. Where no relation of these rests on itself, and what is stated of `base` and
 /// `input` stays as it is, it has to be, and if it is not it is told as items that are too many.
 fn claim_of<T: AllocGlobal>(
@@ -209,7 +216,7 @@ fn rewritten<T: AllocGlobal>(
     let draft = written_out(alloc, items, bounds, rests_on_itself)?;
     let written = items_written(alloc, items, &draft.text)?;
     accept(alloc, items, &places, &written)?;
-    let has_to_be = !rests_on_itself && bounds == Bounds::AsStated;
+    let has_to_be = stay(rests_on_itself, bounds);
     let is_shown = claim_of(rt, items, &written, &draft.circles, has_to_be)?;
     items_that_cross_nothing_are_stratified();
     with_claim(alloc, items, &written, &draft.text, is_shown)
