@@ -1,5 +1,5 @@
 -- Items of which some relations are stated in another way, as rules.
-use Rattle.std.proofs.Common.{ℕ, zero, suc, ◌+◌, ◌<◌, arith, get_or, cond, append-nil, Bool, true, false, not, ◌&&◌, ◌||◌, ◌≡◌, ◌⊎◌, ◌↔◌, inl, inr, List, [], ◌∷◌, ◌++◌, length, map, take, drop, filter, refl, sym, ap, subst, ◌∙◌, append_assoc}
+use Rattle.std.proofs.Common.{ℕ, zero, suc, ◌+◌, ◌<◌, ◌≤◌, arith, get_or, cond, append-nil, Bool, true, false, not, ◌&&◌, ◌||◌, ◌≡◌, ◌⊎◌, ◌↔◌, inl, inr, List, [], ◌∷◌, ◌++◌, length, map, take, drop, filter, refl, sym, ap, subst, ◌∙◌, append_assoc}
 use Rattle.std.specs.Bool.{OnTrue}
 use Rattle.std.proofs.lemmas.List.{map-append, take-append-drop}
 use Rattle.statement.specs.Tree.{Tree, Trees, no_trees, tree, tree_eq, trees_eq, trees_of}
@@ -76,32 +76,33 @@ pub rewriting : (own : List Relation) (items out : List Tree) → Rewrites own i
     → AreFounded (alternatives items) (alternatives out) (λ p. is_among p own) → IsRewriting (alternatives items) (alternatives out) (λ p. is_among p own)
 rewriting own items out re founded = record { has = has; more = λ rule a other. more rule other (rule_item out rule a); stated = founded }
   where
-    kept : List Tree
-    kept = kept_items own items
+    free : Tree → Bool
+    free t = not (heads_own own t)
 
     other_head : (t : Tree) (rule : Alternative) → IsAmong rule (item_alternatives t) → relation_of rule.head ≡ relation_of (item_head t)
     other_head t rule r = ap relation_of (same_head (item_head t) _ rule r)
 
+    is_free : (t : Tree) (rule : Alternative) → IsAmong rule (item_alternatives t) → is_among (relation_of rule.head) own ≡ false
+        → not (heads_own own t) ≡ true
+    is_free t rule r other = ap (λ (p : Relation). not (is_among p own)) (sym (other_head t rule r)) ∙ ap not other
+
     has : (rule : Alternative) → IsAmong rule (alternatives items) → is_among (relation_of rule.head) own ≡ false → IsAmong rule (alternatives out)
     has rule a other =
         let i = rule_item items rule a in
-        let free : not (heads_own own i.0) ≡ true = ap (λ (p : Relation). not (is_among p own)) (sym (other_head i.0 rule i.2)) ∙ ap not other in
-        let stands = among_filter_in (λ (t : Tree). not (heads_own own t)) i.0 items i.1 free in
-        item_rule out i.0 rule (subst (λ (ts : List Tree). IsAmong i.0 ts) (sym re.1) (join i.0 kept re.0 (inl stands))) i.2
+        let stands = among_filter_in (λ (t : Tree). not (heads_own own t)) i.0 items i.1 (is_free i.0 rule i.2 other) in
+        let there = subst (λ (ts : List Tree). IsAmong i.0 ts) (sym re.1) (join i.0 (kept_items own items) re.0 (inl stands)) in
+        item_rule out i.0 rule (among_filter (λ (t : Tree). not (heads_own own t)) i.0 out there).0 i.2
 
     more : (rule : Alternative) → is_among (relation_of rule.head) own ≡ false → (t : Tree) × IsAmong t out × IsAmong rule (item_alternatives t)
         → IsAmong rule (alternatives items) ⊎ IsUnspoken (alternatives items) (relation_of rule.head)
-    more rule other i = go (split i.0 kept re.0 (subst (λ (ts : List Tree). IsAmong i.0 ts) re.1 i.1))
+    more rule other i =
+        let stands = among_filter_in (λ (t : Tree). not (heads_own own t)) i.0 out i.1 (is_free i.0 rule i.2 other) in
+        go (split i.0 (kept_items own items) re.0 (subst (λ (ts : List Tree). IsAmong i.0 ts) re.1 stands))
       where
-        added : (heads_own own i.0 ≡ true) ⊎ IsUnspokenIn items (relation_of (item_head i.0))
+        go : IsAmong i.0 (kept_items own items) ⊎ IsAmong i.0 re.0
             → IsAmong rule (alternatives items) ⊎ IsUnspoken (alternatives items) (relation_of rule.head)
-        added (inl is_own) =
-            let e = ap (λ (p : Relation). is_among p own) (other_head i.0 rule i.2) in absurd (let bad : ⊥ = cc in bad)
-        added (inr u) = inr (subst (IsUnspoken (alternatives items)) (sym (other_head i.0 rule i.2)) (unspoken items (relation_of (item_head i.0)) u))
-
-        go : IsAmong i.0 kept ⊎ IsAmong i.0 re.0 → IsAmong rule (alternatives items) ⊎ IsUnspoken (alternatives items) (relation_of rule.head)
         go (inl a) = inl (item_rule items i.0 rule (among_filter (λ (t : Tree). not (heads_own own t)) i.0 items a).0 i.2)
-        go (inr a) = added (re.2 i.0 a)
+        go (inr a) = inr (subst (IsUnspoken (alternatives items)) (sym (other_head i.0 rule i.2)) (unspoken items (relation_of (item_head i.0)) (re.2 i.0 a)))
 
 -- What may come, where nothing is dropped.
 
@@ -198,28 +199,6 @@ pub on_not : (b : Bool) (P : Type 0) → (b ≡ false → P) → OnTrue (not b) 
 on_not true P h = tt
 on_not false P h = h refl
 
--- an item that stands in neither set, and heads no own relation, is one of which nothing is said
-pub rewritten_items : {A : Type 0} (items out more : List (Expr A)) (n : ℕ) (own stated asked : List Relation)
-    → trees_in (take n out) ≡ kept_items own (trees_in items) → more ≡ drop n out
-    → ((p : Relation) → is_among p stated ≡ some_item (heads_it p) (trees_in items))
-    → ((p : Relation) → is_among p asked ≡ some_item (asks_it p) (trees_in items))
-    → some_item (heads_one_of own stated asked) (trees_in more) ≡ false → Rewrites own (trees_in items) (trees_in out)
-rewritten_items {A} items out more n own stated asked begin rest heads asks none = (
-  trees_in more,
-  ap trees_in (sym (take-append-drop n out)) ∙ map-append (tree_of {A = A}) (take n out) (drop n out)
-      ∙ (λ i. begin i ++ trees_in (sym rest i)),
-  λ t a. go t (heads_own own t) refl (no_item (heads_one_of own stated asked) (trees_in more) t none a),
-)
-  where
-    go : (t : Tree) (b : Bool) → heads_own own t ≡ b
-        → (not (heads_own own t) && (is_among (relation_of (item_head t)) stated || is_among (relation_of (item_head t)) asked)) ≡ false
-        → (heads_own own t ≡ true) ⊎ IsUnspokenIn (trees_in items) (relation_of (item_head t))
-    go t true e k = inl e
-    go t false e k =
-        let p = relation_of (item_head t) in
-        let m : (is_among p stated || is_among p asked) ≡ false = ap (λ (b : Bool). not b && (is_among p stated || is_among p asked)) (sym e) ∙ k in
-        inr (sym (heads p) ∙ left_false (is_among p stated) (is_among p asked) m, sym (asks p) ∙ right_false (is_among p stated) (is_among p asked) m)
-
 pub one_same : (ts us : List Tree) → trees_eq (trees_of ts) (trees_of us) ≡ true → ts ≡ us
 one_same ts us h = same_list ts us h
 
@@ -259,21 +238,57 @@ kept_append own (t ∷ ts) us = go (not (heads_own own t)) (kept_append own ts u
 parts_more : {A : Type 0} (es : List (Expr A)) (n : ℕ) → trees_in (take (n + 1) es) ≡ trees_in (take n es) ++ trees_in (take 1 (drop n es))
 parts_more {A} es n = ap trees_in (take_one n es) ∙ map-append (tree_of {A = A}) (take n es) (take 1 (drop n es))
 
-module _ {A : Type 0} (own : List Relation) (items out : List (Expr A)) (place next : ℕ) (e : Expr A) (inside : place < length items)
-  (is : e ≡ get_or items place e) (before : trees_in (take next out) ≡ kept_items own (trees_in (take place items)))
-  where
-    one_kept : (b : Bool) → heads_own own (tree_of e) ≡ b
-        → kept_items own (trees_in (take (place + 1) items)) ≡ trees_in (take next out) ++ cond (not b) (tree_of e ∷ []) []
-    one_kept b h =
-        ap (kept_items own) (parts_more items place) ∙ kept_append own (trees_in (take place items)) (trees_in (take 1 (drop place items)))
-        ∙ (λ i. sym before i ++ kept_items own (trees_in (one_there items place e inside is i)))
-        ∙ ap (λ (c : Bool). trees_in (take next out) ++ cond (not c) (tree_of e ∷ []) []) h
+module _ {A : Type 0} (own : List Relation) where
+  kept_one : (es : List (Expr A)) (n : ℕ)
+      → kept_items own (trees_in (take (n + 1) es)) ≡ kept_items own (trees_in (take n es)) ++ kept_items own (trees_in (take 1 (drop n es)))
+  kept_one es n = ap (kept_items own) (parts_more es n) ∙ kept_append own (trees_in (take n es)) (trees_in (take 1 (drop n es)))
 
-    pub still_kept : heads_own own (tree_of e) ≡ true → trees_in (take next out) ≡ kept_items own (trees_in (take (place + 1) items))
-    still_kept h = sym (one_kept true h ∙ append-nil (trees_in (take next out)))
+  -- an item of an own relation counts for nothing
+  pub still_kept : (es : List (Expr A)) (place : ℕ) (e : Expr A) → place < length es → e ≡ get_or es place e → heads_own own (tree_of e) ≡ true
+      → kept_items own (trees_in (take (place + 1) es)) ≡ kept_items own (trees_in (take place es))
+  still_kept es place e inside is h =
+      kept_one es place
+      ∙ ap (λ (ts : List Tree). kept_items own (trees_in (take place es)) ++ ts)
+      (ap (λ (fs : List (Expr A)). kept_items own (trees_in fs)) (one_there es place e inside is)
+      ∙ ap (λ (b : Bool). cond (not b) (tree_of e ∷ []) []) h)
+      ∙ append-nil (kept_items own (trees_in (take place es)))
 
-    pub kept_more : heads_own own (tree_of e) ≡ false → trees_in (take 1 (drop place items)) ≡ trees_in (take 1 (drop next out))
-        → trees_in (take (next + 1) out) ≡ kept_items own (trees_in (take (place + 1) items))
-    kept_more h same =
-        parts_more out next ∙ ap (λ (ts : List Tree). trees_in (take next out) ++ ts) (sym same ∙ ap trees_in (one_there items place e inside is))
-        ∙ sym (one_kept false h)
+  -- and the same item more on both sides
+  pub kept_more : (items out : List (Expr A)) (place at : ℕ)
+      → kept_items own (trees_in (take at out)) ≡ kept_items own (trees_in (take place items))
+      → trees_in (take 1 (drop place items)) ≡ trees_in (take 1 (drop at out))
+      → kept_items own (trees_in (take (at + 1) out)) ≡ kept_items own (trees_in (take (place + 1) items))
+  kept_more items out place at before same =
+      kept_one out at ∙ (λ i. before i ++ kept_items own (sym same i)) ∙ sym (kept_one items place)
+
+  pub all_kept : (es : List (Expr A)) (n : ℕ) → length es ≤ n → kept_items own (trees_in (take n es)) ≡ kept_items own (trees_in es)
+  all_kept es n h = ap (λ (fs : List (Expr A)). kept_items own (trees_in fs)) (take_all n es h)
+    where
+      take_all : (n : ℕ) (es : List (Expr A)) → length es ≤ n → take n es ≡ es
+      take_all zero [] h = refl
+      take_all (suc n) [] h = refl
+      take_all zero (e ∷ es) h = absurd (let bad : ⊥ = omega (arith, h) in bad)
+      take_all (suc n) (e ∷ es) h = ap (λ (fs : List (Expr A)). e ∷ fs) (take_all n es (omega (arith, h)))
+
+  -- an item that stands in neither set, and heads no own relation, is one of which nothing is said
+  pub rewritten_items : (items out more : List (Expr A)) (n : ℕ) (stated asked : List Relation)
+      → kept_items own (trees_in (take n out)) ≡ kept_items own (trees_in items) → more ≡ drop n out
+      → ((p : Relation) → is_among p stated ≡ some_item (heads_it p) (trees_in items))
+      → ((p : Relation) → is_among p asked ≡ some_item (asks_it p) (trees_in items))
+      → some_item (heads_one_of own stated asked) (trees_in more) ≡ false → Rewrites own (trees_in items) (trees_in out)
+  rewritten_items items out more n stated asked begin rest heads asks none = (
+    kept_items own (trees_in more),
+    ap (kept_items own) (ap trees_in (sym (take-append-drop n out)) ∙ map-append (tree_of {A = A}) (take n out) (drop n out))
+        ∙ kept_append own (trees_in (take n out)) (trees_in (drop n out)) ∙ (λ i. begin i ++ kept_items own (trees_in (sym rest i))),
+    λ t a.
+        let f = among_filter (λ (u : Tree). not (heads_own own u)) t (trees_in more) a in
+        go t f.1 (no_item (heads_one_of own stated asked) (trees_in more) t none f.0),
+  )
+    where
+      go : (t : Tree) → not (heads_own own t) ≡ true
+          → (not (heads_own own t) && (is_among (relation_of (item_head t)) stated || is_among (relation_of (item_head t)) asked)) ≡ false
+          → IsUnspokenIn (trees_in items) (relation_of (item_head t))
+      go t e k =
+          let p = relation_of (item_head t) in
+          let m : (is_among p stated || is_among p asked) ≡ false = ap (λ (b : Bool). b && (is_among p stated || is_among p asked)) (sym e) ∙ k in
+          (sym (heads p) ∙ left_false (is_among p stated) (is_among p asked) m, sym (asks p) ∙ right_false (is_among p stated) (is_among p asked) m)

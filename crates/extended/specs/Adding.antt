@@ -1,6 +1,6 @@
 -- This crate's own: what `run` promises does not rest on it.
 -- Items of which some relations are stated in another way, and to which others are added that they say nothing of.
-use Rattle.std.specs.Prelude.{◌≡◌, ◌⊎◌, Bool, true, false, not, ◌&&◌, ◌||◌, List, ◌++◌, filter}
+use Rattle.std.specs.Prelude.{◌≡◌, ◌⊎◌, Bool, false, not, ◌&&◌, ◌||◌, List, ◌++◌, filter}
 use Rattle.statement.specs.Tree.{Tree}
 use Rattle.statement.specs.Clause.{Relation, relation_of}
 use Rattle.statement.specs.Dependence.{IsAmong, is_among}
@@ -22,11 +22,11 @@ heads_own own t = is_among (relation_of (item_head t)) own
 abbrev pub kept_items : List Relation → List Tree → List Tree
 kept_items own items = filter (λ t. not (heads_own own t)) items
 
--- the items of all relations but the own ones, and behind them others that head own relations, or such of which the items say nothing
+-- but for those of own relations: the items, and behind them others with heads of which they say nothing
 abbrev pub Rewrites : List Relation → List Tree → List Tree → Type 0
 Rewrites own items out =
-    (more : List Tree) × (out ≡ kept_items own items ++ more)
-    × ((t : Tree) → IsAmong t more → (heads_own own t ≡ true) ⊎ IsUnspokenIn items (relation_of (item_head t)))
+    (more : List Tree) × (kept_items own out ≡ kept_items own items ++ more)
+    × ((t : Tree) → IsAmong t more → IsUnspokenIn items (relation_of (item_head t)))
 
 -- the first state `base` and `input`, or no possible head of the second is without effect
 abbrev pub HasItsRanges : List Tree → List Tree → Type 0

@@ -53,7 +53,21 @@ fn is_same_at<A: Allocator>(one: &[Expr<A>], at: usize, other: &[Expr<A>], place
     are_same_trees(ones.split_at(1).0, others.split_at(1).0)
 }
 
-/// How many items a list begins with that are kept, where it is known of those before one more.
+/// The first place from one on at which an item heads no own relation; the end of the list, if there is none.
+fn past_own<'a, A: Allocator>(own: &RelationSet<'a>, out: &'a [Expr<A>], next: usize) -> usize
+    requires { next ≤ length out.now }
+    ensures within { result ≤ length out.now }
+    ensures kept { kept_items own.now (trees_in (take result out.now)) ≡ kept_items own.now (trees_in (take next out.now)) }
+{
+    for place in next..out.len() {
+        if !own.contains(head_of(&out[place])) {
+            return place;
+        }
+    }
+    out.len()
+}
+
+/// Up to where a list has the items that head no own relation, where it is known of those before one more.
 fn kept_with_one<'a, A: Allocator>(
     own: &RelationSet<'a>,
     items: &'a [Expr<A>],
@@ -63,26 +77,28 @@ fn kept_with_one<'a, A: Allocator>(
 ) -> Option<usize>
     requires place { place < length items.now }
     requires next { next ≤ length out.now }
-    requires before { trees_in (take next out.now) ≡ kept_items own.now (trees_in (take place items.now)) }
+    requires before { kept_items own.now (trees_in (take next out.now)) ≡ kept_items own.now (trees_in (take place items.now)) }
     ensures { MatchOption result ⊤ (λ n. (n ≤ length out.now)
-        × (trees_in (take n out.now) ≡ kept_items own.now (trees_in (take (place + 1) items.now)))) }
+        × (kept_items own.now (trees_in (take n out.now)) ≡ kept_items own.now (trees_in (take (place + 1) items.now)))) }
 {
     if own.contains(head_of(&items[place])) {
         return Some(next);
     }
-    if !is_same_at(items, place, out, next) {
+    let at = past_own(own, out, next);
+    if !is_same_at(items, place, out, at) {
         return None;
     }
-    Some(next + 1)
+    Some(at + 1)
 }
 
-/// How many items a list begins with that are those of all relations but the own ones, if it begins with these.
+/// Up to where a list has the items that head no own relation, and no other that heads none, if it begins so.
 fn kept_before<'a, A: Allocator>(
     own: &RelationSet<'a>,
     items: &'a [Expr<A>],
     out: &'a [Expr<A>],
 ) -> Option<usize>
-    ensures { MatchOption result ⊤ (λ n. (n ≤ length out.now) × (trees_in (take n out.now) ≡ kept_items own.now (trees_in items.now))) }
+    ensures { MatchOption result ⊤ (λ n. (n ≤ length out.now)
+        × (kept_items own.now (trees_in (take n out.now)) ≡ kept_items own.now (trees_in items.now))) }
 {
     let mut next = 0;
     for place in 0..items.len() {
@@ -91,7 +107,7 @@ fn kept_before<'a, A: Allocator>(
     Some(next)
 }
 
-/// Whether a list begins with the items of all relations but the own ones, and says of no other relation that items head or ask anything more.
+/// Whether a list has, but for those of own relations, the items and behind them others with heads of which these say nothing.
 pub fn rewrites<'a, A: Allocator>(
     alloc: Global,
     own: &RelationSet<'a>,

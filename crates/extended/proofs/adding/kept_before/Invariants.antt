@@ -5,4 +5,4 @@ use Rattle.extended.proofs.adding.kept_before.Given as goal
 
 abbrev pub invariant-loop-place : goal.invariant-loop-place
 invariant-loop-place g l =
-    (l.next ≤ length l.out) × (trees_in (take l.next l.out) ≡ kept_items l.own (trees_in (take l.place l.items)))
+    (l.next ≤ length l.out) × (kept_items l.own (trees_in (take l.next l.out)) ≡ kept_items l.own (trees_in (take l.place l.items)))
