@@ -28,7 +28,7 @@ use steps::step_game;
 fn comes_to_its_base<T: AllocGlobal>(rt: &T, game: &[Expr<Global>]) -> Result<bool, AllocError>
     ensures { IfOk result (λ is_so. OnTrue is_so (HasNoFault (trees_in game.now) × (dropped (alternatives (trees_in game.now)) ≡ 0)
         × ((t : Tree) → IsAmong t (base_list (alternatives (trees_in game.now)))
-            → (n : ℕ) × IsReached (alternatives (trees_in game.now)) n t))) }
+        → (n : ℕ) × IsReached (alternatives (trees_in game.now)) n t))) }
 {
     let alloc = rt.alloc();
     let rules = match RuleSet::check(alloc, game) {

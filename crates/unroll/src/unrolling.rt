@@ -226,11 +226,7 @@ fn rewritten<T: AllocGlobal>(
 /// text. That it is accepted and states the same roles is proved, by a look at what was written. Its first line says whether it is shown to
 /// be played as the text, as far as `IsWrittenOut` says: always where no relation rests on itself, but where `base` and `input` are cut, and
 /// mostly where none that rests on itself rests on the state or on moves. Of any other it is tested, and no clause says so.
-pub fn unrolled<T: AllocGlobal>(
-    rt: &T,
-    text: &[u8],
-    bounds: Bounds,
-) -> Result<Vec<u8>, UnrollFault>
+pub fn unrolled<T: AllocGlobal>(rt: &T, text: &[u8], bounds: Bounds) -> Result<Vec<u8>, UnrollFault>
     ensures written { IfOk result (λ out. IsWrittenFor bounds text.now out.items) }
     ensures fault { IfErr result (IsUnrollFault text.now) }
 {

@@ -4,6 +4,6 @@
 mod laws;
 
 pub use laws::{
-    rules_stated_in_another_way_are_played_the_same, the_whole_meaning_extends_todays, what_holds_has_a_rule,
-    what_holds_is_stable,
+    rules_stated_in_another_way_are_played_the_same, the_whole_meaning_extends_todays,
+    what_holds_has_a_rule, what_holds_is_stable,
 };

@@ -12,8 +12,7 @@ loop-place-preserved g c =
     let is_own : heads_own c.args.own.now (tree_of c.index-out-place.result) ≡ true =
     ap (λ (p : Relation). is_among p c.args.own.now) (sym c.head_of.ensures) ∙ sym c.contains.ensures ∙ found in
     let inside = c.loop-place-test.true in
-    let before = c.loop-place.invariant in
-    (
+    let before = c.loop-place.invariant in (
       omega (arith, inside),
       still_kept c.args.own.now c.args.out.now c.loop-place.place _ c.loop-place-test.true c.index-out-place.is is_own ∙ before.1,
     )
