@@ -14,11 +14,13 @@ from gdlsolve import Misuse, Refusal, Session, State, program, whole
 from gdlsolve.engine import Engine, Limit, Pool
 from gdlsolve.manager import Record, Referee, made, options, resumed
 from gdlsolve.page.server import WRITTEN, Desk
-from tests import GAMES, PROGRAM, known, needs_library, needs_program, package, ran
+from tests import GAMES, PROGRAM, TOP, known, needs_library, needs_program, package, ran
 from tests.found import BEGINS, FOUND, LISTED, NEVER
 from tests.serving import LONG, Asking, Served, clocks
 
 RECURSIVE = "refused G4 Recursive 9"
+# Found games in which nothing that moves rests on itself.
+SHOWN = {"peg_solitaire", "sheep_and_wolf", "tron_5x5"}
 NAMED = patch.dict(os.environ, {program.VARIABLE: " ".join(PROGRAM)})
 
 
@@ -64,6 +66,15 @@ class Texts(unittest.TestCase):
             with self.subTest(text=text), self.assertRaises(Refusal) as caught:
                 whole.playable(text.encode(), gdlsolve.calls.answer)
             self.assertEqual(caught.exception.code, code)
+
+    def test_the_first_line_says_what_is_shown(self) -> None:
+        games = sorted((TOP / "games/found").glob("*.kif"))
+        self.assertEqual(len(games), 6)
+        for game in games:
+            with self.subTest(game=game.stem):
+                written = gdlsolve.unroll(game.read_bytes())
+                self.assertIs(written.startswith("; Shown: "), game.stem in SHOWN)
+                self.assertIs(written.startswith("; Tested and not shown: "), game.stem not in SHOWN)
 
     def test_inputs_that_are_too_many_are_stated_anew(self) -> None:
         numbers = " ".join(f"(n {number})" for number in range(70))
