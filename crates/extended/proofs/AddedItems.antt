@@ -19,7 +19,7 @@ use Rattle.profile.specs.Standing.{literals_of_all}
 use Rattle.outline.specs.Asking.{heads_it, asks_it, some_item}
 use Rattle.outline.specs.Probes.{some_of}
 use Rattle.meaning.specs.Kept.{HeadsKept, PossibleIf, IsPossible}
-use Rattle.whole.specs.Possible.{IsStated}
+use Rattle.whole.specs.Possible.{IsStated, is_play}
 use Rattle.whole.specs.Extension.{IsAsked, IsUnspoken, IsRewriting, AreFounded, IsClosed, base_relation, input_relation}
 use Rattle.extended.specs.Adding.{IsUnspokenIn, Rewrites, HasItsRanges, heads_own, kept_items, heads_one_of}
 use Rattle.meaning.proofs.Facts.{among_filter, among_filter_in}
@@ -62,6 +62,7 @@ unspoken items p u = (
       differ (relation_of (atom_of l)) p
       (no_literal (λ (k : Literal). relation_eq (relation_of (atom_of k)) p) (literals_of_all (body_trees i.0)) l
       (no_item (asks_it p) items i.0 u.1 i.1) (stands_in_item i.0 s.0 i.2 l s.2.1)) s.2.2,
+  u.2,
 )
 
 -- the rules of an item of a list are among those of the list
@@ -286,9 +287,13 @@ module _ {A : Type 0} (own : List Relation) where
   )
     where
       go : (t : Tree) → not (heads_own own t) ≡ true
-          → (not (heads_own own t) && (is_among (relation_of (item_head t)) stated || is_among (relation_of (item_head t)) asked)) ≡ false
-          → IsUnspokenIn (trees_in items) (relation_of (item_head t))
+          → heads_one_of own stated asked t ≡ false → IsUnspokenIn (trees_in items) (relation_of (item_head t))
       go t e k =
           let p = relation_of (item_head t) in
-          let m : (is_among p stated || is_among p asked) ≡ false = ap (λ (b : Bool). b && (is_among p stated || is_among p asked)) (sym e) ∙ k in
-          (sym (heads p) ∙ left_false (is_among p stated) (is_among p asked) m, sym (asks p) ∙ right_false (is_among p stated) (is_among p asked) m)
+          let rest = is_among p asked || is_play p in
+          let m : (is_among p stated || rest) ≡ false = ap (λ (b : Bool). b && (is_among p stated || rest)) (sym e) ∙ k in
+          let n = right_false (is_among p stated) rest m in (
+            sym (heads p) ∙ left_false (is_among p stated) rest m,
+            sym (asks p) ∙ left_false (is_among p asked) (is_play p) n,
+            right_false (is_among p asked) (is_play p) n,
+          )

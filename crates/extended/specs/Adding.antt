@@ -7,12 +7,12 @@ use Rattle.statement.specs.Dependence.{IsAmong, is_among}
 use Rattle.statement.specs.Items.{item_head, alternatives}
 use Rattle.statement.specs.GoalsAndMoves.{dropped}
 use Rattle.outline.specs.Asking.{heads_it, asks_it, some_item}
-use Rattle.whole.specs.Possible.{IsStated}
+use Rattle.whole.specs.Possible.{IsStated, is_play}
 use Rattle.whole.specs.Extension.{base_relation, input_relation}
 
--- no item has the relation as its head or in its body
+-- no item has the relation as its head or in its body, and it is no word by which play goes
 abbrev pub IsUnspokenIn : List Tree → Relation → Type 0
-IsUnspokenIn items p = (some_item (heads_it p) items ≡ false) × (some_item (asks_it p) items ≡ false)
+IsUnspokenIn items p = (some_item (heads_it p) items ≡ false) × (some_item (asks_it p) items ≡ false) × (is_play p ≡ false)
 
 -- the item heads one of these relations
 abbrev pub heads_own : List Relation → Tree → Bool
@@ -33,7 +33,8 @@ abbrev pub HasItsRanges : List Tree → List Tree → Type 0
 HasItsRanges items out =
     (IsStated (alternatives items) base_relation × IsStated (alternatives items) input_relation) ⊎ (dropped (alternatives out) ≡ 0)
 
--- the item heads a relation that is no own one and stands in one of two lists
+-- the item heads a relation that is no own one, and stands in one of two lists or is a word by which play goes
 abbrev pub heads_one_of : List Relation → List Relation → List Relation → Tree → Bool
 heads_one_of own ps qs t =
-    not (heads_own own t) && (is_among (relation_of (item_head t)) ps || is_among (relation_of (item_head t)) qs)
+    not (heads_own own t)
+    && (is_among (relation_of (item_head t)) ps || (is_among (relation_of (item_head t)) qs || is_play (relation_of (item_head t))))

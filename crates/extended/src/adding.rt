@@ -1,16 +1,39 @@
 //! Whether items stand in others, but for those of some relations, and say nothing of what is added.
 ghost use Rattle.std.specs.Prelude.{◌≡◌, ◌≤◌, ◌<◌, ◌+◌, IfOk, MatchOption, length, take, drop, ⊤};
 ghost use Rattle.std.specs.Bool.{OnTrue};
+ghost use Rattle.statement.specs.Clause as said;
 ghost use Rattle.kif.specs.View.{tree_of, trees_in};
+ghost use Rattle.outline.specs.Relations.{relation_in};
+ghost use Rattle.whole.specs.Possible as play;
 ghost use Rattle.outline.specs.Asking.{some_item};
 ghost use Rattle.extended.specs.Adding.{Rewrites, heads_one_of, heads_own, kept_items};
 
 use kif::Expr;
-use outline::{RelationSet, asked_in, head_of, stated_in};
+use outline::{Relation, RelationSet, asked_in, head_of, is_same, stated_in};
 use profile::are_same_trees;
 use std::alloc::{AllocError, Allocator, Global};
 
-/// Whether an item heads a relation that is not own, and is in one of two sets.
+/// Whether a relation has this name and this number of arguments.
+pub fn is_word(relation: &Relation, word: &[u8], arity: usize) -> bool
+    ensures { result ≡ said.is_word word.now arity (relation_in relation.now) }
+{
+    is_same(relation.word, relation.arity, &Relation { word, arity })
+}
+
+/// Whether a relation is a word by which play goes.
+fn is_play(relation: &Relation) -> bool
+    ensures { result ≡ play.is_play (relation_in relation.now) }
+{
+    let is_role = is_word(relation, b"role", 1);
+    let is_start = is_word(relation, b"init", 1);
+    let is_next = is_word(relation, b"next", 1);
+    let is_legal = is_word(relation, b"legal", 2);
+    let is_goal = is_word(relation, b"goal", 2);
+    let is_end = is_word(relation, b"terminal", 0);
+    is_role || is_start || is_next || is_legal || is_goal || is_end
+}
+
+/// Whether an item heads a relation that is not own, and is in one of two sets or a word by which play goes.
 fn is_spoken_of<'a, A: Allocator>(
     own: &RelationSet<'a>,
     stated: &RelationSet<'a>,
@@ -20,10 +43,12 @@ fn is_spoken_of<'a, A: Allocator>(
     ensures { result ≡ heads_one_of own.now stated.now asked.now (tree_of item.now) }
 {
     !own.contains(head_of(item))
-        && (stated.contains(head_of(item)) || asked.contains(head_of(item)))
+        && (stated.contains(head_of(item))
+            || asked.contains(head_of(item))
+            || is_play(&head_of(item)))
 }
 
-/// Whether some item heads a relation that is not own, and is in one of two sets.
+/// Whether some item heads a relation that is not own, and is in one of two sets or a word by which play goes.
 fn is_any_spoken_of<'a, A: Allocator>(
     own: &RelationSet<'a>,
     stated: &RelationSet<'a>,

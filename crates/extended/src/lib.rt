@@ -5,5 +5,5 @@
 mod adding;
 mod laws;
 
-pub use adding::rewrites;
+pub use adding::{is_word, rewrites};
 pub use laws::what_is_rewritten_is_played_the_same;

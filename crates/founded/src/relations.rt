@@ -7,7 +7,8 @@ ghost use Rattle.statement.specs.Dependence.{is_among};
 ghost use Rattle.outline.specs.Relations.{relation_in};
 ghost use Rattle.founded.specs.Alone as test;
 
-use outline::{Relation, RelationSet, is_same};
+use extended::is_word;
+use outline::{Relation, RelationSet};
 use profile::is_variable_name;
 use std::alloc::{AllocError, Global};
 
@@ -20,13 +21,6 @@ pub fn set_of<'a>(alloc: Global, relations: &[Relation<'a>]) -> Result<RelationS
         set.insert(*relation)?;
     }
     Ok(set)
-}
-
-/// Whether a relation has this name and this number of arguments.
-fn is_word(relation: &Relation, word: &[u8], arity: usize) -> bool
-    ensures { result ≡ said.is_word word.now arity (relation_in relation.now) }
-{
-    is_same(relation.word, relation.arity, &Relation { word, arity })
 }
 
 /// Whether a relation is `distinct`.

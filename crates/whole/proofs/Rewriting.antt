@@ -10,7 +10,7 @@ use Rattle.profile.proofs.Facts.{IsHead, along_dependence}
 use Rattle.meaning.specs.Kept.{PossibleAs, UndecidedAs, Keeps, HeadsKept}
 use Rattle.meaning.proofs.Facts.{relation-under, relation-literal_under, ordinary_not_distinct, now_is, does_is, derived_heads, kept_by_a_rule, fixed_alike}
 use Rattle.whole.specs.Derivable.{IsRightOver, IsDerivable, HoldsWhole, IsStratified, IsStable}
-use Rattle.whole.specs.Possible.{HoldsWholeAlways, IsStated, MayBe, MayFail, MayFit, MayHold, PlaysAs}
+use Rattle.whole.specs.Possible.{HoldsWholeAlways, IsStated, MayBe, MayFail, MayFit, MayHold, PlaysAs, is_play}
 use Rattle.whole.specs.Extension.{IsAsked, IsUnspoken, IsRewriting, IsClosed, base_relation, input_relation}
 use Rattle.whole.proofs.Stated.{stated_or_not, along}
 use Rattle.whole.proofs.Strata.{only_stable, stable}
@@ -38,11 +38,11 @@ still_right S T J K A B y still same = go (source_of y) refl
 
 module _ (rules out : List Alternative) (own : Relation → Bool) (re : IsRewriting rules out own) where
   abbrev pub IsSpoken : Relation → Type 0
-  IsSpoken p = IsStated rules p ⊎ IsAsked rules p
+  IsSpoken p = IsStated rules p ⊎ (IsAsked rules p ⊎ (is_play p ≡ true))
 
   spoken_asked : (rule : Alternative) → IsAmong rule rules → (l : Literal) → IsAmong l rule.body → (m : Map)
       → IsSpoken (relation_of (atom_of (literal_under m l)))
-  spoken_asked rule is_rule l in_body m = inr (rule, is_rule, (l, in_body, sym (relation-literal_under m l)))
+  spoken_asked rule is_rule l in_body m = inr (inl (rule, is_rule, (l, in_body, sym (relation-literal_under m l))))
 
   head_of : (rule : Alternative) (m : Map) (x : Atom) → atom_under m rule.head ≡ x
       → relation_of rule.head ≡ relation_of x
@@ -251,7 +251,8 @@ module _ (rules out : List Alternative) (own : Relation → Bool) (re : IsRewrit
                 where
                   never : IsSpoken (relation_of d.rule.head) → ⊥
                   never (inl stated) = unspoken.0 stated
-                  never (inr asked) = unspoken.1 asked
+                  never (inr (inl asked)) = unspoken.1 asked
+                  never (inr (inr played)) = let other = unspoken.2 in let bad : ⊥ = cc in bad
 
               by_own : (b : Bool) → own (relation_of x) ≡ b → IsDerivable rules S J H x
               by_own true o = let f = re.stated.founded x o (own_always x o h.1) in (f.0, own_derived f.0 x o f.1)
@@ -370,6 +371,10 @@ module _ (rules out : List Alternative) (own : Relation → Bool) (re : IsRewrit
                   (spoken_asked d.rule d.is_rule l in_body d.map) (d.fits l in_body);
             })
 
+        spoken_of : (p : Relation) → IsStated rules p ⊎ (is_play p ≡ true) → IsSpoken p
+        spoken_of p (inl stated) = inl stated
+        spoken_of p (inr played) = inr (inr played)
+
         comes : (y : Atom) → MayHold rules y → HeadsKept out y
         comes y h = may_hold h.0 y h.1
 
@@ -377,5 +382,5 @@ module _ (rules out : List Alternative) (own : Relation → Bool) (re : IsRewrit
         plays_as = record {
           base = λ p may. base_of (MayHold rules) comes (atom1 w_base p) p may;
           inputs = λ r m may. input_of (MayHold rules) comes (atom2 w_input r m) r m may;
-          same = λ S J base inputs x stated. rewritten S J strata x (inl stated);
+          same = λ S J base inputs x stands. rewritten S J strata x (spoken_of (relation_of x) stands);
         }

@@ -8,15 +8,15 @@ use Rattle.statement.specs.Dependence.{IsAmong, IsFixed, is_distinct}
 use Rattle.statement.specs.Meaning.{nothing, nobody, atom1, atom2, IsRight, IsDerived, HoldsAlways, IsRole, IsBase, IsInput}
 use Rattle.meaning.specs.Kept.{HeadsKept}
 use Rattle.whole.specs.Derivable.{IsDerivable}
-use Rattle.whole.specs.Possible.{IsStated}
+use Rattle.whole.specs.Possible.{IsStated, is_play}
 
 -- some rule has the relation in its body
 abbrev pub IsAsked : List Alternative → Relation → Type 0
 IsAsked rules p = (rule : Alternative) × IsAmong rule rules × ((l : Literal) × IsAmong l rule.body × (relation_of (atom_of l) ≡ p))
 
--- no rule has the relation as its head or in its body
+-- no rule has the relation as its head or in its body, and it is no word by which play goes
 abbrev pub IsUnspoken : List Alternative → Relation → Type 0
-IsUnspoken rules p = (IsStated rules p → ⊥) × (IsAsked rules p → ⊥)
+IsUnspoken rules p = (IsStated rules p → ⊥) × (IsAsked rules p → ⊥) × (is_play p ≡ false)
 
 -- Own relations are stated in another way: they rest on own ones alone and are fixed, and what holds of them is closed under the rules, and
 -- has derivations by them.

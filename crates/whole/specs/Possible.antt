@@ -1,10 +1,10 @@
 -- This crate's own: what `run` promises does not rest on it.
 -- What may ever be true and done by rules in which relations may depend on themselves, and which rules are played as these.
-use Rattle.std.specs.Prelude.{ℕ, ◌≡◌, ◌≢◌, ◌⊎◌, ◌↔◌, ⊤, List, Some, IsTrue}
+use Rattle.std.specs.Prelude.{ℕ, Bool, true, ◌≡◌, ◌≢◌, ◌⊎◌, ◌↔◌, ⊤, List, [], ◌∷◌, Some, IsTrue}
 use Rattle.statement.specs.Tree.{Tree}
-use Rattle.statement.specs.Words.{w_role, w_base, w_input, w_init, w_next, w_legal}
+use Rattle.statement.specs.Words.{w_role, w_base, w_input, w_init, w_next, w_legal, w_goal, w_terminal}
 use Rattle.statement.specs.Clause.{Atom, Literal, positive, negative, Alternative, Relation, relation_of}
-use Rattle.statement.specs.Dependence.{IsAmong, IsFixed}
+use Rattle.statement.specs.Dependence.{IsAmong, IsFixed, is_among}
 use Rattle.statement.specs.Meaning.{StateOfTerms, Joint, Source, now, does, distinct, ordinary, source_of, nothing, nobody, atom1, atom2, IsDerivedIn, Holds, IsBase, IsInput}
 use Rattle.whole.specs.Derivable.{HoldsWhole}
 
@@ -60,10 +60,19 @@ IsWithinWholeBase rules S = (p : Tree) → IsTrue (S p) → IsWholeBase rules p
 abbrev pub IsWithinWholeInput : List Alternative → Joint → Type 0
 IsWithinWholeInput rules J = (r m : Tree) → J r ≡ Some m → IsWholeInput rules r m
 
+-- the words by which play goes
+abbrev pub play_relations : List Relation
+play_relations =
+    record { word = w_role; arity = 1 } ∷ record { word = w_init; arity = 1 } ∷ record { word = w_next; arity = 1 }
+    ∷ record { word = w_legal; arity = 2 } ∷ record { word = w_goal; arity = 2 } ∷ record { word = w_terminal; arity = 0 } ∷ []
+
+abbrev pub is_play : Relation → Bool
+is_play p = is_among p play_relations
+
 -- The second rules are played as the first: what may be true and done by the first are base propositions and inputs of the second, and within
--- these each atom of a relation that the first state holds in the second exactly as in the first.
+-- these each atom of a relation that the first state, or by which play goes, holds in the second exactly as in the first.
 pub record PlaysAs (rules out : List Alternative) : Type 0 where
   pub base : (p : Tree) → IsWholeBase rules p → IsBase out p
   pub inputs : (r m : Tree) → IsWholeInput rules r m → IsInput out r m
   pub same : (S : StateOfTerms) (J : Joint) → IsWithinWholeBase rules S → IsWithinWholeInput rules J
-      → (x : Atom) → IsStated rules (relation_of x) → Holds out S J x ↔ HoldsWhole rules S J x
+      → (x : Atom) → IsStated rules (relation_of x) ⊎ (is_play (relation_of x) ≡ true) → Holds out S J x ↔ HoldsWhole rules S J x
