@@ -14,7 +14,7 @@ use unroll::{Bounds, UnrollFault, unrolled};
 pub(crate) fn refused(alloc: Global, bytes: &[u8], fault: &UnrollFault) -> Result<Reply, AllocError>
     requires fault { IsUnrollFault bytes.now fault.now }
     requires other { fault.now ≢ UnrollFault.NoMemory }
-    ensures { IfOk result (λ reply. (bounds : Bounds) → IsUnrollReply bounds bytes.now (reply_of reply)) }
+    ensures { (bounds : Bounds) → IfOk result (λ reply. IsUnrollReply bounds bytes.now (reply_of reply)) }
 {
     let mut output = Vec::new(alloc);
     add_refusal(fault, &mut output)?;

@@ -4,7 +4,7 @@ use Rattle.unrolling.specs.Unrolled.{IsUnrollReply}
 use Rattle.unrolling.proofs.told.told_of.Goals as goal
 
 pub returns-in-Ok-refused : goal.returns-in-Ok-refused
-returns-in-Ok-refused c = record {
+returns-in-Ok-refused g c = record {
   told = (
     refl,
     subst (λ (l : List ℕ). IsUnrollReply c.args.bounds l (reply_of c.in-Ok-refused.reply)) c.deref-in-Err.ensures.value (c.in-Ok-refused.ensures c.args.bounds),
