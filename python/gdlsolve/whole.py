@@ -18,6 +18,8 @@ Ask = Callable[[Sequence[str], bytes], list[str]]
 # Refusals of rules against which it may help to write them out.
 HELPED = ("G1", "G3", "G4")
 TOO_MANY = "N1"
+# How the first line begins of what is written out, where it is shown to be played the same.
+SHOWN = b"; Shown: "
 HEAD = re.compile(r"\((?:<= )?\(?([^\s()]+)")
 
 
@@ -43,6 +45,11 @@ def states_all(rules: bytes) -> bool:
 def written_out(rules: bytes, ask: Ask, tighten: bool = False) -> bytes:
     """Rules written out."""
     return "".join(f"{line}\n" for line in ask(words(tighten), rules)).encode()
+
+
+def is_shown(written: bytes) -> bool:
+    """Whether it is proved that what is written out of rules is played as these."""
+    return written.startswith(SHOWN)
 
 
 def _stated(rules: bytes, ask: Ask) -> bytes:

@@ -116,6 +116,7 @@ class Sessions:
                     session.solve("a", 65)
                 self.assertEqual(session.moves("(h t)").goals, {"a": 0, "b": 100})
 
+        @needs_program
         def test_what_a_session_takes_is_read_as_it_was_meant(self) -> None:
             with self.begun(PENNIES) as session:
                 for words in LINES:

@@ -1,5 +1,5 @@
 -- Items of which some relations are stated in another way, as rules.
-use Rattle.std.proofs.Common.{ℕ, zero, suc, ◌+◌, ◌<◌, ◌≤◌, arith, get_or, cond, append-nil, Bool, true, false, not, ◌&&◌, ◌||◌, ◌≡◌, ◌⊎◌, ◌↔◌, inl, inr, List, [], ◌∷◌, ◌++◌, length, map, take, drop, filter, refl, sym, ap, subst, ◌∙◌, append_assoc}
+use Rattle.std.proofs.Common.{ℕ, zero, suc, ◌+◌, ◌<◌, ◌≤◌, arith, get_or, cond, append-nil, Bool, true, false, not, ◌&&◌, ◌||◌, ◌≡◌, ◌⊎◌, ◌↔◌, inl, inr, List, [], ◌∷◌, ◌++◌, length, take, drop, filter, refl, sym, ap, subst, ◌∙◌, append_assoc}
 use Rattle.std.specs.Bool.{OnTrue}
 use Rattle.std.proofs.lemmas.List.{map-append, take-append-drop}
 use Rattle.statement.specs.Tree.{Tree, Trees, no_trees, tree, tree_eq, trees_eq, trees_of}
@@ -7,21 +7,21 @@ use Rattle.statement.specs.Words.{w_init, w_next, w_legal}
 use Rattle.statement.specs.Clause.{Atom, Literal, Alternative, Relation, relation_of, relation_eq, atom_of}
 use Rattle.statement.specs.Dependence.{IsAmong, is_among}
 use Rattle.statement.specs.Items.{alternatives, item_alternatives, item_head, body_trees}
-use Rattle.statement.specs.Meaning.{source_of, ordinary, atom1, atom2, IsRole, IsBase, IsInput}
+use Rattle.statement.specs.Meaning.{atom1, atom2, IsRole, IsBase, IsInput}
 use Rattle.statement.specs.Listing.{listing, role_list, base_list, input_list}
 use Rattle.statement.specs.Profile.{is_tree_in}
 use Rattle.kif.specs.View.{tree_of, trees_in}
 use Rattle.kif.specs.declared.expr.Expr.{Expr}
 use Rattle.kif.proofs.Facts.{tree_eq_yes, trees_eq_yes}
-use Rattle.statement.specs.GoalsAndMoves.{is_dropped, misses_base, misses_input, dropped}
+use Rattle.statement.specs.GoalsAndMoves.{is_dropped, dropped}
 use Rattle.profile.proofs.Facts.{rule_item, same_head, relation_eq_self}
 use Rattle.profile.specs.Standing.{literals_of_all}
 use Rattle.outline.specs.Asking.{heads_it, asks_it, some_item}
 use Rattle.outline.specs.Probes.{some_of}
-use Rattle.meaning.specs.Kept.{HeadsKept, PossibleIf, IsPossible}
+use Rattle.meaning.specs.Kept.{HeadsKept, IsPossible}
 use Rattle.whole.specs.Possible.{IsStated, is_play}
-use Rattle.whole.specs.Extension.{IsAsked, IsUnspoken, IsRewriting, AreFounded, IsClosed, base_relation, input_relation}
-use Rattle.extended.specs.Adding.{IsUnspokenIn, Rewrites, HasItsRanges, heads_own, kept_items, heads_one_of}
+use Rattle.whole.specs.Extension.{IsUnspoken, IsRewriting, IsAnswered, IsClosed, base_relation, input_relation}
+use Rattle.extended.specs.Adding.{IsUnspokenIn, Rewrites, heads_own, kept_items, heads_one_of}
 use Rattle.meaning.proofs.Facts.{among_filter, among_filter_in}
 use Rattle.extended.proofs.Readings.{join, split, stands_in_item}
 
@@ -74,8 +74,8 @@ item_rule (u ∷ items) t rule (inl e) r =
 item_rule (u ∷ items) t rule (inr a) r = join rule (item_alternatives u) (alternatives items) (inr (item_rule items t rule a r))
 
 pub rewriting : (own : List Relation) (items out : List Tree) → Rewrites own items out
-    → AreFounded (alternatives items) (alternatives out) (λ p. is_among p own) → IsRewriting (alternatives items) (alternatives out) (λ p. is_among p own)
-rewriting own items out re founded = record { has = has; more = λ rule a other. more rule other (rule_item out rule a); stated = founded }
+    → IsAnswered (alternatives items) (alternatives out) (λ p. is_among p own) → IsRewriting (alternatives items) (alternatives out) (λ p. is_among p own)
+rewriting own items out re answered = record { has = has; more = λ rule a other. more rule other (rule_item out rule a); stated = answered }
   where
     free : Tree → Bool
     free t = not (heads_own own t)

@@ -8,3 +8,5 @@ pub use Rattle.extended.proofs.AddedItems.{next_there}
 pub use Rattle.extended.proofs.AddedItems.{item_rule}
 -- Lists of trees that are the same by test are one.
 pub use Rattle.extended.proofs.AddedItems.{one_same}
+-- A tree has a reading exactly where the test says so.
+pub use Rattle.extended.proofs.RangeLemmas.{has_a_reading}

@@ -1,3 +1,4 @@
 mod Readings
 mod AddedItems
+mod RangeLemmas
 pub mod Facts

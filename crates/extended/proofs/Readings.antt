@@ -1,11 +1,11 @@
 -- The literals of the alternatives of a body stand in it.
-use Rattle.std.proofs.Common.{ℕ, Bool, true, false, cond, ◌||◌, ◌≡◌, ◌⊎◌, inl, inr, List, [], ◌∷◌, ◌++◌, map, refl, sym, ap, subst, ◌∙◌}
+use Rattle.std.proofs.Common.{ℕ, Bool, true, false, cond, ◌||◌, ◌⊎◌, inl, inr, List, [], ◌∷◌, ◌++◌, map, refl, ap, subst}
 use Rattle.statement.specs.Tree.{Tree, name, list, Trees, no_trees, tree, name_eq}
 use Rattle.statement.specs.Words.{w_not, w_or, w_and}
 use Rattle.statement.specs.Clause.{Literal, positive, Alternative}
 use Rattle.statement.specs.Dependence.{IsAmong}
-use Rattle.statement.specs.Items.{readings, list_readings, readings_in_turn, readings_of_all, behind_each, picks, negated, item_alternatives, item_head, body_trees}
-use Rattle.profile.specs.Standing.{literals_in, literals_of_list, literals_of_all}
+use Rattle.statement.specs.Items.{readings, readings_in_turn, readings_of_all, behind_each, picks, negated, item_alternatives, item_head, body_trees}
+use Rattle.profile.specs.Standing.{literals_in, literals_of_all}
 
 -- a literal of one of the lists
 abbrev IsIn : Literal → List (List Literal) → Type 0

@@ -4,6 +4,8 @@
 
 mod adding;
 mod laws;
+mod ranges;
 
 pub use adding::{is_word, rewrites};
 pub use laws::what_is_rewritten_is_played_the_same;
+pub use ranges::states_ranges;

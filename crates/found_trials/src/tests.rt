@@ -128,7 +128,7 @@ const FOUND: [Played; 8] = [
             ),
             (
                 "unroll",
-                b"; Shown: played as what it was written for, if that states base and input or nothing is dropped.\n\
+                b"; Shown: played as what it was written for.\n\
                     (role a)\n(succ 1 2)\n(succ 2 3)\n(lt 2 3)\n(lt 1 2)\n(lt 1 3)\n",
                 b"",
                 0,

@@ -5,8 +5,8 @@ use Rattle.statement.specs.Tree.{Tree, trees_of, text}
 use Rattle.statement.specs.Reading.{Reads}
 use Rattle.statement.specs.Items.{alternatives}
 use Rattle.statement.specs.Profile.{HasNoFault, roles}
-use Rattle.whole.specs.Possible.{PlaysAs}
-use Rattle.extended.specs.Adding.{HasItsRanges}
+use Rattle.whole.specs.Extension.{base_relation, input_relation}
+use Rattle.whole.specs.Possible.{IsStated, PlaysAs}
 use Rattle.writing.specs.declared.written.Bounds.{Bounds}
 use Rattle.writing.specs.declared.written.Bounds.TheVariants.{AsStated}
 use Rattle.plain.specs.Plain.{plain_items}
@@ -19,7 +19,7 @@ IsUnrollFault text fault = IsUnread text fault ⊎ ((items : List Tree) × Reads
 
 -- the first line of what is shown to be played as what it was written for
 abbrev pub shown_line : List ℕ
-shown_line = codes "; Shown: played as what it was written for, if that states base and input or nothing is dropped." ++ 10 ∷ []
+shown_line = codes "; Shown: played as what it was written for." ++ 10 ∷ []
 
 -- and of what is not
 abbrev pub tested_line : List ℕ
@@ -30,14 +30,14 @@ abbrev pub IsShown : List ℕ → Type 0
 IsShown out = (rest : List ℕ) × (out ≡ shown_line ++ rest)
 
 -- What is written for items: it stands for others that are accepted, and have the same roles in the same order. Where it says that this is
--- shown, they are played as these, if these state `base` and `input`, or nothing is dropped there; and it says so where no relation rests on
--- itself and what is stated of `base` and `input` stays as it is.
+-- shown, they are played as these; and it says so where no relation rests on itself, and `base` and `input` are stated and stay as they are.
 pub record IsWrittenOut (bounds : Bounds) (found : List Tree) (out : List ℕ) : Type 0 where
   pub items : List Tree
   pub reads : Reads out (trees_of items)
   pub accepted : IsAccepted (map text (roles found)) items
-  pub played : IsShown out → HasItsRanges found items → PlaysAs (alternatives found) (alternatives items)
-  pub shown : bounds ≡ AsStated → HasNoFault found → IsShown out
+  pub played : IsShown out → PlaysAs (alternatives found) (alternatives items)
+  pub shown : bounds ≡ AsStated → HasNoFault found → IsStated (alternatives found) base_relation → IsStated (alternatives found) input_relation
+      → IsShown out
 
 -- what is written for a text: its items, put into the form of the profile, are lawful, and it is written for these
 pub record IsWrittenFor (bounds : Bounds) (source out : List ℕ) : Type 0 where

@@ -3,14 +3,16 @@
 //!
 //! It is proved that no call breaks off, that what is written is accepted and states the same roles in the same order, and for each fault but a
 //! limit that is passed that the text has it. Where the first line of what is written says that this is shown, it is proved that it is played
-//! the same. Of what moves and rests on itself that is tested, beside an interpreter of the whole language, and no clause says so.
+//! the same. Elsewhere that is tested, beside an interpreter of the whole language, and no clause says so.
 #![tactic(auto)]
 
 mod choosing;
+mod instances;
 mod showing;
 #[cfg(test)]
 mod tests;
 mod unrolling;
+mod unstated;
 
 pub use atoms::Excess;
 pub use lawful::UnrollFault;

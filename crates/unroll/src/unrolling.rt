@@ -7,13 +7,15 @@ ghost use Rattle.statement.specs.Profile.{HasNoFault};
 ghost use Rattle.statement.specs.Reading.{Reads};
 ghost use Rattle.kif.specs.View.{trees_in};
 ghost use Rattle.whole.specs.Derivable.{IsStratified};
-ghost use Rattle.whole.specs.Possible.{PlaysAs};
-ghost use Rattle.extended.specs.Adding.{HasItsRanges};
+ghost use Rattle.whole.specs.Extension.{base_relation, input_relation};
+ghost use Rattle.whole.specs.Possible.{IsStated, PlaysAs};
 ghost use Rattle.lawful.specs.Lawful.{IsLawful, IsRecursive, IsRefusal};
 ghost use Rattle.unroll.specs.Written.{IsShown, IsUnrollFault, IsWrittenFor, IsWrittenOut, shown_line, tested_line};
 
 use crate::showing::is_shown;
+use crate::unstated::refuse_unstated;
 use atoms::{Excess, LimitFault};
+use extended::states_ranges;
 use kif::Expr;
 use lawful::{
     UnrollFault, accept, found_items, is_recursive, read_back, refuse_crossed, role_places,
@@ -23,11 +25,10 @@ use profile::are_same_trees;
 use statement::RuleFault;
 use std::alloc::{AllocGlobal, Global};
 use stratified::items_that_cross_nothing_are_stratified;
-use writing::{Bounds, Draft};
+use writing::{Bounds, Draft, Layers, Written};
 
 /// The first line of what is shown to be played as what it was written for.
-pub const SHOWN: &[u8] =
-    b"; Shown: played as what it was written for, if that states base and input or nothing is dropped.\n";
+pub const SHOWN: &[u8] = b"; Shown: played as what it was written for.\n";
 
 /// The first line of what is not.
 pub const TESTED: &[u8] = b"; Tested and not shown: played as what it was written for.\n";
@@ -57,8 +58,8 @@ fn refuse_bad(draft: &mut Draft, rests_on_itself: bool) -> Result<(), UnrollFaul
     }
 }
 
-/// What is written of items. That each state and each value is that of the items is tested, and no clause says so.
-fn written(draft: &mut Draft, bounds: Bounds) -> Result<Vec<u8>, UnrollFault>
+/// What is written of items. No clause says that it is played as these: who takes it looks whether that can be shown.
+fn written(draft: &mut Draft, bounds: Bounds) -> Result<Written, UnrollFault>
     ensures { (items : List Tree) → IfErr result (IsRefusal items) }
 {
     match draft.written(bounds) {
@@ -80,7 +81,7 @@ fn draft_of(alloc: Global, items: &[Expr<Global>]) -> Result<Draft, UnrollFault>
 /// What is written of items, and of each of them whether the relation that it heads is fixed and rests on itself.
 #[derive(Drop)]
 struct Drafted {
-    text: Vec<u8>,
+    written: Written,
     circles: Vec<bool>,
 }
 
@@ -96,12 +97,12 @@ fn written_out(
 {
     let mut draft = draft_of(alloc, items)?;
     refuse_bad(&mut draft, rests_on_itself)?;
-    let text = match written(&mut draft, bounds) {
-        Ok(text) => text,
+    let written = match written(&mut draft, bounds) {
+        Ok(written) => written,
         Err(fault) => return Err(fault),
     };
     match draft.fixed_circles() {
-        Ok(circles) => Ok(Drafted { text, circles }),
+        Ok(circles) => Ok(Drafted { written, circles }),
         Err(_) => Err(UnrollFault::NoMemory),
     }
 }
@@ -165,29 +166,30 @@ fn with_claim(
     Ok(out)
 }
 
-/// Whether items stay as they are but for what is added.
-fn stay(rests_on_itself: bool, bounds: Bounds) -> bool
-    ensures { rests_on_itself ≡ false → bounds ≡ Bounds.AsStated → result ≡ true }
+/// Whether items stay as they are, and state `base` and `input`.
+fn stay(items: &[Expr<Global>], rests_on_itself: bool, bounds: Bounds) -> bool
+    ensures { rests_on_itself ≡ false → bounds ≡ Bounds.AsStated → IsStated (alternatives (trees_in items.now)) base_relation
+        → IsStated (alternatives (trees_in items.now)) input_relation → result ≡ true }
 {
-    !rests_on_itself && bounds == Bounds::AsStated
+    !rests_on_itself && bounds == Bounds::AsStated && states_ranges(items)
 }
 
-/// Whether what is written is shown to be played as the items. Where no relation of these rests on itself, and what is stated of `base` and
-/// `input` stays as it is, it has to be, and if it is not it is told as items that are too many.
+/// Whether what is written is shown to be played as the items. Where no relation of these rests on itself, and `base` and `input` are stated
+/// and stay as they are, it has to be, and if it is not it is told as items that are too many.
 fn claim_of<T: AllocGlobal>(
     rt: &T,
     items: &[Expr<Global>],
     written: &[Expr<Global>],
     circles: &[bool],
+    layers: &[Layers],
     has_to_be: bool,
 ) -> Result<bool, UnrollFault>
     ensures shown { IfOk result (λ is_so. OnTrue is_so (HasNoFault (trees_in written.now) → IsStratified (alternatives (trees_in items.now))
-        → HasItsRanges (trees_in items.now) (trees_in written.now)
         → PlaysAs (alternatives (trees_in items.now)) (alternatives (trees_in written.now)))) }
     ensures always { IfOk result (λ is_so. OnTrue has_to_be (is_so ≡ true)) }
     ensures fault { IfErr result (IsRefusal (trees_in items.now)) }
 {
-    match is_shown(rt, items, written, circles) {
+    match is_shown(rt, items, written, circles, layers) {
         Ok(true) => Ok(true),
         Ok(false) => {
             if has_to_be {
@@ -213,19 +215,22 @@ fn rewritten<T: AllocGlobal>(
     let places = role_places(items)?;
     let rests_on_itself = is_recursive(alloc, items)?;
     refuse_crossed(alloc, items)?;
+    refuse_unstated(items)?;
     let draft = written_out(alloc, items, bounds, rests_on_itself)?;
-    let written = items_written(alloc, items, &draft.text)?;
+    let text = &draft.written.text;
+    let layers = &draft.written.layers;
+    let written = items_written(alloc, items, text)?;
     accept(alloc, items, &places, &written)?;
-    let has_to_be = stay(rests_on_itself, bounds);
-    let is_shown = claim_of(rt, items, &written, &draft.circles, has_to_be)?;
+    let has_to_be = stay(items, rests_on_itself, bounds);
+    let is_shown = claim_of(rt, items, &written, &draft.circles, layers, has_to_be)?;
     items_that_cross_nothing_are_stratified();
-    with_claim(alloc, items, &written, &draft.text, is_shown)
+    with_claim(alloc, items, &written, text, is_shown)
 }
 
 /// The text of a description without recursion and with `base` and `input`, in which each state and each value is that of the
 /// text. That it is accepted and states the same roles is proved, by a look at what was written. Its first line says whether it is shown to
-/// be played as the text, as far as `IsWrittenOut` says: always where no relation rests on itself, but where `base` and `input` are cut, and
-/// mostly where none that rests on itself rests on the state or on moves. Of any other it is tested, and no clause says so.
+/// be played as the text, as `IsWrittenOut` says: always where no relation rests on itself and `base` and `input` are stated and stay, and
+/// elsewhere where that could be shown. Of any other it is tested, and no clause says so.
 pub fn unrolled<T: AllocGlobal>(rt: &T, text: &[u8], bounds: Bounds) -> Result<Vec<u8>, UnrollFault>
     ensures written { IfOk result (λ out. IsWrittenFor bounds text.now out.items) }
     ensures fault { IfErr result (IsUnrollFault text.now) }

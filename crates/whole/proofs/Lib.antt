@@ -2,4 +2,6 @@ mod Strata
 mod Heights
 mod Acyclic
 mod Stated
+mod Founding
+mod Together
 mod Rewriting

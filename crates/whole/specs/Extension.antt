@@ -4,9 +4,9 @@ use Rattle.std.specs.Prelude.{◌≡◌, ◌⊎◌, Bool, true, false, List}
 use Rattle.statement.specs.Tree.{Tree}
 use Rattle.statement.specs.Words.{w_base, w_input, w_init, w_next, w_legal}
 use Rattle.statement.specs.Clause.{Atom, Literal, Alternative, Relation, relation_of, atom_of}
-use Rattle.statement.specs.Dependence.{IsAmong, IsFixed, is_distinct}
-use Rattle.statement.specs.Meaning.{nothing, nobody, atom1, atom2, IsRight, IsDerived, HoldsAlways, IsRole, IsBase, IsInput}
-use Rattle.meaning.specs.Kept.{HeadsKept}
+use Rattle.statement.specs.Dependence.{IsAmong, IsFixed, Depends, DependsDirectly, is_distinct}
+use Rattle.statement.specs.Meaning.{StateOfTerms, Joint, nothing, nobody, atom1, atom2, IsRight, IsDerived, Holds, HoldsAlways, IsRole, IsBase, IsInput, IsWithinBase, IsWithinInput}
+use Rattle.meaning.specs.Kept.{Keeps, HeadsKept}
 use Rattle.whole.specs.Derivable.{IsDerivable}
 use Rattle.whole.specs.Possible.{IsStated, is_play}
 
@@ -27,11 +27,24 @@ pub record AreFounded (rules out : List Alternative) (own : Relation → Bool) :
   pub closed : (x : Atom) → own (relation_of x) ≡ true → IsDerived rules (IsRight nothing nobody (HoldsAlways out)) x → HoldsAlways out x
   pub founded : (x : Atom) → own (relation_of x) ≡ true → HoldsAlways out x → IsDerivable rules nothing nobody (HoldsAlways out) x
 
+-- Own relations are stated in another way, and what holds of them is what their rules derive. What holds is closed under these, and so is what
+-- may hold; what holds is derivable by them, if so is all that its relation rests on; and where an own relation is fixed, so is what its rules
+-- ask.
+pub record IsAnswered (rules out : List Alternative) (own : Relation → Bool) : Type 0 where
+  pub closed : (S : StateOfTerms) (J : Joint) → IsWithinBase out S → IsWithinInput out J → (x : Atom) → own (relation_of x) ≡ true
+      → IsDerived rules (IsRight S J (Holds out S J)) x → Holds out S J x
+  pub comes : (x : Atom) → own (relation_of x) ≡ true → IsDerived rules (Keeps out (HeadsKept out)) x → HeadsKept out x
+  pub founded : (S : StateOfTerms) (J : Joint) (x : Atom) → own (relation_of x) ≡ true → Holds out S J x
+      → ((y : Atom) → Depends out (relation_of x) (relation_of y) → IsAsked rules (relation_of y) → Holds out S J y
+      → IsDerivable rules S J (Holds out S J) y)
+      → IsDerivable rules S J (Holds out S J) x
+  pub still : (p q : Relation) → own p ≡ true → IsFixed out p → DependsDirectly rules p q → IsFixed out q
+
 -- each rule of a relation that is not own is there, and all others are of relations of which the rules say nothing
 pub record IsRewriting (rules out : List Alternative) (own : Relation → Bool) : Type 0 where
   pub has : (rule : Alternative) → IsAmong rule rules → own (relation_of rule.head) ≡ false → IsAmong rule out
   pub more : (rule : Alternative) → IsAmong rule out → own (relation_of rule.head) ≡ false → IsAmong rule rules ⊎ IsUnspoken rules (relation_of rule.head)
-  pub stated : AreFounded rules out own
+  pub stated : IsAnswered rules out own
 
 abbrev pub base_relation : Relation
 base_relation = record { word = w_base; arity = 1 }

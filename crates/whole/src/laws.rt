@@ -1,10 +1,10 @@
 //! The laws of the meaning of the whole language.
-ghost use Rattle.std.specs.Prelude.{◌≡◌, ◌↔◌, Bool, IsTrue, List};
+ghost use Rattle.std.specs.Prelude.{◌≡◌, ◌↔◌, ◌||◌, Bool, IsTrue, List};
 ghost use Rattle.statement.specs.Clause.{Atom, Alternative, Relation};
 ghost use Rattle.statement.specs.Dependence.{IsAcyclic};
 ghost use Rattle.statement.specs.Meaning.{StateOfTerms, Joint, Holds, IsDerived, IsRight};
 ghost use Rattle.whole.specs.Derivable.{HoldsWhole, IsStratified, IsStable};
-ghost use Rattle.whole.specs.Extension.{IsRewriting, IsClosed};
+ghost use Rattle.whole.specs.Extension.{AreFounded, IsAnswered, IsRewriting, IsClosed};
 ghost use Rattle.whole.specs.Possible.{PlaysAs};
 
 use meaning::{holds_by_a_rule, what_is_possible_and_fixed_holds};
@@ -36,6 +36,19 @@ pub fn the_whole_meaning_extends_todays()
     holds_by_a_rule();
     acyclic_sets_are_ranked();
 }
+
+/// What is founded is what its rules derive, in every state.
+pub fn what_is_founded_is_answered()
+    ensures { (rules out : List Alternative) (own : Relation → Bool) → IsAcyclic out → AreFounded rules out own → IsAnswered rules out own }
+{
+    what_is_possible_and_fixed_holds();
+}
+
+/// Own relations of two kinds, of each of which what holds is what its rules derive, are so together.
+pub fn what_is_answered_apart_is_answered_together()
+    ensures { (rules out : List Alternative) (own one other : Relation → Bool) → ((p : Relation) → own p ≡ (one p || other p))
+        → IsAnswered rules out one → IsAnswered rules out other → IsAnswered rules out own }
+{}
 
 /// Stratified rules of which some relations are stated in another way, and to which others are added, of which they say nothing, are played
 /// the same, if what may come of these is stated.

@@ -8,9 +8,11 @@ use std::alloc::AllocError;
 
 /// The names of the layers of a component: for each layer, those of its relations.
 #[derive(Drop)]
-struct LayerNames {
-    relations: Vec<u32>,
+pub(crate) struct LayerNames {
+    pub(crate) relations: Vec<u32>,
     names: Vec<Vec<u8>>,
+    pub(crate) layers: u32,
+    pub(crate) is_linear: bool,
 }
 
 /// A component, and whether each of its rules names it at most once.
@@ -23,7 +25,7 @@ struct Layering {
 
 impl LayerNames {
     /// The name of a relation in a layer, which are numbered from 1.
-    fn get(&self, relation: u32, layer: u32) -> &[u8] {
+    pub(crate) fn get(&self, relation: u32, layer: u32) -> &[u8] {
         let Some(place) = self.relations.iter().position(|other| *other == relation) else {
             return b"";
         };
@@ -50,7 +52,12 @@ fn layer_names(
             names.push(fresh_numbered(book, &base, layer)?)?;
         }
     }
-    Ok(LayerNames { relations, names })
+    Ok(LayerNames {
+        relations,
+        names,
+        layers: layering.layers,
+        is_linear: layering.is_linear,
+    })
 }
 
 /// Adds a literal, where atoms of the component are those of a layer.
@@ -127,20 +134,15 @@ fn write_layer(
     Ok(())
 }
 
-/// Adds the items by which a relation holds where it does in a layer: in any, or in the last if each layer keeps those before.
+/// Adds the items by which a relation holds where it does in some layer.
 fn write_tops(
     book: &mut Book,
     writer: &mut Writer,
     layering: Layering,
     names: &LayerNames,
 ) -> Result<(), LimitFault> {
-    let first = if layering.is_linear {
-        1
-    } else {
-        layering.layers
-    };
     for relation in &names.relations {
-        for layer in first..=layering.layers {
+        for layer in 1..=layering.layers {
             let own = book.relation_name(*relation);
             let name = names.get(*relation, layer);
             write_copy(writer, own, name, book.arity(*relation))?;
@@ -149,24 +151,31 @@ fn write_tops(
     Ok(())
 }
 
-/// Adds all layers of a component.
+/// How a component is written, of which ways through different atoms pass at most so many. There is one layer more than such a way needs, so
+/// that what is written shows that no longer one is missed.
+fn layering_of(described: &Described, component: u32, most: u32) -> Layering {
+    Layering {
+        component,
+        layers: most.saturating_add(1),
+        is_linear: is_linear(&described.rules, &described.kinds, component),
+    }
+}
+
+/// Adds all layers of a component, of which ways through different atoms pass at most so many.
 pub(crate) fn write_layers(
     book: &mut Book,
     writer: &mut Writer,
     described: &Described,
     component: u32,
-    layers: u32,
-) -> Result<(), LimitFault> {
-    let layering = Layering {
-        component,
-        layers,
-        is_linear: is_linear(&described.rules, &described.kinds, component),
-    };
+    most: u32,
+) -> Result<LayerNames, LimitFault> {
+    let layering = layering_of(described, component, most);
     let names = layer_names(book, &described.kinds, layering)?;
-    for layer in 1..=layers {
+    for layer in 1..=layering.layers {
         write_layer(book, writer, described, layering, &names, layer)?;
     }
-    write_tops(book, writer, layering, &names)
+    write_tops(book, writer, layering, &names)?;
+    Ok(names)
 }
 
 /// Adds an item by which a relation holds where another does.

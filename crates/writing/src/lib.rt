@@ -5,8 +5,10 @@
 
 mod emitted;
 mod groups;
+mod layers;
 mod rows;
 mod writer;
 mod written;
 
-pub use written::{Bounds, Draft};
+pub use layers::Layers;
+pub use written::{Bounds, Draft, Written};

@@ -1,6 +1,7 @@
 //! A description written out without recursion, with `base` and `input`.
-use crate::emitted::write_layers;
+use crate::emitted::{LayerNames, write_layers};
 use crate::groups::{Shared, write_base, write_input};
+use crate::layers::{Layers, layers_by_items};
 use crate::rows::write_facts;
 use crate::writer::Writer;
 use atoms::{LimitFault, is_marked};
@@ -130,23 +131,24 @@ fn layered(book: &Book, kinds: &Kinds) -> Result<Vec<u32>, AllocError> {
     Ok(layered)
 }
 
-/// Adds the layers of components, and `base` and `input`, by what may hold.
+/// Adds the layers of components, and `base` and `input`, by what may hold. It tells the names of the layers.
 fn write_moving(
     book: &mut Book,
     writer: &mut Writer,
     described: &Described,
     ranges: Ranges,
     layered: &[u32],
-) -> Result<(), LimitFault> {
+) -> Result<Vec<LayerNames>, LimitFault> {
     let may_be = may_be_items(book.alloc, ranges.has_base, ranges.has_input)?;
     let mut relaxed = relaxed_rules(book, &described.rules, &described.kinds)?;
     for rule in book.rules(&clauses_of(book.alloc, &may_be)?)? {
         relaxed.push(rule)?;
     }
     book.complete(&relaxed, &described.kinds.is_moving)?;
+    let mut names = Vec::new(book.alloc);
     for component in layered {
-        let layers = count_layers(book, &relaxed, &described.kinds, *component)?;
-        write_layers(book, writer, described, *component, layers)?;
+        let most = count_layers(book, &relaxed, &described.kinds, *component)?;
+        names.push(write_layers(book, writer, described, *component, most)?)?;
     }
     let mut shared = Shared::new(book.alloc);
     if ranges.writes_base {
@@ -155,7 +157,14 @@ fn write_moving(
     if ranges.writes_input {
         write_input(book, writer, &mut shared)?;
     }
-    Ok(())
+    Ok(names)
+}
+
+/// The items written out, and the names of what is written as layers.
+#[derive(Drop)]
+struct All {
+    text: Vec<u8>,
+    names: Vec<LayerNames>,
 }
 
 /// The items written out.
@@ -164,17 +173,28 @@ fn write_all(
     described: &Described,
     items: &[Expr<Global>],
     bounds: Bounds,
-) -> Result<Vec<u8>, LimitFault> {
+) -> Result<All, LimitFault> {
     let ranges = ranges_of(book, &described.rules, bounds)?;
     let mut writer = Writer::new(book.alloc);
     complete_fixed(book, &described.rules, &described.kinds)?;
     write_kept(book, &mut writer, items, &described.kinds, ranges)?;
     write_fixed(book, &mut writer, &described.kinds, ranges)?;
     let layered = layered(book, &described.kinds)?;
+    let mut names = Vec::new(book.alloc);
     if ranges.writes_base || ranges.writes_input || !layered.is_empty() {
-        write_moving(book, &mut writer, described, ranges, &layered)?;
+        names = write_moving(book, &mut writer, described, ranges, &layered)?;
     }
-    Ok(writer.into_text())
+    Ok(All {
+        text: writer.into_text(),
+        names,
+    })
+}
+
+/// What is written of items, and the relations that are written as layers.
+#[derive(Drop)]
+pub struct Written {
+    pub text: Vec<u8>,
+    pub layers: Vec<Layers>,
 }
 
 /// Items by number.
@@ -204,20 +224,38 @@ impl<'a> Draft<'a> {
 
     /// Of each item whether the relation that it heads rests on itself, and neither on the state nor on moves.
     pub fn fixed_circles(&mut self) -> Result<Vec<bool>, AllocError> {
+        let heads = self.heads()?;
         let kinds = &self.described.kinds;
         let mut circles = Vec::new(self.book.alloc);
-        for item in self.items {
-            let (head, _) = split_item(item);
-            let (word, terms) = split_atom(head);
-            let relation = self.book.relation(word, terms.len())?;
-            let is_fixed = !is_marked(&kinds.is_moving, relation);
-            circles.push(is_fixed && is_marked(&kinds.is_recursive, relation))?;
+        for relation in &heads {
+            let is_fixed = !is_marked(&kinds.is_moving, *relation);
+            circles.push(is_fixed && is_marked(&kinds.is_recursive, *relation))?;
         }
         Ok(circles)
     }
 
+    /// Of each item the relation that it heads, by number.
+    fn heads(&mut self) -> Result<Vec<u32>, AllocError> {
+        let mut heads = Vec::new(self.book.alloc);
+        for item in self.items {
+            let (head, _) = split_item(item);
+            let (word, terms) = split_atom(head);
+            heads.push(self.book.relation(word, terms.len())?)?;
+        }
+        Ok(heads)
+    }
+
     /// The items written out without recursion, with `base` and `input`.
-    pub fn written(&mut self, bounds: Bounds) -> Result<Vec<u8>, LimitFault> {
-        write_all(&mut self.book, &self.described, self.items, bounds)
+    pub fn written(&mut self, bounds: Bounds) -> Result<Written, LimitFault> {
+        let all = write_all(&mut self.book, &self.described, self.items, bounds)?;
+        let heads = self.heads()?;
+        let mut layers = Vec::new(self.book.alloc);
+        for names in &all.names {
+            layers.push(layers_by_items(self.book.alloc, names, &heads)?)?;
+        }
+        Ok(Written {
+            text: all.text,
+            layers,
+        })
     }
 }

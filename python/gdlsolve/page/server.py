@@ -32,6 +32,8 @@ PATIENCE = 30.0
 NEWS = 10.0
 NO_ANSWER = (Late, Broken, MemoryError)
 WRITTEN = "These rules are as games are found, and were written out to be played."
+SHOWN = "It is proved that what was written out is played the same."
+TESTED = "That what was written out is played the same is tested, and not proved."
 
 FILES = {
     "/": ("page.html", "text/html"),
@@ -144,8 +146,8 @@ class Desk:
             self._opened[key] = opened
             while len(self._opened) > MOST_GAMES:
                 del self._opened[next(iter(self._opened))]
-        written = WRITTEN if rules is not found else ""
-        notes = [note, written, warning.errors.decode(errors="replace").strip()]
+        written = [] if rules is found else [WRITTEN, SHOWN if whole.is_shown(rules) else TESTED]
+        notes = [note, *written, warning.errors.decode(errors="replace").strip()]
         return {"id": key, "name": name, "text": text, "roles": roles, "about": about(text),
                 "notes": [each for each in notes if each], "whole": not (written or whole.states_all(found))}
 

@@ -1,4 +1,4 @@
-use Rattle.std.proofs.Common.{ℕ, true, ◌≡◌, rules, ◌∙◌, arith}
+use Rattle.std.proofs.Common.{true, ◌≡◌, rules, ◌∙◌, arith}
 use Rattle.extended.proofs.AddedItems.{kept_more, true_on}
 use Rattle.extended.proofs.adding.kept_with_one.Goals as goal
 

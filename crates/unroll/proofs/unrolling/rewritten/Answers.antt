@@ -1,13 +1,12 @@
-use Rattle.std.proofs.Common.{ℕ, true, false, ◌≡◌, List, map, subst}
+use Rattle.std.proofs.Common.{List, map, subst}
 use Rattle.std.specs.Bool.{OnTrue}
-use Rattle.statement.specs.Tree.{Tree, trees_of, text}
+use Rattle.statement.specs.Tree.{trees_of, text}
 use Rattle.statement.specs.Items.{alternatives}
 use Rattle.statement.specs.Profile.{HasNoFault, roles}
 use Rattle.statement.specs.Reading.{Reads}
 use Rattle.kif.specs.View.{trees_in}
 use Rattle.whole.specs.Derivable.{IsStratified}
 use Rattle.whole.specs.Possible.{PlaysAs}
-use Rattle.extended.specs.Adding.{HasItsRanges}
 use Rattle.lawful.specs.Lawful.{IsAccepted}
 use Rattle.unroll.specs.Written.{IsShown}
 use Rattle.unroll.proofs.Claims.{if_both, true_on, shown_if, says_if, no_rest}
@@ -20,20 +19,19 @@ returns-clause-written g c =
     let is_shown = c.in_ok-is_shown.is_shown in
     let accepted : IsAccepted (map text (roles found)) written =
     subst (λ (es : List _). IsAccepted (map text (roles found)) (trees_in es)) c.deref-3.ensures.value c.in_ok-accept.ensures.accepted in
-    let plays : OnTrue is_shown (HasNoFault written → IsStratified (alternatives found) → HasItsRanges found written
-    → PlaysAs (alternatives found) (alternatives written)) =
-    subst (λ (es : List _). OnTrue is_shown (HasNoFault (trees_in es) → IsStratified (alternatives found) → HasItsRanges found (trees_in es)
+    let plays : OnTrue is_shown (HasNoFault written → IsStratified (alternatives found) → PlaysAs (alternatives found) (alternatives written)) =
+    subst (λ (es : List _). OnTrue is_shown (HasNoFault (trees_in es) → IsStratified (alternatives found)
     → PlaysAs (alternatives found) (alternatives (trees_in es)))) c.deref-4.ensures.value c.in_ok-is_shown.ensures.shown in
     let strata : IsStratified (alternatives found) =
     c.items_that_cross_nothing_are_stratified.ensures found c.in_ok-refuse_crossed.ensures.stratified in
     if_both c.with_claim.result _ _ _ c.with_claim.ensures.reads c.with_claim.ensures.said (λ out reads says. record {
       items = written;
-      reads = subst (λ (es : List _). Reads out.items (trees_of (trees_in es))) c.deref-6.ensures.value reads;
+      reads = subst (λ (es : List _). Reads out.items (trees_of (trees_in es))) c.deref-7.ensures.value reads;
       accepted = accepted;
-      played = λ shown ranges.
+      played = λ shown.
           shown_if is_shown (IsShown out.items) (PlaysAs (alternatives found) (alternatives written)) says
-          (λ e. true_on is_shown _ plays e accepted.faultless strata ranges) shown;
-      shown = λ stated none. says_if is_shown (IsShown out.items) says
+          (λ e. true_on is_shown _ plays e accepted.faultless strata) shown;
+      shown = λ stated none base inputs. says_if is_shown (IsShown out.items) says
           (true_on c.stay-has_to_be.result _ c.in_ok-is_shown.ensures.always
-          (c.stay-has_to_be.ensures (no_rest found c.in_ok-rests_on_itself.rests_on_itself c.in_ok-rests_on_itself.ensures.yes none) stated));
+          (c.stay-has_to_be.ensures (no_rest found c.in_ok-rests_on_itself.rests_on_itself c.in_ok-rests_on_itself.ensures.yes none) stated base inputs));
     })

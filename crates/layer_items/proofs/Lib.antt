@@ -1,0 +1,7 @@
+mod TestLemmas
+mod Bodies
+mod ItemLaws
+mod NameLaws
+mod Passed
+mod Layered
+mod Stacked

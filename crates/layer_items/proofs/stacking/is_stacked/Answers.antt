@@ -1,0 +1,11 @@
+use Rattle.std.proofs.Common.{map}
+use Rattle.kif.specs.View.{trees_in}
+use Rattle.profile.proofs.Facts.{if_ok}
+use Rattle.outline.specs.Relations.{relation_in}
+use Rattle.layer_items.proofs.Stacked.{says_stacked}
+use Rattle.layer_items.proofs.stacking.is_stacked.Goals as goal
+
+pub returns : goal.returns
+returns c =
+    if_ok c.are_passed.result _ _ (λ b h. says_stacked (map relation_in c.args.own.now) c.args.names.now (trees_in c.args.found.now)
+    (trees_in c.args.written.now) b h) c.are_passed.ensures

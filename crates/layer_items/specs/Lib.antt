@@ -1,0 +1,4 @@
+pub mod Naming
+pub mod Kinds
+pub mod Layering
+pub mod Listing

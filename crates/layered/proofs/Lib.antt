@@ -1,0 +1,8 @@
+mod Reading
+mod Gathered
+mod Chains
+mod Enough
+mod Built
+mod Simple
+mod Downward
+mod Answers

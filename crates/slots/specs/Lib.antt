@@ -1,0 +1,4 @@
+pub mod Slotted
+pub mod Owners
+pub mod ByNumber
+pub mod Carried
