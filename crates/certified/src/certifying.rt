@@ -20,7 +20,7 @@ use meaning::accepted_items_are_well_formed;
 use outline::{Relation, RelationSet};
 use reached::comes_to_all;
 use rules::RuleSet;
-use statement::RuleFault;
+use statement::{RuleFault, Width};
 use std::alloc::{AllocError, AllocGlobal, Global};
 use steps::step_game;
 
@@ -36,7 +36,7 @@ fn comes_to_its_base<T: AllocGlobal>(rt: &T, game: &[Expr<Global>]) -> Result<bo
         Err(RuleFault::NoMemory) => return Err(AllocError),
         Err(_) => return Ok(false),
     };
-    let ground = match instantiate_flat_alone(rt, &rules) {
+    let ground = match instantiate_flat_alone(rt, &rules, Width::Wide) {
         Ok(ground) => ground,
         Err(GroundFault::NoMemory) => return Err(AllocError),
         Err(_) => return Ok(false),

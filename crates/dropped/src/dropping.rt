@@ -5,15 +5,15 @@ ghost use Rattle.join.specs.Joining.{joined};
 ghost use Rattle.piecewise.specs.Matches.{AreMatched};
 ghost use Rattle.statement.specs.Tree.{Tree, text};
 ghost use Rattle.statement.specs.Items.{alternatives};
+ghost use Rattle.statement.specs.declared.width.Width.TheVariants.{Wide};
 ghost use Rattle.statement.specs.Limits.{excess_in};
-ghost use Rattle.statement.specs.Most.{limits};
 ghost use Rattle.kif.specs.View.{trees_in};
 ghost use Rattle.rules.specs.RuleSetView.{rules_in};
 ghost use Rattle.kept.specs.Lists.{AreLaid, numbers_of_list};
 ghost use Rattle.terms.specs.Keys.{term_at, trees};
 ghost use Rattle.terms.specs.Vectors.{items_of};
 ghost use Rattle.listing.specs.AllListed.{IsAllListed};
-ghost use Rattle.listing.specs.Progress.{IsFaultOf, limits_of};
+ghost use Rattle.listing.specs.Progress.{IsFaultOf};
 ghost use Rattle.listing.specs.SetWords.{words_of};
 ghost use Rattle.dropped.specs.Effects.{HasLackingHead, IsTrueDropped, IsBefore};
 ghost use Rattle.dropped.specs.Findings.{AreFindings};
@@ -23,25 +23,13 @@ use crate::effects::{key_of, lack_of};
 use crate::finding::{Dropped, Lack};
 use crate::owners::owners_of;
 use crate::searching::{Candidate, candidates};
-use ground::{BASE_LIMIT, INPUTS_LIMIT, INSTANCES_LIMIT};
+use ground::limits_of_width;
 use kif::Expr;
-use listing::{GroundFault, Listed, Most, list_all};
+use listing::{GroundFault, Listed, list_all};
 use piecewise::{Body, Matched};
 use rules::RuleSet;
+use statement::Width;
 use std::alloc::{AllocError, Allocator, Global};
-use terms::TEXT_LIMIT;
-
-/// How much there may be in any instantiation.
-fn most_of_all() -> Most
-    ensures { limits_of result ≡ limits }
-{
-    Most {
-        instances: INSTANCES_LIMIT,
-        text: TEXT_LIMIT,
-        base: BASE_LIMIT,
-        inputs: INPUTS_LIMIT,
-    }
-}
 
 /// All that is listed of rules, on one thread.
 pub(crate) fn listed_of(alloc: Global, rules: &RuleSet) -> Result<Listed, GroundFault>
@@ -49,12 +37,12 @@ pub(crate) fn listed_of(alloc: Global, rules: &RuleSet) -> Result<Listed, Ground
         l.fixed_atoms
         l.context.roles.items l.context.base.items (items_of l.context.inputs.items)) }
     ensures laid { IfOk result (λ l. AreLaid l.found) }
-    ensures fault { IfErr result (IsFaultOf (excess_in (rules_in rules.now))) }
+    ensures fault { IfErr result (IsFaultOf (excess_in Wide (rules_in rules.now))) }
 {
     let matcher = |body: &Body<'_>, limit: usize| -> Result<Matched, AllocError>
         ensures { IfOk result (AreMatched limit (joined body.now.columns.now body.now.cells.now body.now.levels.now)) }
     { Ok(Matched::Declined) };
-    list_all(alloc, rules, most_of_all(), &matcher)
+    list_all(alloc, rules, limits_of_width(Width::Wide), &matcher)
 }
 
 /// The text of a term.
@@ -196,7 +184,7 @@ fn findings_of(
 
 /// The heads that have no effect on play, of each item the first with the number of further ones, in the order of the items. Where no item
 /// states `base` no `init` and `next` is told, and where none states `input` no `legal`. It fails for want of memory, and where the rules
-/// pass a limit.
+/// pass a limit of the wide ones.
 pub fn dropped_heads<A: Allocator>(
     alloc: Global,
     items: &[Expr<A>],
@@ -205,7 +193,7 @@ pub fn dropped_heads<A: Allocator>(
     ensures each { rules_in rules.now ≡ alternatives (trees_in items.now)
         → IfOk result (λ found. All (IsTrueDropped (trees_in items.now)) found.items) }
     ensures once { IfOk result (λ found. AllPairs IsBefore found.items) }
-    ensures fault { IfErr result (IsFaultOf (excess_in (rules_in rules.now))) }
+    ensures fault { IfErr result (IsFaultOf (excess_in Wide (rules_in rules.now))) }
 {
     let listed = listed_of(alloc, rules)?;
     let owners = owners_of(alloc, items, rules.alternatives().len())?;

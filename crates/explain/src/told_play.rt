@@ -6,6 +6,7 @@ use crate::told_rules::Source;
 use crate::told_text::explain_text;
 use crate::wording::{add_bytes, add_end, add_reason, add_start, add_words};
 use kif::Expr;
+use statement::Width;
 use std::alloc::{AllocError, Allocator, Global};
 use std::io::Write;
 
@@ -28,20 +29,24 @@ pub fn explain_role(roles: &[u8], output: &mut Vec<u8>) -> Result<(), AllocError
 }
 
 /// What the limit is that a line of a refusal names.
-fn words_of_limit(line: &[u8]) -> &'static str {
+fn words_of_limit(line: &[u8], width: Width) -> &'static str {
     match line.get(19..).unwrap_or(b"") {
         b"base\n" => "more than 65536 base propositions",
-        b"inputs\n" => "more than 4096 moves of all roles together",
+        b"inputs\n" => match width {
+            Width::Plain => "more than 4096 moves of all roles together",
+            Width::Wide => "more than 65536 moves of all roles together",
+        },
         b"instances\n" => "more than 262144 instances of rules",
         b"text\n" => "a head of more than 4096 bytes",
         _ => "a limit is passed",
     }
 }
 
-/// Adds what is told of rules that pass a limit where they are instantiated: with the item of this number, counted from 1, if it is known.
+/// Adds what is told of rules that pass a limit of a width where they are instantiated: with the item of this number, counted from 1, if it is known.
 pub fn explain_limit<A: Allocator>(
     source: &Source<A>,
     number: Option<usize>,
+    width: Width,
     line: &[u8],
     output: &mut Vec<u8>,
 ) -> Result<(), AllocError> {
@@ -50,7 +55,7 @@ pub fn explain_limit<A: Allocator>(
         None => None,
     };
     add_start(source.name, spot, "N1 TooMany", output)?;
-    add_end(words_of_limit(line), output)?;
+    add_end(words_of_limit(line, width), output)?;
     match spot {
         Some(spot) => {
             add_marked_line(source.text, spot.offset, output)?;

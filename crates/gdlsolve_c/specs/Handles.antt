@@ -10,6 +10,7 @@ use Rattle.ground.specs.Grounds.{text_at, texts_at}
 use Rattle.ground.specs.GroundView.{roles_of, inputs_of}
 use Rattle.rulebook.specs.RuleState.{rules_of}
 use Rattle.netgame.specs.declared.net_game.NetGame.{NetGame}
+use Rattle.statement.specs.declared.width.Width.TheVariants.{Plain}
 use Rattle.kept_game.specs.Playing.{PlaysText}
 use Rattle.gdlsolve_c.specs.declared.handle.Handle.{Handle}
 use Rattle.gdlsolve_c.specs.contracts.handle.Handle.{the_row}
@@ -17,7 +18,7 @@ use Rattle.gdlsolve_c.specs.contracts.handle.Handle.{the_row}
 -- the game plays the rules with these bytes
 abbrev Plays : List ℕ → NetGame → Type 0
 Plays rules g =
-    PlaysText rules g.played (rules_of g.played) (λ r. text_at (roles_of g.played) r) (λ r m. text_at (texts_at (inputs_of g.played) r) m)
+    PlaysText Plain rules g.played (rules_of g.played) (λ r. text_at (roles_of g.played) r) (λ r m. text_at (texts_at (inputs_of g.played) r) m)
 
 -- no game is made yet, or it plays the rules with these bytes
 abbrev pub IsMadeOf : Option NetGame → List ℕ → Type 0

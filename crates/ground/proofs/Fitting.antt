@@ -56,7 +56,7 @@ use Rattle.statement.specs.Printed.{AreInOrder}
 use Rattle.statement.specs.Kinds.{place_in, kind_of}
 use Rattle.meaning.specs.Effects.{IsWithinLimits}
 use Rattle.statement.specs.Limits.{count_inputs}
-use Rattle.statement.specs.Most.{limits}
+use Rattle.statement.specs.Most.{wide_limits}
 use Rattle.meaning.specs.Listed.{IsWellFormed}
 use Rattle.statement.specs.Listing.{Instance, is_atom_in, with_atoms, Listing, heads, list_relation, list_relations, kept_of_relation, one_term, terms_of, context_atoms, moves_of, fixed_listing, listing, role_list, base_list, input_list}
 use Rattle.statement.specs.Kept.{gate}
@@ -299,8 +299,8 @@ module _ (roles base : List (List ℕ)) (inputs : List (List (List ℕ))) (start
     w : IsWellFormed rules
     w = g.well_formed
 
-    within : IsWithinLimits limits rules
-    within = (excess_exact limits rules).0 g.within
+    within : IsWithinLimits wide_limits rules
+    within = (excess_exact wide_limits rules).0 g.within
 
     base_size : length base ≡ length (base_list rules)
     base_size = ap length g.base_are ∙ length-map (base_list rules) text
@@ -344,16 +344,16 @@ module _ (roles base : List (List ℕ)) (inputs : List (List (List ℕ))) (start
         (subst (λ (ks : List Kind). All (IsKindWithin (length (base_list rules))
         (map (λ (r : Tree). map text (input_list rules r)) (role_list rules))) ks) (sym g.kinds_are) (all_kinds rules w)))
 
-    few_kept_of : length kept ≤ limits.instances
-    few_kept_of = subst (λ (n : ℕ). n ≤ limits.instances) (sym kept_size) within.instances
+    few_kept_of : length kept ≤ wide_limits.instances
+    few_kept_of = subst (λ (n : ℕ). n ≤ wide_limits.instances) (sym kept_size) within.instances
 
-    few_base_of : length base ≤ limits.base
-    few_base_of = subst (λ (n : ℕ). n ≤ limits.base) (sym base_size) within.base
+    few_base_of : length base ≤ wide_limits.base
+    few_base_of = subst (λ (n : ℕ). n ≤ wide_limits.base) (sym base_size) within.base
 
-    few_inputs_of : count_all inputs ≤ limits.inputs
-    few_inputs_of = subst (λ (n : ℕ). n ≤ limits.inputs) (sym inputs_size) within.inputs
+    few_inputs_of : count_all inputs ≤ wide_limits.inputs
+    few_inputs_of = subst (λ (n : ℕ). n ≤ wide_limits.inputs) (sym inputs_size) within.inputs
 
-    few_atoms_of : length kinds ≤ limits.instances + (limits.base + limits.inputs)
+    few_atoms_of : length kinds ≤ wide_limits.instances + (wide_limits.base + wide_limits.inputs)
     few_atoms_of = sum_within _ _ _ _ _ _ _ _ kinds_size (atoms_count rules) within.instances within.base within.inputs
 
     few_roles_of : length roles ≤ length kinds

@@ -8,7 +8,7 @@ use Rattle.statement.specs.declared.kind.Kind.{Kind}
 use Rattle.statement.specs.declared.kind.Kind.TheVariants.{Fixed, Now, Does, Next, Legal, Goal, Terminal, Other}
 use Rattle.statement.specs.Kept.{Kept}
 use Rattle.ground.specs.Grounds.{texts_at}
-use Rattle.statement.specs.Most.{limits}
+use Rattle.statement.specs.Most.{wide_limits}
 
 -- each text stands before all later ones in the order of bytes
 abbrev pub TextsRise : List (List ℕ) → Type 0
@@ -41,7 +41,7 @@ abbrev pub IsKeptWithin : ℕ → Kept → Type 0
 IsKeptWithin n k = (k.head < n) × All (λ (r : ℕ × Bool). r.0 < n) k.body
 
 -- each base proposition has a mark and each role its inputs, texts stand in order, all numbers are of
--- what is there, and there are no more than the limits say
+-- what is there, and there are no more than the wide limits say
 pub record FitTogether (roles base : List (List ℕ)) (inputs : List (List (List ℕ))) (starts : List Bool) (kinds : List Kind) (kept : List Kept) : Type
     0 where
   pub starts_fit : length starts ≡ length base
@@ -51,8 +51,8 @@ pub record FitTogether (roles base : List (List ℕ)) (inputs : List (List (List
   pub inputs_rise : All TextsRise inputs
   pub kept_within : All (IsKeptWithin (length kinds)) kept
   pub kinds_within : All (IsKindWithin (length base) inputs) kinds
-  pub few_kept : length kept ≤ limits.instances
-  pub few_base : length base ≤ limits.base
-  pub few_inputs : count_all inputs ≤ limits.inputs
-  pub few_atoms : length kinds ≤ limits.instances + (limits.base + limits.inputs)
+  pub few_kept : length kept ≤ wide_limits.instances
+  pub few_base : length base ≤ wide_limits.base
+  pub few_inputs : count_all inputs ≤ wide_limits.inputs
+  pub few_atoms : length kinds ≤ wide_limits.instances + (wide_limits.base + wide_limits.inputs)
   pub few_roles : length roles ≤ length kinds

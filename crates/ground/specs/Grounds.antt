@@ -5,6 +5,7 @@ use Rattle.statement.specs.Tree.{text}
 use Rattle.statement.specs.Clause.{Alternative}
 use Rattle.statement.specs.declared.kind.Kind.{Kind}
 use Rattle.statement.specs.Kinds.{kind_of}
+use Rattle.statement.specs.declared.width.Width.TheVariants.{Wide}
 use Rattle.statement.specs.Limits.{excess_in}
 use Rattle.meaning.specs.Listed.{IsWellFormed}
 use Rattle.statement.specs.Listing.{listing, role_list, base_list, input_list}
@@ -16,11 +17,11 @@ pub use Rattle.statement.specs.Kept.{Kept, numbered}
 abbrev pub shown_kept : shown.Instance → Kept
 shown_kept i = record { alternative = i.alternative; head = i.head; body = i.body.items }
 
--- the texts, marks, kinds and instances are those of the rules
+-- the texts, marks, kinds and instances are those of the rules, which pass none of the wide limits
 pub record IsGroundOf (rules : List Alternative) (roles base : List (List ℕ)) (inputs : List (List (List ℕ))) (starts : List Bool) (kinds : List Kind)
     (kept : List Kept) (dropped : ℕ) : Type 0 where
   pub well_formed : IsWellFormed rules
-  pub within : excess_in rules ≡ None
+  pub within : excess_in Wide rules ≡ None
   pub roles_are : roles ≡ map text (role_list rules)
   pub base_are : base ≡ map text (base_list rules)
   pub inputs_are : inputs ≡ map (λ r. map text (input_list rules r)) (role_list rules)

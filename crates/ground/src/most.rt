@@ -6,5 +6,8 @@ pub const INSTANCES_LIMIT: usize = 262_144;
 /// The most base propositions.
 pub const BASE_LIMIT: usize = 65_536;
 
-/// The most inputs of all roles together.
+/// The most inputs of all roles together, for every command.
 pub const INPUTS_LIMIT: usize = 4_096;
+
+/// The most inputs of all roles together of rules that were written out of the whole language.
+pub const WIDE_INPUTS_LIMIT: usize = 65_536;

@@ -6,6 +6,7 @@ ghost use Rattle.ground.specs.Parts.{ArePartsOf};
 ghost use Rattle.terms.specs.Vectors.{items_of};
 ghost use Rattle.listing.specs.Contexts.{terms_named};
 ghost use Rattle.kept.specs.Lists.{numbers_of_list};
+ghost use Rattle.statement.specs.declared.width.Width.TheVariants.{Wide};
 ghost use Rattle.statement.specs.Limits.{excess_in};
 ghost use Rattle.listing.specs.SetWords.{words_of};
 
@@ -35,7 +36,7 @@ pub fn parts_of(
     requires listed { IsAllListed (rules_in rules.now) (words_of rules.now) listed.now.arena listed.now.atoms.keys
         (numbers_of_list listed.now.found) listed.now.fixed_atoms
         listed.now.context.roles.items listed.now.context.base.items (items_of listed.now.context.inputs.items) }
-    requires within { excess_in (rules_in rules.now) ≡ None }
+    requires within { excess_in Wide (rules_in rules.now) ≡ None }
     requires roles { tables.now.roles.keys ≡ terms_named listed.now.context.roles.items }
     requires base { tables.now.base.keys ≡ terms_named listed.now.context.base.items }
     requires inputs { map (λ s. s.keys) tables.now.inputs.items ≡ map terms_named (items_of listed.now.context.inputs.items) }

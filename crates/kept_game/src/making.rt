@@ -1,11 +1,13 @@
 //! The game of rules.
 ghost use Rattle.std.specs.Prelude.{◌≡◌, IfOk, IfSome, Ok};
 ghost use Rattle.rulebook.specs.RuleState.{IsGameOver};
+ghost use Rattle.statement.specs.declared.width.Width.TheVariants.{Plain};
 ghost use Rattle.kept_game.specs.Playing.{PlaysText};
 
 use ground::{FlatGround, GroundFault, instantiate_flat_alone};
 use replies::{Reading, read};
 use rulebook::GroundGame;
+use statement::Width;
 use std::alloc::{AllocError, AllocGlobal, Global};
 
 /// The game of an instantiation, or none where there is none. It fails only for want of memory.
@@ -28,12 +30,12 @@ pub fn game_alone<G: GroundGame, T: AllocGlobal>(
     rt: &T,
     rules: &[u8],
 ) -> Result<Option<G>, AllocError>
-    ensures { IfOk result (λ made. IfSome made (λ g. PlaysText rules.now (G.source g) (G.rules g) (G.role_name g) (G.move_name g))) }
+    ensures { IfOk result (λ made. IfSome made (λ g. PlaysText Plain rules.now (G.source g) (G.rules g) (G.role_name g) (G.move_name g))) }
 {
     let Reading::Rules(read) = read(rt.alloc(), rules)? else {
         return Ok(None);
     };
-    let instantiated = instantiate_flat_alone(rt, &read);
+    let instantiated = instantiate_flat_alone(rt, &read, Width::Plain);
     drop(read);
     game_over(rt.alloc(), instantiated)
 }

@@ -1,5 +1,7 @@
 //! The reply by the game that is kept.
 ghost use Rattle.std.specs.Prelude.{IfOk, IfSome};
+ghost use Rattle.statement.specs.declared.width.Width.TheVariants.{Plain};
+ghost use Rattle.statement.specs.Queries.{asked_in};
 ghost use Rattle.statement.specs.Replies.{IsReply};
 ghost use Rattle.words.specs.Asked.{query_about, query_of};
 ghost use Rattle.replies.specs.Kept.{IsKeptSearch};
@@ -9,21 +11,23 @@ ghost use Rattle.kept_game.specs.Playing.{PlaysText};
 use crate::making::game_alone;
 use replies::{KeptSearch, Reply, reply_alone, reply_over, reply_over_keeping};
 use rulebook::GroundGame;
+use statement::Width;
 use std::alloc::{AllocError, AllocGlobal, Global};
 use words::{Command, Inquiry};
 
-/// The reply to an inquiry by a game of the rules. The memory of a search stays in `search` for the next inquiry of the same game. It fails
+/// The reply to an inquiry by a game of the rules, which pass no limit of the width. The memory of a search stays in `search` for the next inquiry of the same game. It fails
 /// only for want of memory.
 pub fn reply_by<G: GroundGame>(
     alloc: Global,
     inquiry: &Inquiry,
+    _width: Width,
     _rules: &[u8],
     game: &G,
     search: &mut Option<KeptSearch<G>>,
 ) -> Result<Reply, AllocError>
-    requires plays { PlaysText _rules.now (G.source game.now) (G.rules game.now) (G.role_name game.now) (G.move_name game.now) }
+    requires plays { PlaysText _width _rules.now (G.source game.now) (G.rules game.now) (G.role_name game.now) (G.move_name game.now) }
     requires search { IfSome search.old (IsKeptSearch G.Game game.now) }
-    ensures reply { IfOk result (λ reply. IsReply (query_about inquiry.now) _rules.now (reply_of reply)) }
+    ensures reply { IfOk result (λ reply. IsReply (asked_in _width (query_about inquiry.now)) _rules.now (reply_of reply)) }
     ensures search { IfSome search.new (IsKeptSearch G.Game game.now) }
 {
     reply_over_keeping(alloc, inquiry, game, search)
@@ -36,7 +40,7 @@ pub fn reply_kept<G: GroundGame>(
     rules: &[u8],
     made: &Option<G>,
 ) -> Result<Option<Reply>, AllocError>
-    requires { IfSome made.now (λ g. PlaysText rules.now (G.source g) (G.rules g) (G.role_name g) (G.move_name g)) }
+    requires { IfSome made.now (λ g. PlaysText Plain rules.now (G.source g) (G.rules g) (G.role_name g) (G.move_name g)) }
     ensures { IfOk result (λ told. IfSome told (λ reply. IsReply (query_about inquiry.now) rules.now (reply_of reply))) }
 {
     match made {
@@ -52,9 +56,9 @@ fn told_alone<G: GroundGame, T: AllocGlobal>(
     rules: &[u8],
     made: &mut Option<G>,
 ) -> Result<Option<Reply>, AllocError>
-    requires { IfSome made.old (λ g. PlaysText rules.now (G.source g) (G.rules g) (G.role_name g) (G.move_name g)) }
+    requires { IfSome made.old (λ g. PlaysText Plain rules.now (G.source g) (G.rules g) (G.role_name g) (G.move_name g)) }
     ensures reply { IfOk result (λ told. IfSome told (λ reply. IsReply (query_about inquiry.now) rules.now (reply_of reply))) }
-    ensures made { IfSome made.new (λ g. PlaysText rules.now (G.source g) (G.rules g) (G.role_name g) (G.move_name g)) }
+    ensures made { IfSome made.new (λ g. PlaysText Plain rules.now (G.source g) (G.rules g) (G.role_name g) (G.move_name g)) }
 {
     if made.is_none() {
         *made = game_alone::<G, T>(rt, rules)?;
@@ -71,12 +75,12 @@ pub fn replied_alone<G: GroundGame, T: AllocGlobal>(
     rules: &[u8],
     made: &mut Option<G>,
 ) -> Result<Reply, AllocError>
-    requires { IfSome made.old (λ g. PlaysText rules.now (G.source g) (G.rules g) (G.role_name g) (G.move_name g)) }
+    requires { IfSome made.old (λ g. PlaysText Plain rules.now (G.source g) (G.rules g) (G.role_name g) (G.move_name g)) }
     ensures reply { IfOk result (λ reply. IsReply (query_of command.now) rules.now (reply_of reply)) }
-    ensures made { IfSome made.new (λ g. PlaysText rules.now (G.source g) (G.rules g) (G.role_name g) (G.move_name g)) }
+    ensures made { IfSome made.new (λ g. PlaysText Plain rules.now (G.source g) (G.rules g) (G.role_name g) (G.move_name g)) }
 {
     let told = match command {
-        Command::Ask(inquiry) => told_alone(rt, inquiry, rules, made)?,
+        Command::Ask(inquiry, Width::Plain) => told_alone(rt, inquiry, rules, made)?,
         _ => None,
     };
     match told {

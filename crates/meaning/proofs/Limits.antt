@@ -4,19 +4,20 @@ use Rattle.std.specs.Prelude.{codes}
 use Rattle.kif.proofs.Facts.{items_in}
 use Rattle.statement.specs.Items.{alternatives}
 use Rattle.statement.specs.declared.excess.Excess.TheVariants.{Base, Inputs, Instances, Text}
+use Rattle.statement.specs.declared.width.Width.TheVariants.{Plain}
 use Rattle.statement.specs.Limits.{excess_by, excess_in}
 
 doubled_nine : List ℕ
 doubled_nine = codes "(role a)(p0 a)(<= (p1 (f ?x ?x)) (p0 ?x))(<= (p2 (f ?x ?x)) (p1 ?x))(<= (p3 (f ?x ?x)) (p2 ?x))(<= (p4 (f ?x ?x)) (p3 ?x))(<= (p5 (f ?x ?x)) (p4 ?x))(<= (p6 (f ?x ?x)) (p5 ?x))(<= (p7 (f ?x ?x)) (p6 ?x))(<= (p8 (f ?x ?x)) (p7 ?x))(<= (p9 (f ?x ?x)) (p8 ?x))"
 
-nine_fit : excess_in (alternatives (items_in doubled_nine)) ≡ None
+nine_fit : excess_in Plain (alternatives (items_in doubled_nine)) ≡ None
 unfolding items_in doubled_nine
 nine_fit = refl
 
 doubled_ten : List ℕ
 doubled_ten = codes "(role a)(p0 a)(<= (p1 (f ?x ?x)) (p0 ?x))(<= (p2 (f ?x ?x)) (p1 ?x))(<= (p3 (f ?x ?x)) (p2 ?x))(<= (p4 (f ?x ?x)) (p3 ?x))(<= (p5 (f ?x ?x)) (p4 ?x))(<= (p6 (f ?x ?x)) (p5 ?x))(<= (p7 (f ?x ?x)) (p6 ?x))(<= (p8 (f ?x ?x)) (p7 ?x))(<= (p9 (f ?x ?x)) (p8 ?x))(<= (p10 (f ?x ?x)) (p9 ?x))"
 
-ten_pass : excess_in (alternatives (items_in doubled_ten)) ≡ Some Text
+ten_pass : excess_in Plain (alternatives (items_in doubled_ten)) ≡ Some Text
 unfolding items_in doubled_ten
 ten_pass = refl
 

@@ -1,7 +1,8 @@
 //! What descriptions instantiate to: counts, limits, the order of instances, and kinds of atoms.
-use ground::{Ground, GroundFault, Kind, instantiate};
+use ground::{Excess, Ground, GroundFault, Kind, instantiate, instantiate_flat_alone};
 use kif::read;
 use rules::RuleSet;
+use statement::Width;
 use std::alloc::{AllocError, AllocGlobal, Global};
 use std::io::Write;
 use std::test::Fail;
@@ -288,6 +289,36 @@ fn inputs_are_counted_in_all(rt: HostRuntime) -> Result<(), Fail> {
         told(&rt, BROADER)?.as_slice(),
         b"N1 TooMany inputs".as_slice()
     );
+    Ok(())
+}
+
+/// Sixteen terms, four of which make an input.
+const WIDE: &[u8] = b"(role a)(d 0)(d 1)(d 2)(d 3)(d 4)(d 5)(d 6)(d 7)
+    (d 8)(d 9)(d 10)(d 11)(d 12)(d 13)(d 14)(d 15)
+    (<= (input a (n ?a ?b ?c ?d)) (d ?a) (d ?b) (d ?c) (d ?d))";
+
+const WIDER: &[u8] = b"(role a)(d 0)(d 1)(d 2)(d 3)(d 4)(d 5)(d 6)(d 7)
+    (d 8)(d 9)(d 10)(d 11)(d 12)(d 13)(d 14)(d 15)
+    (<= (input a (n ?a ?b ?c ?d)) (d ?a) (d ?b) (d ?c) (d ?d))(input a last)";
+
+/// How many inputs a role has by the limits of a width; none where all roles together have too many.
+fn inputs_by<R: AllocGlobal>(rt: &R, text: &[u8], width: Width) -> Result<Option<usize>, Fail> {
+    let items = read(rt.alloc(), text)?;
+    let rules = RuleSet::check(rt.alloc(), &items)?;
+    match instantiate_flat_alone(rt, &rules, width) {
+        Ok(ground) => Ok(Some(ground.inputs(0))),
+        Err(GroundFault::TooMany(Excess::Inputs)) => Ok(None),
+        Err(fault) => Err(fault.into()),
+    }
+}
+
+#[test]
+fn more_inputs_may_be_by_the_wide_limits(rt: HostRuntime) -> Result<(), Fail> {
+    assert_eq!(rt; inputs_by(&rt, BROAD, Width::Plain)?, Some(4096));
+    assert_eq!(rt; inputs_by(&rt, BROADER, Width::Plain)?, None);
+    assert_eq!(rt; inputs_by(&rt, BROADER, Width::Wide)?, Some(6561));
+    assert_eq!(rt; inputs_by(&rt, WIDE, Width::Wide)?, Some(65536));
+    assert_eq!(rt; inputs_by(&rt, WIDER, Width::Wide)?, None);
     Ok(())
 }
 

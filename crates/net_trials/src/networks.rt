@@ -12,6 +12,7 @@ use position::NetGame;
 use propnet::Net;
 use rulegame::RuleGame;
 use rules::RuleSet;
+use statement::Width;
 use std::alloc::{AllocGlobal, Global};
 use std::io::Write;
 use std::test::Fail;
@@ -72,7 +73,7 @@ fn rules_of(alloc: Global, text: &[u8]) -> Result<RuleSet, Fail> {
 /// The kept instances of a description.
 fn ground_of<R: AllocGlobal>(rt: &R, text: &[u8]) -> Result<FlatGround, Fail> {
     let rules = rules_of(rt.alloc(), text)?;
-    Ok(instantiate_flat_alone(rt, &rules)?)
+    Ok(instantiate_flat_alone(rt, &rules, Width::Plain)?)
 }
 
 /// The game of a description, over its kept instances.

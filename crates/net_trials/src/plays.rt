@@ -8,6 +8,7 @@ use kif::read;
 use rulegame::RuleGame;
 use rules::RuleSet;
 use share::{Answer, Gate, solve};
+use statement::Width;
 use std::alloc::{AllocError, AllocGlobal, Global};
 use std::hint::spin_loop;
 use std::process::Abort;
@@ -76,7 +77,7 @@ const WIDER: &[u8] = b"(role r1) (role r2) (role r3) (role r4) (role r5)
 pub(crate) fn game_of<R: Abort + AllocGlobal>(rt: &R, text: &[u8]) -> Result<RuleGame, Fail> {
     let items = read(rt.alloc(), text)?;
     let rules = RuleSet::check(rt.alloc(), items.as_slice())?;
-    let ground = instantiate_flat_alone(rt, &rules)?;
+    let ground = instantiate_flat_alone(rt, &rules, Width::Plain)?;
     Ok(RuleGame::of_flat(rt.alloc(), ground)?)
 }
 

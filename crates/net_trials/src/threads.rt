@@ -5,6 +5,7 @@ ghost use Rattle.ground.specs.GroundView.{instances_of};
 use ground::{Excess, FlatGround, GroundFault, instantiate, instantiate_flat_alone};
 use kif::read;
 use rules::RuleSet;
+use statement::Width;
 use std::alloc::Global;
 use std::test::Fail;
 use std::thread::Threads;
@@ -61,7 +62,7 @@ fn have_same(left: &FlatGround, right: &FlatGround) -> bool {
 fn agree<R: Threads + Sync + AllocGlobal>(rt: &R, text: &[u8], many: usize) -> Result<bool, Fail> {
     let rules = rules_of(rt.alloc(), text)?;
     let ours = instantiate(rt, &rules)?;
-    let theirs = instantiate_flat_alone(rt, &rules)?;
+    let theirs = instantiate_flat_alone(rt, &rules, Width::Plain)?;
     Ok(ours.kept().len() == many && have_same(ours.flat(), &theirs))
 }
 
@@ -76,7 +77,10 @@ fn is_over<G: Drop>(ground: Result<G, GroundFault>) -> bool {
 /// Whether several threads and one name the limit of instances.
 fn refuse<R: Threads + Sync + AllocGlobal>(rt: &R, text: &[u8]) -> Result<bool, Fail> {
     let rules = rules_of(rt.alloc(), text)?;
-    Ok(is_over(instantiate(rt, &rules)) && is_over(instantiate_flat_alone(rt, &rules)))
+    Ok(
+        is_over(instantiate(rt, &rules))
+            && is_over(instantiate_flat_alone(rt, &rules, Width::Plain)),
+    )
 }
 
 #[test]

@@ -41,7 +41,7 @@ use Rattle.statement.specs.declared.kind.Kind.{Kind}
 use Rattle.ground.specs.declared.flat_ground.FlatGround.{FlatGround}
 use Rattle.statement.specs.Kept.{Kept}
 use Rattle.ground.specs.Fits.{count_all}
-use Rattle.statement.specs.Most.{limits}
+use Rattle.statement.specs.Most.{wide_limits}
 use Rattle.ground.specs.GroundView.{base_of, inputs_of, kinds_of, instances_of}
 use Rattle.statement.specs.declared.node_name.Name.{Name}
 use Rattle.statement.specs.declared.node_name.Name.TheVariants.{Base, Input, Not, And, View, Transition}
@@ -165,7 +165,7 @@ count_is : (inputs : List (List (List ℕ))) → sum (map (λ (ts : List (List �
 count_is [] = refl
 count_is (ts ∷ rest) = sum_by-cons (λ x. x) (length ts) (map (λ (us : List (List ℕ)). length us) rest) ∙ ap (λ n. length ts + n) (count_is rest)
 
-pub few_inputs : (g : FlatGround) → sum (input_counts g) ≤ limits.inputs
+pub few_inputs : (g : FlatGround) → sum (input_counts g) ≤ wide_limits.inputs
 few_inputs g = let same = count_is (inputs_of g) in let few = (fits g).few_inputs in omega arith
 
 pub sources_size : (base : ℕ) (ns : List ℕ) → length (base_names base ++ input_names 0 ns) ≡ base + sum ns
@@ -187,8 +187,8 @@ below_size g a =
     omega arith
 
 -- no more than the limits allow: three for each base proposition and each instance, and two for each input
-pub few_nodes : (g : FlatGround) → length (node_names (length (base_of g)) (input_counts g) (kinds_of g) (instances_of g)) ≤ 3 * limits.base +
-    (2 * limits.inputs + 3 * limits.instances)
+pub few_nodes : (g : FlatGround) → length (node_names (length (base_of g)) (input_counts g) (kinds_of g) (instances_of g)) ≤ 3 * wide_limits.base +
+    (2 * wide_limits.inputs + 3 * wide_limits.instances)
 few_nodes g =
     let below = below_size g (length (kinds_of g)) in
     let last = length-row Transition (length (base_of g)) in

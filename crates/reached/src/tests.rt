@@ -3,6 +3,7 @@ use crate::comes_to_all;
 use ground::instantiate_flat_alone;
 use kif::read;
 use rules::RuleSet;
+use statement::Width;
 use std::test::Fail;
 
 /// What each of the texts begins with.
@@ -50,7 +51,7 @@ fn play_comes_to_all_where_each_is_brought(rt: HostRuntime) -> Result<(), Fail> 
         whole.extend_from_slice(text.as_bytes())?;
         let items = read(rt.alloc(), &whole)?;
         let rules = RuleSet::check(rt.alloc(), &items)?;
-        let ground = instantiate_flat_alone(&rt, &rules)?;
+        let ground = instantiate_flat_alone(&rt, &rules, Width::Plain)?;
         assert_eq!(rt; comes_to_all(rt.alloc(), &ground)?, wanted, "{text}");
     }
     Ok(())

@@ -13,6 +13,7 @@ use kif::{Expr, KifFault, read};
 use replies::reply_alone;
 use rulebook::GroundGame;
 use rules::{RuleFault, RuleSet};
+use statement::Width;
 use std::alloc::{AllocError, AllocGlobal, Allocator, Global};
 use std::str::from_utf8;
 use words::{Command, Inquiry};
@@ -47,12 +48,13 @@ fn history_of<'a>(inquiry: &Inquiry<'a>) -> &'a str {
 fn lines_after<G: GroundGame, T: AllocGlobal>(
     rt: &T,
     bytes: &[u8],
+    width: Width,
     front: &[u8],
 ) -> Result<Vec<u8>, AllocError> {
     let Ok(after) = from_utf8(front) else {
         return Ok(Vec::new(rt.alloc()));
     };
-    let moves = Command::Ask(Inquiry::Moves { after });
+    let moves = Command::Ask(Inquiry::Moves { after }, width);
     let reply = reply_alone::<G, G, T>(rt, &moves, bytes)?;
     Ok(reply.output)
 }
@@ -61,13 +63,14 @@ fn lines_after<G: GroundGame, T: AllocGlobal>(
 fn lines_before<G: GroundGame, T: AllocGlobal, A: Allocator>(
     rt: &T,
     bytes: &[u8],
+    width: Width,
     after: &[u8],
     turns: &[Expr<A>],
     fault: &PlayFault,
 ) -> Result<Vec<u8>, AllocError> {
     if let PlayFault::NotLegal(turn, _) = fault {
         if let Some(spot) = item_spot(after, turns, *turn) {
-            return lines_after::<G, T>(rt, bytes, after.get(..spot.offset).unwrap_or(b""));
+            return lines_after::<G, T>(rt, bytes, width, after.get(..spot.offset).unwrap_or(b""));
         }
     }
     Ok(Vec::new(rt.alloc()))
@@ -77,6 +80,7 @@ fn lines_before<G: GroundGame, T: AllocGlobal, A: Allocator>(
 fn explain_turns<G: GroundGame, T: AllocGlobal>(
     rt: &T,
     bytes: &[u8],
+    width: Width,
     after: &[u8],
     fault: &PlayFault,
     roles: &[u8],
@@ -85,7 +89,7 @@ fn explain_turns<G: GroundGame, T: AllocGlobal>(
     let arena = Bump::new(rt.alloc());
     match read(&arena, after) {
         Ok(turns) => {
-            let lines = lines_before::<G, T, _>(rt, bytes, after, &turns, fault)?;
+            let lines = lines_before::<G, T, _>(rt, bytes, width, after, &turns, fault)?;
             let before = Before {
                 roles,
                 lines: &lines,
@@ -101,6 +105,7 @@ fn explain_turns<G: GroundGame, T: AllocGlobal>(
 fn explain_inquiry<G: GroundGame, T: AllocGlobal, A: Allocator>(
     rt: &T,
     inquiry: &Inquiry,
+    width: Width,
     source: &Source<A>,
     rules: &RuleSet,
     refusal: &[u8],
@@ -109,13 +114,13 @@ fn explain_inquiry<G: GroundGame, T: AllocGlobal, A: Allocator>(
     let roles = role_names(rt.alloc(), rules)?;
     if let Some(fault) = PlayFault::named_by(refusal) {
         let after = history_of(inquiry).as_bytes();
-        return explain_turns::<G, T>(rt, source.text, after, &fault, &roles, output);
+        return explain_turns::<G, T>(rt, source.text, width, after, &fault, &roles, output);
     }
     if refusal.get(8..10) == Some(b"S1".as_slice()) {
         return explain_role(&roles, output);
     }
-    let over = item_over(rt, source.items, rules)?;
-    explain_limit(source, over, refusal, output)
+    let over = item_over(rt, source.items, rules, width)?;
+    explain_limit(source, over, width, refusal, output)
 }
 
 /// Adds what explains the refusal of a command over items.
@@ -129,11 +134,13 @@ fn explain_items<G: GroundGame, T: AllocGlobal, A: Allocator>(
     if let Some(fault) = rule_fault_in(refusal) {
         return explain_rules(rt.alloc(), source, &fault, output);
     }
-    let Command::Ask(inquiry) = command else {
+    let Command::Ask(inquiry, width) = command else {
         return Ok(());
     };
     match RuleSet::check(rt.alloc(), source.items) {
-        Ok(rules) => explain_inquiry::<G, T, A>(rt, inquiry, source, &rules, refusal, output),
+        Ok(rules) => {
+            explain_inquiry::<G, T, A>(rt, inquiry, *width, source, &rules, refusal, output)
+        }
         Err(RuleFault::NoMemory) => Err(AllocError),
         Err(_) => Ok(()),
     }

@@ -6,6 +6,7 @@ use kif::{Expr, KifFault, read, write};
 use outline::{Relation, head_of};
 use profile::Word;
 use rules::{RuleFault, RuleSet};
+use statement::Width;
 use std::alloc::{AllocError, AllocGlobal, Allocator, Global};
 
 /// The relations that head items, with their ranks: that of `role` first, since no description is without it, and the others in the order
@@ -61,6 +62,7 @@ fn pass_limit<T: AllocGlobal, A: Allocator>(
     rt: &T,
     items: &[Expr<A>],
     places: &[(usize, usize)],
+    width: Width,
 ) -> Result<bool, AllocError> {
     let alloc = rt.alloc();
     let mut text = Vec::new(alloc);
@@ -81,7 +83,7 @@ fn pass_limit<T: AllocGlobal, A: Allocator>(
         Err(RuleFault::NoMemory) => return Err(AllocError),
         Err(_) => return Ok(false),
     };
-    match instantiate_flat_alone(rt, &rules) {
+    match instantiate_flat_alone(rt, &rules, width) {
         Ok(_) => Ok(false),
         Err(GroundFault::TooMany(_)) => Ok(true),
         Err(GroundFault::NoMemory) => Err(AllocError),
@@ -94,6 +96,7 @@ pub(crate) fn item_over<T: AllocGlobal, A: Allocator>(
     rt: &T,
     items: &[Expr<A>],
     rules: &RuleSet,
+    width: Width,
 ) -> Result<Option<usize>, AllocError> {
     let order = order_of(rt.alloc(), items, rules)?;
     let mut within: usize = 0;
@@ -103,7 +106,7 @@ pub(crate) fn item_over<T: AllocGlobal, A: Allocator>(
         if middle <= within {
             break;
         }
-        if pass_limit(rt, items, order.get(..middle).unwrap_or(&[]))? {
+        if pass_limit(rt, items, order.get(..middle).unwrap_or(&[]), width)? {
             over = middle;
         } else {
             within = middle;

@@ -1,5 +1,5 @@
 -- Whether a value is settled, by two comparisons with it.
-use Rattle.std.proofs.Common.{ℕ, ◌≡◌, ◌≤◌, ◌+◌, true, false, refl, sym, ap, subst, ◌∙◌, arith}
+use Rattle.std.proofs.Common.{ℕ, ◌≡◌, ◌≤◌, ◌+◌, true, false, refl, ap, subst, ◌∙◌, arith}
 use Rattle.std.specs.Prelude.{nat_le}
 use Rattle.statement.specs.declared.at_bound.AtBound.{AtBound}
 use Rattle.statement.specs.declared.at_bound.AtBound.TheVariants.{Zero, Unfinished}

@@ -1,5 +1,5 @@
 -- The lines that count what a description has.
-use Rattle.std.proofs.Common.{ℕ, ◌≡◌, inr, List, [], ◌∷◌, ◌++◌, length, map, codes, sym, ◌∙◌, ap}
+use Rattle.std.proofs.Common.{ℕ, ◌≡◌, inr, List, [], ◌∷◌, ◌++◌, length, map, codes, ◌∙◌, ap}
 use Rattle.statement.specs.Tree.{Tree, text}
 use Rattle.statement.specs.Items.{alternatives}
 use Rattle.statement.specs.Order.{relations_in_order}

@@ -10,7 +10,8 @@ use Rattle.statement.specs.Kept.{Kept, numbered}
 use Rattle.ground.specs.Grounds.{texts_at}
 use Rattle.ground.specs.GroundView.{IsGround, roles_of, base_of, inputs_of, instances_of}
 use Rattle.statement.specs.Limits.{count_inputs}
-use Rattle.statement.specs.Most.{limits}
+use Rattle.statement.specs.declared.width.Width.{Width}
+use Rattle.statement.specs.Most.{wide_limits}
 use Rattle.statement.specs.Listing.{listing, role_list, base_list, input_list}
 use Rattle.statement.specs.GoalsAndMoves.{dropped}
 use Rattle.rulebook.specs.GroundFacts.{fits}
@@ -42,7 +43,7 @@ count_within (ts ∷ rest) (suc r) lt = let within = count_within rest r (omega 
 at_most : (n m : ℕ) → n ≤ m → m ≤ 2 ^ 32 → n ≤ 2 ^ 32
 at_most n m h few = omega arith
 
-most_inputs : limits.inputs ≤ 2 ^ 32
+most_inputs : wide_limits.inputs ≤ 2 ^ 32
 most_inputs = omega arith
 
 pub few_inputs : (g : FlatGround) → count_all (inputs_of g) ≤ 2 ^ 32
@@ -106,11 +107,11 @@ measures_are rules g net are =
     nodes
 
 -- the numbers that were written are those of the items
-pub items_measured : (items : List Tree) (g : FlatGround) (net : Net) (made output : List ℕ) (status : Status) → IsItsGround items g → IsNetOf g net
+pub items_measured : (width : Width) (items : List Tree) (g : FlatGround) (net : Net) (made output : List ℕ) (status : Status) → IsItsGround width items g → IsNetOf g net
     → made ≡ net_lines (length (base_of g)) (count_all (inputs_of g)) (length (instances_of g)) g.dropped (length (gates_of net))
-    → output ≡ made → status ≡ Answer → IsNetReply items (record { output = output; status = status })
-items_measured items g net made output status its of lines is_output is_status =
+    → output ≡ made → status ≡ Answer → IsNetReply width items (record { output = output; status = status })
+items_measured width items g net made output status its of lines is_output is_status =
     let rules = alternatives items in
     let nodes = nodes_meant rules net in
     let all : output ≡ measures rules nodes = is_output ∙ lines ∙ measures_are rules g net its.ground in
-    inr (its.lawful, its.ground.within, nodes, nodes_law rules g its.ground net of, cc (all, is_status))
+    inr (its.lawful, its.within, nodes, nodes_law rules g its.ground net of, cc (all, is_status))

@@ -1,10 +1,10 @@
 -- What is told of the moves of a state, with a turn to come and without.
-use Rattle.std.proofs.Common.{ℕ, zero, suc, ◌≡◌, ◌⊎◌, ◌-◌, ◌<◌, inl, inr, Bool, true, false, List, length, get_or, refl, ◌∙◌, arith}
+use Rattle.std.proofs.Common.{ℕ, zero, suc, ◌≡◌, ◌-◌, ◌<◌, inl, inr, Bool, true, false, List, length, get_or, refl, ◌∙◌, arith}
 use Rattle.std.specs.Prelude.{◌||◌, if◌then◌else◌, Contains}
 use Rattle.std.specs.List.{flat_map}
 use Rattle.statement.specs.declared.at_bound.AtBound.{AtBound}
 use Rattle.statement.specs.NamedRules.{NamedRules}
-use Rattle.statement.specs.Rules.{Rules, State, is_stuck}
+use Rattle.statement.specs.Rules.{State, is_stuck}
 use Rattle.statement.specs.Solving.{solve_lines}
 use Rattle.statement.specs.MoveValues.{worth_line, values_lines}
 use Rattle.statement.specs.MoveLines.{move_lines, moves_with_lines}

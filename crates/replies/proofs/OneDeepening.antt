@@ -1,5 +1,5 @@
 -- Games that tell the same are told the same of turn by turn.
-use Rattle.std.proofs.Common.{ℕ, zero, suc, ◌+◌, ◌<◌, ◌≡◌, ◌++◌, ◌∷◌, [], Bool, cond, List, codes, Option, refl, ◌∙◌, ap}
+use Rattle.std.proofs.Common.{ℕ, ◌<◌, ◌≡◌, ◌++◌, ◌∷◌, [], Bool, List, codes, Option, refl, ◌∙◌, ap}
 use Rattle.std.specs.Prelude.{find, unwrap_or, ◌==◌}
 use Rattle.std.specs.List.{flat_map, range_with_len}
 use Rattle.statement.specs.declared.at_bound.AtBound.{AtBound}

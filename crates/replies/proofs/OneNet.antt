@@ -8,6 +8,7 @@ use Rattle.statement.specs.Items.{alternatives}
 use Rattle.statement.specs.Profile.{HasNoFault}
 use Rattle.statement.specs.declared.excess.Excess.{Excess}
 use Rattle.statement.specs.declared.ground_fault.GroundFault.TheVariants.{TooMany}
+use Rattle.statement.specs.declared.width.Width.{Width}
 use Rattle.statement.specs.Limits.{count_inputs, excess_in}
 use Rattle.statement.specs.Listing.{listing, role_list, base_list}
 use Rattle.statement.specs.GoalsAndMoves.{dropped}
@@ -20,24 +21,24 @@ use Rattle.statement.specs.Games.{PassesLimit}
 use Rattle.statement.specs.Networks.{net_lines, measures, MeasuresItems, IsNetReply}
 
 -- items without a fault pass a limit, or are measured
-some_net_of : (items : List Tree) → HasNoFault items → (found : Option Excess) → excess_in (alternatives items) ≡ found
-    → (reply : Reply) × IsNetReply items reply
-some_net_of items lawful (Some excess) e = (refusal (limit_fault_words (TooMany excess)), inl (inr (lawful, excess, e, refl)))
-some_net_of items lawful None e =
+some_net_of : (width : Width) (items : List Tree) → HasNoFault items → (found : Option Excess) → excess_in width (alternatives items) ≡ found
+    → (reply : Reply) × IsNetReply width items reply
+some_net_of width items lawful (Some excess) e = (refusal (limit_fault_words (TooMany excess)), inl (inr (lawful, excess, e, refl)))
+some_net_of width items lawful None e =
     let rules = alternatives items in
     let nodes = sources rules ++ inner_nodes rules in
     let are : AreNodesOf rules nodes = record { behind = inner_nodes rules; all = refl; same = IsPermutation-refl (inner_nodes rules) } in
     (answer (measures rules nodes), inr (lawful, e, nodes, are, refl))
 
-pub some_net : (items : List Tree) → (reply : Reply) × IsNetReply items reply
-some_net items =
+pub some_net : (width : Width) (items : List Tree) → (reply : Reply) × IsNetReply width items reply
+some_net width items =
     elim (some_verdict items) [
       | inl refused ↦ (refused.0, inl (inl refused.1))
-      | inr lawful ↦ some_net_of items lawful (excess_in (alternatives items)) refl
+      | inr lawful ↦ some_net_of width items lawful (excess_in width (alternatives items)) refl
     ]
 
-limit_or_measures : (items : List Tree) (reply other : Reply) → PassesLimit items reply → MeasuresItems items other → ⊥
-limit_or_measures items reply other p q =
+limit_or_measures : (width : Width) (items : List Tree) (reply other : Reply) → PassesLimit width items reply → MeasuresItems width items other → ⊥
+limit_or_measures width items reply other p q =
     let passed = p.2 in
     let within = q.1 in
     cc
@@ -55,13 +56,13 @@ same_measures rules nodes others a b =
     ap (net_lines (length (base_list rules)) (count_inputs rules (role_list rules)) (length (listing rules).kept) (dropped rules))
     (as_many rules nodes a ∙ sym (as_many rules others b))
 
-pub one_net : (items : List Tree) (reply other : Reply) → IsNetReply items reply → IsNetReply items other → reply ≡ other
-one_net items reply other (inl (inl p)) (inl (inl q)) = one_refusal items reply other p q
-one_net items reply other (inl (inl p)) (inl (inr q)) = absurd (refused_or_lawful items reply p q.0)
-one_net items reply other (inl (inl p)) (inr q) = absurd (refused_or_lawful items reply p q.0)
-one_net items reply other (inl (inr p)) (inl (inl q)) = absurd (refused_or_lawful items other q p.0)
-one_net items reply other (inl (inr p)) (inl (inr q)) = one_limit items reply other p q
-one_net items reply other (inl (inr p)) (inr q) = absurd (limit_or_measures items reply other p q)
-one_net items reply other (inr p) (inl (inl q)) = absurd (refused_or_lawful items other q p.0)
-one_net items reply other (inr p) (inl (inr q)) = absurd (limit_or_measures items other reply q p)
-one_net items reply other (inr p) (inr q) = p.4 ∙ ap answer (same_measures (alternatives items) p.2 q.2 p.3 q.3) ∙ sym q.4
+pub one_net : (width : Width) (items : List Tree) (reply other : Reply) → IsNetReply width items reply → IsNetReply width items other → reply ≡ other
+one_net width items reply other (inl (inl p)) (inl (inl q)) = one_refusal items reply other p q
+one_net width items reply other (inl (inl p)) (inl (inr q)) = absurd (refused_or_lawful items reply p q.0)
+one_net width items reply other (inl (inl p)) (inr q) = absurd (refused_or_lawful items reply p q.0)
+one_net width items reply other (inl (inr p)) (inl (inl q)) = absurd (refused_or_lawful items other q p.0)
+one_net width items reply other (inl (inr p)) (inl (inr q)) = one_limit width items reply other p q
+one_net width items reply other (inl (inr p)) (inr q) = absurd (limit_or_measures width items reply other p q)
+one_net width items reply other (inr p) (inl (inl q)) = absurd (refused_or_lawful items other q p.0)
+one_net width items reply other (inr p) (inl (inr q)) = absurd (limit_or_measures width items other reply q p)
+one_net width items reply other (inr p) (inr q) = p.4 ∙ ap answer (same_measures (alternatives items) p.2 q.2 p.3 q.3) ∙ sym q.4

@@ -6,9 +6,10 @@ use Rattle.statement.specs.Clause.{Alternative}
 use Rattle.statement.specs.Items.{alternatives}
 use Rattle.statement.specs.NamedRules.{NamedRules}
 use Rattle.statement.specs.Answers.{Reply}
+use Rattle.statement.specs.declared.width.Width.{Width}
 use Rattle.statement.specs.Games.{IsPlayReply}
 use Rattle.statement.specs.Queries.{Query}
-use Rattle.statement.specs.Replies.{IsReplyTo}
+use Rattle.statement.specs.Replies.{IsReplyIn}
 use Rattle.ground.specs.declared.flat_ground.FlatGround.{FlatGround}
 use Rattle.ground.specs.GroundView.{IsGround}
 use Rattle.rulebook.specs.RuleState.{named_rules_of}
@@ -18,23 +19,23 @@ use Rattle.replies.specs.Readings.{IsReplyOver}
 use Rattle.replies.specs.Replies.{reply_of}
 use Rattle.replies.proofs.Describing.{over_ground, tells_game, tells_rules}
 
-pub if_over : {E : Type 0} (query : Query) (g : FlatGround) (told : List Tree → Reply → Type 0) (r : Result made.Reply E)
-    → ((ts : Trees) (reply : Reply) → told (list_of ts) reply → IsReplyTo query ts reply)
-    → IfOk r (λ reply. (items : List Tree) → IsItsGround items g → told items (reply_of reply))
+pub if_over : {E : Type 0} (query : Query) (g : FlatGround) (told : Width → List Tree → Reply → Type 0) (r : Result made.Reply E)
+    → ((width : Width) (ts : Trees) (reply : Reply) → told width (list_of ts) reply → IsReplyIn width query ts reply)
+    → IfOk r (λ reply. (width : Width) (items : List Tree) → IsItsGround width items g → told width items (reply_of reply))
     → IfOk r (λ reply. IsReplyOver query (Ok g) (reply_of reply))
 if_over query g told (Ok reply) same h = over_ground query g told same (reply_of reply) h
 if_over query g told (Err e) same h = tt
 
 pub game_over : {E : Type 0} (query : Query) (g : FlatGround) (game : NamedRules) (told : NamedRules → Reply → Type 0) (r : Result made.Reply E)
-    → game ≡ named_rules_of g → ((ts : Trees) (reply : Reply) → IsPlayReply (list_of ts) told reply → IsReplyTo query ts reply)
+    → game ≡ named_rules_of g → ((width : Width) (ts : Trees) (reply : Reply) → IsPlayReply width (list_of ts) told reply → IsReplyIn width query ts reply)
     → IfOk r (λ reply. told game (reply_of reply)) → IfOk r (λ reply. IsReplyOver query (Ok g) (reply_of reply))
 game_over query g game told r plays same h =
-    if_over query g (λ items reply. IsPlayReply items told reply) r same (tells_game g game told r plays h)
+    if_over query g (λ width items reply. IsPlayReply width items told reply) r same (tells_game g game told r plays h)
 
 pub rules_over : {E : Type 0} (query : Query) (g : FlatGround) (game : NamedRules) (told : List Alternative → NamedRules → Reply → Type 0)
     (r : Result made.Reply E) → game ≡ named_rules_of g
-    → ((ts : Trees) (reply : Reply) → IsPlayReply (list_of ts) (told (alternatives (list_of ts))) reply → IsReplyTo query ts reply)
+    → ((width : Width) (ts : Trees) (reply : Reply) → IsPlayReply width (list_of ts) (told (alternatives (list_of ts))) reply → IsReplyIn width query ts reply)
     → IfOk r (λ reply. (rules : List Alternative) → IsGround rules g → told rules game (reply_of reply))
     → IfOk r (λ reply. IsReplyOver query (Ok g) (reply_of reply))
 rules_over query g game told r plays same h =
-    if_over query g (λ items reply. IsPlayReply items (told (alternatives items)) reply) r same (tells_rules g g game told r plays refl h)
+    if_over query g (λ width items reply. IsPlayReply width items (told (alternatives items)) reply) r same (tells_rules g g game told r plays refl h)

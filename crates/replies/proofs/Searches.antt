@@ -1,5 +1,5 @@
 -- Searches that are asked for, and the replies after them.
-use Rattle.std.proofs.Common.{◌≡◌, subst, sym, ap, ◌∙◌}
+use Rattle.std.proofs.Common.{◌≡◌, subst, sym}
 use Rattle.std.specs.Prelude.{Result, Ok, Err, IfOk}
 use Rattle.statement.specs.Answers.{Reply, answer}
 use Rattle.statement.specs.Solving.{solve_lines}

@@ -1,5 +1,5 @@
 -- A value is settled where it is no more than nothing for unfinished play makes it, and no less than 100 does.
-use Rattle.std.proofs.Common.{ℕ, suc, refl, sym, ◌∙◌, ◌≡◌, ◌≤◌, ◌+◌, Bool, true, false, arith}
+use Rattle.std.proofs.Common.{ℕ, suc, refl, sym, ◌∙◌, ◌≡◌, ◌≤◌, Bool, true, false, arith}
 use Rattle.std.proofs.Common.{w16}
 use Rattle.std.proofs.lemmas.Int.{ints, clamps}
 use mir.Val.{SFits}

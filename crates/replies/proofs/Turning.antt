@@ -1,11 +1,10 @@
 -- The lines of play, one turn at a time.
-use Rattle.std.proofs.Common.{ℕ, zero, suc, ◌+◌, ◌-◌, ◌≡◌, Bool, true, false, cond, List, [], ◌∷◌, ◌++◌, Option, Some, None, refl, sym, ap, ◌∙◌, arith, append-nil}
-use Rattle.std.specs.Prelude.{find, ◌==◌, ◌||◌}
+use Rattle.std.proofs.Common.{ℕ, zero, suc, ◌+◌, ◌-◌, ◌≡◌, List, [], ◌∷◌, ◌++◌, Option, Some, None, refl, sym, ap, ◌∙◌, arith, append-nil}
 use Rattle.std.specs.Option.{option_map_or}
 use Rattle.statement.specs.declared.at_bound.AtBound.{AtBound}
 use Rattle.statement.specs.NamedRules.{NamedRules}
-use Rattle.statement.specs.Rules.{Rules, State, Turn, is_stuck}
-use Rattle.statement.specs.Value.{value, worst, choice_of, reply_of, line_of}
+use Rattle.statement.specs.Rules.{Rules, State, Turn}
+use Rattle.statement.specs.Value.{choice_of, reply_of, line_of}
 use Rattle.statement.specs.Solving.{turn_line, turn_lines}
 use Rattle.statement.specs.MoveLines.{line_behind}
 

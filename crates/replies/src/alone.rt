@@ -6,6 +6,7 @@ ghost use Rattle.replies.specs.Histories.{named};
 ghost use Rattle.replies.specs.Play.{IsFoundOf};
 ghost use Rattle.replies.specs.Replies.{reply_of};
 ghost use Rattle.statement.specs.Replies.{IsReply};
+ghost use Rattle.statement.specs.Queries.{asked_in};
 ghost use Rattle.words.specs.Asked.{query_about, query_of};
 ghost use Rattle.statement.specs.Solving.{solve_lines};
 
@@ -19,6 +20,7 @@ use ground::instantiate_flat_alone;
 use maximin::{Room, value_and_choice, value_in};
 use rulebook::GroundGame;
 use share::Answer;
+use statement::Width;
 use std::alloc::{AllocError, AllocGlobal, Global};
 use words::{Command, Inquiry};
 
@@ -56,20 +58,21 @@ pub fn told_alone<G: Game + Drop>(alloc: Global, search: Search<G>) -> Result<Re
     search.told_in(alloc, found, room)
 }
 
-/// The reply to an inquiry over the bytes of the input.
+/// The reply to an inquiry over the bytes of the input, by the limits of a width.
 fn inquired_alone<G: GroundGame, S: GroundGame, T: AllocGlobal>(
     rt: &T,
     inquiry: &Inquiry,
+    width: Width,
     bytes: &[u8],
 ) -> Result<Reply, AllocError>
-    ensures { IfOk result (λ reply. IsReply (query_about inquiry.now) bytes.now (reply_of reply)) }
+    ensures { IfOk result (λ reply. IsReply (asked_in width (query_about inquiry.now)) bytes.now (reply_of reply)) }
 {
     let alloc = rt.alloc();
     let rules = match read(alloc, bytes)? {
         Reading::Rules(rules) => rules,
         Reading::Refused(reply) => return Ok(reply),
     };
-    let instantiated = instantiate_flat_alone(rt, &rules);
+    let instantiated = instantiate_flat_alone(rt, &rules, width);
     drop(rules);
     match ask::<G, S>(alloc, inquiry, instantiated)? {
         Asked::Told(reply) => Ok(reply),
@@ -90,6 +93,6 @@ pub fn reply_alone<G: GroundGame, S: GroundGame, T: AllocGlobal>(
     match command {
         Command::Show => show(rt.alloc(), bytes),
         Command::Check => check(rt.alloc(), bytes),
-        Command::Ask(inquiry) => inquired_alone::<G, S, T>(rt, inquiry, bytes),
+        Command::Ask(inquiry, width) => inquired_alone::<G, S, T>(rt, inquiry, *width, bytes),
     }
 }

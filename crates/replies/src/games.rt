@@ -1,6 +1,7 @@
 //! From the ground of items to the game that it is, and to what is told of it.
 ghost use Rattle.std.specs.Prelude.{IfOk, List};
 ghost use Rattle.statement.specs.Tree.{Tree};
+ghost use Rattle.statement.specs.declared.width.Width.{Width};
 ghost use Rattle.statement.specs.Moving.{IsMovesReply};
 ghost use Rattle.statement.specs.Items.{alternatives};
 ghost use Rattle.statement.specs.Solving.{IsSolveReply};
@@ -30,8 +31,8 @@ pub(crate) fn reply_to_moves<G: GroundGame>(
     ground: FlatGround,
     after: &str,
 ) -> Result<Reply, AllocError>
-    ensures { IfOk result (λ reply. (items : List Tree) → IsItsGround items ground
-        → IsPlayReply items (λ g. IsMovesReply g after.now) (reply_of reply)) }
+    ensures { IfOk result (λ reply. (width : Width) (items : List Tree) → IsItsGround width items ground
+        → IsPlayReply width items (λ g. IsMovesReply g after.now) (reply_of reply)) }
 {
     let game = G::over(alloc, ground)?;
     moves_reply(alloc, &game, after)
@@ -43,8 +44,8 @@ pub(crate) fn reply_to_state<G: GroundGame>(
     ground: FlatGround,
     after: &str,
 ) -> Result<Reply, AllocError>
-    ensures { IfOk result (λ reply. (items : List Tree) → IsItsGround items ground
-        → IsPlayReply items (λ g. IsStateReply (alternatives items) g after.now) (reply_of reply)) }
+    ensures { IfOk result (λ reply. (width : Width) (items : List Tree) → IsItsGround width items ground
+        → IsPlayReply width items (λ g. IsStateReply (alternatives items) g after.now) (reply_of reply)) }
 {
     let game = G::over(alloc, ground)?;
     state_reply(alloc, &game, after)
@@ -57,7 +58,7 @@ pub(crate) fn reply_for_role<G: GroundGame>(
     sought: &Sought,
     wanted: Wanted,
 ) -> Result<Reply, AllocError>
-    ensures { IfOk result (λ reply. (items : List Tree) → IsItsGround items ground → IsPlayReply items
+    ensures { IfOk result (λ reply. (width : Width) (items : List Tree) → IsItsGround width items ground → IsPlayReply width items
         (λ g. IsRoleReply g sought.now.role.now (λ r. wanted_lines wanted g r sought.now.depth sought.now.at_bound) sought.now.after.now)
         (reply_of reply)) }
 {
@@ -72,7 +73,7 @@ pub(crate) fn ask_solve<G: GroundGame>(
     ground: FlatGround,
     sought: &Sought,
 ) -> Result<Asked<G>, AllocError>
-    ensures { IfOk result (IsAsked G.Game (λ reply. (items : List Tree) → IsItsGround items ground → IsPlayReply items
+    ensures { IfOk result (IsAsked G.Game (λ reply. (width : Width) (items : List Tree) → IsItsGround width items ground → IsPlayReply width items
         (λ g. IsSolveReply g sought.now.role.now sought.now.depth sought.now.at_bound sought.now.after.now) reply)) }
 {
     let game = G::over(alloc, ground)?;
@@ -88,7 +89,7 @@ pub(crate) fn ask_deepen<G: GroundGame>(
     ground: FlatGround,
     sought: &Sought,
 ) -> Result<Asked<G>, AllocError>
-    ensures { IfOk result (IsAsked G.Game (λ reply. (items : List Tree) → IsItsGround items ground → IsPlayReply items
+    ensures { IfOk result (IsAsked G.Game (λ reply. (width : Width) (items : List Tree) → IsItsGround width items ground → IsPlayReply width items
         (λ g. IsDeepenReply g sought.now.role.now sought.now.depth sought.now.at_bound sought.now.after.now) reply)) }
 {
     let game = G::over(alloc, ground)?;

@@ -7,6 +7,7 @@ ghost use Rattle.replies.specs.Games.{IsItsGround};
 ghost use Rattle.replies.specs.Replies.{reply_of};
 ghost use Rattle.statement.specs.Networks.{IsNetReply, net_lines};
 ghost use Rattle.statement.specs.Tree.{Tree};
+ghost use Rattle.statement.specs.declared.width.Width.{Width};
 
 use crate::reply::{Reply, add_count, answered};
 use ground::FlatGround;
@@ -40,7 +41,7 @@ fn measured(alloc: Global, ground: &FlatGround, net: &Net) -> Result<Vec<u8>, Al
 
 /// The reply to `net` over the ground of items: how large it and its network are.
 pub(crate) fn reply_to_net(alloc: Global, ground: &FlatGround) -> Result<Reply, AllocError>
-    ensures { IfOk result (λ reply. (items : List Tree) → IsItsGround items ground.now → IsNetReply items (reply_of reply)) }
+    ensures { IfOk result (λ reply. (width : Width) (items : List Tree) → IsItsGround width items ground.now → IsNetReply width items (reply_of reply)) }
 {
     let Ok(net) = Net::of_flat(alloc, ground) else {
         return Err(AllocError);

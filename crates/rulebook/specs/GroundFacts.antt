@@ -6,17 +6,17 @@ use Rattle.ground.specs.declared.flat_ground.FlatGround.{FlatGround}
 use Rattle.statement.specs.Kept.{Kept}
 use Rattle.ground.specs.Grounds.{texts_at}
 use Rattle.ground.specs.Fits.{FitTogether, count_all}
-use Rattle.statement.specs.Most.{limits}
+use Rattle.statement.specs.Most.{wide_limits}
 use Rattle.ground.specs.GroundView.{roles_of, base_of, inputs_of, kinds_of, instances_of}
 use Rattle.ground.proofs.Facts.{fit_together}
 
 pub fits : (g : FlatGround) → FitTogether (roles_of g) (base_of g) (inputs_of g) g.starts.items (kinds_of g) (instances_of g)
 fits g = fit_together _ _ _ _ _ _ _ g.sound
 
-most_atoms : limits.instances + (limits.base + limits.inputs) ≤ 2 ^ 32
+most_atoms : wide_limits.instances + (wide_limits.base + wide_limits.inputs) ≤ 2 ^ 32
 most_atoms = omega arith
 
-most_inputs : limits.inputs ≤ 2 ^ 32
+most_inputs : wide_limits.inputs ≤ 2 ^ 32
 most_inputs = omega arith
 
 at_most : (n m : ℕ) → n ≤ m → m ≤ 2 ^ 32 → n ≤ 2 ^ 32

@@ -1,14 +1,14 @@
 -- What is told behind what the program tells without explanations.
 use Rattle.std.proofs.Common.{ℕ, ◌≡◌, ◌≢◌, inl, inr, List, refl, ap, ◌∙◌}
 use Rattle.std.proofs.KnownBytes.{Keeps-refl}
-use Rattle.std.specs.Prelude.{Option, Result, Ok, Err, IfOk, IfErr, ◌⊎◌}
+use Rattle.std.specs.Prelude.{Option, Result, Ok, Err, IfOk, IfErr}
 use Rattle.std.specs.Io.KnownBytes.{Appends, Keeps}
 use Rattle.kif.specs.Written.{AppendsFront}
 use Rattle.statement.specs.Answers.{Reply}
 use Rattle.statement.specs.Queries.{Query}
 use Rattle.statement.specs.Input.{RepliesTo}
 use Rattle.statement.specs.declared.status.Status.{Status}
-use Rattle.statement.specs.declared.status.Status.TheVariants.{Answer, Refused}
+use Rattle.statement.specs.declared.status.Status.TheVariants.{Refused}
 use Rattle.running.specs.declared.fault.RunFault.{RunFault}
 use Rattle.running.specs.declared.fault.RunFault.TheVariants.{Memory, Read, Write}
 use Rattle.running.specs.declared.runs.Ran.{Ran}

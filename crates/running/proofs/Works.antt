@@ -12,7 +12,7 @@ use Rattle.replies.specs.Ready.{IsReady, lines_to_write}
 use Rattle.replies.specs.Replies.{reply_of}
 use Rattle.running.specs.declared.working.Work.{Work}
 use Rattle.running.specs.declared.working.Work.TheVariants.{Told, ToWrite}
-use Rattle.running.specs.Work.{reply_by, CanBeWritten, IsWork}
+use Rattle.running.specs.Work.{IsWork}
 
 module _ {G P W M : Type 0} (of : Ghosts G P W M) (is : Reply → Type 0) where
   pub told : (reply : made.Reply) → is (reply_of reply) → IsWork of is (Told reply)

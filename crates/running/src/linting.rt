@@ -27,7 +27,7 @@ use opening::{add_openings, openings_of};
 use replies::check;
 use rulegame::RuleGame;
 use rules::{RuleFault, RuleSet};
-use statement::Status;
+use statement::{Status, Width};
 use std::alloc::{AllocError, Allocator, Global};
 use std::io::{Read, Write};
 use std::thread::Threads;
@@ -51,7 +51,7 @@ fn add_start<T: AllocGlobal, A: Allocator>(
     rules: &RuleSet,
     output: &mut Vec<u8>,
 ) -> Result<(), AllocError> {
-    match instantiate_flat_alone(rt, rules) {
+    match instantiate_flat_alone(rt, rules, Width::Wide) {
         Ok(ground) => {
             let found = openings_of::<RuleGame>(rt.alloc(), ground)?;
             add_openings(bytes, items, rules, &found, output)

@@ -3,6 +3,7 @@ ghost use Rattle.std.specs.Prelude.{◌≡◌, ◌<◌, IfOk};
 ghost use Rattle.statement.specs.Answers.{answer};
 ghost use Rattle.replies.specs.Histories.{named};
 ghost use Rattle.replies.specs.Replies.{reply_of};
+ghost use Rattle.statement.specs.Queries.{asked_in};
 ghost use Rattle.statement.specs.Replies.{IsReply};
 ghost use Rattle.words.specs.Asked.{query_about, query_of};
 ghost use Rattle.statement.specs.Solving.{solve_lines};
@@ -14,6 +15,7 @@ use ground::instantiate_flat;
 use replies::{Asked, Deepening, Reading, Reply, Search, ask, check, read, show, told_alone};
 use rulebook::GroundGame;
 use share::{Gate, solve_in};
+use statement::Width;
 use std::alloc::AllocError;
 use std::thread::Threads;
 use words::{Command, Inquiry};
@@ -61,21 +63,22 @@ pub(crate) enum Work<G: Game + Drop> {
     ToWrite(Deepening<G>),
 }
 
-/// What an inquiry over the bytes of the input comes to. Where they are instantiated the sizes of that are noted.
+/// What an inquiry over the bytes of the input comes to, by the limits of a width. Where they are instantiated the sizes of that are noted.
 fn work_about<G: GroundGame, S: GroundGame, T: Threads + Sync + AllocGlobal>(
     rt: &T,
     inquiry: &Inquiry,
+    width: Width,
     bytes: &[u8],
     sizes: &mut Option<Sizes>,
 ) -> Result<Work<G>, AllocError>
-    ensures { IfOk result (IsWork G.Game (IsReply (query_about inquiry.now) bytes.now)) }
+    ensures { IfOk result (IsWork G.Game (IsReply (asked_in width (query_about inquiry.now)) bytes.now)) }
 {
     let alloc = rt.alloc();
     let rules = match read(alloc, bytes)? {
         Reading::Rules(rules) => rules,
         Reading::Refused(reply) => return Ok(Work::Told(reply)),
     };
-    let instantiated = instantiate_flat(rt, &rules);
+    let instantiated = instantiate_flat(rt, &rules, width);
     drop(rules);
     *sizes = sizes_of(&instantiated);
     match ask::<G, S>(alloc, inquiry, instantiated)? {
@@ -98,7 +101,7 @@ pub(crate) fn work_of<G: GroundGame, S: GroundGame, T: Threads + Sync + AllocGlo
     match command {
         Command::Show => Ok(Work::Told(show(rt.alloc(), bytes)?)),
         Command::Check => Ok(Work::Told(check(rt.alloc(), bytes)?)),
-        Command::Ask(inquiry) => work_about::<G, S, T>(rt, inquiry, bytes, sizes),
+        Command::Ask(inquiry, width) => work_about::<G, S, T>(rt, inquiry, *width, bytes, sizes),
     }
 }
 

@@ -1,6 +1,7 @@
 -- What is kept of the rules.
 use Rattle.std.proofs.Common.{ℕ, ◌≡◌, List, subst, sym}
-use Rattle.std.specs.Prelude.{Option, Some, None, Ok, IfSome}
+use Rattle.std.specs.Prelude.{Option, None, Ok}
+use Rattle.statement.specs.declared.width.Width.{Width}
 use Rattle.replies.specs.declared.reply.Reply as made
 use Rattle.requests.specs.declared.desk.Desk.{Desk}
 use Rattle.requests.specs.declared.desk.Taken.{Taken}
@@ -11,7 +12,7 @@ use Rattle.words.specs.declared.command.Language.TheVariants.{Profile, Whole, Ti
 use Rattle.serving.specs.Kept.{AreKept, kept_after}
 
 -- nothing may be kept of any rules
-module _ {X : Type 0} (Plays : List ℕ → X → Type 0) where
+module _ {X : Type 0} (Plays : Width → List ℕ → X → Type 0) where
   pub none_kept : (language : Language) (rules : List ℕ) → AreKept Plays language rules None None
   none_kept Profile rules = tt
   none_kept Whole rules = tt

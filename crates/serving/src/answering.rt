@@ -9,10 +9,10 @@ use crate::splitting::words_in;
 use replies::Reply;
 use rulebook::GroundGame;
 use running::lint_reply;
-use statement::Status;
+use statement::{Status, Width};
 use std::alloc::{AllocError, Global};
 use std::thread::Threads;
-use words::{Request, request_of};
+use words::{Request, request_in};
 
 /// The status of an answer, and of help.
 const ANSWERED: u8 = 0;
@@ -72,16 +72,17 @@ fn told_text(alloc: Global, status: u8, text: &str) -> Result<Told, AllocError>
 fn told_of<G: GroundGame, T: Threads + Sync + AllocGlobal>(
     rt: &T,
     request: &Request,
+    width: Width,
     rules: &[u8],
     made: &mut Option<KeptGame<G>>,
 ) -> Result<Told, AllocError>
-    requires { IfSome made.old (IsKeptGame G.Game G.source rules.now) }
+    requires { IfSome made.old (IsKeptGame G.Game G.source width rules.now) }
     ensures told { IfOk result (λ told. IsToldOf request.now rules.now told.status told.bytes.items) }
-    ensures made { IfSome made.new (IsKeptGame G.Game G.source rules.now) }
+    ensures made { IfSome made.new (IsKeptGame G.Game G.source width rules.now) }
 {
     match request {
         Request::Run(command) => {
-            let reply = replied::<G, T>(rt, command, rules, made)?;
+            let reply = replied::<G, T>(rt, command, width, rules, made)?;
             Ok(told_by(reply))
         }
         Request::Help(text) => told_text(rt.alloc(), ANSWERED, text.as_str()),
@@ -101,35 +102,37 @@ fn is_lint(words: &[&str]) -> bool {
 fn told_of_words<G: GroundGame, T: Threads + Sync + AllocGlobal>(
     rt: &T,
     words: &[&str],
+    width: Width,
     rules: &[u8],
     made: &mut Option<KeptGame<G>>,
 ) -> Result<Told, AllocError>
-    requires { IfSome made.old (IsKeptGame G.Game G.source rules.now) }
+    requires { IfSome made.old (IsKeptGame G.Game G.source width rules.now) }
     ensures told { IfOk result (λ told. IsTold rules.now told.status told.bytes.items) }
-    ensures made { IfSome made.new (IsKeptGame G.Game G.source rules.now) }
+    ensures made { IfSome made.new (IsKeptGame G.Game G.source width rules.now) }
 {
     if is_lint(words) {
         let reply = lint_reply(rt, rules)?;
         return Ok(told_by(reply));
     }
-    let request = request_of(rt.alloc(), words)?;
-    told_of(rt, &request, rules, made)
+    let request = request_in(rt.alloc(), words, width)?;
+    told_of(rt, &request, width, rules, made)
 }
 
-/// What is told of a line, over the rules. It fails only for want of memory.
+/// What is told of a line, over the rules, by the limits of the width. It fails only for want of memory.
 pub(crate) fn told_of_line<G: GroundGame, T: Threads + Sync + AllocGlobal>(
     rt: &T,
     line: &[u8],
+    width: Width,
     rules: &[u8],
     made: &mut Option<KeptGame<G>>,
 ) -> Result<Told, AllocError>
-    requires { IfSome made.old (IsKeptGame G.Game G.source rules.now) }
+    requires { IfSome made.old (IsKeptGame G.Game G.source width rules.now) }
     ensures told { IfOk result (λ told. IsTold rules.now told.status told.bytes.items) }
-    ensures made { IfSome made.new (IsKeptGame G.Game G.source rules.now) }
+    ensures made { IfSome made.new (IsKeptGame G.Game G.source width rules.now) }
 {
     let Some(words) = words_in(rt.alloc(), line)? else {
         let fault = Request::Misuse(format!(in rt.alloc(); "a word is no UTF-8\n")?);
-        return told_of(rt, &fault, rules, made);
+        return told_of(rt, &fault, width, rules, made);
     };
-    told_of_words(rt, &words, rules, made)
+    told_of_words(rt, &words, width, rules, made)
 }

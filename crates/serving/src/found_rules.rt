@@ -1,6 +1,7 @@
 //! Rules as they are found: what is written for them stands in their place.
 ghost use Rattle.std.specs.Prelude.{◌≡◌, ℕ, List, None, IfOk, IfSome};
 ghost use Rattle.replies.specs.Replies.{reply_of};
+ghost use Rattle.statement.specs.declared.width.Width.TheVariants.{Wide};
 ghost use Rattle.words.specs.declared.command.Language.TheVariants.{Whole};
 ghost use Rattle.unrolling.specs.Unrolled.{IsUnrollReply};
 ghost use Rattle.serving.specs.Telling.{IsToldFound, IsToldIn};
@@ -12,7 +13,7 @@ use game::Game;
 use replies::Reply;
 use requests::Taken;
 use rulebook::GroundGame;
-use statement::Status;
+use statement::{Status, Width};
 use std::alloc::AllocError;
 use std::thread::Threads;
 use unroll::Bounds;
@@ -52,7 +53,7 @@ fn taken_out<G: GroundGame, T: AllocGlobal>(
 ) -> Result<Reply, AllocError>
     requires { AreKeptFound (IsKeptGame G.Game G.source) bounds rules.now kept.old.written kept.old.made }
     ensures reply { IfOk result (λ reply. IsUnrollReply bounds rules.now (reply_of reply)
-        × IfSome kept.new.made (IsKeptGame G.Game G.source reply.output.items)) }
+        × IfSome kept.new.made (IsKeptGame G.Game G.source Wide reply.output.items)) }
     ensures none { kept.new.written ≡ None }
 {
     match kept.written.take() {
@@ -71,13 +72,13 @@ fn told_of_written<G: GroundGame, T: Threads + Sync + AllocGlobal>(
     reply: &Reply,
     made: &mut Option<KeptGame<G>>,
 ) -> Result<Told, AllocError>
-    requires { IfSome made.old (IsKeptGame G.Game G.source reply.now.output.items) }
+    requires { IfSome made.old (IsKeptGame G.Game G.source Wide reply.now.output.items) }
     ensures told { (bounds : Bounds) (rules : List ℕ) → IsUnrollReply bounds rules (reply_of reply.now)
         → IfOk result (λ told. IsToldFound bounds rules told.status told.bytes.items) }
-    ensures made { IfSome made.new (IsKeptGame G.Game G.source reply.now.output.items) }
+    ensures made { IfSome made.new (IsKeptGame G.Game G.source Wide reply.now.output.items) }
 {
     match reply.status {
-        Status::Answer => told_of_line(rt, line, &reply.output, made),
+        Status::Answer => told_of_line(rt, line, Width::Wide, &reply.output, made),
         Status::Refused => told_again(rt.alloc(), reply),
     }
 }
@@ -113,7 +114,7 @@ pub(crate) fn told_in<G: GroundGame, T: Threads + Sync + AllocGlobal>(
     ensures kept { AreKept (IsKeptGame G.Game G.source) language rules.now kept.new.written kept.new.made }
 {
     match language {
-        Language::Profile => told_of_line(rt, line, rules, &mut kept.made),
+        Language::Profile => told_of_line(rt, line, Width::Plain, rules, &mut kept.made),
         Language::Whole => told_of_found(rt, line, rules, Bounds::AsStated, kept),
         Language::Tightened => told_of_found(rt, line, rules, Bounds::Tightened, kept),
     }

@@ -4,6 +4,7 @@ use ground::instantiate_flat_alone;
 use kif::read;
 use outline::Relation;
 use rules::RuleSet;
+use statement::Width;
 use std::alloc::{AllocError, Global};
 use std::test::Fail;
 
@@ -72,7 +73,7 @@ fn layers_are_enough_where_ways_are_short(rt: HostRuntime) -> Result<(), Fail> {
         }
         let items = read(rt.alloc(), &whole)?;
         let rules = RuleSet::check(rt.alloc(), &items)?;
-        let ground = instantiate_flat_alone(&rt, &rules)?;
+        let ground = instantiate_flat_alone(&rt, &rules, Width::Plain)?;
         let own = [Relation {
             word: b"at",
             arity: 1,
@@ -96,7 +97,7 @@ fn kept_layers_are_enough_where_paths_are_short(rt: HostRuntime) -> Result<(), F
         }
         let items = read(rt.alloc(), &whole)?;
         let rules = RuleSet::check(rt.alloc(), &items)?;
-        let ground = instantiate_flat_alone(&rt, &rules)?;
+        let ground = instantiate_flat_alone(&rt, &rules, Width::Plain)?;
         let own = [Relation {
             word: b"at",
             arity: 1,

@@ -6,7 +6,8 @@ use Rattle.statement.specs.Dependence.{is_fixed}
 use Rattle.statement.specs.Order.{relations_in_order}
 use Rattle.statement.specs.declared.excess.Excess.{Excess}
 use Rattle.statement.specs.declared.excess.Excess.TheVariants.{Base, Inputs, Instances, Text}
-use Rattle.statement.specs.Most.{Limits, limits}
+use Rattle.statement.specs.declared.width.Width.{Width}
+use Rattle.statement.specs.Most.{Limits, limits_in}
 use Rattle.statement.specs.Listing.{Listing, heads, kept_of_relation, list_relation, with_atoms, context_atoms, fixed_listing, role_list, base_list, input_list}
 
 abbrev pub or_excess : Option Excess → Option Excess → Option Excess
@@ -45,5 +46,5 @@ excess_by most rules =
     (first_excess most rules (record { atoms = with_atoms fixed.atoms (context_atoms fixed.atoms); kept = fixed.kept })
     (filter (λ p. not (is_fixed rules p)) (relations_in_order rules)))))
 
-abbrev pub excess_in : List Alternative → Option Excess
-excess_in rules = excess_by limits rules
+abbrev pub excess_in : Width → List Alternative → Option Excess
+excess_in width rules = excess_by (limits_in width) rules

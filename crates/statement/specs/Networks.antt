@@ -4,6 +4,7 @@ use Rattle.statement.specs.Tree.{Tree}
 use Rattle.statement.specs.Clause.{Alternative}
 use Rattle.statement.specs.Items.{alternatives}
 use Rattle.statement.specs.Profile.{HasNoFault}
+use Rattle.statement.specs.declared.width.Width.{Width}
 use Rattle.statement.specs.Limits.{count_inputs, excess_in}
 use Rattle.statement.specs.Listing.{listing, role_list, base_list}
 use Rattle.statement.specs.GoalsAndMoves.{dropped}
@@ -24,10 +25,10 @@ measures rules nodes =
     net_lines (length (base_list rules)) (count_inputs rules (role_list rules)) (length (listing rules).kept) (dropped rules) (length nodes)
 
 -- the items are a description within all limits, and the reply says how large it and its network are
-abbrev pub MeasuresItems : List Tree → Reply → Type 0
-MeasuresItems items reply =
-    HasNoFault items × (excess_in (alternatives items) ≡ None)
+abbrev pub MeasuresItems : Width → List Tree → Reply → Type 0
+MeasuresItems width items reply =
+    HasNoFault items × (excess_in width (alternatives items) ≡ None)
     × (nodes : List NetNode) × AreNodesOf (alternatives items) nodes × (reply ≡ answer (measures (alternatives items) nodes))
 
-abbrev pub IsNetReply : List Tree → Reply → Type 0
-IsNetReply items reply = HasNoGame items reply ⊎ MeasuresItems items reply
+abbrev pub IsNetReply : Width → List Tree → Reply → Type 0
+IsNetReply width items reply = HasNoGame width items reply ⊎ MeasuresItems width items reply

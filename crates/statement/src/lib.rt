@@ -12,6 +12,7 @@ mod node_name;
 mod rule_fault;
 mod status;
 mod text_fault;
+mod width;
 mod window;
 
 pub use at_bound::{AtBound, Worth};
@@ -23,4 +24,5 @@ pub use node_name::Name;
 pub use rule_fault::{RuleExcess, RuleFault};
 pub use status::Status;
 pub use text_fault::KifFault;
+pub use width::Width;
 pub use window::Window;

@@ -5,6 +5,7 @@ use explain::{
 };
 use kif::{KifFault, add_refusal, read};
 use profile::{RuleExcess, RuleFault};
+use statement::Width;
 use std::alloc::{AllocError, Global};
 use std::str::from_utf8;
 use std::test::Fail;
@@ -238,15 +239,31 @@ fn roles_and_limits_are_told(rt: HostRuntime) -> Result<(), Fail> {
         text: b"(p)\n(q)",
         items: &items,
     };
-    explain_limit(&source, None, b"refused N1 TooMany base\n", &mut output)?;
+    explain_limit(
+        &source,
+        None,
+        Width::Plain,
+        b"refused N1 TooMany base\n",
+        &mut output,
+    )?;
+    for width in [Width::Plain, Width::Wide] {
+        explain_limit(
+            &source,
+            None,
+            width,
+            b"refused N1 TooMany inputs\n",
+            &mut output,
+        )?;
+    }
     explain_limit(
         &source,
         Some(2),
+        Width::Plain,
         b"refused N1 TooMany instances\n",
         &mut output,
     )?;
     let wanted =
-        "--role: refused S1 NoSuchRole: the roles are x (o 2)\n<input>: refused N1 TooMany: more than 65536 base propositions\n<input>:2:1: refused N1 TooMany: more than 262144 instances of rules\n(q)\n^\n  with this item the limit is passed; the items that are instantiated before it pass none\n";
+        "--role: refused S1 NoSuchRole: the roles are x (o 2)\n<input>: refused N1 TooMany: more than 65536 base propositions\n<input>: refused N1 TooMany: more than 4096 moves of all roles together\n<input>: refused N1 TooMany: more than 65536 moves of all roles together\n<input>:2:1: refused N1 TooMany: more than 262144 instances of rules\n(q)\n^\n  with this item the limit is passed; the items that are instantiated before it pass none\n";
     assert_eq!(rt; from_utf8(&output)?, wanted);
     Ok(())
 }

@@ -18,12 +18,20 @@ use layer_items::{is_layered, is_stacked};
 use layered::{what_is_layered_is_answered, what_is_stacked_is_answered};
 use meaning::accepted_items_are_well_formed;
 use outline::{Relation, head_of};
+use readings::items_by_reading;
 use rules::RuleSet;
 use slots::{is_bounded, is_enough};
-use statement::RuleFault;
+use statement::{RuleFault, Width};
 use std::alloc::{AllocError, AllocGlobal, Global};
 use whole::what_is_answered_apart_is_answered_together;
 use writing::Layers;
+
+/// Relations that are written as layers, and their names there.
+#[derive(Drop)]
+pub(crate) struct Circle<'a> {
+    relations: Vec<Relation<'a>>,
+    layers: &'a Layers,
+}
 
 /// The relations that the items at places head.
 fn heads_at<'a>(
@@ -38,6 +46,22 @@ fn heads_at<'a>(
         }
     }
     Ok(heads)
+}
+
+/// The relations that are written as layers, by the items that head them. No clause says which they are: who takes them tests what is written.
+pub(crate) fn circles_of<'a>(
+    alloc: Global,
+    items: &'a [Expr<Global>],
+    layers: &'a [Layers],
+) -> Result<Vec<Circle<'a>>, AllocError> {
+    let mut circles = Vec::new(alloc);
+    for one in layers {
+        circles.push(Circle {
+            relations: heads_at(alloc, items, &one.items)?,
+            layers: one,
+        })?;
+    }
+    Ok(circles)
 }
 
 /// What is written, as rules and as their kept instances.
@@ -93,7 +117,7 @@ fn are_stacks_shown(
     is_enough(alloc, written.rules, written.ground, own, names)
 }
 
-/// Whether what is written of relations as layers is shown to be what is derived of them.
+/// Whether what is written of relations as layers is shown to be what is derived of them. Layers have an item for each reading of a body.
 fn is_one_shown(
     alloc: Global,
     items: &[Expr<Global>],
@@ -107,18 +131,19 @@ fn is_one_shown(
     ensures { IfOk result (λ is_so. OnTrue is_so (AreAnswered (trees_in items.now) (trees_in written.entry.items.now)
         (map relation_in own.now))) }
 {
+    let parted = items_by_reading(alloc, items, own)?;
     if layers.is_linear {
-        return are_layers_shown(alloc, items, written, own, &layers.names);
+        return are_layers_shown(alloc, &parted, written, own, &layers.names);
     }
-    are_stacks_shown(alloc, items, written, own, &layers.names)
+    are_stacks_shown(alloc, &parted, written, own, &layers.names)
 }
 
 /// Adds relations that are written as layers to the own ones, if what is written of them is shown to be what is derived of them.
 fn add_shown<'a>(
     alloc: Global,
-    items: &'a [Expr<Global>],
+    items: &[Expr<Global>],
     written: Instantiated,
-    layers: &Layers,
+    circle: &Circle<'a>,
     own: &mut Vec<Relation<'a>>,
 ) -> Result<bool, AllocError>
     requires same { rules_in written.rules.now ≡ alternatives (trees_in written.items.now) }
@@ -127,11 +152,10 @@ fn add_shown<'a>(
     ensures { IfOk result (λ is_so. OnTrue is_so (AddsAnswered (trees_in items.now) (trees_in written.entry.items.now)
         (map relation_in own.old.items) (map relation_in own.new.items))) }
 {
-    let more = heads_at(alloc, items, &layers.items)?;
-    if !is_one_shown(alloc, items, written, &more, layers)? {
+    if !is_one_shown(alloc, items, written, &circle.relations, circle.layers)? {
         return Ok(false);
     }
-    own.extend_from_slice(&more)?;
+    own.extend_from_slice(&circle.relations)?;
     what_is_answered_apart_is_answered_together();
     Ok(true)
 }
@@ -139,9 +163,9 @@ fn add_shown<'a>(
 /// Adds all relations that are written as layers to the own ones, if what is written of them is shown to be what is derived of them.
 fn are_all_shown<'a>(
     alloc: Global,
-    items: &'a [Expr<Global>],
+    items: &[Expr<Global>],
     written: Instantiated,
-    layers: &[Layers],
+    circles: &[Circle<'a>],
     own: &mut Vec<Relation<'a>>,
 ) -> Result<bool, AllocError>
     requires same { rules_in written.rules.now ≡ alternatives (trees_in written.items.now) }
@@ -150,7 +174,7 @@ fn are_all_shown<'a>(
     ensures { IfOk result (λ is_so. OnTrue is_so (AddsAnswered (trees_in items.now) (trees_in written.entry.items.now)
         (map relation_in own.old.items) (map relation_in own.new.items))) }
 {
-    for circle in layers {
+    for circle in circles {
         if !add_shown(alloc, items, written, circle, own)? {
             return Ok(false);
         }
@@ -169,11 +193,11 @@ fn has_ranges(is_ranged: bool, ground: &FlatGround) -> bool
 /// as well where they pass a limit.
 fn look_at_rules<'a, T: AllocGlobal>(
     rt: &T,
-    items: &'a [Expr<Global>],
+    items: &[Expr<Global>],
     written: &[Expr<Global>],
     rules: &RuleSet,
     is_ranged: bool,
-    layers: &[Layers],
+    circles: &[Circle<'a>],
     own: &mut Vec<Relation<'a>>,
 ) -> Result<bool, AllocError>
     requires same { rules_in rules.now ≡ alternatives (trees_in written.now) }
@@ -182,7 +206,7 @@ fn look_at_rules<'a, T: AllocGlobal>(
     ensures layers { IfOk result (λ is_so. OnTrue is_so (AddsAnswered (trees_in items.now) (trees_in written.now)
         (map relation_in own.old.items) (map relation_in own.new.items))) }
 {
-    let ground = match instantiate_flat_alone(rt, rules) {
+    let ground = match instantiate_flat_alone(rt, rules, Width::Wide) {
         Ok(ground) => ground,
         Err(GroundFault::NoMemory) => return Err(AllocError),
         Err(_) => return Ok(false),
@@ -195,7 +219,7 @@ fn look_at_rules<'a, T: AllocGlobal>(
         rules,
         ground: &ground,
     };
-    are_all_shown(rt.alloc(), items, instantiated, layers, own)
+    are_all_shown(rt.alloc(), items, instantiated, circles, own)
 }
 
 /// Whether the kept instances of what is written show the rest: that nothing is dropped, unless the items state `base` and `input`, and that
@@ -203,9 +227,9 @@ fn look_at_rules<'a, T: AllocGlobal>(
 /// instances pass a limit.
 pub(crate) fn look_at_instances<'a, T: AllocGlobal>(
     rt: &T,
-    items: &'a [Expr<Global>],
+    items: &[Expr<Global>],
     written: &[Expr<Global>],
-    layers: &[Layers],
+    circles: &[Circle<'a>],
     own: &mut Vec<Relation<'a>>,
 ) -> Result<bool, AllocError>
     ensures ranges { IfOk result (λ is_so. OnTrue is_so (HasItsRanges (trees_in items.now) (trees_in written.now))) }
@@ -213,7 +237,7 @@ pub(crate) fn look_at_instances<'a, T: AllocGlobal>(
         (map relation_in own.old.items) (map relation_in own.new.items))) }
 {
     let is_ranged = states_ranges(items);
-    if is_ranged && layers.is_empty() {
+    if is_ranged && circles.is_empty() {
         return Ok(true);
     }
     let rules = match RuleSet::check(rt.alloc(), written) {
@@ -221,5 +245,5 @@ pub(crate) fn look_at_instances<'a, T: AllocGlobal>(
         Err(RuleFault::NoMemory) => return Err(AllocError),
         Err(_) => return Ok(false),
     };
-    look_at_rules(rt, items, written, &rules, is_ranged, layers, own)
+    look_at_rules(rt, items, written, &rules, is_ranged, circles, own)
 }

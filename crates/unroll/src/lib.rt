@@ -8,6 +8,7 @@
 
 mod choosing;
 mod instances;
+mod ranges;
 mod showing;
 #[cfg(test)]
 mod tests;

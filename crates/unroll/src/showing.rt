@@ -8,9 +8,11 @@ ghost use Rattle.outline.specs.Relations.{relation_in};
 ghost use Rattle.whole.specs.Derivable.{IsStratified};
 ghost use Rattle.whole.specs.Possible.{PlaysAs};
 ghost use Rattle.unroll.specs.Answers.{AreAnswered};
+ghost use Rattle.unroll.specs.Played.{played_items};
 
 use crate::choosing::{own_relations, relations_below};
-use crate::instances::look_at_instances;
+use crate::instances::{circles_of, look_at_instances};
+use crate::ranges::without_ranges;
 use certified::is_founded;
 use extended::{rewrites, what_is_rewritten_is_played_the_same};
 use founded::set_of;
@@ -18,7 +20,7 @@ use kif::Expr;
 use outline::Relation;
 use std::alloc::{AllocError, AllocGlobal, Global};
 use whole::{what_is_answered_apart_is_answered_together, what_is_founded_is_answered};
-use writing::Layers;
+use writing::{Bounds, Layers};
 
 /// Whether what is written of own relations that are fixed is shown to be what is derived of them.
 fn is_stated_alike<'a, T: AllocGlobal>(
@@ -40,28 +42,52 @@ fn is_stated_alike<'a, T: AllocGlobal>(
     is_founded(rt, items, written, own, &in_own, &below)
 }
 
-/// Whether what is written is shown to be played as the items that it was written for. The marks say of each item whether the relation that
-/// it heads is fixed and rests on itself, the layers which other relations rest on themselves.
-pub(crate) fn is_shown<'a, T: AllocGlobal>(
+/// Whether what is written is shown to be played as some of the items that it was written for. The marks say of each of all of these whether the
+/// relation that it heads is fixed and rests on itself, the layers which other relations rest on themselves.
+fn is_played<'a, T: AllocGlobal>(
     rt: &T,
     items: &'a [Expr<Global>],
+    played: &'a [Expr<Global>],
     written: &'a [Expr<Global>],
     circles: &[bool],
-    layers: &[Layers],
+    layers: &'a [Layers],
 ) -> Result<bool, AllocError>
-    ensures { IfOk result (λ is_so. OnTrue is_so (HasNoFault (trees_in written.now) → IsStratified (alternatives (trees_in items.now))
-        → PlaysAs (alternatives (trees_in items.now)) (alternatives (trees_in written.now)))) }
+    ensures { IfOk result (λ is_so. OnTrue is_so (HasNoFault (trees_in written.now) → IsStratified (alternatives (trees_in played.now))
+        → PlaysAs (alternatives (trees_in played.now)) (alternatives (trees_in written.now)))) }
 {
     let alloc = rt.alloc();
     let mut own = own_relations(alloc, items, circles)?;
-    if !is_stated_alike(rt, items, written, &own)? {
+    if !is_stated_alike(rt, played, written, &own)? {
         return Ok(false);
     }
-    if !look_at_instances(rt, items, written, layers, &mut own)? {
+    let moving = circles_of(alloc, items, layers)?;
+    if !look_at_instances(rt, played, written, &moving, &mut own)? {
         return Ok(false);
     }
     let in_own = set_of(alloc, &own)?;
     what_is_answered_apart_is_answered_together();
     what_is_rewritten_is_played_the_same();
-    rewrites(alloc, &in_own, items, written)
+    rewrites(alloc, &in_own, played, written)
+}
+
+/// Whether what is written is shown to be played as the items that it was written for, but for what these state of `base` and `input`, where
+/// that is cut. The marks and the layers are those of `is_played`.
+pub(crate) fn is_shown<T: AllocGlobal>(
+    rt: &T,
+    items: &[Expr<Global>],
+    written: &[Expr<Global>],
+    circles: &[bool],
+    layers: &[Layers],
+    bounds: Bounds,
+) -> Result<bool, AllocError>
+    ensures { IfOk result (λ is_so. OnTrue is_so (HasNoFault (trees_in written.now) → IsStratified (alternatives (trees_in items.now))
+        → PlaysAs (alternatives (played_items bounds (trees_in items.now))) (alternatives (trees_in written.now)))) }
+{
+    match bounds {
+        Bounds::AsStated => is_played(rt, items, items, written, circles, layers),
+        Bounds::Tightened => {
+            let played = without_ranges(rt.alloc(), items)?;
+            is_played(rt, items, &played, written, circles, layers)
+        }
+    }
 }

@@ -10,6 +10,7 @@ ghost use Rattle.whole.specs.Derivable.{IsStratified};
 ghost use Rattle.whole.specs.Extension.{base_relation, input_relation};
 ghost use Rattle.whole.specs.Possible.{IsStated, PlaysAs};
 ghost use Rattle.lawful.specs.Lawful.{IsLawful, IsRecursive, IsRefusal};
+ghost use Rattle.unroll.specs.Played.{played_items};
 ghost use Rattle.unroll.specs.Written.{IsShown, IsUnrollFault, IsWrittenFor, IsWrittenOut, shown_line, tested_line};
 
 use crate::showing::is_shown;
@@ -174,22 +175,24 @@ fn stay(items: &[Expr<Global>], rests_on_itself: bool, bounds: Bounds) -> bool
     !rests_on_itself && bounds == Bounds::AsStated && states_ranges(items)
 }
 
-/// Whether what is written is shown to be played as the items. Where no relation of these rests on itself, and `base` and `input` are stated
-/// and stay as they are, it has to be, and if it is not it is told as items that are too many.
+/// Whether what is written is shown to be played as the items, but for what these state of `base` and `input`, where that is cut. Where no
+/// relation of these rests on itself, and `base` and `input` are stated and stay as they are, it has to be, and if it is not it is told as items
+/// that are too many.
 fn claim_of<T: AllocGlobal>(
     rt: &T,
     items: &[Expr<Global>],
     written: &[Expr<Global>],
     circles: &[bool],
     layers: &[Layers],
+    bounds: Bounds,
     has_to_be: bool,
 ) -> Result<bool, UnrollFault>
     ensures shown { IfOk result (λ is_so. OnTrue is_so (HasNoFault (trees_in written.now) → IsStratified (alternatives (trees_in items.now))
-        → PlaysAs (alternatives (trees_in items.now)) (alternatives (trees_in written.now)))) }
+        → PlaysAs (alternatives (played_items bounds (trees_in items.now))) (alternatives (trees_in written.now)))) }
     ensures always { IfOk result (λ is_so. OnTrue has_to_be (is_so ≡ true)) }
     ensures fault { IfErr result (IsRefusal (trees_in items.now)) }
 {
-    match is_shown(rt, items, written, circles, layers) {
+    match is_shown(rt, items, written, circles, layers, bounds) {
         Ok(true) => Ok(true),
         Ok(false) => {
             if has_to_be {
@@ -222,7 +225,15 @@ fn rewritten<T: AllocGlobal>(
     let written = items_written(alloc, items, text)?;
     accept(alloc, items, &places, &written)?;
     let has_to_be = stay(items, rests_on_itself, bounds);
-    let is_shown = claim_of(rt, items, &written, &draft.circles, layers, has_to_be)?;
+    let is_shown = claim_of(
+        rt,
+        items,
+        &written,
+        &draft.circles,
+        layers,
+        bounds,
+        has_to_be,
+    )?;
     items_that_cross_nothing_are_stratified();
     with_claim(alloc, items, &written, text, is_shown)
 }

@@ -3,7 +3,7 @@ use Rattle.words.specs.declared.command.Command.{Command}
 use Rattle.words.specs.declared.command.Command.TheVariants.{Show, Check, Ask}
 use Rattle.words.specs.declared.command.Inquiry.{Inquiry}
 use Rattle.words.specs.declared.command.Inquiry.TheVariants.{Net, Moves, State, Solve, SolveWithin, Values, ValuesWithLines, Deepen}
-use Rattle.statement.specs.Queries.{Query, show, check, net, moves, state, solve, solve_within, values, values_with_lines, deepen}
+use Rattle.statement.specs.Queries.{Query, show, check, net, moves, state, solve, solve_within, values, values_with_lines, deepen, asked_in}
 
 -- the cut is no part of it
 abbrev pub query_about : Inquiry → Query
@@ -19,4 +19,4 @@ query_about (Deepen sought) = deepen sought.role.now sought.depth sought.at_boun
 abbrev pub query_of : Command → Query
 query_of Show = show
 query_of Check = check
-query_of (Ask inquiry) = query_about inquiry
+query_of (Ask inquiry width) = asked_in width (query_about inquiry)

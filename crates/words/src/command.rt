@@ -1,6 +1,6 @@
 //! What is asked of rules.
 use cut::Cut;
-use statement::{AtBound, Window};
+use statement::{AtBound, Width, Window};
 
 /// What the program does with the rules that it reads.
 #[derive(Clone, Copy, Debug, PartialEq, Eq)]
@@ -9,8 +9,8 @@ pub enum Command<'a> {
     Show,
     /// Names the first fault of the description, or counts what it has.
     Check,
-    /// Asks the instantiation of the rules, and names a fault of theirs or a limit that they pass first.
-    Ask(Inquiry<'a>),
+    /// Asks the instantiation of the rules by the limits of a width, and names a fault of theirs or a limit that they pass first.
+    Ask(Inquiry<'a>, Width),
 }
 
 /// In which language the rules on the input are.

@@ -2,7 +2,7 @@
 use crate::command::{Command, Inquiry, Language, Sought};
 use clap::error::ErrorKind;
 use cut::Cut;
-use statement::{AtBound, Window, Worth};
+use statement::{AtBound, Width, Window, Worth};
 use std::alloc::{AllocError, Global};
 
 /// The version that `--version` tells.
@@ -378,6 +378,7 @@ fn form_of(name: &str, options: &clap::ArgMatches) -> Option<Form> {
 fn search_command<'a>(
     name: &str,
     options: &clap::ArgMatches<'a>,
+    width: Width,
 ) -> Option<Result<Command<'a>, &'static str>> {
     let Some(cut) = Cut::parse(options.get_str("cut")?.as_bytes()) else {
         return Some(Err("bad cut"));
@@ -403,23 +404,32 @@ fn search_command<'a>(
         Form::Moves => Inquiry::Values(sought),
         Form::MoveLines => Inquiry::ValuesWithLines(sought),
     };
-    Some(Ok(Command::Ask(inquiry)))
+    Some(Ok(Command::Ask(inquiry, width)))
 }
 
 /// The command that was matched, or why there is none.
-fn matched<'a>(matches: &clap::ArgMatches<'a>) -> Option<Result<Command<'a>, &'static str>> {
+fn matched<'a>(
+    matches: &clap::ArgMatches<'a>,
+    width: Width,
+) -> Option<Result<Command<'a>, &'static str>> {
     match matches.subcommand()? {
         ("show", _) => Some(Ok(Command::Show)),
         ("check", _) => Some(Ok(Command::Check)),
-        ("net", _) => Some(Ok(Command::Ask(Inquiry::Net))),
-        ("moves", options) => Some(Ok(Command::Ask(Inquiry::Moves {
-            after: options.get_str("after").unwrap_or(""),
-        }))),
-        ("state", options) => Some(Ok(Command::Ask(Inquiry::State {
-            after: options.get_str("after").unwrap_or(""),
-        }))),
-        ("solve", options) => search_command("solve", options),
-        ("values", options) => search_command("values", options),
+        ("net", _) => Some(Ok(Command::Ask(Inquiry::Net, width))),
+        ("moves", options) => Some(Ok(Command::Ask(
+            Inquiry::Moves {
+                after: options.get_str("after").unwrap_or(""),
+            },
+            width,
+        ))),
+        ("state", options) => Some(Ok(Command::Ask(
+            Inquiry::State {
+                after: options.get_str("after").unwrap_or(""),
+            },
+            width,
+        ))),
+        ("solve", options) => search_command("solve", options, width),
+        ("values", options) => search_command("values", options, width),
         _ => None,
     }
 }
@@ -454,34 +464,64 @@ fn told_by<'a>(alloc: Global, error: &clap::Error) -> Result<Request<'a>, AllocE
     }
 }
 
-/// The request that the words make, and in which language it wants the rules. It fails only for want of memory.
-pub fn asked_of<'a>(
+/// By which limits rules in a language are instantiated, where those in the profile are by these: what is written out may have more inputs.
+fn width_in(language: Language, plain: Width) -> Width {
+    match language {
+        Language::Profile => plain,
+        Language::Whole | Language::Tightened => Width::Wide,
+    }
+}
+
+/// The request that the words make, and in which language it wants the rules. Those in the profile are instantiated by the limits of a width.
+fn requested<'a>(
     alloc: Global,
     words: &'a [&'a str],
+    plain: Width,
 ) -> Result<(Request<'a>, Language), AllocError> {
     let mut grammar = grammar(alloc)?;
     let request = match grammar.try_get_matches_from_mut(words) {
-        Ok(matches) => match matched(&matches) {
-            Some(Ok(command)) => return Ok((Request::Run(command), language_in(&matches))),
-            Some(Err(line)) => Request::Misuse(format!(in alloc; "{line}\n")?),
-            None => {
-                let error = grammar.error(ErrorKind::MissingSubcommand, "no command")?;
-                Request::Misuse(error.to_string(alloc)?)
+        Ok(matches) => {
+            let language = language_in(&matches);
+            match matched(&matches, width_in(language, plain)) {
+                Some(Ok(command)) => return Ok((Request::Run(command), language)),
+                Some(Err(line)) => Request::Misuse(format!(in alloc; "{line}\n")?),
+                None => {
+                    let error = grammar.error(ErrorKind::MissingSubcommand, "no command")?;
+                    Request::Misuse(error.to_string(alloc)?)
+                }
             }
-        },
+        }
         Err(error) => told_by(alloc, &error)?,
     };
     Ok((request, Language::Profile))
 }
 
-/// The request that the words make of rules in the profile: words that want another language are no command. It fails only for want of
-/// memory.
-pub fn request_of<'a>(alloc: Global, words: &'a [&'a str]) -> Result<Request<'a>, AllocError> {
-    let (request, language) = asked_of(alloc, words)?;
+/// The request that the words make, and in which language it wants the rules: what is written for those of the whole language may have more
+/// inputs. It fails only for want of memory.
+pub fn asked_of<'a>(
+    alloc: Global,
+    words: &'a [&'a str],
+) -> Result<(Request<'a>, Language), AllocError> {
+    requested(alloc, words, Width::Plain)
+}
+
+/// The request that the words make of rules that stand, which are instantiated by the limits of a width: words that want another language are
+/// no command. It fails only for want of memory.
+pub fn request_in<'a>(
+    alloc: Global,
+    words: &'a [&'a str],
+    width: Width,
+) -> Result<Request<'a>, AllocError> {
+    let (request, language) = requested(alloc, words, width)?;
     match language {
         Language::Profile => Ok(request),
         Language::Whole | Language::Tightened => {
             Ok(Request::Misuse(format!(in alloc; "{PLAIN_ALONE}")?))
         }
     }
+}
+
+/// The same, by the limits of every command.
+pub fn request_of<'a>(alloc: Global, words: &'a [&'a str]) -> Result<Request<'a>, AllocError> {
+    request_in(alloc, words, Width::Plain)
 }

@@ -5,4 +5,4 @@ mod command;
 mod grammar;
 
 pub use command::{Command, Inquiry, Language, Sought};
-pub use grammar::{Request, asked_of, request_of};
+pub use grammar::{Request, asked_of, request_in, request_of};

@@ -1,7 +1,7 @@
 //! The commands that words make.
 use cut::Cut;
 use game::{AtBound, Worth};
-use statement::Window;
+use statement::{Width, Window};
 use std::alloc::{AllocError, Global};
 use std::test::Fail;
 use words::{Command, Inquiry, Request, Sought, request_of};
@@ -19,19 +19,19 @@ fn words_without_options_make_their_commands(rt: HostRuntime) -> Result<(), Allo
     let alloc = rt.alloc();
     assert!(rt; make(alloc, &["show"], &Command::Show)?);
     assert!(rt; make(alloc, &["check"], &Command::Check)?);
-    assert!(rt; make(alloc, &["net"], &Command::Ask(Inquiry::Net))?);
+    assert!(rt; make(alloc, &["net"], &Command::Ask(Inquiry::Net, Width::Plain))?);
     assert!(rt;
         make(
             alloc,
             &["moves"],
-            &Command::Ask(Inquiry::Moves { after: "" })
+            &Command::Ask(Inquiry::Moves { after: "" }, Width::Plain)
         )?
     );
     assert!(rt;
         make(
             alloc,
             &["state"],
-            &Command::Ask(Inquiry::State { after: "" })
+            &Command::Ask(Inquiry::State { after: "" }, Width::Plain)
         )?
     );
     Ok(())
@@ -65,23 +65,47 @@ fn words_with_options_make_their_commands(rt: HostRuntime) -> Result<(), Fail> {
     let after = Inquiry::Moves { after: "(h t)" };
     let state = Inquiry::State { after: "(h t)" };
     let words = ["moves", "--after", "(h t)"];
-    assert!(rt; make(alloc, &words, &Command::Ask(after))?);
+    assert!(rt; make(alloc, &words, &Command::Ask(after, Width::Plain))?);
     let words = ["state", "--after", "(h t)"];
-    assert!(rt; make(alloc, &words, &Command::Ask(state))?);
+    assert!(rt; make(alloc, &words, &Command::Ask(state, Width::Plain))?);
     let words = ["solve", "--role", "a", "--depth", "1"];
-    assert!(rt; make(alloc, &words, &Command::Ask(Inquiry::Solve(whole)))?);
+    assert!(rt;
+        make(
+            alloc,
+            &words,
+            &Command::Ask(Inquiry::Solve(whole), Width::Plain)
+        )?
+    );
     let words = ["values", "--role", "a", "--depth", "1"];
-    assert!(rt; make(alloc, &words, &Command::Ask(Inquiry::Values(each)))?);
+    assert!(rt;
+        make(
+            alloc,
+            &words,
+            &Command::Ask(Inquiry::Values(each), Width::Plain)
+        )?
+    );
     let words = ["solve", "--role", "a", "--depth", "1", "--at-bound", "goal"];
-    assert!(rt; make(alloc, &words, &Command::Ask(Inquiry::Solve(goal)))?);
+    assert!(rt;
+        make(
+            alloc,
+            &words,
+            &Command::Ask(Inquiry::Solve(goal), Width::Plain)
+        )?
+    );
     let words = ["solve", "--role", "a", "--depth", "1", "--unfinished", "37"];
-    assert!(rt; make(alloc, &words, &Command::Ask(Inquiry::Solve(unfinished)))?);
+    assert!(rt;
+        make(
+            alloc,
+            &words,
+            &Command::Ask(Inquiry::Solve(unfinished), Width::Plain)
+        )?
+    );
     let words = ["solve", "--role", "a", "--depth", "1", "--window", "-1:101"];
     assert!(rt;
         make(
             alloc,
             &words,
-            &Command::Ask(Inquiry::SolveWithin(between, window))
+            &Command::Ask(Inquiry::SolveWithin(between, window), Width::Plain)
         )?
     );
     let words = ["solve", "--role", "a", "--depth", "1", "--window", "59:61"];
@@ -89,7 +113,7 @@ fn words_with_options_make_their_commands(rt: HostRuntime) -> Result<(), Fail> {
         make(
             alloc,
             &words,
-            &Command::Ask(Inquiry::SolveWithin(near, narrow))
+            &Command::Ask(Inquiry::SolveWithin(near, narrow), Width::Plain)
         )?
     );
     Ok(())
@@ -120,6 +144,12 @@ fn all_options_make_a_command(rt: HostRuntime) -> Result<(), Fail> {
         "--after",
         "(h t)",
     ];
-    assert!(rt; make(rt.alloc(), &words, &Command::Ask(Inquiry::Solve(sought)))?);
+    assert!(rt;
+        make(
+            rt.alloc(),
+            &words,
+            &Command::Ask(Inquiry::Solve(sought), Width::Plain)
+        )?
+    );
     Ok(())
 }

@@ -5,6 +5,7 @@ use ground::instantiate_flat_alone;
 use oracle::RuleGame;
 use replies::{Asked, Reading, Search, ask, read};
 use running::told_by_workers;
+use statement::Width;
 use std::alloc::AllocError;
 use std::hint::spin_loop;
 use std::sync::atomic::{AtomicBool, AtomicUsize, Ordering};
@@ -51,13 +52,13 @@ fn search_of<T: AllocGlobal>(
     text: &[u8],
 ) -> Result<Search<RuleGame>, AllocError> {
     let request = request_of(rt.alloc(), &*words)?;
-    let Request::Run(Command::Ask(inquiry)) = &request else {
+    let Request::Run(Command::Ask(inquiry, _)) = &request else {
         return Err(AllocError);
     };
     let Reading::Rules(rules) = read(rt.alloc(), text)? else {
         return Err(AllocError);
     };
-    let instantiated = instantiate_flat_alone(rt, &rules);
+    let instantiated = instantiate_flat_alone(rt, &rules, Width::Plain);
     let Asked::ToSearch(search) = ask::<RuleGame, RuleGame>(rt.alloc(), inquiry, instantiated)?
     else {
         return Err(AllocError);

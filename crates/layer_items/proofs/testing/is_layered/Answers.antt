@@ -5,7 +5,7 @@ use Rattle.outline.specs.Relations.{relation_in}
 use Rattle.layer_items.proofs.Layered.{says_layered}
 use Rattle.layer_items.proofs.testing.is_layered.Goals as goal
 
-pub returns : goal.returns
-returns c =
+pub returns-clause-says : goal.returns-clause-says
+returns-clause-says c =
     if_ok c.are_passed.result _ _ (λ b h. says_layered (map relation_in c.args.own.now) c.args.names.now (trees_in c.args.found.now)
     (trees_in c.args.written.now) b h) c.are_passed.ensures

@@ -1,4 +1,4 @@
-use Rattle.std.proofs.Common.{◌≡◌, ◌∙◌, w16, refl, rules as facts, None}
+use Rattle.std.proofs.Common.{◌≡◌, ◌∙◌, w16, rules as facts, None}
 use Rattle.std.proofs.lemmas.Int.{to_z-of_z}
 use mir.Val.{SFits}
 use Rattle.statement.specs.Value.{value, choice_of}

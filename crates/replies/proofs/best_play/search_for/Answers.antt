@@ -1,5 +1,5 @@
 use Rattle.std.proofs.Common.{ℕ, Some, None}
-use Rattle.std.specs.Prelude.{List, Result, Ok, ◌≡◌}
+use Rattle.std.specs.Prelude.{Result, Ok, ◌≡◌}
 use Rattle.statement.specs.Answers.{Reply}
 use Rattle.statement.specs.Rules.{State}
 use Rattle.statement.specs.declared.history_fault.HistoryFault.{HistoryFault}

@@ -1,4 +1,4 @@
-use Rattle.std.proofs.Common.{refl, ◌∙◌, ◌++◌, ap, List, ℕ}
+use Rattle.std.proofs.Common.{refl, ◌∙◌, ◌++◌, ap}
 use Rattle.rules.specs.RuleSets.{texts_of}
 use Rattle.statement.specs.Checking.{spaced}
 use Rattle.replies.proofs.Counting.{lines_are}

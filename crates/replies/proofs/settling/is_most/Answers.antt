@@ -1,11 +1,10 @@
 use Rattle.std.proofs.Common.{◌≡◌, ◌∙◌, ap, w16, rules as facts}
 use Rattle.std.proofs.lemmas.Int.{to_z-of_z}
-use mir.Val.{SFits, of_z, to_z}
-use Rattle.std.specs.Prelude.{ℤ, pos, ◌-ℤ◌, ◌+ℤ◌}
+use mir.Val.{of_z, to_z}
+use Rattle.std.specs.Prelude.{ℤ, pos, ◌+ℤ◌}
 use Rattle.statement.specs.Value.{value}
-use Rattle.statement.specs.declared.at_bound.AtBound.TheVariants.{Zero, Unfinished}
+use Rattle.statement.specs.declared.at_bound.AtBound.TheVariants.{Unfinished}
 use Rattle.statement.specs.Deepening.{greatest_worth}
-use Rattle.game.specs.Value.{Answers}
 use Rattle.maximin.proofs.Facts.{value_at_most}
 use Rattle.replies.proofs.Settles.{most_is, window_above, fits_above}
 use Rattle.replies.proofs.settling.is_most.Goals as goal

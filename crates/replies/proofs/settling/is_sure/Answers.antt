@@ -1,11 +1,9 @@
 use Rattle.std.proofs.Common.{◌≡◌, ◌∙◌, ap, w16, rules as facts}
 use Rattle.std.proofs.lemmas.Int.{to_z-of_z}
-use mir.Val.{SFits, of_z, to_z}
-use Rattle.std.specs.Prelude.{ℤ, pos, ◌-ℤ◌, ◌+ℤ◌}
+use mir.Val.{of_z, to_z}
+use Rattle.std.specs.Prelude.{ℤ, pos, ◌-ℤ◌}
 use Rattle.statement.specs.Value.{value}
-use Rattle.statement.specs.declared.at_bound.AtBound.TheVariants.{Zero, Unfinished}
-use Rattle.statement.specs.Deepening.{greatest_worth}
-use Rattle.game.specs.Value.{Answers}
+use Rattle.statement.specs.declared.at_bound.AtBound.TheVariants.{Zero}
 use Rattle.maximin.proofs.Facts.{value_at_most}
 use Rattle.replies.proofs.Settles.{sure_is, window_below, fits_below}
 use Rattle.replies.proofs.settling.is_sure.Goals as goal

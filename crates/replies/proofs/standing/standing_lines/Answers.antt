@@ -1,4 +1,4 @@
-use Rattle.std.proofs.Common.{ℕ, List, ◌≡◌, length, sym, subst, ◌∙◌, rules as facts}
+use Rattle.std.proofs.Common.{◌≡◌, length, sym, subst, ◌∙◌, rules as facts}
 use Rattle.game.specs.Keys.{state_of_bits}
 use Rattle.ground.specs.declared.flat_ground.FlatGround.{FlatGround}
 use Rattle.ground.specs.GroundView.{IsGround}

@@ -2,7 +2,7 @@ use Rattle.std.proofs.Common.{◌∙◌, w16, rules as facts}
 use Rattle.std.proofs.lemmas.Int.{to_z-of_z}
 use mir.Val.{SFits}
 use Rattle.replies.specs.Histories.{named}
-use Rattle.replies.proofs.Placing.{told_below, told_between, worth_between, told_above}
+use Rattle.replies.proofs.Placing.{told_below, told_between, worth_between}
 use Rattle.replies.proofs.windowed.lines_within.Goals as goal
 
 pub returns-in-Below-clause-lines : goal.returns-in-Below-clause-lines

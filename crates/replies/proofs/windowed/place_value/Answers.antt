@@ -1,7 +1,6 @@
 use Rattle.std.proofs.Common.{◌≡◌, w16, rules as facts}
 use Rattle.std.proofs.lemmas.Int.{to_z-of_z}
-use mir.Val.{SFits, of_z, to_z}
-use Rattle.std.specs.Prelude.{pos}
+use mir.Val.{of_z, to_z}
 use Rattle.statement.specs.Value.{value}
 use Rattle.game.specs.Value.{Answers}
 use Rattle.replies.proofs.Placing.{searched, at_most_z, above_z, placed_below, placed_above, placed_between}

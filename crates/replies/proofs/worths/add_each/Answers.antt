@@ -1,4 +1,4 @@
-use Rattle.std.proofs.Common.{ℕ, ◌<◌, ◌≡◌, ◌-◌, ◌∙◌, length, arith}
+use Rattle.std.proofs.Common.{◌<◌, ◌-◌, ◌∙◌, length, arith}
 use Rattle.statement.specs.MoveLines.{move_lines}
 use Rattle.replies.specs.Histories.{named}
 use Rattle.game.proofs.Facts.{legal_known, legal_place, legal_count}

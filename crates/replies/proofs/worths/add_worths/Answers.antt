@@ -1,4 +1,4 @@
-use Rattle.std.proofs.Common.{ℕ, ◌<◌, ◌≡◌, ◌-◌, ◌++◌, ◌∷◌, [], length, arith, w16, ◌∙◌, ap, codes, List, rules as facts}
+use Rattle.std.proofs.Common.{ℕ, ◌<◌, ◌≡◌, ◌-◌, ◌++◌, ◌∷◌, [], length, arith, w16, ◌∙◌, ap, codes, rules as facts}
 use Rattle.std.proofs.lemmas.Int.{to_z-of_z}
 use mir.Val.{SFits}
 use Rattle.std.specs.Prelude.{nat_abs}

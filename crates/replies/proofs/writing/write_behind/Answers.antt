@@ -1,4 +1,4 @@
-use Rattle.std.proofs.Common.{refl, ◌≡◌, ◌∙◌, ◌-◌, sym, w16, arith}
+use Rattle.std.proofs.Common.{refl, ◌∙◌, ◌-◌, w16, arith}
 use Rattle.std.proofs.lemmas.Int.{to_z-of_z}
 use Rattle.replies.proofs.Held.{begun, further, ended, broken, on_err}
 use Rattle.replies.specs.Histories.{named}

@@ -1,4 +1,4 @@
-use Rattle.std.proofs.Common.{rules as facts, refl, ◌≡◌, List, ℕ, get_or, arith}
+use Rattle.std.proofs.Common.{rules as facts, refl, ◌≡◌, ℕ, get_or, arith}
 use Rattle.std.specs.Prelude.{slice_index}
 use Rattle.std.proofs.lemmas.List.FromFn.{length-map-range_with_len, get_or-map-range_with_len}
 use Rattle.replies.proofs.Held.{begun, further, ended, broken, on_err}

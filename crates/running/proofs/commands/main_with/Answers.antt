@@ -1,4 +1,4 @@
-use Rattle.std.proofs.Common.{inl, inr}
+use Rattle.std.proofs.Common.{inl}
 use Rattle.std.proofs.KnownBytes.{Keeps-refl}
 use Rattle.running.proofs.Ending.{done_known, starved_known}
 use Rattle.running.specs.Fulfilling.{streams}

@@ -1,6 +1,5 @@
 use Rattle.std.proofs.Common.{◌≡◌, rules}
 use Rattle.std.specs.Prelude.{Result, Ok, Err, IfErr}
-use Rattle.statement.specs.Answers.{Reply}
 use Rattle.replies.specs.Replies.{reply_of}
 use Rattle.running.proofs.linting.lint_keeping.Goals as goal
 

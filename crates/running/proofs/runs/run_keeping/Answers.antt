@@ -1,6 +1,6 @@
-use Rattle.std.proofs.Common.{◌≡◌, rules, sym, subst}
+use Rattle.std.proofs.Common.{◌≡◌, rules}
 use Rattle.std.specs.Prelude.{Result, Ok, Err, IfErr}
-use Rattle.statement.specs.Answers.{Reply}
+use Rattle.words.specs.Asked.{query_of}
 use Rattle.running.specs.Work.{reply_by}
 use Rattle.running.proofs.WholeInput.{replies_to}
 use Rattle.running.proofs.runs.run_keeping.Goals as goal
@@ -15,7 +15,7 @@ returns-clause-answers g c =
     let read : c.deref.result.now ≡ c.in_ok-bytes.bytes.items = search rules in
     let told = c.in_ok-reply.ensures.whole in (
       reply.output,
-      rw told.0 (replies_to _ _ _ c.in_ok-bytes.bytes.items reply c.in_ok-bytes.ensures.whole (rw (← read) c.in-Ok.ensures.reply)),
+      rw told.0 (replies_to (query_of c.args.command.now) _ _ c.in_ok-bytes.bytes.items reply c.in_ok-bytes.ensures.whole (rw (← read) c.in-Ok.ensures.reply)),
       told.1,
     )
 
@@ -26,7 +26,7 @@ returns-in_err-reply-clause-broken g c =
     if_err c.from_residual-in_err-reply.result _
     (λ e is_write. (
       reply,
-      replies_to _ _ _ c.in_ok-bytes.bytes.items reply c.in_ok-bytes.ensures.whole (rw (← read) c.in-Ok.ensures.reply),
+      replies_to (query_of c.args.command.now) _ _ c.in_ok-bytes.bytes.items reply c.in_ok-bytes.ensures.whole (rw (← read) c.in-Ok.ensures.reply),
       c.in_err-reply.ensures.front,
     ))
 
@@ -36,6 +36,6 @@ returns-clause-refused g c = λ refused.
     let read : c.deref.result.now ≡ c.in_ok-bytes.bytes.items = search rules in
     let told = c.in_ok-reply.ensures.whole in
     let same = c.in_ok-reply.ensures.refused refused in (
-      rw (same, told.0) (replies_to _ _ _ c.in_ok-bytes.bytes.items reply c.in_ok-bytes.ensures.whole (rw (← read) c.in-Ok.ensures.reply)),
+      rw (same, told.0) (replies_to (query_of c.args.command.now) _ _ c.in_ok-bytes.bytes.items reply c.in_ok-bytes.ensures.whole (rw (← read) c.in-Ok.ensures.reply)),
       rw same told.1,
     )

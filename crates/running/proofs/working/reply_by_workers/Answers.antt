@@ -1,6 +1,6 @@
 use Rattle.statement.specs.Replies.{IsReply}
 use Rattle.words.specs.Asked.{query_of}
-use Rattle.running.proofs.Works.{told_is, ready_is, written_is, told_written}
+use Rattle.running.proofs.Works.{told_is, written_is, told_written}
 use Rattle.running.proofs.working.reply_by_workers.Goals as goal
 
 pub returns-in-Told : goal.returns-in-Told

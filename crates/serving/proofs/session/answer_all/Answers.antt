@@ -1,5 +1,6 @@
 use Rattle.requests.specs.Feeds.{left_in}
 use Rattle.requests.specs.Desks.{rules_kept}
+use Rattle.serving.specs.Kept.{IsKeptGame}
 use Rattle.serving.proofs.Holding.{held_at_first, held_further, held_to_end, held_to_fault, held_so_far}
 use Rattle.serving.proofs.Keeping.{none_kept}
 use Rattle.serving.proofs.session.answer_all.Goals as goal
@@ -8,7 +9,7 @@ pub loop-init : goal.loop-init
 loop-init g c = (
   c.in-Ok.ensures.desk,
   held_at_first c.args.language _ _ _ _ c.in-Ok.ensures.none (c.in-Ok.ensures.fresh (g.R.Read.remaining c.args.input.now)),
-  none_kept _ c.args.language (rules_kept c.in-Ok.desk),
+  none_kept (IsKeptGame g.G.Game g.G.GroundGame.source) c.args.language (rules_kept c.in-Ok.desk),
 )
 
 pub returns-in-Ok-false : goal.returns-in-Ok-false

@@ -13,8 +13,8 @@ returns c =
     let found_so : c.in_ok-is_one_shown.field-0 ≡ true = search (rules, c.if-not-branch.false) in
     let shown = true_on _ _ c.in_ok-is_one_shown.ensures found_so in
     let old = c.args.own.now.items in
-    let more = c.deref-2.result.now in
-    let same : c.deref-3.result.now ≡ more = c.deref-3.ensures.value ∙ sym c.deref-2.ensures.value in
+    let more = c.deref.result.now in
+    let same : c.deref-2.result.now ≡ more = c.deref-2.ensures.value ∙ sym c.deref.ensures.value in
     let grown : c.extend_from_slice.new.self.items ≡ old ++ more = c.in_ok-extend_from_slice.ensures.items ∙ ap (λ (rs : List _). old ++ rs) same in
     λ answered. c.what_is_answered_apart_is_answered_together.ensures (alternatives (trees_in c.args.items.now))
     (alternatives (trees_in c.args.written.items.now)) _ _ _ (λ p. ap (λ (rs : List _). is_among p (map relation_in rs)) grown

@@ -18,7 +18,7 @@ returns c =
     let word = word_in own (names_of c.args.names.now) in
     let n = length c.args.names.now in
     let found_so : c.in_ok-is_layered.field-0 ≡ true = search (rules, c.if-not-branch.false) in
-    let layered : IsLayered found written (λ p. is_among p own) word n = true_on _ _ c.in_ok-is_layered.ensures found_so in
+    let layered : IsLayered found written (λ p. is_among p own) word n = true_on _ _ c.in_ok-is_layered.ensures.says found_so in
     let well = c.accepted_items_are_well_formed.ensures (trees_in c.args.written.items.now) c.requires.faultless in
     if_ok c.is_bounded.result _ _ (λ is_so. on_true_map is_so _ _ (λ bounds.
     c.what_is_layered_is_answered.ensures found written (λ p. is_among p own) word n well layered

@@ -18,7 +18,7 @@ returns c =
     let own = map relation_in c.args.own.now in
     let word = word_in own (names_of c.args.names.now) in
     let found_so : c.in_ok-is_stacked.field-0 ≡ true = search (rules, c.if-not-branch.false) in
-    let stacked : IsStacked found written (λ p. is_among p own) word (length c.args.names.now) = true_on _ _ c.in_ok-is_stacked.ensures found_so in
+    let stacked : IsStacked found written (λ p. is_among p own) word (length c.args.names.now) = true_on _ _ c.in_ok-is_stacked.ensures.says found_so in
     let well = c.accepted_items_are_well_formed.ensures (trees_in c.args.written.items.now) c.requires.faultless in
     if_ok c.is_enough.result _ _ (λ is_so. on_true_map is_so _ _ (λ bounds. with_one_less (length c.args.names.now) stacked.some _ (λ m is.
     let here : IsStacked found written (λ p. is_among p own) word (suc m) =

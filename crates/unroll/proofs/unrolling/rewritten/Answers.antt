@@ -8,6 +8,7 @@ use Rattle.kif.specs.View.{trees_in}
 use Rattle.whole.specs.Derivable.{IsStratified}
 use Rattle.whole.specs.Possible.{PlaysAs}
 use Rattle.lawful.specs.Lawful.{IsAccepted}
+use Rattle.unroll.specs.Played.{played_items}
 use Rattle.unroll.specs.Written.{IsShown}
 use Rattle.unroll.proofs.Claims.{if_both, true_on, shown_if, says_if, no_rest}
 use Rattle.unroll.proofs.unrolling.rewritten.Goals as goal
@@ -19,9 +20,9 @@ returns-clause-written g c =
     let is_shown = c.in_ok-is_shown.is_shown in
     let accepted : IsAccepted (map text (roles found)) written =
     subst (λ (es : List _). IsAccepted (map text (roles found)) (trees_in es)) c.deref-3.ensures.value c.in_ok-accept.ensures.accepted in
-    let plays : OnTrue is_shown (HasNoFault written → IsStratified (alternatives found) → PlaysAs (alternatives found) (alternatives written)) =
+    let plays : OnTrue is_shown (HasNoFault written → IsStratified (alternatives found) → PlaysAs (alternatives (played_items c.args.bounds found)) (alternatives written)) =
     subst (λ (es : List _). OnTrue is_shown (HasNoFault (trees_in es) → IsStratified (alternatives found)
-    → PlaysAs (alternatives found) (alternatives (trees_in es)))) c.deref-4.ensures.value c.in_ok-is_shown.ensures.shown in
+    → PlaysAs (alternatives (played_items c.args.bounds found)) (alternatives (trees_in es)))) c.deref-4.ensures.value c.in_ok-is_shown.ensures.shown in
     let strata : IsStratified (alternatives found) =
     c.items_that_cross_nothing_are_stratified.ensures found c.in_ok-refuse_crossed.ensures.stratified in
     if_both c.with_claim.result _ _ _ c.with_claim.ensures.reads c.with_claim.ensures.said (λ out reads says. record {
@@ -29,7 +30,7 @@ returns-clause-written g c =
       reads = subst (λ (es : List _). Reads out.items (trees_of (trees_in es))) c.deref-7.ensures.value reads;
       accepted = accepted;
       played = λ shown.
-          shown_if is_shown (IsShown out.items) (PlaysAs (alternatives found) (alternatives written)) says
+          shown_if is_shown (IsShown out.items) (PlaysAs (alternatives (played_items c.args.bounds found)) (alternatives written)) says
           (λ e. true_on is_shown _ plays e accepted.faultless strata) shown;
       shown = λ stated none base inputs. says_if is_shown (IsShown out.items) says
           (true_on c.stay-has_to_be.result _ c.in_ok-is_shown.ensures.always

@@ -1,4 +1,4 @@
-use Rattle.std.proofs.Common.{◌≡◌, ◌∙◌, ap, sym, true, false, arith}
+use Rattle.std.proofs.Common.{◌∙◌, ap, sym, arith}
 use Rattle.maximin.specs.Room.{room_depth}
 use Rattle.replies.proofs.BothWorths.{not_low, by_most}
 use Rattle.replies.proofs.settling.Settling.is_settled.Goals as goal

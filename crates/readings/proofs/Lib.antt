@@ -1,0 +1,2 @@
+mod WayLemmas
+mod SameLemmas
