@@ -22,7 +22,7 @@ from collections.abc import Iterator, Sequence
 from typing import IO
 
 from gdlsolve import program
-from gdlsolve.calls import Ended, Misuse, Reply, Status, by_program, reply
+from gdlsolve.calls import WRITTEN_OUT, Ended, Misuse, Reply, Status, by_program, reply
 from gdlsolve.lanes import Rehearsal
 from gdlsolve.session import Process, line_of
 
@@ -43,8 +43,13 @@ class InSession:
 
     def standing(self, rules: bytes) -> Process:
         """The process over these rules."""
-        made = self.process or Process(self.command, program.dies_with(os.getpid()))
-        self.process = made
+        is_whole = rules.startswith(WRITTEN_OUT)
+        made = self.process
+        if made is None or made.is_whole != is_whole:
+            if made is not None:
+                made.close()
+            made = Process(self.command, program.dies_with(os.getpid()), whole=is_whole)
+            self.process, self.rules = made, None
         if self.rules is not rules:
             self.rules = None
             made.stand(rules)

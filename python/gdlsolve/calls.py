@@ -150,6 +150,16 @@ def answers() -> Path | list[str]:
     raise ImportError(f"{places}; or let {program.VARIABLE} name a program")
 
 
+# How the first line begins of what is written out of a game as it is found.
+WRITTEN_OUT = (b"; Shown: ", b"; Tested and not shown: ")
+TOO_WIDE = b"refused N1 TooMany inputs\n"
+
+
+def is_too_wide(told: Reply, words: Sequence[str], rules: bytes) -> bool:
+    """Whether rules that were written out have more inputs than these words take, and may have no more than they take with `--whole`."""
+    return told.status == Status.REFUSED and told.output == TOO_WIDE and "--whole" not in words and rules.startswith(WRITTEN_OUT)
+
+
 # Commands that the library does not have.
 OF_PROGRAM = (["lint"], ["unroll"])
 
@@ -228,7 +238,8 @@ def by_program(command: Sequence[str], words: Sequence[str], rules: bytes) -> Re
 
 def reply(words: Sequence[str], rules: bytes | str) -> Reply:
     """The reply to the words of the program, over these rules. It raises `MemoryError` for want of memory alone. The library has no `lint`,
-    no `unroll` and no `--whole`, which the program of the package or of the clone answers in its place."""
+    no `unroll` and no `--whole`, which the program of the package or of the clone answers in its place. Of rules that were written out there
+    may be as many inputs as `--whole` takes."""
     _check(words)
     text = rules.encode() if isinstance(rules, str) else bytes(rules)
     found = answers()
@@ -237,7 +248,8 @@ def reply(words: Sequence[str], rules: bytes | str) -> Reply:
         if not found:
             said = f"{' '.join(words)} is answered by the program alone: ./gdlsolve --prove builds it, or {program.VARIABLE} names one\n"
             return Reply(Status.MISUSE, said.encode())
-    return by_library(found, words, text) if isinstance(found, Path) else by_program(found, words, text)
+    told = by_library(found, words, text) if isinstance(found, Path) else by_program(found, words, text)
+    return reply([*words, "--whole"], text) if is_too_wide(told, words, text) else told
 
 
 def is_own(version: Reply) -> bool:

@@ -10,7 +10,7 @@ from types import TracebackType
 from typing import IO, Protocol
 
 from gdlsolve import program
-from gdlsolve.calls import Misuse, Reply, Status, by_program, command_of, library, reply, told_by_library
+from gdlsolve.calls import WRITTEN_OUT, Misuse, Reply, Status, by_program, command_of, is_too_wide, library, reply, told_by_library
 from gdlsolve.commands import Bound, History, history_text, question
 from gdlsolve.handles import Handle, has_handles
 from gdlsolve.replies import Description, Network, Outside, Position, Solution, Standing, Values
@@ -60,10 +60,13 @@ def one_line(after: History) -> str:
 
 
 class Process:
-    """A process of `gdlsolve serve`, which is asked one request after the other. `ProcessLookupError` tells that it has ended."""
+    """A process of `gdlsolve serve`, which is asked one request after the other, or of `gdlsolve serve --whole`. `ProcessLookupError` tells
+    that it has ended."""
 
-    def __init__(self, command: Sequence[str], begin: Callable[[], None] | None = None):
-        self._process = subprocess.Popen([*command, "serve"], stdin=subprocess.PIPE, stdout=subprocess.PIPE, preexec_fn=begin)
+    def __init__(self, command: Sequence[str], begin: Callable[[], None] | None = None, *, whole: bool = False):
+        words = ["serve", "--whole"] if whole else ["serve"]
+        self.is_whole = whole
+        self._process = subprocess.Popen([*command, *words], stdin=subprocess.PIPE, stdout=subprocess.PIPE, preexec_fn=begin)
         assert self._process.stdin is not None and self._process.stdout is not None
         self._requests: IO[bytes] = self._process.stdin
         self._frames: IO[bytes] = self._process.stdout
@@ -129,7 +132,8 @@ class Asked(Protocol):
 
 
 class ByProgram:
-    """A process of the program, which takes only words that a line has. What explains a refusal is asked of another process."""
+    """A process of the program, which takes only words that a line has. What explains a refusal is asked of another process. Rules that were
+    written out may have more inputs."""
 
     def __init__(self, command: Sequence[str]):
         self._command = command
@@ -138,6 +142,10 @@ class ByProgram:
 
     def stand(self, rules: bytes) -> None:
         """Takes other rules, which stand from then on."""
+        is_whole = rules.startswith(WRITTEN_OUT)
+        if is_whole != self._process.is_whole:
+            self._process.close()
+            self._process = Process(self._command, whole=is_whole)
         self._rules = rules
         self._process.stand(rules)
 
@@ -147,9 +155,10 @@ class ByProgram:
         if told.status == Status.NO_MEMORY:
             raise MemoryError
         rules = self._rules
+        asked = [*words, "--whole"] if self._process.is_whole else words
 
         def explain() -> str:
-            return by_program(self._command, words, rules).errors.decode(errors="replace")
+            return by_program(self._command, asked, rules).errors.decode(errors="replace")
 
         return Reply(told.status, told.output, explain=explain)
 
@@ -188,7 +197,8 @@ class ByHandle:
         if words[:1] == ["lint"]:
             return reply(words, self._rules)
         command = command_of(words)
-        return told_by_library(self._file, command, self._rules, *handle.ask(command))
+        told = told_by_library(self._file, command, self._rules, *handle.ask(command))
+        return reply(words, self._rules) if is_too_wide(told, words, self._rules) else told
 
     def history(self, after: History) -> str:
         """The text of a history."""

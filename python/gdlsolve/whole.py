@@ -10,7 +10,7 @@ from functools import lru_cache
 from pathlib import Path
 
 from gdlsolve import calls
-from gdlsolve.calls import Misuse, Refusal, Reply
+from gdlsolve.calls import WRITTEN_OUT, Misuse, Refusal, Reply
 from gdlsolve.terms import Malformed, trees
 
 # What gives the lines of the answer to a command over rules.
@@ -18,8 +18,6 @@ Ask = Callable[[Sequence[str], bytes], list[str]]
 # Refusals of rules against which it may help to write them out.
 HELPED = ("G1", "G3", "G4")
 TOO_MANY = "N1"
-# How the first line begins of what is written out, where it is shown to be played the same.
-SHOWN = b"; Shown: "
 HEAD = re.compile(r"\((?:<= )?\(?([^\s()]+)")
 
 
@@ -49,7 +47,7 @@ def written_out(rules: bytes, ask: Ask, tighten: bool = False) -> bytes:
 
 def is_shown(written: bytes) -> bool:
     """Whether it is proved that what is written out of rules is played as these."""
-    return written.startswith(SHOWN)
+    return written.startswith(WRITTEN_OUT[0])
 
 
 def _stated(rules: bytes, ask: Ask) -> bytes:

@@ -23,6 +23,15 @@ RECURSIVE = "refused G4 Recursive 9"
 WAYS = "(role a) (base p) (input a go) (legal a go) (init p) (next p) (link 1 2) (link 2 3) (<= terminal (way 1 3)) (goal a 100)"
 JOINED = WAYS + "(<= (way ?x ?y) (link ?x ?y) (true p)) (<= (way ?x ?z) (way ?x ?y) (way ?y ?z))"
 EITHER = WAYS + "(<= (way ?x ?y) (link ?x ?y) (true p)) (<= (way ?x ?z) (way ?x ?y) (or (link ?y ?z) (way ?y ?z)))"
+# A relation that rests on itself over so many facts that nothing shows what is written of it.
+PLAIN = "(role a) (base p) (input a go) (legal a go) (init p) (next p) (goal a 100) (<= terminal (far 3))"
+FAR = PLAIN + "(far 0) (<= (far ?y) (far ?x) (succ ?x ?y))" + "".join(f"(succ {place} {place + 1})" for place in range(1400))
+# A queen on a board of eight by eight, with every way from each square to each other as a move.
+QUEEN = "".join(f"(n {place})" for place in range(8)) + (
+    "(role a) (init (at 0 0)) (<= (legal a (go ?x ?y ?u ?v)) (true (at ?x ?y)) (n ?x) (n ?y) (n ?u) (n ?v))"
+    "(<= (next (at ?u ?v)) (does a (go ?x ?y ?u ?v))) (<= terminal (true (at 7 7))) (<= (goal a 100) (true (at 7 7)))"
+    "(<= (goal a 0) (not (true (at 7 7)))) (legal a stay) (<= (next (at ?x ?y)) (does a stay) (true (at ?x ?y)))"
+)
 NAMED = patch.dict(os.environ, {program.VARIABLE: " ".join(PROGRAM)})
 
 
@@ -71,14 +80,34 @@ class Texts(unittest.TestCase):
 
     def test_the_first_line_says_what_is_shown(self) -> None:
         games = sorted((TOP / "games/found").glob("*.kif"))
-        self.assertEqual(len(games), 6)
+        self.assertEqual(len(games), 7)
         for game in games:
             with self.subTest(game=game.stem):
                 self.assertTrue(whole.is_shown(gdlsolve.unroll(game.read_bytes()).encode()))
-        self.assertTrue(whole.is_shown(gdlsolve.unroll(JOINED).encode()))
-        written = gdlsolve.unroll(EITHER)
+        for text in (JOINED, EITHER):
+            self.assertTrue(whole.is_shown(gdlsolve.unroll(text).encode()))
+            self.assertTrue(whole.is_shown(gdlsolve.unroll(text, tighten=True).encode()))
+        written = gdlsolve.unroll(FAR)
         self.assertTrue(written.startswith("; Tested and not shown: "))
         self.assertFalse(whole.is_shown(written.encode()))
+
+    def test_what_is_written_out_may_have_more_inputs(self) -> None:
+        written = gdlsolve.unroll(QUEEN)
+        self.assertEqual(gdlsolve.net(written).inputs, 4097)
+        found = gdlsolve.solve(written, "a", 1)
+        self.assertEqual((found.value, found.move), (100, "(go 0 0 7 7)"))
+        stated = written.split("\n", 1)[1]
+        with self.assertRaises(Refusal) as caught:
+            gdlsolve.net(stated)
+        self.assertEqual(caught.exception.code, "N1")
+        with Session(QUEEN, whole=True) as session:
+            self.assertEqual(session.net().inputs, 4097)
+            self.assertEqual(session.moves([("(go 0 0 7 7)",)]).goals, {"a": 100})
+            session.stand(FOUND)
+            self.assertEqual(session.net(), gdlsolve.net(gdlsolve.unroll(FOUND)))
+        told = package("gdlsolve", "solve", "--whole", "--role", "a", "--depth", "1")
+        ended = subprocess.run(told, input=QUEEN.encode(), capture_output=True, env=known(), check=False)
+        self.assertEqual((ended.returncode, ended.stdout.splitlines()[:2]), (0, [b"value 100", b"move (go 0 0 7 7)"]))
 
     def test_inputs_that_are_too_many_are_stated_anew(self) -> None:
         numbers = " ".join(f"(n {number})" for number in range(70))
@@ -270,7 +299,7 @@ class Page(unittest.TestCase):
         listed = self.desk.open({"text": LISTED})
         self.assertTrue(listed["whole"])
         self.assertIn(WRITTEN, self.desk.open({"text": LISTED, "whole": True})["notes"])
-        for text, note in ((FOUND, PROVED), (JOINED, PROVED), (EITHER, TESTED)):
+        for text, note in ((FOUND, PROVED), (JOINED, PROVED), (EITHER, PROVED), (FAR, TESTED)):
             self.assertEqual(self.desk.open({"text": text, "whole": True})["notes"][:2], [WRITTEN, note])
         stands = self.desk.open({"text": GAMES[0].read_text(), "whole": True})
         self.assertEqual((stands["whole"], WRITTEN in stands["notes"]), (False, False))

@@ -9,12 +9,12 @@ import time
 from collections import Counter
 from collections.abc import Callable, Iterable, Iterator
 from concurrent.futures import FIRST_COMPLETED, CancelledError, Future, wait
-from dataclasses import dataclass, field
+from dataclasses import dataclass, field, replace
 from itertools import product
 from pathlib import Path
 from typing import Protocol
 
-from gdlsolve.calls import Misuse, Refusal, Reply, Status, lines_of
+from gdlsolve.calls import Misuse, Refusal, Reply, Status, is_too_wide, lines_of
 from gdlsolve.cluster import program, task
 from gdlsolve.cluster.faults import Contradiction, Failed, Lost, OtherProgram
 from gdlsolve.cluster.journal import Journal, Known, key_of
@@ -64,17 +64,19 @@ class Engine:
 @dataclass(frozen=True)
 class Sought:
     """What is sought: the answer of `solve` to these rules, with these options but for the depth,
-    so many turns ahead, behind a history."""
+    so many turns ahead, behind a history. The language is `--whole` where the rules were written out
+    and have more inputs than commands take without."""
 
     rules: bytes
     role: str
     depth: int
     worth: tuple[str, ...]
     after: str
+    language: tuple[str, ...] = ()
 
     def options(self, depth: int) -> tuple[str, ...]:
         """The options of `solve` but for the history."""
-        return ("--role", self.role, "--depth", str(depth), *self.worth)
+        return ("--role", self.role, "--depth", str(depth), *self.worth, *self.language)
 
     def history(self, turns: tuple[Turn, ...]) -> str:
         """The text of the history and the turns behind it."""
@@ -195,10 +197,13 @@ class Driver:
         """The reply where there is no turn to come: a refusal, or the value of the state itself."""
         after = ["--after", self.sought.after]
         first = _local(["solve", *self.sought.options(0), *after], self.sought.rules)
+        if is_too_wide(first, self.sought.language, self.sought.rules):
+            self.sought = replace(self.sought, language=("--whole",))
+            first = _local(["solve", *self.sought.options(0), *after], self.sought.rules)
         if first.status != Status.ANSWER or self.sought.depth == 0:
             return first
         self._role = lines_of(_local(["show"], self.sought.role.encode()).output)[0]
-        here = Position.of(lines_of(_local(["moves", *after], self.sought.rules).output))
+        here = Position.of(lines_of(_local(["moves", *self.sought.language, *after], self.sought.rules).output))
         return None if here.state is State.OPEN else first
 
     # The tree.
@@ -212,7 +217,7 @@ class Driver:
     def _look_at(self, node: Node) -> None:
         """Looks at the moves of a state, and on where there is but one way to go on."""
         while True:
-            words = ["moves", "--after", self.sought.history(node.turns)]
+            words = ["moves", *self.sought.language, "--after", self.sought.history(node.turns)]
             told = _local(words, self.sought.rules)
             position = Position.of(told.lines())
             if position.state is not State.OPEN:
