@@ -80,7 +80,7 @@ class Texts(unittest.TestCase):
 
     def test_the_first_line_says_what_is_shown(self) -> None:
         games = sorted((TOP / "games/found").glob("*.kif"))
-        self.assertEqual(len(games), 7)
+        self.assertEqual(len(games), 10)
         for game in games:
             with self.subTest(game=game.stem):
                 self.assertTrue(whole.is_shown(gdlsolve.unroll(game.read_bytes()).encode()))
