@@ -301,12 +301,18 @@ const WIDER: &[u8] = b"(role a)(d 0)(d 1)(d 2)(d 3)(d 4)(d 5)(d 6)(d 7)
     (d 8)(d 9)(d 10)(d 11)(d 12)(d 13)(d 14)(d 15)
     (<= (input a (n ?a ?b ?c ?d)) (d ?a) (d ?b) (d ?c) (d ?d))(input a last)";
 
-/// How many inputs a role has by the limits of a width; none where all roles together have too many.
+/// How many inputs all roles have by the limits of a width; none where they are too many.
 fn inputs_by<R: AllocGlobal>(rt: &R, text: &[u8], width: Width) -> Result<Option<usize>, Fail> {
     let items = read(rt.alloc(), text)?;
     let rules = RuleSet::check(rt.alloc(), &items)?;
     match instantiate_flat_alone(rt, &rules, width) {
-        Ok(ground) => Ok(Some(ground.inputs(0))),
+        Ok(ground) => {
+            let mut inputs = 0usize;
+            for role in 0..ground.roles() {
+                inputs = inputs.wrapping_add(ground.inputs(role));
+            }
+            Ok(Some(inputs))
+        }
         Err(GroundFault::TooMany(Excess::Inputs)) => Ok(None),
         Err(fault) => Err(fault.into()),
     }

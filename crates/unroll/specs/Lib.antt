@@ -1,3 +1,4 @@
 pub mod Written
 pub mod Answers
 pub mod Played
+pub mod Missing

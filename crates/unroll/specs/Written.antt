@@ -10,6 +10,7 @@ use Rattle.whole.specs.Possible.{IsStated, PlaysAs}
 use Rattle.writing.specs.declared.written.Bounds.{Bounds}
 use Rattle.writing.specs.declared.written.Bounds.TheVariants.{AsStated}
 use Rattle.plain.specs.Plain.{plain_items}
+use Rattle.unroll.specs.Missing.{AreRangesStated}
 use Rattle.unroll.specs.Played.{played_items}
 use Rattle.lawful.specs.Lawful.{IsAccepted, IsLawful, IsRefusal, IsUnread}
 use Rattle.lawful.specs.declared.fault.UnrollFault.{UnrollFault}
@@ -30,13 +31,15 @@ tested_line = codes "; Tested and not shown: played as what it was written for."
 abbrev pub IsShown : List ℕ → Type 0
 IsShown out = (rest : List ℕ) × (out ≡ shown_line ++ rest)
 
--- What is written for items: it stands for others that are accepted, and have the same roles in the same order. Where it says that this is
+-- What is written for items, which state `base` and `input` where they ask them: it stands for others that are accepted, and have the same
+-- roles in the same order. Where it says that this is
 -- shown, they are played as these, or, where what is stated of `base` and `input` is cut to what play can come to, as those of these that state
 -- neither. It says so where no relation rests on itself, and `base` and `input` are stated and stay as they are.
 pub record IsWrittenOut (bounds : Bounds) (found : List Tree) (out : List ℕ) : Type 0 where
   pub items : List Tree
   pub reads : Reads out (trees_of items)
   pub accepted : IsAccepted (map text (roles found)) items
+  pub asked : AreRangesStated found
   pub played : IsShown out → PlaysAs (alternatives (played_items bounds found)) (alternatives items)
   pub shown : bounds ≡ AsStated → HasNoFault found → IsStated (alternatives found) base_relation → IsStated (alternatives found) input_relation
       → IsShown out

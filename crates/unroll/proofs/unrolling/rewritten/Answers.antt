@@ -29,6 +29,7 @@ returns-clause-written g c =
       items = written;
       reads = subst (λ (es : List _). Reads out.items (trees_of (trees_in es))) c.deref-7.ensures.value reads;
       accepted = accepted;
+      asked = c.in_ok-refuse_unstated.ensures.stated;
       played = λ shown.
           shown_if is_shown (IsShown out.items) (PlaysAs (alternatives (played_items c.args.bounds found)) (alternatives written)) says
           (λ e. true_on is_shown _ plays e accepted.faultless strata) shown;
