@@ -1,12 +1,14 @@
 -- This crate's own: what `run` promises does not rest on it.
 -- What a caller is told of a request, and by which status.
 use Rattle.std.specs.Prelude.{ℕ, List}
-use Rattle.statement.specs.Queries.{Query}
 use Rattle.statement.specs.declared.status.Status.{Status}
 use Rattle.statement.specs.declared.status.Status.TheVariants.{Answer, Refused}
+use Rattle.statement.specs.declared.width.Width.TheVariants.{Plain}
+use Rattle.words.specs.declared.command.Command.{Command}
 use Rattle.words.specs.declared.grammar.Request.{Request}
 use Rattle.words.specs.declared.grammar.Request.TheVariants.{Run, Help, Misuse}
 use Rattle.words.specs.Asked.{query_of}
+use Rattle.words.specs.Widths.{IsCommandIn}
 use Rattle.replies.specs.Replies.{reply_of}
 use Rattle.statement.specs.Replies.{IsReply}
 use Rattle.gdlsolve_c.specs.declared.told.Outcome.{Outcome}
@@ -27,9 +29,9 @@ abbrev pub status_of : Outcome → ℕ
 status_of (Reply reply) = reply_status reply.status
 status_of (Words text) = 1
 
--- a reply is that to some command over the rules
+-- a reply is that to some command by the limits of every command over the rules
 abbrev pub IsOutcome : List ℕ → Outcome → Type 0
-IsOutcome rules (Reply reply) = (query : Query) × IsReply query rules (reply_of reply)
+IsOutcome rules (Reply reply) = (command : Command) × IsCommandIn Plain command × IsReply (query_of command) rules (reply_of reply)
 IsOutcome rules (Words text) = Unit
 
 -- of a command its reply is told, and of any other request a text

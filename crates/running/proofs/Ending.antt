@@ -97,5 +97,5 @@ fulfilled_known (Help text) status old new (unread, inr broken) = broken_known s
 fulfilled_known (Misuse text) status old new h = misused_known status old new h.0 h.1 h.2
 
 pub done_known : (status : ℕ) (old new : Streams) → AreDone status old new → IsKnown status old new
-done_known status old new (inl done) = fulfilled_known done.0 status old new done.1
+done_known status old new (inl done) = fulfilled_known done.0 status old new done.2
 done_known status old new (inr unread) = starved_known status old new unread.0 unread.2

@@ -3,11 +3,13 @@
 use Rattle.std.specs.Prelude.{ℕ, List, Option, Result, Ok, ◌≡◌, ◌⊎◌}
 use Rattle.std.specs.Io.KnownBytes.{Keeps}
 use Rattle.kif.specs.Written.{AppendsFront}
+use Rattle.words.specs.Widths.{IsRequestIn}
 use Rattle.words.specs.declared.command.Command.{Command}
 use Rattle.words.specs.declared.grammar.Request.{Request}
 use Rattle.words.specs.declared.grammar.Request.TheVariants.{Run, Help, Misuse}
 use Rattle.statement.specs.declared.status.Status.{Status}
 use Rattle.statement.specs.declared.status.Status.TheVariants.{Answer, Refused}
+use Rattle.statement.specs.declared.width.Width.TheVariants.{Plain}
 use Rattle.running.specs.declared.fault.RunFault.{RunFault}
 use Rattle.running.specs.Fulfilling.{Streams, streams, IsCommandRun, IsFulfilled, IsUnread}
 
@@ -47,6 +49,7 @@ abbrev pub IsFulfilledExplained : Request → ℕ → Streams → Streams → Ty
 IsFulfilledExplained request status old new =
     (told : Option (List ℕ)) × IsFulfilled request status old (before_more new told) × TellsMore (MayTell request status) told new.errors
 
--- what becomes of words: some request was fulfilled, and then more was told; or there was no memory to make one of them
+-- what becomes of words: some request by the limits of every command was fulfilled, and then more was told; or there was no memory to
+-- make one of them
 abbrev pub IsExplained : ℕ → Streams → Streams → Type 0
-IsExplained status old new = ((request : Request) × IsFulfilledExplained request status old new) ⊎ IsUnread status old new
+IsExplained status old new = ((request : Request) × IsRequestIn Plain request × IsFulfilledExplained request status old new) ⊎ IsUnread status old new

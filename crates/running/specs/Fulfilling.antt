@@ -5,9 +5,11 @@ use Rattle.std.specs.Io.KnownBytes.{Appends, Keeps}
 use Rattle.kif.specs.Written.{AppendsFront}
 use Rattle.words.specs.declared.command.Command.{Command}
 use Rattle.words.specs.Asked.{query_of}
+use Rattle.words.specs.Widths.{IsRequestIn}
 use Rattle.words.specs.declared.grammar.Request.{Request}
 use Rattle.words.specs.declared.grammar.Request.TheVariants.{Run, Help, Misuse}
 use Rattle.statement.specs.declared.status.Status.{Status}
+use Rattle.statement.specs.declared.width.Width.TheVariants.{Plain}
 use Rattle.running.specs.declared.fault.RunFault.{RunFault}
 use Rattle.running.specs.declared.fault.RunFault.TheVariants.{Memory, Write}
 use Rattle.running.specs.Exits.{exit_status, HasWritten, AreErrorsTold}
@@ -49,6 +51,6 @@ abbrev pub IsUnread : ℕ → Streams → Streams → Type 0
 IsUnread status old new =
     (status ≡ 3) × Keeps old.input new.input × Keeps old.output new.output × AppendsFront old.errors new.errors (fault_line Memory)
 
--- what becomes of words: some request was fulfilled, if there was memory to make one of them
+-- what becomes of words: some request by the limits of every command was fulfilled, if there was memory to make one of them
 abbrev pub AreDone : ℕ → Streams → Streams → Type 0
-AreDone status old new = ((request : Request) × IsFulfilled request status old new) ⊎ IsUnread status old new
+AreDone status old new = ((request : Request) × IsRequestIn Plain request × IsFulfilled request status old new) ⊎ IsUnread status old new

@@ -3,6 +3,7 @@ use Rattle.std.proofs.Common.{ℕ, ◌≡◌, inl, inr, List, subst, sym}
 use Rattle.std.specs.Prelude.{Result, Ok, Err, IfOk}
 use Rattle.statement.specs.Answers.{Reply}
 use Rattle.statement.specs.declared.status.Status.TheVariants.{Answer, Refused}
+use Rattle.statement.specs.declared.width.Width.TheVariants.{Wide}
 use Rattle.running.specs.Exits.{exit_status}
 use Rattle.writing.specs.declared.written.Bounds.{Bounds}
 use Rattle.unroll.specs.Written.{IsWrittenFor}
@@ -13,7 +14,7 @@ use Rattle.serving.specs.Telling.{IsTold, IsToldFound}
 
 pub told_written : {E : Type 0} (ranges : Bounds) (rules text : List ℕ) (reply : Reply) (r : Result Told E) → IsUnrollReply ranges rules reply
     → reply.status ≡ Answer
-    → text ≡ reply.output → IfOk r (λ told. IsTold text told.status told.bytes.items) → IfOk r (λ told. IsToldFound ranges rules told.status told.bytes.items)
+    → text ≡ reply.output → IfOk r (λ told. IsTold Wide text told.status told.bytes.items) → IfOk r (λ told. IsToldFound ranges rules told.status told.bytes.items)
 told_written ranges rules text reply (Ok told) h answered same is =
     inl (text, subst (λ (out : List ℕ). IsWrittenFor ranges rules out) (sym same) (written_by ranges rules reply answered h), is)
 told_written ranges rules text reply (Err e) h answered same is = tt

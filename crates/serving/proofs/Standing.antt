@@ -8,6 +8,8 @@ use Rattle.statement.specs.Answers.{Reply}
 use Rattle.statement.specs.Queries.{Query}
 use Rattle.statement.specs.Queries as query
 use Rattle.statement.specs.Replies.{IsReply}
+use Rattle.statement.specs.declared.width.Width.{Width}
+use Rattle.statement.specs.declared.width.Width.TheVariants.{Plain}
 use Rattle.words.specs.Asked.{query_of}
 use Rattle.words.specs.declared.command.Language.{Language}
 use Rattle.words.specs.declared.command.Language.TheVariants.{Profile, Whole, Tightened}
@@ -54,9 +56,10 @@ lint_over : (kept rules : List ℕ) (status : ℕ) (bytes : List ℕ) → Stand 
 lint_over kept rules status bytes stand h =
     let checked = h.1 in (h.0, (checked.0, reply_over query.check kept rules checked.0 stand checked.1, checked.2), h.2, h.3)
 
-told_over : (kept rules : List ℕ) (status : ℕ) (bytes : List ℕ) → Stand kept rules → IsTold kept status bytes → IsTold rules status bytes
-told_over kept rules status bytes stand (inl h) = inl (h.0, told_of_over h.0 kept rules status bytes stand h.1)
-told_over kept rules status bytes stand (inr h) = inr (lint_over kept rules status bytes stand h)
+told_over : (width : Width) (kept rules : List ℕ) (status : ℕ) (bytes : List ℕ) → Stand kept rules → IsTold width kept status bytes
+    → IsTold width rules status bytes
+told_over width kept rules status bytes stand (inl h) = inl (h.0, h.1, told_of_over h.0 kept rules status bytes stand h.2)
+told_over width kept rules status bytes stand (inr h) = inr (lint_over kept rules status bytes stand h)
 
 found_over : (ranges : Bounds) (kept rules : List ℕ) (status : ℕ) (bytes : List ℕ) → Stand kept rules → IsToldFound ranges kept status bytes
     → IsToldFound ranges rules status bytes
@@ -65,7 +68,7 @@ found_over ranges kept rules status bytes stand (inr h) = inr (h.0, refuses_over
 
 told_in_over : (language : Language) (kept rules : List ℕ) (status : ℕ) (bytes : List ℕ) → Stand kept rules → IsToldIn language kept status bytes
     → IsToldIn language rules status bytes
-told_in_over Profile kept rules status bytes stand h = told_over kept rules status bytes stand h
+told_in_over Profile kept rules status bytes stand h = told_over Plain kept rules status bytes stand h
 told_in_over Whole kept rules status bytes stand h = found_over bounds.AsStated kept rules status bytes stand h
 told_in_over Tightened kept rules status bytes stand h = found_over bounds.Tightened kept rules status bytes stand h
 

@@ -3,7 +3,10 @@
 use Rattle.std.specs.Prelude.{ℕ, ◌≡◌, ◌⊎◌, List, Ok, string_bytes}
 use Rattle.statement.specs.Answers.{Reply}
 use Rattle.statement.specs.Replies.{IsReply}
+use Rattle.statement.specs.declared.width.Width.{Width}
+use Rattle.statement.specs.declared.width.Width.TheVariants.{Plain, Wide}
 use Rattle.words.specs.Asked.{query_of}
+use Rattle.words.specs.Widths.{IsRequestIn}
 use Rattle.words.specs.declared.command.Language.{Language}
 use Rattle.words.specs.declared.command.Language.TheVariants.{Profile, Whole, Tightened}
 use Rattle.words.specs.declared.grammar.Request.{Request}
@@ -30,22 +33,24 @@ abbrev pub IsToldOfLint : List ℕ → ℕ → List ℕ → Type 0
 IsToldOfLint rules status bytes =
     (reply : Reply) × IsLintReply rules reply × (status ≡ exit_status (Ok reply.status)) × (bytes ≡ reply.output)
 
--- some request is answered, or `lint`
-abbrev pub IsTold : List ℕ → ℕ → List ℕ → Type 0
-IsTold rules status bytes = ((request : Request) × IsToldOf request rules status bytes) ⊎ IsToldOfLint rules status bytes
+-- some request by the limits of a width is answered, or `lint`
+abbrev pub IsTold : Width → List ℕ → ℕ → List ℕ → Type 0
+IsTold width rules status bytes =
+    ((request : Request) × IsRequestIn width request × IsToldOf request rules status bytes) ⊎ IsToldOfLint rules status bytes
 
 -- nothing is written for the rules, and the refusal that names why is told
 abbrev pub IsToldRefusal : List ℕ → ℕ → List ℕ → Type 0
 IsToldRefusal rules status bytes =
     (reply : Reply) × RefusesToUnroll rules reply × (status ≡ exit_status (Ok reply.status)) × (bytes ≡ reply.output)
 
--- of rules as they are found is told what is told of the text that is written for them, or why none is
+-- of rules as they are found is told what is told of the text that is written for them, which may have more inputs, or why none is
 abbrev pub IsToldFound : Bounds → List ℕ → ℕ → List ℕ → Type 0
-IsToldFound ranges rules status bytes = ((out : List ℕ) × IsWrittenFor ranges rules out × IsTold out status bytes) ⊎ IsToldRefusal rules status bytes
+IsToldFound ranges rules status bytes =
+    ((out : List ℕ) × IsWrittenFor ranges rules out × IsTold Wide out status bytes) ⊎ IsToldRefusal rules status bytes
 
 -- what is told of rules in a language
 abbrev pub IsToldIn : Language → List ℕ → ℕ → List ℕ → Type 0
-IsToldIn Profile = IsTold
+IsToldIn Profile = IsTold Plain
 IsToldIn Whole = IsToldFound bounds.AsStated
 IsToldIn Tightened = IsToldFound bounds.Tightened
 

@@ -107,7 +107,7 @@ fn told_of_words<G: GroundGame, T: Threads + Sync + AllocGlobal>(
     made: &mut Option<KeptGame<G>>,
 ) -> Result<Told, AllocError>
     requires { IfSome made.old (IsKeptGame G.Game G.source width rules.now) }
-    ensures told { IfOk result (λ told. IsTold rules.now told.status told.bytes.items) }
+    ensures told { IfOk result (λ told. IsTold width rules.now told.status told.bytes.items) }
     ensures made { IfSome made.new (IsKeptGame G.Game G.source width rules.now) }
 {
     if is_lint(words) {
@@ -127,7 +127,7 @@ pub(crate) fn told_of_line<G: GroundGame, T: Threads + Sync + AllocGlobal>(
     made: &mut Option<KeptGame<G>>,
 ) -> Result<Told, AllocError>
     requires { IfSome made.old (IsKeptGame G.Game G.source width rules.now) }
-    ensures told { IfOk result (λ told. IsTold rules.now told.status told.bytes.items) }
+    ensures told { IfOk result (λ told. IsTold width rules.now told.status told.bytes.items) }
     ensures made { IfSome made.new (IsKeptGame G.Game G.source width rules.now) }
 {
     let Some(words) = words_in(rt.alloc(), line)? else {

@@ -1,6 +1,8 @@
 //! The program: a session, a description that is written out, a command over a description as it is found, or what the words ask for
 //! otherwise.
-ghost use Rattle.std.specs.Prelude.{◌≤◌};
+ghost use Rattle.std.specs.Prelude.{◌≡◌, ◌≤◌, IfSome};
+ghost use Rattle.statement.specs.declared.width.Width.TheVariants.{Plain, Wide};
+ghost use Rattle.words.specs.Widths.{width_of};
 ghost use Rattle.running.specs.Fulfilling.{streams};
 ghost use Rattle.serving.specs.Doing.{IsAskedRun, IsProgramRun};
 
@@ -49,7 +51,9 @@ fn may_be_whole(words: &[&str]) -> bool {
 }
 
 /// What is to be written of `base` and `input` for rules in a language, if they are to be written out.
-fn bounds_of(language: Language) -> Option<Bounds> {
+fn bounds_of(language: Language) -> Option<Bounds>
+    ensures { IfSome result (λ bounds. width_of language Plain ≡ Wide) }
+{
     match language {
         Language::Profile => None,
         Language::Whole => Some(Bounds::AsStated),

@@ -1,4 +1,8 @@
 //! The words of the command line: the commands and their options, and the texts of their help.
+ghost use Rattle.std.specs.Prelude.{◌≡◌, IfOk, IfSome};
+ghost use Rattle.statement.specs.declared.width.Width.TheVariants.{Plain};
+ghost use Rattle.words.specs.Widths.{IsCommandIn, IsRequestIn, IsText, width_of};
+
 use crate::command::{Command, Inquiry, Language, Sought};
 use clap::error::ErrorKind;
 use cut::Cut;
@@ -379,7 +383,9 @@ fn search_command<'a>(
     name: &str,
     options: &clap::ArgMatches<'a>,
     width: Width,
-) -> Option<Result<Command<'a>, &'static str>> {
+) -> Option<Result<Command<'a>, &'static str>>
+    ensures { IfSome result (λ made. IfOk made (IsCommandIn width)) }
+{
     let Some(cut) = Cut::parse(options.get_str("cut")?.as_bytes()) else {
         return Some(Err("bad cut"));
     };
@@ -411,7 +417,9 @@ fn search_command<'a>(
 fn matched<'a>(
     matches: &clap::ArgMatches<'a>,
     width: Width,
-) -> Option<Result<Command<'a>, &'static str>> {
+) -> Option<Result<Command<'a>, &'static str>>
+    ensures { IfSome result (λ made. IfOk made (IsCommandIn width)) }
+{
     match matches.subcommand()? {
         ("show", _) => Some(Ok(Command::Show)),
         ("check", _) => Some(Ok(Command::Check)),
@@ -454,7 +462,9 @@ fn language_in(matches: &clap::ArgMatches) -> Language {
 }
 
 /// What words that make no command are told: help, or what is wrong with them.
-fn told_by<'a>(alloc: Global, error: &clap::Error) -> Result<Request<'a>, AllocError> {
+fn told_by<'a>(alloc: Global, error: &clap::Error) -> Result<Request<'a>, AllocError>
+    ensures { IfOk result IsText }
+{
     match error.kind() {
         ErrorKind::OutOfMemory => Err(AllocError),
         ErrorKind::DisplayHelp | ErrorKind::DisplayVersion => {
@@ -464,8 +474,25 @@ fn told_by<'a>(alloc: Global, error: &clap::Error) -> Result<Request<'a>, AllocE
     }
 }
 
+/// What words are told that have an option with a text that it does not take.
+fn misuse<'a>(alloc: Global, line: &str) -> Result<Request<'a>, AllocError>
+    ensures { IfOk result IsText }
+{
+    Ok(Request::Misuse(format!(in alloc; "{line}\n")?))
+}
+
+/// What words are told that were matched, and make no command.
+fn no_command<'a>(alloc: Global, grammar: &mut clap::Command) -> Result<Request<'a>, AllocError>
+    ensures { IfOk result IsText }
+{
+    let error = grammar.error(ErrorKind::MissingSubcommand, "no command")?;
+    Ok(Request::Misuse(error.to_string(alloc)?))
+}
+
 /// By which limits rules in a language are instantiated, where those in the profile are by these: what is written out may have more inputs.
-fn width_in(language: Language, plain: Width) -> Width {
+fn width_in(language: Language, plain: Width) -> Width
+    ensures { result ≡ width_of language plain }
+{
     match language {
         Language::Profile => plain,
         Language::Whole | Language::Tightened => Width::Wide,
@@ -477,23 +504,20 @@ fn requested<'a>(
     alloc: Global,
     words: &'a [&'a str],
     plain: Width,
-) -> Result<(Request<'a>, Language), AllocError> {
+) -> Result<(Request<'a>, Language), AllocError>
+    ensures { IfOk result (λ asked. IsRequestIn (width_of asked.1 plain) asked.0) }
+{
     let mut grammar = grammar(alloc)?;
-    let request = match grammar.try_get_matches_from_mut(words) {
-        Ok(matches) => {
-            let language = language_in(&matches);
-            match matched(&matches, width_in(language, plain)) {
-                Some(Ok(command)) => return Ok((Request::Run(command), language)),
-                Some(Err(line)) => Request::Misuse(format!(in alloc; "{line}\n")?),
-                None => {
-                    let error = grammar.error(ErrorKind::MissingSubcommand, "no command")?;
-                    Request::Misuse(error.to_string(alloc)?)
-                }
-            }
-        }
-        Err(error) => told_by(alloc, &error)?,
+    let matches = match grammar.try_get_matches_from_mut(words) {
+        Ok(matches) => matches,
+        Err(error) => return Ok((told_by(alloc, &error)?, Language::Profile)),
     };
-    Ok((request, Language::Profile))
+    let language = language_in(&matches);
+    match matched(&matches, width_in(language, plain)) {
+        Some(Ok(command)) => Ok((Request::Run(command), language)),
+        Some(Err(line)) => Ok((misuse(alloc, line)?, Language::Profile)),
+        None => Ok((no_command(alloc, &mut grammar)?, Language::Profile)),
+    }
 }
 
 /// The request that the words make, and in which language it wants the rules: what is written for those of the whole language may have more
@@ -501,7 +525,9 @@ fn requested<'a>(
 pub fn asked_of<'a>(
     alloc: Global,
     words: &'a [&'a str],
-) -> Result<(Request<'a>, Language), AllocError> {
+) -> Result<(Request<'a>, Language), AllocError>
+    ensures { IfOk result (λ asked. IsRequestIn (width_of asked.1 Plain) asked.0) }
+{
     requested(alloc, words, Width::Plain)
 }
 
@@ -511,7 +537,9 @@ pub fn request_in<'a>(
     alloc: Global,
     words: &'a [&'a str],
     width: Width,
-) -> Result<Request<'a>, AllocError> {
+) -> Result<Request<'a>, AllocError>
+    ensures { IfOk result (IsRequestIn width) }
+{
     let (request, language) = requested(alloc, words, width)?;
     match language {
         Language::Profile => Ok(request),
@@ -522,6 +550,8 @@ pub fn request_in<'a>(
 }
 
 /// The same, by the limits of every command.
-pub fn request_of<'a>(alloc: Global, words: &'a [&'a str]) -> Result<Request<'a>, AllocError> {
+pub fn request_of<'a>(alloc: Global, words: &'a [&'a str]) -> Result<Request<'a>, AllocError>
+    ensures { IfOk result (IsRequestIn Plain) }
+{
     request_in(alloc, words, Width::Plain)
 }

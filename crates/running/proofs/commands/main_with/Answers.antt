@@ -5,7 +5,7 @@ use Rattle.running.specs.Fulfilling.{streams}
 use Rattle.running.proofs.commands.main_with.Goals as goal
 
 pub returns-clause-refused : goal.returns-clause-refused
-returns-clause-refused g c = (done_known c.fulfil.result _ _ (inl (c.in-Ok.request, c.fulfil.ensures))).refused
+returns-clause-refused g c = (done_known c.fulfil.result _ _ (inl (c.in-Ok.request, c.in-Ok.ensures, c.fulfil.ensures))).refused
 
 pub returns-in_default-clause-answered : goal.returns-in_default-clause-answered
 returns-in_default-clause-answered g c =

@@ -5,22 +5,22 @@ use Rattle.running.specs.Fulfilling.{streams}
 use Rattle.running.proofs.explained.main_explained.Goals as goal
 
 pub returns-clause-explained : goal.returns-clause-explained
-returns-clause-explained g c = inl (c.in-Ok.request, c.fulfil_explained.ensures)
+returns-clause-explained g c = inl (c.in-Ok.request, c.in-Ok.ensures, c.fulfil_explained.ensures)
 
 pub returns-clause-statuses : goal.returns-clause-statuses
-returns-clause-statuses g c = (done_known c.fulfil_explained.result _ _ (inl (c.in-Ok.request, c.fulfil_explained.ensures.1))).within
+returns-clause-statuses g c = (done_known c.fulfil_explained.result _ _ (inl (c.in-Ok.request, c.in-Ok.ensures, c.fulfil_explained.ensures.1))).within
 
 pub returns-clause-answered : goal.returns-clause-answered
-returns-clause-answered g c = (done_known c.fulfil_explained.result _ _ (inl (c.in-Ok.request, c.fulfil_explained.ensures.1))).answered
+returns-clause-answered g c = (done_known c.fulfil_explained.result _ _ (inl (c.in-Ok.request, c.in-Ok.ensures, c.fulfil_explained.ensures.1))).answered
 
 pub returns-clause-misused : goal.returns-clause-misused
-returns-clause-misused g c = (done_known c.fulfil_explained.result _ _ (inl (c.in-Ok.request, c.fulfil_explained.ensures.1))).misused
+returns-clause-misused g c = (done_known c.fulfil_explained.result _ _ (inl (c.in-Ok.request, c.in-Ok.ensures, c.fulfil_explained.ensures.1))).misused
 
 pub returns-clause-refused : goal.returns-clause-refused
-returns-clause-refused g c = (done_known c.fulfil_explained.result _ _ (inl (c.in-Ok.request, c.fulfil_explained.ensures.1))).refused
+returns-clause-refused g c = (done_known c.fulfil_explained.result _ _ (inl (c.in-Ok.request, c.in-Ok.ensures, c.fulfil_explained.ensures.1))).refused
 
 pub returns-clause-starved : goal.returns-clause-starved
-returns-clause-starved g c = (done_known c.fulfil_explained.result _ _ (inl (c.in-Ok.request, c.fulfil_explained.ensures.1))).starved
+returns-clause-starved g c = (done_known c.fulfil_explained.result _ _ (inl (c.in-Ok.request, c.in-Ok.ensures, c.fulfil_explained.ensures.1))).starved
 
 pub returns-in_default-clause-explained : goal.returns-in_default-clause-explained
 returns-in_default-clause-explained g c = inr (c.status_of.ensures.status, Keeps-refl _, Keeps-refl _, c.status_of.ensures.told)

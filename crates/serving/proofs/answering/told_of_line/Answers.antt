@@ -3,4 +3,4 @@ use Rattle.serving.proofs.Requests.{told_some}
 use Rattle.serving.proofs.answering.told_of_line.Goals as goal
 
 pub returns-in_default-clause-told : goal.returns-in_default-clause-told
-returns-in_default-clause-told g c = told_some (Misuse c.in_ok-format.field-0) c.args.rules.now c.told_of.result c.told_of.ensures.told
+returns-in_default-clause-told g c = told_some c.args.width (Misuse c.in_ok-format.field-0) c.args.rules.now c.told_of.result tt c.told_of.ensures.told
