@@ -30,7 +30,7 @@ REFUSALS = {
     "limits": rb"N1 TooMany (?:base|inputs|instances|text)",
     "role": rb"S1 NoSuchRole",
     "history": rb"H1 BadForm @|H2 NotLegal # &|H3 Over #|H4 Stuck #",
-    "whole": rb"U1 NotStratified #|U2 TooMany (?:facts|instances|layers|items|text)",
+    "whole": rb"U1 NotStratified #|U2 TooMany (?:facts|instances|layers|items|text)|U3 Unstated #",
 }
 LAYERS = {
     "show": ["text"],

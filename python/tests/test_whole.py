@@ -165,6 +165,7 @@ class Calls(unittest.TestCase):
             ("(role a)\n(<= p (not (or q r)))(<= q p)", (2, 1), "refused U1 NotStratified: p > not q > p\n"),
             ("(role a)(<= q (not (or p q r)))\n(<= (p ?x) (not (or (q ?x) r)))", (2, 8), "refused G3 Unsafe: no positive literal of the body binds ?x\n"),
             ("(role a)\n(num z)(<= (num (s ?x)) (num ?x))", (None, None), "refused U2 TooMany: an atom of more than 4096 bytes"),
+            ("(role a)\n(<= (next p) (or (base p) q))", (2, 1), "refused U3 Unstated: no item states `base`\n"),
             ("(role a", (1, 1), "refused K4 Unclosed: this bracket is closed nowhere\n"),
         ):
             with self.subTest(text=text), self.assertRaises(Refusal) as caught:

@@ -56,6 +56,14 @@ const UNBOUND_PLACE: &[u8] =
     b"<input>:2:8: refused G3 Unsafe: no positive literal of the body binds ?x\n\
 (<= (r ?x) (not (or (p ?x) q)))\n       ^\n";
 
+/// A rule that asks what may be true, where no item states it.
+const UNSTATED: &[u8] = b"(role a)\n(legal a go)\n(<= (next ?p) (base ?p))";
+
+/// Where the rule stands.
+const UNSTATED_PLACE: &[u8] = b"<input>:3:1: refused U3 Unstated: no item states `base`\n\
+(<= (next ?p) (base ?p))\n\
+^\n  what play can come to would be stated, and this rule would see it: state it where rules ask it, or ask something else\n";
+
 /// Terms that grow for ever.
 const ENDLESS: &[u8] = b"(role a)(num z)(<= (num (s ?x)) (num ?x))";
 
@@ -69,7 +77,7 @@ const UNCLOSED: &[u8] =
     b"<input>:1:1: refused K4 Unclosed: this bracket is closed nowhere\n(role a\n^\n  its `)` is missing, or a `;` took it into a comment\n";
 
 /// Descriptions, and what the commands tell of them.
-const FOUND: [Played; 8] = [
+const FOUND: [Played; 9] = [
     (
         WALK,
         &[
@@ -168,6 +176,10 @@ const FOUND: [Played; 8] = [
     (
         UNBOUND,
         &[("unroll", b"refused G3 Unsafe 3\n", UNBOUND_PLACE, 2)],
+    ),
+    (
+        UNSTATED,
+        &[("unroll", b"refused U3 Unstated 3\n", UNSTATED_PLACE, 2)],
     ),
     (
         ENDLESS,

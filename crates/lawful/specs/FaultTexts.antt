@@ -22,4 +22,5 @@ unroll_fault_words (errors.Text fault) = text_fault_words fault
 unroll_fault_words (errors.Rules fault) = rule_fault_words fault
 unroll_fault_words (errors.NotStratified n) = codes "U1 NotStratified " ++ decimal n
 unroll_fault_words (errors.TooMany excess) = codes "U2 TooMany " ++ excess_words excess
+unroll_fault_words (errors.Unstated n) = codes "U3 Unstated " ++ decimal n
 unroll_fault_words errors.NoMemory = codes "U9 NoMemory"

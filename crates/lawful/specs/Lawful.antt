@@ -1,7 +1,7 @@
 -- This crate's own: what `run` promises does not rest on it.
 -- Items that are lawful in the whole language, why others are refused, and items that are accepted.
 use Rattle.std.specs.Prelude.{ℕ, ◌≡◌, ◌⊎◌, ⊤, List, [], Some, All, map}
-use Rattle.statement.specs.Tree.{Tree, trees_of, text}
+use Rattle.statement.specs.Tree.{Tree, text}
 use Rattle.statement.specs.Profile.{HasNoFault, roles, item_fault_in, recursive}
 use Rattle.statement.specs.TextFaults.{IsTextFault}
 use Rattle.statement.specs.RuleFaults.{IsRuleFault}
@@ -9,6 +9,7 @@ use Rattle.statement.specs.declared.rule_fault.RuleFault.{RuleFault}
 use Rattle.statement.specs.declared.rule_fault.RuleFault.TheVariants as rules
 use Rattle.rules.specs.ItemLinks.{IsNumberOfFirst}
 use Rattle.strata.specs.Resting.{RestsOnItsNegation}
+use Rattle.lawful.specs.Missing.{AsksUnstated}
 use Rattle.lawful.specs.declared.fault.UnrollFault.{UnrollFault}
 use Rattle.lawful.specs.declared.fault.UnrollFault.TheVariants as errors
 
@@ -43,6 +44,7 @@ IsRefusal items (errors.Text fault) = ⊥
 IsRefusal items (errors.Rules fault) = IsItemsFault items fault
 IsRefusal items (errors.NotStratified n) = IsNumberOfFirst (RestsOnItsNegation items) items n
 IsRefusal items (errors.TooMany excess) = ⊤
+IsRefusal items (errors.Unstated n) = IsNumberOfFirst (AsksUnstated items) items n
 IsRefusal items errors.NoMemory = ⊤
 
 -- why a text stands for no items
@@ -51,6 +53,7 @@ IsUnread text (errors.Text fault) = IsTextFault text fault
 IsUnread text (errors.Rules fault) = ⊥
 IsUnread text (errors.NotStratified n) = ⊥
 IsUnread text (errors.TooMany excess) = ⊥
+IsUnread text (errors.Unstated n) = ⊥
 IsUnread text errors.NoMemory = ⊤
 
 -- items without a fault whose roles have these texts, in this order

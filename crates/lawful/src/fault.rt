@@ -17,6 +17,8 @@ pub enum UnrollFault {
     NotStratified(usize),
     /// What is to be written passes a limit.
     TooMany(Excess),
+    /// The item, numbered from 1, asks `base` or `input`, and no item states it.
+    Unstated(usize),
     /// A growth was refused.
     NoMemory,
 }
@@ -37,6 +39,7 @@ impl fmt::Display for UnrollFault {
             UnrollFault::TooMany(Excess::Layers) => f.write_str("U2 TooMany layers"),
             UnrollFault::TooMany(Excess::Text) => f.write_str("U2 TooMany text"),
             UnrollFault::TooMany(Excess::Items) => f.write_str("U2 TooMany items"),
+            UnrollFault::Unstated(item) => write!(f, "U3 Unstated {item}"),
             UnrollFault::NoMemory => f.write_str("U9 NoMemory"),
         }
     }

@@ -10,8 +10,8 @@ use Rattle.whole.specs.Possible.{IsStated, PlaysAs}
 use Rattle.writing.specs.declared.written.Bounds.{Bounds}
 use Rattle.writing.specs.declared.written.Bounds.TheVariants.{AsStated}
 use Rattle.plain.specs.Plain.{plain_items}
-use Rattle.unroll.specs.Missing.{AreRangesStated}
 use Rattle.unroll.specs.Played.{played_items}
+use Rattle.lawful.specs.Missing.{AreRangesStated}
 use Rattle.lawful.specs.Lawful.{IsAccepted, IsLawful, IsRefusal, IsUnread}
 use Rattle.lawful.specs.declared.fault.UnrollFault.{UnrollFault}
 

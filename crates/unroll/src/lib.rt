@@ -10,10 +10,7 @@ mod choosing;
 mod instances;
 mod ranges;
 mod showing;
-#[cfg(test)]
-mod tests;
 mod unrolling;
-mod unstated;
 
 pub use atoms::Excess;
 pub use lawful::UnrollFault;

@@ -14,12 +14,12 @@ ghost use Rattle.unroll.specs.Played.{played_items};
 ghost use Rattle.unroll.specs.Written.{IsShown, IsUnrollFault, IsWrittenFor, IsWrittenOut, shown_line, tested_line};
 
 use crate::showing::is_shown;
-use crate::unstated::refuse_unstated;
 use atoms::{Excess, LimitFault};
 use extended::states_ranges;
 use kif::Expr;
 use lawful::{
-    UnrollFault, accept, found_items, is_recursive, read_back, refuse_crossed, role_places,
+    UnrollFault, accept, found_items, is_recursive, read_back, refuse_crossed, refuse_unstated,
+    role_places,
 };
 use plain::plain_forms;
 use profile::are_same_trees;

@@ -74,6 +74,7 @@ module _ (kept whole : List ℕ) (long : text_limit < length kept) (more : text_
   unread (faults.Rules fault) h = absurd h
   unread (faults.NotStratified n) h = absurd h
   unread (faults.TooMany excess) h = absurd h
+  unread (faults.Unstated n) h = absurd h
   unread faults.NoMemory h = tt
 
   fault_over : (fault : UnrollFault) → IsUnrollFault kept fault → IsUnrollFault whole fault

@@ -9,7 +9,7 @@ use atoms::{
 };
 use explain::{Source, explain_rules, explain_text, item_spot};
 use kif::{Expr, KifFault, TEXT_LIMIT, copy_to, read};
-use outline::head_of;
+use outline::{Relation, asks, head_of, is_stated};
 use plain::plain_forms;
 use profile::{ITEMS_LIMIT, RuleFault};
 use std::alloc::{AllocError, Global};
@@ -110,6 +110,41 @@ fn explain_crossed(
     )
 }
 
+/// The word of the relation that an item asks, where no item states it: `base`, if it asks that, and else `input`.
+fn missing_word(items: &[Expr<Global>], item: &Expr<Global>) -> &'static str {
+    let base = Relation {
+        word: b"base",
+        arity: 1,
+    };
+    if !is_stated(items, &base) && asks(item, &base) {
+        return "base";
+    }
+    "input"
+}
+
+/// Adds what explains that an item, numbered from 1, asks `base` or `input`, where no item states it.
+fn explain_unstated(
+    alloc: Global,
+    text: &[u8],
+    number: usize,
+    output: &mut Vec<u8>,
+) -> Result<(), AllocError> {
+    let found = items_of(alloc, text)?;
+    let forms = plain_forms(alloc, &found)?;
+    let Some(item) = forms.get(number.saturating_sub(1)) else {
+        return Ok(());
+    };
+    let spot = item_spot(text, &found, number);
+    let word = missing_word(&forms, item);
+    add_start(spot, "U3 Unstated", output)?;
+    writeln!(output, "no item states `{word}`").map_err(|_| AllocError)?;
+    add_line(text, spot, output)?;
+    add_reason(
+        "what play can come to would be stated, and this rule would see it: state it where rules ask it, or ask something else",
+        output,
+    )
+}
+
 /// Adds what there are too many of.
 fn add_excess(excess: Excess, output: &mut Vec<u8>) -> Result<(), AllocError> {
     match excess {
@@ -172,6 +207,7 @@ fn explained(
         UnrollFault::NotStratified(number) => {
             explain_crossed(alloc, text, *number, &mut output)?;
         }
+        UnrollFault::Unstated(number) => explain_unstated(alloc, text, *number, &mut output)?,
         UnrollFault::TooMany(excess) => explain_excess(*excess, bounds, &mut output)?,
         UnrollFault::NoMemory => return Err(AllocError),
     }

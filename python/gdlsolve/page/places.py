@@ -49,6 +49,7 @@ CAUSES = {
 WHOLE_CAUSES = {
     "U1": "This relation rests on itself through a not, so nothing says what it is.",
     "U2": "What is to be written out is more than may be: the last word says of what.",
+    "U3": "This rule asks base or input, and no item states it.",
 }
 
 
