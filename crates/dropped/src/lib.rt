@@ -6,8 +6,6 @@ mod effects;
 mod finding;
 mod owners;
 mod searching;
-#[cfg(test)]
-mod tests;
 mod told;
 
 pub use dropping::dropped_heads;

@@ -9,12 +9,8 @@ mod literals;
 mod naming;
 mod passing;
 mod picking;
-#[cfg(test)]
-mod stacked_tests;
 mod stacking;
 mod testing;
-#[cfg(test)]
-mod tests;
 mod tops;
 
 pub use stacking::is_stacked;

@@ -5,8 +5,6 @@ mod asking;
 mod laws;
 mod marking;
 mod ordering;
-#[cfg(test)]
-mod tests;
 
 pub use laws::{
     what_is_reached_by_number_is_reached, where_all_are_reached_by_number_all_terms_are,

@@ -2,8 +2,6 @@
 #![tactic(auto)]
 
 mod items;
-#[cfg(test)]
-mod tests;
 mod ways;
 
 pub use items::items_by_reading;

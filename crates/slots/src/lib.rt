@@ -12,8 +12,6 @@ mod owners;
 mod relations;
 mod slot;
 mod stacking;
-#[cfg(test)]
-mod tests;
 
 pub use bounding::is_bounded;
 pub use laws::{what_is_carried_is_enough, what_is_slotted_is_bounded};

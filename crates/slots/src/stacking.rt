@@ -57,26 +57,33 @@ fn layer_marks<'a>(
     Ok(Some(marks))
 }
 
+/// Which alternatives head own relations, and which of them head one of a layer, of the first, and of one before the last.
+#[derive(Drop)]
+struct Marks {
+    tops: Vec<bool>,
+    layers: Vec<bool>,
+    firsts: Vec<bool>,
+    befores: Vec<bool>,
+}
+
 /// Whether the kept instances of alternatives that are marked for layers have slots below a bound, which are found first, and the heads of those
 /// that are marked for a layer before the last are carried on.
 fn has_stack(
     alloc: Global,
     rules: &RuleSet,
     ground: &FlatGround,
-    tops: &[bool],
-    layers: &[bool],
-    firsts: &[bool],
-    befores: &[bool],
+    marks: &Marks,
     bound: usize,
 ) -> Result<bool, AllocError>
-    ensures { IfOk result (λ is_so. OnTrue is_so (HasStack (rules_in rules.now) tops.now layers.now firsts.now befores.now (instances_of ground.now) bound)) }
+    ensures { IfOk result (λ is_so. OnTrue is_so (HasStack (rules_in rules.now) marks.now.tops.items marks.now.layers.items
+        marks.now.firsts.items marks.now.befores.items (instances_of ground.now) bound)) }
 {
-    let owners = owners_of(alloc, ground, tops)?;
-    let slots = slots_of(alloc, ground, layers, &owners)?;
-    if !are_slotted(ground, layers, &owners, &slots, bound) {
+    let owners = owners_of(alloc, ground, &marks.tops)?;
+    let slots = slots_of(alloc, ground, &marks.layers, &owners)?;
+    if !are_slotted(ground, &marks.layers, &owners, &slots, bound) {
         return Ok(false);
     }
-    are_carried(alloc, rules, ground, firsts, befores, &owners)
+    are_carried(alloc, rules, ground, &marks.firsts, &marks.befores, &owners)
 }
 
 /// Whether paths through different atoms of own relations are shorter than there are layers, where the own relations are written in layers of
@@ -111,7 +118,11 @@ pub fn is_enough<'a>(
     if !all_ask(alloc, rules, ground, &tops, own)? {
         return Ok(false);
     }
-    has_stack(
-        alloc, rules, ground, &tops, &layers, &firsts, &befores, many,
-    )
+    let marks = Marks {
+        tops,
+        layers,
+        firsts,
+        befores,
+    };
+    has_stack(alloc, rules, ground, &marks, many)
 }

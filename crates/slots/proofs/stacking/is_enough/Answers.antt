@@ -1,11 +1,10 @@
-use Rattle.std.proofs.Common.{ℕ, ◌-◌, ◌≡◌, Bool, List, length, map, subst, arith}
+use Rattle.std.proofs.Common.{ℕ, ◌-◌, ◌≡◌, length, map, subst, arith}
 use Rattle.statement.specs.Dependence.{is_among}
 use Rattle.outline.specs.Relations.{relation_in}
 use Rattle.rules.specs.RuleSetView.{rules_in}
 use Rattle.ground.specs.GroundView.{instances_of}
 use Rattle.layered.specs.Names.{names_of, word_in}
 use Rattle.slots.specs.ByNumber.{MarkLayers}
-use Rattle.slots.specs.Carried.{HasStack}
 use Rattle.slots.proofs.Growing.{if_true}
 use Rattle.slots.proofs.Carried.{stacked_by}
 use Rattle.slots.proofs.Marked.{if_so, some_is}
@@ -31,9 +30,4 @@ returns c =
     let less : many - 1 ≡ m = omega (arith, e) in
     c.what_is_carried_is_enough.ensures found rules (λ p. is_among p own) word m c.args.ground.now c.requires stacked
     (stacked_by rules own word m many rows tops c.in-Some.layers.items c.in-Some-2.firsts.items c.in-Some-3.befores.items e c.in_ok-tops.ensures layers
-    firsts (subst (λ (k : ℕ). MarkLayers rules (λ p. is_among p own) word k c.in-Some-3.befores.items) less befores) ask
-    (subst (λ (marks : List Bool). HasStack rules tops c.in-Some.layers.items c.in-Some-2.firsts.items marks rows many) c.deref-5.ensures.value
-    (subst (λ (marks : List Bool). HasStack rules tops c.in-Some.layers.items marks c.deref-5.result.now rows many) c.deref-4.ensures.value
-    (subst (λ (marks : List Bool). HasStack rules tops marks c.deref-4.result.now c.deref-5.result.now rows many) c.deref-3.ensures.value
-    (subst (λ (marks : List Bool). HasStack rules marks c.deref-3.result.now c.deref-4.result.now c.deref-5.result.now rows many) c.deref-2.ensures.value
-    has))))))
+    firsts (subst (λ (k : ℕ). MarkLayers rules (λ p. is_among p own) word k c.in-Some-3.befores.items) less befores) ask has))

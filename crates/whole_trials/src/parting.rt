@@ -1,8 +1,8 @@
 //! A small text with `or` and `and`, and its items by reading.
-use crate::items_by_reading;
 use kif::read;
 use outline::Relation;
 use profile::are_same_trees;
+use readings::items_by_reading;
 use std::test::Fail;
 
 /// A fact, a rule of an own relation and one of another relation.

@@ -1,5 +1,5 @@
 //! The same texts where layers keep those before.
-use crate::tests::{NAMES, TOPS, says, tells};
+use crate::layers::{NAMES, TOPS, says, tells};
 use std::test::Fail;
 
 /// Items with two own atoms in a body, and with none.

@@ -1,9 +1,9 @@
 //! Worked descriptions: whether the layers in which a relation is written are enough.
-use crate::{is_bounded, is_enough};
 use ground::instantiate_flat_alone;
 use kif::read;
 use outline::Relation;
 use rules::RuleSet;
+use slots::{is_bounded, is_enough};
 use statement::Width;
 use std::alloc::{AllocError, Global};
 use std::test::Fail;

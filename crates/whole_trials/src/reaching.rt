@@ -1,7 +1,7 @@
 //! Worked descriptions: whether play comes to all of their base propositions.
-use crate::comes_to_all;
 use ground::instantiate_flat_alone;
 use kif::read;
+use reached::comes_to_all;
 use rules::RuleSet;
 use statement::Width;
 use std::test::Fail;

@@ -1,6 +1,6 @@
 //! Small texts whose own relations are `p` and `q`, each of one argument, and whether they are layered.
-use crate::{is_layered, is_stacked};
 use kif::read;
+use layer_items::{is_layered, is_stacked};
 use outline::Relation;
 use std::alloc::{AllocError, Global};
 use std::test::Fail;

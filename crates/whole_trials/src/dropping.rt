@@ -1,5 +1,5 @@
 //! Worked heads without effect.
-use crate::{add_dropped, dropped_heads};
+use dropped::{add_dropped, dropped_heads};
 use kif::read;
 use rules::RuleSet;
 use std::alloc::{AllocError, Global};

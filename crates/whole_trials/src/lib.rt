@@ -1,0 +1,17 @@
+//! Worked descriptions of the whole language: what is written for them, and what looks at it; and heads that have no effect.
+#![tactic(auto)]
+
+#[cfg(test)]
+mod bounding;
+#[cfg(test)]
+mod dropping;
+#[cfg(test)]
+mod layers;
+#[cfg(test)]
+mod parting;
+#[cfg(test)]
+mod reaching;
+#[cfg(test)]
+mod stacks;
+#[cfg(test)]
+mod writing_out;
