@@ -22,4 +22,3 @@ pub use ground_laws::a_ground_fits_together;
 pub use instantiating::{instantiate, instantiate_flat, instantiate_flat_alone, limits_of_width};
 pub use listing::GroundFault;
 pub use meaning::{Excess, Kind};
-pub use most::{BASE_LIMIT, INPUTS_LIMIT, INSTANCES_LIMIT, WIDE_INPUTS_LIMIT};
