@@ -27,8 +27,8 @@ COMMANDS = {
 SCRIPTS = tomllib.loads((TOP / "python/pyproject.toml").read_text())["project"]["scripts"]
 # What pip writes for a script.
 SCRIPT = "import sys\nfrom {module} import {call}\nsys.exit({call}())\n"
-# Tells that it is there, and is there for long.
-HANGS = "import os, time\nopen(os.environ['THERE'], 'w').close()\ntime.sleep({seconds})\n"
+# Tells that it is there, and is there for long. It sleeps in short naps: a key that comes right before one is seen behind it.
+HANGS = "import os, time\nopen(os.environ['THERE'], 'w').close()\nfor _ in range({naps}):\n    time.sleep(0.1)\n"
 
 
 @unittest.skipIf(signal.getsignal(signal.SIGINT) is signal.SIG_IGN, "the key is of no account here")
@@ -65,7 +65,7 @@ class Keys(unittest.TestCase):
             for hanging in ("ctypes", late):
                 folder = self.room / f"{name} {hanging}"
                 folder.mkdir()
-                (folder / f"{hanging}.py").write_text(HANGS.format(seconds=LONG))
+                (folder / f"{hanging}.py").write_text(HANGS.format(naps=int(10 * LONG)))
                 path = f"{folder}:{TOP / 'python'}"
                 for way in self.ways(name):
                     with self.subTest(name=name, hanging=hanging, way=way[1]):
@@ -73,7 +73,8 @@ class Keys(unittest.TestCase):
 
     def test_while_the_solver_does_not_answer(self) -> None:
         program = self.room / "program"
-        program.write_text(f"#!/bin/sh\n: > '{self.there}'\nexec sleep {LONG}\n")
+        # It tells that it is there when the command has long begun to wait for it.
+        program.write_text(f"#!/bin/sh\nsleep 0.5\n: > '{self.there}'\nexec sleep {LONG}\n")
         program.chmod(0o755)
         for name, (_, words, _) in COMMANDS.items():
             for way in self.ways(name):
@@ -82,8 +83,10 @@ class Keys(unittest.TestCase):
 
     def test_while_python_ends(self) -> None:
         script = self.room / "gdlsolve"
-        ends = f"threading.Thread(target=lambda: time.sleep({LONG})).start(); open({str(self.there)!r}, 'w').close(); return 0"
-        body = f"import sys, threading, time\nfrom gdlsolve import keys\n@keys.quiet\ndef main() -> int:\n    {ends}\nsys.exit(main())\n"
+        # The thread tells that it is there when Python has long begun to wait for its end.
+        stays = f"def stay() -> None:\n    time.sleep(0.5)\n    open({str(self.there)!r}, 'w').close()\n    time.sleep({LONG})\n"
+        ends = "@keys.quiet\ndef main() -> int:\n    threading.Thread(target=stay).start()\n    return 0\nsys.exit(main())\n"
+        body = f"import sys, threading, time\nfrom gdlsolve import keys\n{stays}{ends}"
         script.write_text(body)
         self.assertEqual(self.ended([sys.executable, str(script)]), (130, b"", b""))
 

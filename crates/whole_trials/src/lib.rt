@@ -1,8 +1,11 @@
-//! Worked descriptions of the whole language: what is written for them, and what looks at it; and heads that have no effect.
+//! Worked descriptions of the whole language: what is written for them, what looks at it, and what commands tell of them, over readers and
+//! writers in memory; and heads that have no effect.
 #![tactic(auto)]
 
 #[cfg(test)]
 mod bounding;
+#[cfg(test)]
+mod commands;
 #[cfg(test)]
 mod dropping;
 #[cfg(test)]
