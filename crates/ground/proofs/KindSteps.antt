@@ -1,5 +1,5 @@
 -- The kinds of atoms one after the other.
-use Rattle.std.proofs.Common.{ℕ, ◌+◌, ◌≡◌, List, [], ◌∷◌, ◌++◌, map, nat_lt, append_assoc, refl, sym, ap, ◌∙◌}
+use Rattle.std.proofs.Common.{ℕ, ◌+◌, ◌≡◌, List, [], ◌∷◌, ◌++◌, map, nat_lt, append_assoc, sym, ap, ◌∙◌}
 use Rattle.std.proofs.lemmas.List.{append-nil}
 use Rattle.statement.specs.Tree.{Tree}
 use Rattle.statement.specs.Clause.{Atom, Alternative, relation_of, tree_of}

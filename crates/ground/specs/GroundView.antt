@@ -1,12 +1,12 @@
 -- This crate's own: what `run` promises does not rest on it.
 -- What a ground tells, by its flat lists.
-use Rattle.std.specs.Prelude.{ℕ, ◌≡◌, Bool, List, map}
+use Rattle.std.specs.Prelude.{ℕ, Bool, List, map}
 use Rattle.statement.specs.Clause.{Alternative}
 use Rattle.statement.specs.declared.kind.Kind.{Kind}
 use Rattle.ground.specs.declared.flat_ground.FlatGround.{FlatGround}
 use Rattle.ground.specs.declared.ground.Ground.{Ground}
 use Rattle.ground.specs.declared.ground.Instance.{Instance}
-use Rattle.kept.specs.Lists.{numbers_of_list}
+use Rattle.kept.specs.Lists.{bodies_of, numbers_of_list}
 use Rattle.statement.specs.Kept.{Kept}
 use Rattle.ground.specs.Grounds.{IsGroundOf}
 use Rattle.rules.specs.RuleSets.{texts_of}
@@ -33,6 +33,10 @@ dropped_of g = g.dropped
 
 abbrev pub instances_of : FlatGround → List Kept
 instances_of g = numbers_of_list g.kept
+
+-- the bodies that instances have, which may share one
+abbrev pub bodies_in : FlatGround → List (List (ℕ × Bool))
+bodies_in g = bodies_of g.kept
 
 -- the ground is that of the rules
 abbrev pub IsGround : List Alternative → FlatGround → Type 0

@@ -78,7 +78,7 @@ fn leave_unread(atoms: &NumberSet, found: &mut FoundList)
     ensures read { numbers_of_list found.new ≡ map (with_some (is_read_in atoms.now.keys)) (numbers_of_list found.old) }
     ensures laid { AreLaid found.new }
 {
-    if are_all_read(atoms, &found.bodies) {
+    if are_all_read(atoms, &found.literals) {
         return;
     }
     leave_out(
@@ -97,7 +97,7 @@ pub fn renumbered(found: FoundList, atoms: &NumberSet) -> FoundList
 {
     let mut found = found;
     leave_unread(atoms, &mut found);
-    renumber_literals(atoms, &mut found.bodies);
+    renumber_literals(atoms, &mut found.literals);
     renumber_heads(atoms, &mut found.entries);
     found
 }
@@ -148,7 +148,7 @@ pub fn renumbered_in_threads<R: Threads + Sync>(
 {
     let mut found = found;
     leave_unread(atoms, &mut found);
-    renumber_literals_in_threads(rt, atoms, &mut found.bodies);
+    renumber_literals_in_threads(rt, atoms, &mut found.literals);
     renumber_heads_in_threads(rt, atoms, &mut found.entries);
     found
 }

@@ -1,8 +1,8 @@
 //! What flat lists of instances tell.
-ghost use Rattle.std.specs.Prelude.{◌≡◌, ◌<◌, length, get_or, slice_index_or, false};
+ghost use Rattle.std.specs.Prelude.{◌≡◌, ◌<◌, [], length, get_or, slice_index_or, false};
 ghost use Rattle.statement.specs.Kept.{Kept};
 ghost use Rattle.ground.specs.Grounds.{text_at, texts_at};
-ghost use Rattle.ground.specs.GroundView.{base_of, dropped_of, inputs_of, instances_of, kinds_of, roles_of, starts_of};
+ghost use Rattle.ground.specs.GroundView.{base_of, bodies_in, dropped_of, inputs_of, instances_of, kinds_of, roles_of, starts_of};
 ghost use Rattle.statement.specs.declared.kind.Kind.TheVariants.{Other};
 
 use crate::flat_ground::FlatGround;
@@ -109,6 +109,22 @@ impl FlatGround {
         ensures { (d : Kept) → result.now ≡ (get_or (instances_of self.now) place d).body }
     {
         self.kept.body(place)
+    }
+
+    /// How many bodies there are. Instances may share one.
+    pub fn many_bodies(&self) -> usize
+        ensures { result ≡ length (bodies_in self.now) }
+    {
+        self.kept.many_bodies()
+    }
+
+    /// The number of a kept instance's body, from 0: instances of one number share a body.
+    pub fn body_number(&self, place: usize) -> usize
+        requires { place < length (instances_of self.now) }
+        ensures within { result < length (bodies_in self.now) }
+        ensures body { (d : Kept) → (get_or (instances_of self.now) place d).body ≡ get_or (bodies_in self.now) result [] }
+    {
+        self.kept.body_number(place)
     }
 
     /// How many different possible atoms have no effect on play: `init` and `next` of what is no base proposition, and `legal`

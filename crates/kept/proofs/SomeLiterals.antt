@@ -8,7 +8,7 @@ use Rattle.kept.specs.declared.entry.Entry.{Entry}
 use Rattle.kept.specs.declared.entry.AlternativeRun.{AlternativeRun}
 use Rattle.statement.specs.Kept.{Kept}
 use Rattle.kept.specs.LeavingOut.{moved, with_some}
-use Rattle.kept.specs.Lists.{alternative_at, kept_behind, kept_from, StandBetween, RunsRise}
+use Rattle.kept.specs.Lists.{alternative_at, bodies_behind, kept_behind, kept_from, StandBetween, RunsRise, HaveBodies}
 
 abbrev passing : (ℕ × Bool → Bool) → List (ℕ × Bool) → ℕ
 passing p ls = length (filter p ls)
@@ -42,55 +42,69 @@ part_passes p ls a b many h m =
     ∙ ap (take (length part)) (drop-append_seam (filter p (take a ls)) (part ++ rest))
     ∙ take-append_seam part rest
 
-numbers_behind : (p : ℕ × Bool → Bool) (runs : List AlternativeRun) (ls : List (ℕ × Bool)) (n start many : ℕ) (es : List Entry) (end : ℕ)
-    → StandBetween start es end → many ≡ passing p (take start ls)
-    → kept_behind runs (filter p ls) n many (moved p ls start many es) ≡ map (with_some p) (kept_behind runs ls n start es)
-numbers_behind p runs ls n start many [] end h m = refl
-numbers_behind p runs ls n start many (e ∷ es) end h m =
-    let next = many + passing p (slice_range ls start e.end) in
-    ap (λ (b : List (ℕ × Bool)). record { alternative = alternative_at runs n; head = e.head; body = b }
-    ∷ kept_behind runs (filter p ls) (suc n) next (moved p ls e.end next es)) (part_passes p ls start e.end many h.0 m)
-    ∙ ap (λ (ks : List Kept). with_some p (kept_from runs ls n start e) ∷ ks)
-    (numbers_behind p runs ls (suc n) e.end next es end h.1 (count_on p ls start e.end many h.0 m))
+bodies_left : (p : ℕ × Bool → Bool) (ls : List (ℕ × Bool)) (start many : ℕ) (es : List ℕ) (end : ℕ) → StandBetween start es end
+    → many ≡ passing p (take start ls) → bodies_behind (filter p ls) many (moved p ls start many es) ≡ map (filter p) (bodies_behind ls start es)
+bodies_left p ls start many [] end h m = refl
+bodies_left p ls start many (e ∷ es) end h m =
+    let next = many + passing p (slice_range ls start e) in
+    ap (λ (b : List (ℕ × Bool)). b ∷ bodies_behind (filter p ls) next (moved p ls e next es)) (part_passes p ls start e many h.0 m)
+    ∙ ap (λ (bs : List (List (ℕ × Bool))). filter p (slice_range ls start e) ∷ bs)
+    (bodies_left p ls e next es end h.1 (count_on p ls start e many h.0 m))
 
-moved_between : (p : ℕ × Bool → Bool) (ls : List (ℕ × Bool)) (start many : ℕ) (es : List Entry) (end : ℕ) → StandBetween start es end
+get_left : (p : ℕ × Bool → Bool) (bodies : List (List (ℕ × Bool))) (i : ℕ) → get_or (map (filter p) bodies) i [] ≡ filter p (get_or bodies i [])
+get_left p [] i = refl
+get_left p (b ∷ bodies) zero = refl
+get_left p (b ∷ bodies) (suc i) = get_left p bodies i
+
+numbers_left : (p : ℕ × Bool → Bool) (runs : List AlternativeRun) (bodies : List (List (ℕ × Bool))) (n : ℕ) (es : List Entry)
+    → kept_behind runs (map (filter p) bodies) n es ≡ map (with_some p) (kept_behind runs bodies n es)
+numbers_left p runs bodies n [] = refl
+numbers_left p runs bodies n (e ∷ es) =
+    ap (λ (b : List (ℕ × Bool)). record { alternative = alternative_at runs n; head = e.head; body = b }
+    ∷ kept_behind runs (map (filter p) bodies) (suc n) es) (get_left p bodies e.body)
+    ∙ ap (λ (ks : List Kept). with_some p (kept_from runs bodies n e) ∷ ks) (numbers_left p runs bodies (suc n) es)
+
+moved_between : (p : ℕ × Bool → Bool) (ls : List (ℕ × Bool)) (start many : ℕ) (es : List ℕ) (end : ℕ) → StandBetween start es end
     → many ≡ passing p (take start ls) → StandBetween many (moved p ls start many es) (passing p (take end ls))
 moved_between p ls start many [] end h m = m ∙ ap (λ (n : ℕ). passing p (take n ls)) h
 moved_between p ls start many (e ∷ es) end h m =
-    let next = many + passing p (slice_range ls start e.end) in
+    let next = many + passing p (slice_range ls start e) in
     let more : many ≤ next = omega arith in
-    (more, moved_between p ls e.end next es end h.1 (count_on p ls start e.end many h.0 m))
+    (more, moved_between p ls e next es end h.1 (count_on p ls start e many h.0 m))
 
-moved_many : (p : ℕ × Bool → Bool) (ls : List (ℕ × Bool)) (start many : ℕ) (es : List Entry) → length (moved p ls start many es) ≡ length es
+moved_many : (p : ℕ × Bool → Bool) (ls : List (ℕ × Bool)) (start many : ℕ) (es : List ℕ) → length (moved p ls start many es) ≡ length es
 moved_many p ls start many [] = refl
-moved_many p ls start many (e ∷ es) = ap suc (moved_many p ls e.end (many + passing p (slice_range ls start e.end)) es)
+moved_many p ls start many (e ∷ es) = ap suc (moved_many p ls e (many + passing p (slice_range ls start e)) es)
 
 -- the instances once the ends have moved and the literals that do not stay are gone
-pub some_numbers : (p : ℕ × Bool → Bool) (runs : List AlternativeRun) (ls left : List (ℕ × Bool)) (es new : List Entry) → StandBetween 0 es (length ls)
-    → new ≡ moved p ls 0 0 es → left ≡ filter p ls → kept_behind runs left 0 0 new ≡ map (with_some p) (kept_behind runs ls 0 0 es)
-some_numbers p runs ls left es new h e f =
-    ap (λ (xs : List Entry). kept_behind runs left 0 0 xs) e ∙ ap (λ (ks : List (ℕ × Bool)). kept_behind runs ks 0 0 (moved p ls 0 0 es)) f
-    ∙ numbers_behind p runs ls 0 0 0 es (length ls) h refl
+pub some_numbers : (p : ℕ × Bool → Bool) (runs : List AlternativeRun) (ls left : List (ℕ × Bool)) (ends new : List ℕ) (es : List Entry)
+    → StandBetween 0 ends (length ls) → new ≡ moved p ls 0 0 ends → left ≡ filter p ls
+    → kept_behind runs (bodies_behind left 0 new) 0 es ≡ map (with_some p) (kept_behind runs (bodies_behind ls 0 ends) 0 es)
+some_numbers p runs ls left ends new es h e f =
+    ap (λ (xs : List ℕ). kept_behind runs (bodies_behind left 0 xs) 0 es) e
+    ∙ ap (λ (ks : List (ℕ × Bool)). kept_behind runs (bodies_behind ks 0 (moved p ls 0 0 ends)) 0 es) f
+    ∙ ap (λ (bs : List (List (ℕ × Bool))). kept_behind runs bs 0 es) (bodies_left p ls 0 0 ends (length ls) h refl)
+    ∙ numbers_left p runs (bodies_behind ls 0 ends) 0 es
 
-pub some_laid : (p : ℕ × Bool → Bool) (runs : List AlternativeRun) (ls left : List (ℕ × Bool)) (es new : List Entry)
-    → StandBetween 0 es (length ls) × RunsRise 0 runs (length es) → new ≡ moved p ls 0 0 es → left ≡ filter p ls
-    → StandBetween 0 new (length left) × RunsRise 0 runs (length new)
-some_laid p runs ls left es new h e f = (
-  subst (λ (xs : List Entry). StandBetween 0 xs (length left)) (sym e)
-      (subst (λ (n : ℕ). StandBetween 0 (moved p ls 0 0 es) n) (ap (λ (ks : List (ℕ × Bool)). passing p ks) (take-length ls) ∙ sym (ap length f))
-      (moved_between p ls 0 0 es (length ls) h.0 refl)),
-  subst (λ (n : ℕ). RunsRise 0 runs n) (sym (ap length e ∙ moved_many p ls 0 0 es)) h.1,
+pub some_laid : (p : ℕ × Bool → Bool) (runs : List AlternativeRun) (ls left : List (ℕ × Bool)) (ends new : List ℕ) (es : List Entry)
+    → StandBetween 0 ends (length ls) × RunsRise 0 runs (length es) × HaveBodies (length ends) es → new ≡ moved p ls 0 0 ends → left ≡ filter p ls
+    → StandBetween 0 new (length left) × RunsRise 0 runs (length es) × HaveBodies (length new) es
+some_laid p runs ls left ends new es h e f = (
+  subst (λ (xs : List ℕ). StandBetween 0 xs (length left)) (sym e)
+      (subst (λ (n : ℕ). StandBetween 0 (moved p ls 0 0 ends) n) (ap (λ (ks : List (ℕ × Bool)). passing p ks) (take-length ls) ∙ sym (ap length f))
+      (moved_between p ls 0 0 ends (length ls) h.0 refl)),
+  h.1,
+  subst (λ (n : ℕ). HaveBodies n es) (sym (ap length e ∙ moved_many p ls 0 0 ends)) h.2,
 )
 
--- One entry more has moved.
+-- One end more has moved.
 
--- the entry at a place, of two lists that are the same from there on
-pub same_here : (new old : List Entry) (i : ℕ) (x : Entry) → i < length new → i < length old → drop i new ≡ drop i old
-    → get_or new i x ≡ get_or old i x
+-- the end at a place, of two lists that are the same from there on
+pub same_here : (new old : List ℕ) (i x : ℕ) → i < length new → i < length old → drop i new ≡ drop i old → get_or new i x ≡ get_or old i x
 same_here new old i x h k e =
     let one : get_or new i x ∷ drop (suc i) new ≡ get_or old i x ∷ drop (suc i) old = sym (drop-cons new i x h) ∙ e ∙ drop-cons old i x k in cc
 
-pub same_behind : (new old : List Entry) (i : ℕ) (y : Entry) → i < length new → i < length old → drop i new ≡ drop i old
+pub same_behind : (new old : List ℕ) (i y : ℕ) → i < length new → i < length old → drop i new ≡ drop i old
     → drop (i + 1) (set new i y) ≡ drop (i + 1) old
 same_behind new old i y h k e =
     let n : suc i ≡ i + 1 = omega arith in
@@ -99,34 +113,33 @@ same_behind new old i y h k e =
     let rest : drop (suc i) new ≡ drop (suc i) old = cc in
     subst (λ (m : ℕ). drop m (set new i y) ≡ drop m old) n (drop-set-lt (suc i) new i y less ∙ rest)
 
--- what stands from a place on begins with the entry there
-pub between_here : (old : List Entry) (i start end : ℕ) (x : Entry) → i < length old → StandBetween start (drop i old) end
-    → (start ≤ (get_or old i x).end) × StandBetween (get_or old i x).end (drop (i + 1) old) end
+-- what stands from a place on begins with the end there
+pub between_here : (old : List ℕ) (i start end x : ℕ) → i < length old → StandBetween start (drop i old) end
+    → (start ≤ get_or old i x) × StandBetween (get_or old i x) (drop (i + 1) old) end
 between_here old i start end x h s =
     let n : suc i ≡ i + 1 = omega arith in
     let there : StandBetween start (get_or old i x ∷ drop (suc i) old) end =
-    subst (λ (es : List Entry). StandBetween start es end) (drop-cons old i x h) s in
-    (there.0, subst (λ (m : ℕ). StandBetween (get_or old i x).end (drop m old) end) n there.1)
+    subst (λ (es : List ℕ). StandBetween start es end) (drop-cons old i x h) s in
+    (there.0, subst (λ (m : ℕ). StandBetween (get_or old i x) (drop m old) end) n there.1)
 
-pub moved_more : (p : ℕ × Bool → Bool) (ls : List (ℕ × Bool)) (old new : List Entry) (i start many count : ℕ) (x : Entry) (whole : List Entry)
-    → i < length new → i < length old → count ≡ passing p (slice_range ls start (get_or old i x).end)
+pub moved_more : (p : ℕ × Bool → Bool) (ls : List (ℕ × Bool)) (old new : List ℕ) (i start many count x : ℕ) (whole : List ℕ)
+    → i < length new → i < length old → count ≡ passing p (slice_range ls start (get_or old i x))
     → whole ≡ take i new ++ moved p ls start many (drop i old)
-    → whole ≡ take (i + 1) (set new i (record { head = (get_or old i x).head; end = many + count }))
-    ++ moved p ls (get_or old i x).end (many + count) (drop (i + 1) old)
+    → whole ≡ take (i + 1) (set new i (many + count)) ++ moved p ls (get_or old i x) (many + count) (drop (i + 1) old)
 moved_more p ls old new i start many count x whole h k c e =
     let here = get_or old i x in
     let n : suc i ≡ i + 1 = omega arith in
-    let one : Entry = record { head = here.head; end = many + count } in
-    let rest : moved p ls start many (drop i old) ≡ one ∷ moved p ls here.end (many + count) (drop (i + 1) old) =
+    let one : ℕ = many + count in
+    let rest : moved p ls start many (drop i old) ≡ one ∷ moved p ls here one (drop (i + 1) old) =
     ap (moved p ls start many) (drop-cons old i x k)
-    ∙ ap (λ (m : ℕ). record { head = here.head; end = many + m } ∷ moved p ls here.end (many + m) (drop (suc i) old)) (sym c)
-    ∙ ap (λ (m : ℕ). one ∷ moved p ls here.end (many + count) (drop m old)) n in
-    e ∙ ap (λ (xs : List Entry). take i new ++ xs) rest
-    ∙ sym (append_assoc (take i new) (one ∷ []) (moved p ls here.end (many + count) (drop (i + 1) old)))
-    ∙ ap (λ (xs : List Entry). xs ++ moved p ls here.end (many + count) (drop (i + 1) old)) (sym (take_more_set new i one h))
+    ∙ ap (λ (m : ℕ). (many + m) ∷ moved p ls here (many + m) (drop (suc i) old)) (sym c)
+    ∙ ap (λ (m : ℕ). one ∷ moved p ls here one (drop m old)) n in
+    e ∙ ap (λ (xs : List ℕ). take i new ++ xs) rest
+    ∙ sym (append_assoc (take i new) (one ∷ []) (moved p ls here one (drop (i + 1) old)))
+    ∙ ap (λ (xs : List ℕ). xs ++ moved p ls here one (drop (i + 1) old)) (sym (take_more_set new i one h))
 
--- an entry that is there, whatever is read where none is
-pub any_blank : (es : List Entry) (i : ℕ) (d x : Entry) → i < length es → get_or es i d ≡ get_or es i x
+-- an end that is there, whatever is read where none is
+pub any_blank : (es : List ℕ) (i d x : ℕ) → i < length es → get_or es i d ≡ get_or es i x
 any_blank [] i d x h = absurd (omega (arith, h))
 any_blank (e ∷ es) zero d x h = refl
 any_blank (e ∷ es) (suc i) d x h = any_blank es i d x (omega (arith, h))

@@ -1,13 +1,12 @@
 //! Literals are left out of instances.
 //!
-//! First the ends of the instances move to where they will be, and then the literals that stay move up, so no second list is
+//! First the ends of the bodies move to where they will be, and then the literals that stay move up, so no second list is
 //! made.
 ghost use Rattle.std.specs.Prelude.{ℕ, Bool, ◌≡◌, ◌≤◌, filter, length, map};
 ghost use Rattle.kept.specs.LeavingOut.{Tells, moved, with_some};
 ghost use Rattle.kept.specs.Lists.{AreLaid, StandBetween, numbers_of_list};
 
 use crate::atom_literal::AtomLiteral;
-use crate::entry::Entry;
 use crate::found_list::{FoundList, literals_between};
 
 /// How many of some literals stay.
@@ -25,22 +24,22 @@ fn count_staying<F: Fn(AtomLiteral) -> bool>(literals: &[AtomLiteral], stays: &F
     count
 }
 
-/// Moves the ends of the literals of each instance to where they are once those that do not stay are left out.
+/// Moves the ends of bodies to where they are once the literals that do not stay are left out.
 fn move_ends<F: Fn(AtomLiteral) -> bool>(
-    entries: &mut Vec<Entry>,
+    ends: &mut Vec<usize>,
     literals: &[AtomLiteral],
     stays: &F,
 )
     requires ask { F.IsAlwaysCallable stays.now }
-    requires laid { StandBetween 0 entries.old.items (length literals.now) }
-    ensures { (p : ℕ × Bool → Bool) → Tells p (F.post stays.now) → entries.new.items ≡ moved p literals.now 0 0 entries.old.items }
+    requires laid { StandBetween 0 ends.old.items (length literals.now) }
+    ensures { (p : ℕ × Bool → Bool) → Tells p (F.post stays.now) → ends.new.items ≡ moved p literals.now 0 0 ends.old.items }
 {
     let mut start = 0;
     let mut staying = 0;
-    for place in 0..entries.len() {
-        let end = entries[place].end;
+    for number in 0..ends.len() {
+        let end = ends[number];
         staying += count_staying(literals_between(literals, start, end), stays);
-        entries[place].end = staying;
+        ends[number] = staying;
         start = end;
     }
 }
@@ -52,8 +51,8 @@ pub fn leave_out<F: Fn(AtomLiteral) -> bool>(found: &mut FoundList, stays: &F)
     ensures left { (p : ℕ × Bool → Bool) → Tells p (F.post stays.now) → numbers_of_list found.new ≡ map (with_some p) (numbers_of_list found.old) }
     ensures laid { (p : ℕ × Bool → Bool) → Tells p (F.post stays.now) → AreLaid found.new }
 {
-    move_ends(&mut found.entries, &found.bodies, stays);
-    found.bodies.retain(
+    move_ends(&mut found.ends, &found.literals, stays);
+    found.literals.retain(
         |literal: &AtomLiteral| -> bool
             requires { F.IsAlwaysCallable stays.now }
             ensures { F.post stays.entry.now literal.now result }

@@ -1,4 +1,4 @@
-//! Kept instances by the numbers of their atoms, in flat lists: each literal in four bytes, and the literals of all instances one
+//! Kept instances by the numbers of their atoms, in flat lists: each literal in four bytes, and the literals of all bodies one
 //! behind the other.
 #![tactic(auto)]
 
@@ -10,5 +10,5 @@ mod runs;
 
 pub use atom_literal::AtomLiteral;
 pub use entry::{AlternativeRun, Entry};
-pub use found_list::{FoundList, push_instance, push_literal};
+pub use found_list::{FoundList, push_instance, push_literal, push_sharing};
 pub use leaving_out::leave_out;

@@ -18,8 +18,8 @@ fn literals_hold_their_atoms_and_signs(rt: HostRuntime) -> Result<(), Fail> {
 fn instances_stand_one_behind_the_other(rt: HostRuntime) -> Result<(), Fail> {
     let mut found = FoundList::with_room(rt.alloc(), 2, 4);
     push_instance(&mut found, 7, 3)?;
-    found.bodies.push(AtomLiteral::of(5, false))?;
-    found.bodies.push(AtomLiteral::of(6, true))?;
+    found.literals.push(AtomLiteral::of(5, false))?;
+    found.literals.push(AtomLiteral::of(6, true))?;
     push_instance(&mut found, 8, 4)?;
     assert_eq!(rt; found.count(), 2);
     assert_eq!(rt; found.alternative(1), 8);

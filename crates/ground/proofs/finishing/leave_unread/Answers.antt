@@ -7,7 +7,7 @@ use Rattle.ground.proofs.finishing.leave_unread.Goals as goal
 pub returns-then-are_all_read-clause-read : goal.returns-then-are_all_read-clause-read
 returns-then-are_all_read-clause-read c =
     let f = c.args.found.now in
-    all_stay c.args.atoms.now.keys f.runs.items f.bodies.items 0 0 f.entries.items
+    all_stay c.args.atoms.now.keys f.runs.items f.literals.items f.ends.items 0 f.entries.items
     (ap (λ (rs : List (ℕ × Bool)). list_all (is_read_in c.args.atoms.now.keys) rs) (sym c.deref.ensures.value) ∙ sym c.are_all_read.ensures
     ∙ c.if-are_all_read.true)
 

@@ -18,6 +18,6 @@ loop-i-preserved c =
     let there : y ≡ get_or ys c.loop-i.i y = search rules in
     let within : c.loop-i.i < length ys = search rules in
     let same : y ≡ x = there ∙ same_entry ys c.loop-i.i y x within ∙ sym here in
-    ap (λ (k : ℕ). set ys c.loop-i.i (record { head = k; end = x.end }))
+    ap (λ (k : ℕ). set ys c.loop-i.i (record { head = k; body = x.body }))
     (c.place_of.ensures ∙ ap (λ (e : Entry). first_place (nat_eq e.head) keys) same)
     ∙ map_over_more (headed_in keys) xs ys c.loop-i.i x less c.loop-i.invariant here

@@ -10,8 +10,8 @@ returns g c =
     let keys = c.args.atoms.now.keys in
     let left = c.leave_unread.new.found in
     record {
-      numbers = both_numbered keys left.runs.items left.bodies.items c.renumber_literals_in_threads.new.literals.items left.entries.items
+      numbers = both_numbered keys left.runs.items left.literals.items c.renumber_literals_in_threads.new.literals.items left.ends.items left.entries.items
           c.renumber_heads_in_threads.new.entries.items (numbers_of_list c.args.found) c.leave_unread.ensures.read c.renumber_literals_in_threads.ensures c.renumber_heads_in_threads.ensures;
-      laid = laid_stay keys left.runs.items left.entries.items c.renumber_heads_in_threads.new.entries.items (length left.bodies.items) _ c.renumber_heads_in_threads.ensures
-          (ap length c.renumber_literals_in_threads.ensures ∙ length-map left.bodies.items (reading_in keys)) c.leave_unread.ensures.laid;
+      laid = laid_stay keys left.runs.items left.ends.items left.entries.items c.renumber_heads_in_threads.new.entries.items (length left.literals.items) _ c.renumber_heads_in_threads.ensures
+          (ap length c.renumber_literals_in_threads.ensures ∙ length-map left.literals.items (reading_in keys)) c.leave_unread.ensures.laid;
     }
