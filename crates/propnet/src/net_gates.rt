@@ -1,6 +1,5 @@
 //! What each node of a network is, and the words that a pass over it is given.
 ghost use Rattle.std.specs.Prelude.{ℕ, ◌≡◌, ◌+◌, ◌<◌, ◌≤◌, length, sum, Some, slice_get, slice_index};
-ghost use Rattle.propnet.specs.Network.{start_of};
 ghost use Rattle.propnet.specs.NetView.{gate_with};
 ghost use Rattle.propnet.specs.Nets.{gates_of};
 ghost use Rattle.propnet.specs.Given.{AreGiven};
@@ -12,17 +11,6 @@ use crate::net::Net;
 use statement::Name;
 
 impl Net {
-    /// Where what a node reads begins among the operands.
-    fn start(&self, n: usize) -> usize
-        requires { n < length self.now.nodes.list.items }
-        ensures { result ≡ start_of self.now.nodes.list.items n }
-    {
-        if n == 0 {
-            return 0;
-        }
-        self.nodes.list[n - 1].end
-    }
-
     /// What a node stands for, and the numbers of the nodes that it reads.
     pub fn gate(&self, n: usize) -> (Name, &[u32])
         requires { n < length (gates_of self.now) }
@@ -31,7 +19,7 @@ impl Net {
         let node = self.nodes.list[n];
         (
             node.name.name(),
-            reads(&self.nodes.operands, self.start(n), node.end),
+            reads(&self.nodes.operands, node.count, node.end),
         )
     }
 

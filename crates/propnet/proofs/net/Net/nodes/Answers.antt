@@ -6,4 +6,4 @@ pub returns : goal.returns
 returns c =
     let list = c.args.self.now.nodes.list.items in
     let is : c.len.result ≡ length list = search rules in
-    is ∙ sym (length-gates 0 list c.args.self.now.nodes.operands.items)
+    is ∙ sym (length-gates list c.args.self.now.nodes.operands.items)

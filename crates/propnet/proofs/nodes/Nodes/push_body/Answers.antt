@@ -1,4 +1,4 @@
-use Rattle.std.proofs.Common.{rules, ◌≡◌, length, map, arith}
+use Rattle.std.proofs.Common.{rules, ◌≡◌, length, map, arith, sym, ◌∙◌}
 use Rattle.std.proofs.lemmas.List.{length-map}
 use Rattle.propnet.specs.Building.{number_read}
 use Rattle.propnet.proofs.Pushes.{IsStored, stored, length-gates, pushed, laid_push}
@@ -6,7 +6,7 @@ use Rattle.propnet.proofs.nodes.Nodes.push_body.Goals as goal
 
 pub overflow_cast-number : goal.overflow_cast-number
 overflow_cast-number c =
-    let size = length-gates 0 c.args.self.now.list.items c.args.self.now.operands.items in
+    let size = length-gates c.args.self.now.list.items c.args.self.now.operands.items in
     let is : c.len-number.result ≡ length c.args.self.now.list.items = search rules in
     omega arith
 
@@ -14,16 +14,16 @@ pub invariant_of-self-2 : goal.invariant_of-self-2
 invariant_of-self-2 c =
     let old = c.args.self.now in
     let is : c.len-number.result ≡ length old.list.items = search rules in
-    let s : IsStored old.list.items old.operands.items c.args.name (map (number_read c.args.atoms.now c.args.nots.now) c.args.body.now) c.push_reserved.new.self.items c.write_body.new.operands.items c.len-number.result c.in_ok-end.end =
-    stored old.list.items c.room_for.new.list.items old.operands.items c.room_for.new.operands.items _ c.args.name _ _ _ _ c.in_ok-end.end
-    c.room_for.ensures.list c.room_for.ensures.operands c.of-label.ensures c.write_body.ensures c.push_reserved.ensures.items (omega (arith, c.in_ok-end.ensures.end, length-map c.args.body.now (number_read c.args.atoms.now c.args.nots.now))) is in
-    record { laid = laid_push old.list.items old.operands.items c.args.name (map (number_read c.args.atoms.now c.args.nots.now) c.args.body.now) _ _ _ _ old.laid s }
+    let s : IsStored old.list.items old.operands.items c.args.name (map (number_read c.args.atoms.now c.args.nots.now) c.args.body.now) c.push_reserved.new.self.items c.write_body.new.operands.items c.len-number.result c.in_ok-count.count c.in_ok-end.end =
+    stored old.list.items c.room_for.new.list.items old.operands.items c.room_for.new.operands.items _ c.args.name _ _ _ _ c.in_ok-count.count c.in_ok-end.end
+    c.room_for.ensures.list c.room_for.ensures.operands c.of-label.ensures c.write_body.ensures c.push_reserved.ensures.items (c.in_ok-count.ensures ∙ sym (length-map c.args.body.now (number_read c.args.atoms.now c.args.nots.now))) (omega (arith, c.in_ok-end.ensures.end, length-map c.args.body.now (number_read c.args.atoms.now c.args.nots.now))) is in
+    record { laid = laid_push old.list.items old.operands.items c.args.name (map (number_read c.args.atoms.now c.args.nots.now) c.args.body.now) _ _ _ _ _ old.laid s }
 
 pub returns : goal.returns
 returns c =
     let old = c.args.self.now in
     let is : c.len-number.result ≡ length old.list.items = search rules in
-    let s : IsStored old.list.items old.operands.items c.args.name (map (number_read c.args.atoms.now c.args.nots.now) c.args.body.now) c.push_reserved.new.self.items c.write_body.new.operands.items c.len-number.result c.in_ok-end.end =
-    stored old.list.items c.room_for.new.list.items old.operands.items c.room_for.new.operands.items _ c.args.name _ _ _ _ c.in_ok-end.end
-    c.room_for.ensures.list c.room_for.ensures.operands c.of-label.ensures c.write_body.ensures c.push_reserved.ensures.items (omega (arith, c.in_ok-end.ensures.end, length-map c.args.body.now (number_read c.args.atoms.now c.args.nots.now))) is in
-    pushed old.list.items old.operands.items c.args.name (map (number_read c.args.atoms.now c.args.nots.now) c.args.body.now) _ _ _ _ old.laid s
+    let s : IsStored old.list.items old.operands.items c.args.name (map (number_read c.args.atoms.now c.args.nots.now) c.args.body.now) c.push_reserved.new.self.items c.write_body.new.operands.items c.len-number.result c.in_ok-count.count c.in_ok-end.end =
+    stored old.list.items c.room_for.new.list.items old.operands.items c.room_for.new.operands.items _ c.args.name _ _ _ _ c.in_ok-count.count c.in_ok-end.end
+    c.room_for.ensures.list c.room_for.ensures.operands c.of-label.ensures c.write_body.ensures c.push_reserved.ensures.items (c.in_ok-count.ensures ∙ sym (length-map c.args.body.now (number_read c.args.atoms.now c.args.nots.now))) (omega (arith, c.in_ok-end.ensures.end, length-map c.args.body.now (number_read c.args.atoms.now c.args.nots.now))) is in
+    pushed old.list.items old.operands.items c.args.name (map (number_read c.args.atoms.now c.args.nots.now) c.args.body.now) _ _ _ _ _ old.laid s
