@@ -10,6 +10,13 @@ overflow_cast-result c =
     let is : c.len-count.result ≡ length c.args.self.now.list.items = search rules in
     omega arith
 
+pub overflow_cast-count : goal.overflow_cast-count
+overflow_cast-count c =
+    let size = length-gates c.args.self.now.list.items c.args.self.now.operands.items in
+    let is : c.len-count.result ≡ length c.args.self.now.list.items = search rules in
+    let few = c.requires.few in
+    omega arith
+
 pub invariant_of-self-2 : goal.invariant_of-self-2
 invariant_of-self-2 c =
     let old = c.args.self.now in
