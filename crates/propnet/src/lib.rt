@@ -18,6 +18,7 @@ mod net_view;
 mod node;
 mod nodes;
 mod pushing;
+mod sharing;
 mod slot;
 mod sourcing;
 mod wide;
