@@ -82,6 +82,7 @@ impl KeyList {
     }
 
     /// Adds a list. More numbers in all than 32 bits count are refused as want of memory is. After an error the lists are those before.
+    #[inline(always)]
     pub fn push(&mut self, list: &[u32]) -> Result<(), AllocError>
         ensures added { OnOk result (self.new ≡ self.old ++ list.now ∷ []) }
         ensures failed { OnErr result (self.new ≡ self.old) }

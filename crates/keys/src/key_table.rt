@@ -115,6 +115,7 @@ pub(crate) fn slot_behind(table: &KeyTable, number: usize, turn: usize) -> usize
 }
 
 /// Puts the next number into a slot. Numbers that 32 bits do not hold are refused as want of memory is.
+#[inline(always)]
 pub(crate) fn stand_in(table: &mut KeyTable, slot: usize, number: usize) -> Result<(), AllocError>
     requires slot { slot < length table.old.slots.items }
     requires few { number ≤ length table.old.slots.items }
@@ -182,6 +183,7 @@ pub fn make_buckets(alloc: Global, keys: &KeyList, table: &mut KeyTable) -> Resu
 
 /// The slot in which the walk of a key ends, which is free, or in which a key stands with this number less one. No walk is
 /// longer than there are keys.
+#[inline(always)]
 fn end_of_walk(table: &KeyTable, many: usize, key: &[u32], hash: usize, wanted: usize) -> usize
     requires slots { AreSlots table.now.slots.items table.now.buckets many }
     requires some { 0 < table.now.buckets }
@@ -203,6 +205,7 @@ fn end_of_walk(table: &KeyTable, many: usize, key: &[u32], hash: usize, wanted: 
 }
 
 /// The number of a key with this hash, if it has one.
+#[inline(always)]
 pub fn find(keys: &KeyList, table: &KeyTable, key: &[u32], hash: usize) -> Option<usize>
     requires kept { KeysKept keys.now table.now }
     requires hash { hash ≡ key_hash 0 key.now }
@@ -228,6 +231,7 @@ pub fn find(keys: &KeyList, table: &KeyTable, key: &[u32], hash: usize) -> Optio
 }
 
 /// Adds a key with this hash, which has no number yet. After an error the keys are those before.
+#[inline(always)]
 pub fn add(
     keys: &mut KeyList,
     table: &mut KeyTable,
@@ -277,6 +281,7 @@ fn drop_last(keys: &mut KeyList, table: &mut KeyTable)
 }
 
 /// Keeps the first keys, so many.
+#[inline(always)]
 pub fn drop_behind(keys: &mut KeyList, table: &mut KeyTable, many: usize)
     requires kept { KeysKept keys.old table.old }
     ensures kept { KeysKept keys.new table.new }

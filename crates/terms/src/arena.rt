@@ -186,6 +186,7 @@ impl Arena {
 
     /// The number of a key, which is the next one if it has none yet. After an error the terms are those
     /// before.
+    #[inline(always)]
     pub fn intern(&mut self, key: &[u32]) -> Result<usize, AllocError>
         requires { IsKey (length self.old.sizes) (length self.old.keys) key.now }
         ensures found { IfOk result (λ k. (k < length self.new.keys) × (key_at self.new.keys k ≡ key.now)) }
@@ -208,6 +209,7 @@ impl Arena {
     }
 
     /// Keeps the first terms, so many, and forgets the others. The names of the symbols stay.
+    #[inline(always)]
     pub fn truncate(&mut self, many: usize)
         requires symbols { length self.old.sizes ≤ many }
         requires within { many ≤ length self.old.keys }

@@ -66,6 +66,7 @@ impl Terms {
     }
 
     /// The number of a key with this hash, if it has one.
+    #[inline(always)]
     pub fn number_by(&self, key: &[u32], hash: usize) -> Option<usize>
         requires { hash ≡ key_hash 0 key.now }
         ensures { MatchOption result
@@ -91,6 +92,7 @@ impl Terms {
 
     /// The number of a key with this hash that has none yet, which is the next one. After an error the
     /// terms are those before.
+    #[inline(always)]
     pub fn add_by(&mut self, key: &[u32], hash: usize) -> Result<usize, AllocError>
         requires next { (k : ℕ) → k < length self.old → key_at self.old k ≢ key.now }
         requires hash { hash ≡ key_hash 0 key.now }
@@ -105,6 +107,7 @@ impl Terms {
     }
 
     /// Keeps the first terms, so many, and forgets the others.
+    #[inline(always)]
     pub fn truncate(&mut self, many: usize)
         ensures { self.new ≡ take many self.old }
     {

@@ -74,6 +74,7 @@ impl NumberSet {
 
     /// Adds a number, if it is not among them. After an error they are those before. A number that 32 bits do not hold is refused as want
     /// of memory is.
+    #[inline(always)]
     pub fn insert(&mut self, number: usize) -> Result<(), AllocError>
         ensures added { OnOk result (self.new.keys ≡ with_number self.old.keys number) }
         ensures failed { OnErr result (self.new.keys ≡ self.old.keys) }
