@@ -91,7 +91,10 @@ impl KeyList {
             return Err(AllocError);
         };
         self.ends.reserve(1)?;
-        self.numbers.extend_from_slice(list)?;
+        self.numbers.reserve(list.len())?;
+        for number in list {
+            self.numbers.push_reserved(*number);
+        }
         self.ends.push_reserved(end);
         Ok(())
     }

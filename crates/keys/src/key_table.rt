@@ -26,6 +26,8 @@ ghost use Rattle.std.specs.Prelude.{
   MatchOption,
   ◌≢◌,
   slice_index,
+  true,
+  false,
 };
 ghost use Rattle.keys.specs.KeyLists.{key_at};
 ghost use Rattle.keys.specs.KeyTables.{key_hash, bucket_of, number_bits, step_words, turn_of, slot_behind, AreSlots, EndsAt, KeysKept, NamesKept};
@@ -35,10 +37,10 @@ use crate::key_list::KeyList;
 use std::alloc::{AllocError, Global};
 
 /// The least number of buckets, if there are any.
-const LEAST: usize = 16;
+const LEAST: usize = 1 << 12;
 
 /// How many times as many buckets there are as keys, once there are more of them.
-const GROWTH: usize = 4;
+const GROWTH: usize = 8;
 
 /// How many bits of a walk a number of a key has: those of a `u32`, and one more, as 0 stands behind the end of a key.
 const NUMBER_BITS: usize = 33;
@@ -102,6 +104,9 @@ fn turn(key: &[u32], hash: usize, step: usize) -> usize
     ensures is { result ≡ turn_of number_bits key.now step }
     ensures two { result < 2 }
 {
+    if step < NUMBER_BITS {
+        return (hash >> step) % 2;
+    }
     let word = step_word(key, hash, step / NUMBER_BITS);
     (word >> (step % NUMBER_BITS)) % 2
 }
@@ -204,6 +209,24 @@ fn end_of_walk(table: &KeyTable, many: usize, key: &[u32], hash: usize, wanted: 
     slot
 }
 
+/// Whether two keys are the same. They are compared from the end, where keys of the same word differ first.
+fn are_same(key: &[u32], other: &[u32]) -> bool
+    ensures same { result ≡ true → key.now ≡ other.now }
+    ensures others { result ≡ false → key.now ≢ other.now }
+{
+    if key.len() != other.len() {
+        return false;
+    }
+    let mut left = key.len();
+    while left > 0 {
+        left -= 1;
+        if key[left] != other[left] {
+            return false;
+        }
+    }
+    true
+}
+
 /// The number of a key with this hash, if it has one.
 #[inline(always)]
 pub fn find(keys: &KeyList, table: &KeyTable, key: &[u32], hash: usize) -> Option<usize>
@@ -222,7 +245,7 @@ pub fn find(keys: &KeyList, table: &KeyTable, key: &[u32], hash: usize) -> Optio
         if left == 0 {
             return None;
         }
-        if keys.get(left - 1) == key {
+        if are_same(keys.get(left - 1), key) {
             return Some(left - 1);
         }
         slot = slot_behind(table, left - 1, turn(key, hash, step));

@@ -18,8 +18,8 @@ pub fn with_room<T>(alloc: Global, many: usize) -> Vec<T>
 pub fn in_32_bits(number: usize) -> Result<u32, AllocError>
     ensures { IfOk result (λ n. n ≡ number) }
 {
-    let Ok(fitting) = u32::try_from(number) else {
+    if number > u32::MAX as usize {
         return Err(AllocError);
-    };
-    Ok(fitting)
+    }
+    Ok(number as u32)
 }
