@@ -91,6 +91,15 @@ fn read_in_turn<A: Allocator>(
     Ok(all)
 }
 
+/// The one way to pick readings of no literals.
+fn no_picks(alloc: Global) -> Result<Vec<Vec<Span>>, AllocError>
+    ensures { IfOk result (λ lists. lists_of lists.items ≡ [] ∷ []) }
+{
+    let mut lists = Vec::with_capacity(alloc, 1)?;
+    lists.push(Vec::new(alloc))?;
+    Ok(lists)
+}
+
 /// Every way to pick one reading of each literal, the first pick changing slowest.
 #[cycle(readings)]
 pub(crate) fn read_all<A: Allocator>(
@@ -104,6 +113,9 @@ pub(crate) fn read_all<A: Allocator>(
     ensures { IfOk result (λ lists. Spreads from (data_of store.old) (data_of store.new) (lists_of lists.items)
         (readings_of_all (trees_of (trees_in parts.now)))) }
 {
+    if parts.is_empty() {
+        return no_picks(alloc);
+    }
     let mut picks = Picks::new(alloc)?;
     for part in parts {
         let lists = read_literal(alloc, store, from, part)?;
