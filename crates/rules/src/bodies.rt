@@ -71,9 +71,6 @@ pub(crate) fn relations_of(
 {
     let mut out = Vec::new(alloc);
     for body in &item.bodies {
-        if body.is_empty() {
-            continue;
-        }
         let numbers = numbers_at(alloc, body)?;
         add_relations(store, item.variables.from, &numbers, &mut out)?;
         keep_once(&mut out);
