@@ -24,6 +24,8 @@ use Rattle.std.proofs.Common.{
   arith,
   length-append,
 }
+use Rattle.std.proofs.Math.ListN.{drop_of_length-le}
+use Rattle.std.proofs.lemmas.List.{append-nil}
 use Rattle.std.specs.Prelude.{slice_range}
 use Rattle.keys.specs.KeyLists.{lists_at, AreEnds}
 
@@ -187,6 +189,11 @@ here es es1 es2 xs xs1 ls n from to v h e f x s t =
     ∙ sym (one_list 0 es xs n (number_in es xs ls n v h)) ∙ ap (λ (ks : List (List ℕ)). get_or ks n []) v
 
 -- One more list.
+
+-- where no number of a list is left all of them are written
+pub all_written : (xs xs1 xs2 ys : List ℕ) (i : ℕ) → xs2 ++ drop i ys ≡ xs1 ++ ys → xs1 ≡ xs → length ys ≤ i → xs2 ≡ xs ++ ys
+all_written xs xs1 xs2 ys i e f h =
+    sym (append-nil xs2) ∙ ap (λ (zs : List ℕ). xs2 ++ zs) (sym (drop_of_length-le ys h)) ∙ e ∙ ap (λ (zs : List ℕ). zs ++ ys) f
 
 pub pushed_ends : (es es1 es2 xs xs1 ys : List ℕ) (n : ℕ) → AreEnds 0 es (length xs) → es1 ≡ es → es2 ≡ es1 ++ n ∷ [] → xs1 ≡ xs ++ ys
     → n ≡ length xs1 → AreEnds 0 es2 (length xs1)
