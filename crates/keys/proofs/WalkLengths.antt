@@ -5,9 +5,8 @@ use Rattle.std.specs.Prelude.{min}
 use Rattle.std.proofs.lemmas.Nat.{shr-shr, shr_below, shr_split, div-mul-add, mod-mul-add, mul-add-lt, mod_below, pow_pos}
 use Rattle.keys.specs.Hashes.{upper}
 use Rattle.keys.specs.KeyLists.{key_at}
-use Rattle.keys.specs.KeyTables.{key_hash, step_words, turn_of, bucket_of, slot_behind, slot_at, seen_at, AreSlots, StandsOnWalk, AreOnWalks}
-use Rattle.keys.specs.ShortWalks.{AreNarrow, PassesOthers, AreWalksShort}
-use Rattle.keys.specs.declared.key_table.KeyTable.{KeyTable}
+use Rattle.keys.specs.KeyTables.{key_hash, step_words, turn_of, bucket_of, slot_at, seen_at, AreSlots, StandsOnWalk}
+use Rattle.keys.specs.ShortWalks.{AreNarrow, AreWalksShort}
 
 less_or : (e d : ℕ) → e < suc d → (e < d) ⊎ (e ≡ d)
 less_or e d h = grind arith

@@ -1,6 +1,6 @@
 -- This crate's own: what `run` promises does not rest on it.
 -- How many keys the walk of a key passes.
-use Rattle.std.specs.Prelude.{ℕ, ◌≡◌, ◌≢◌, ◌<◌, ◌≤◌, ◌+◌, ◌-◌, ◌*◌, ◌^◌, List, length, slice_index}
+use Rattle.std.specs.Prelude.{ℕ, ◌≢◌, ◌<◌, ◌≤◌, ◌+◌, ◌-◌, ◌*◌, ◌^◌, List, length, slice_index}
 use Rattle.keys.specs.KeyLists.{key_at}
 use Rattle.keys.specs.KeyTables.{turn_of, bucket_of, seen_at, AreTabled}
 use Rattle.keys.specs.declared.key_table.KeyTable.{KeyTable}
