@@ -1,5 +1,5 @@
 -- Lists of numbers, and the readings that they stand for.
-use Rattle.std.proofs.Common.{ℕ, suc, zero, ◌≡◌, ◌+◌, ◌-◌, ◌<◌, ◌≤◌, List, [], ◌∷◌, ◌++◌, length, drop, refl, sym, ◌∙◌, ap, subst, get_or, append_assoc, arith}
+use Rattle.std.proofs.Common.{ℕ, suc, zero, true, ◌==◌, ◌≡◌, ◌+◌, ◌-◌, ◌<◌, ◌≤◌, List, [], ◌∷◌, ◌++◌, length, drop, refl, sym, ◌∙◌, ap, subst, get_or, append_assoc, arith}
 use Rattle.std.specs.Prelude.{Vec}
 use Rattle.std.specs.List.{range_with_len}
 use Rattle.std.proofs.lemmas.List.{append-nil}
@@ -249,16 +249,27 @@ pub record Picked (from : ℕ) (start now : Data) (lists : List (List ℕ)) (lef
   pub spreads : Spreads from start now lists done
   pub both : picks done left ≡ whole
 
+-- no literals were added, and their one reading is empty
+none_picked : (from : ℕ) (d : Data) (lists : List (List ℕ)) → lists ≡ [] ∷ [] → Spreads from d d lists ([] ∷ [])
+none_picked from d lists e =
+    record {
+      grows = grows_refl from d;
+      stand =
+          λ later h. subst (λ (ls : List (List ℕ)). StandForLists from later ls ([] ∷ [])) (sym e) (tt, tt);
+    }
+
+-- the readings of no literals
+pub picks_of_none : {A : Type 0} (from : ℕ) (d : Data) (lists : List (List ℕ)) (es : List (Expr A)) → true ≡ (length es == 0) → lists ≡ [] ∷ []
+    → Spreads from d d lists (readings_of_all (trees_of (trees_in es)))
+picks_of_none from d lists [] h e = none_picked from d lists e
+picks_of_none from d lists (x ∷ es) h e = absurd (grind (arith, h))
+
 pub picks_begun : (from : ℕ) (d : Data) (lists : List (List ℕ)) (whole : List (List said.Literal)) → lists ≡ [] ∷ []
     → Picked from d d lists whole whole
 picks_begun from d lists whole e =
     record {
       done = [] ∷ [];
-      spreads = record {
-        grows = grows_refl from d;
-        stand =
-            λ later h. subst (λ (ls : List (List ℕ)). StandForLists from later ls ([] ∷ [])) (sym e) (tt, tt);
-      };
+      spreads = none_picked from d lists e;
       both = append-nil (behind_each [] whole) ∙ same whole;
     }
   where

@@ -9,8 +9,13 @@ use Rattle.clauses.specs.Spread.{lists_of, number_picks}
 use Rattle.profile.proofs.Facts.{part_smaller, tree_is_slice, tree_is_word, no_word_no_literal, literal_of_not, one_of_all, if_ok}
 use Rattle.clauses.proofs.NumberLemmas.{true_or_false}
 use Rattle.clauses.proofs.AddingLemmas.{longer}
-use Rattle.clauses.proofs.SpreadLemmas.{turn_begun, turn_on, picks_begun, picks_on, picks_ended, not_word}
+use Rattle.clauses.proofs.SpreadLemmas.{turn_begun, turn_on, picks_of_none, picks_begun, picks_on, picks_ended, not_word}
 use Rattle.clauses.proofs.readings.+readings.Goals as goal
+
+pub read_all-returns-then-is_empty : goal.read_all-returns-then-is_empty
+read_all-returns-then-is_empty g t c =
+    if_ok c.no_picks.result _ _ (λ lists e. picks_of_none c.args.from (data_of c.args.store.now) (lists_of lists.items) c.args.parts.now
+    c.if-is_empty.ensures e) c.no_picks.ensures
 
 pub read_all-loop-part-init : goal.read_all-loop-part-init
 read_all-loop-part-init g t c = picks_begun c.args.from _ _ _ c.in_ok-picks.ensures
