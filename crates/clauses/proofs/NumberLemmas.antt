@@ -1,12 +1,11 @@
 -- Names by number: finding one, and adding one.
-use Rattle.std.proofs.Common.{ℕ, suc, zero, ◌≡◌, ◌+◌, ◌<◌, ◌≤◌, ◌⊎◌, inl, inr, Bool, true, false, cond, List, [], ◌∷◌, ◌++◌, length, map, refl, sym}
-use Rattle.std.proofs.Common.{◌∙◌, ap, subst, arith, Option, Some, None, ◌&&◌, ◌||◌, ◌==◌, eqb-true, eq-eqb, drop, get_or}
-use Rattle.std.specs.Prelude.{MatchOption, ◌≢◌, nat_eq, slice_index, position}
-use Rattle.std.specs.Cmp.Lexicographic.{pointwise, same_text, other_text}
-use Rattle.std.specs.List.{position_from, list_any}
+use Rattle.std.proofs.Common.{ℕ, suc, zero, ◌≡◌, ◌+◌, ◌<◌, ◌≤◌, ◌⊎◌, inl, inr, Bool, true, false, cond, List, [], ◌∷◌, ◌++◌, length, refl, sym}
+use Rattle.std.proofs.Common.{◌∙◌, ap, subst, arith, Option, Some, None, ◌||◌, ◌==◌, eqb-true, eq-eqb, drop, get_or}
+use Rattle.std.specs.Prelude.{MatchOption, slice_index, position}
+use Rattle.std.specs.List.{position_from}
 use Rattle.std.proofs.lemmas.Iterator.Adapters.{position_from-zero}
 use Rattle.std.proofs.lemmas.List.Quantifiers.{position-Some}
-use Rattle.std.proofs.lemmas.List.{map-append, append-nil, length-map, drop-append-le}
+use Rattle.std.proofs.lemmas.List.{append-nil, drop-append-le}
 use Rattle.statement.specs.Tree.{name_eq}
 use Rattle.kif.proofs.Facts.{name_eq_yes, name_eq_self}
 use Rattle.statement.specs.Safety.{is_name_in}

@@ -1,43 +1,5 @@
 -- Keys by number: finding one, and adding one.
-use Rattle.std.proofs.Common.{
-  ℕ,
-  suc,
-  zero,
-  ◌≡◌,
-  ◌+◌,
-  ◌<◌,
-  ◌⊎◌,
-  inl,
-  inr,
-  Bool,
-  true,
-  false,
-  cond,
-  List,
-  [],
-  ◌∷◌,
-  ◌++◌,
-  length,
-  map,
-  refl,
-  sym,
-  ◌∙◌,
-  ap,
-  subst,
-  arith,
-  Option,
-  Some,
-  None,
-  ◌&&◌,
-  ◌||◌,
-  get_or,
-}
-use Rattle.std.specs.Prelude.{MatchOption, ◌≢◌, nat_eq, position}
-use Rattle.std.specs.Cmp.Lexicographic.{pointwise, same_text, other_text}
-use Rattle.std.specs.List.{position_from, list_any}
-use Rattle.std.proofs.lemmas.Iterator.Adapters.{position_from-zero}
-use Rattle.std.proofs.lemmas.List.Quantifiers.{position-Some}
-use Rattle.std.proofs.lemmas.List.{map-append, length-map}
+use Rattle.std.proofs.Common.{ℕ, suc, zero, ◌≡◌, ◌<◌, ◌⊎◌, inl, inr, Bool, true, false, cond, List, [], ◌∷◌, ◌++◌, length, refl, sym, ◌∙◌, ap, subst, arith, ◌||◌, get_or}
 use Rattle.statement.specs.Tree.{name_eq}
 use Rattle.kif.proofs.Facts.{name_eq_yes, name_eq_self}
 use Rattle.statement.specs.Safety.{is_name_in}

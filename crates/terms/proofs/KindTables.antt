@@ -29,7 +29,6 @@ use Rattle.std.proofs.Common.{
   eqb-true,
   eq-eqb,
 }
-use Rattle.std.specs.Prelude.{IfSome}
 use Rattle.std.specs.List.{position_from}
 use Rattle.std.specs.Option.{option_map}
 use Rattle.std.proofs.lemmas.Iterator.Adapters.{position_from-zero}

@@ -32,7 +32,7 @@ use Rattle.std.proofs.Common.{
   length-append,
   add-one,
 }
-use Rattle.std.proofs.Math.Seq.{drop-cons, take-suc}
+use Rattle.std.proofs.Math.Seq.{take-suc}
 use Rattle.std.proofs.Math.ListN.{get_or-map}
 use Rattle.std.proofs.lemmas.List.{map-append, length-map, take-append-le, length-take-le}
 use Rattle.std.proofs.lemmas.Grind.{same_number_lists}

@@ -1,27 +1,5 @@
 -- Texts that are written with a stack of what is still to be written.
-use Rattle.std.proofs.Common.{
-  ℕ,
-  ◌≡◌,
-  ◌<◌,
-  ◌≤◌,
-  List,
-  [],
-  ◌∷◌,
-  ◌++◌,
-  length,
-  map,
-  reverse,
-  drop,
-  refl,
-  sym,
-  ◌∙◌,
-  ap,
-  subst,
-  arith,
-  get_or,
-  length-append,
-  append_assoc,
-}
+use Rattle.std.proofs.Common.{ℕ, ◌≡◌, ◌<◌, List, [], ◌∷◌, ◌++◌, length, map, reverse, drop, refl, sym, ◌∙◌, ap, subst, arith, get_or, length-append, append_assoc}
 use Rattle.std.proofs.lemmas.List.{append-nil, reverse-append, reverse-reverse}
 use Rattle.statement.specs.Tree.{Tree, text, further_text, trees_of}
 use Rattle.terms.specs.declared.writing.Pending.{Pending}
