@@ -25,11 +25,7 @@ fn count_staying<F: Fn(AtomLiteral) -> bool>(literals: &[AtomLiteral], stays: &F
 }
 
 /// Moves the ends of bodies to where they are once the literals that do not stay are left out.
-fn move_ends<F: Fn(AtomLiteral) -> bool>(
-    ends: &mut Vec<usize>,
-    literals: &[AtomLiteral],
-    stays: &F,
-)
+fn move_ends<F: Fn(AtomLiteral) -> bool>(ends: &mut Vec<usize>, literals: &[AtomLiteral], stays: &F)
     requires ask { F.IsAlwaysCallable stays.now }
     requires laid { StandBetween 0 ends.old.items (length literals.now) }
     ensures { (p : ℕ × Bool → Bool) → Tells p (F.post stays.now) → ends.new.items ≡ moved p literals.now 0 0 ends.old.items }
