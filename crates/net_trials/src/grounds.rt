@@ -213,6 +213,21 @@ fn bodies_are_joined(rt: HostRuntime) -> Result<(), Fail> {
     Ok(())
 }
 
+/// Six instances of one body: literals of fixed relations are no part of it, and the others have no variables. Those of the last item have
+/// a body each, as the facts and `u` have.
+const SHARED: &[u8] = b"(role a)(base t)(<= u (true t))(n 1)(n 2)(n 3)
+    (<= (p ?x ?y) (n ?x) (n ?y) u u (not (true t)) (distinct ?x 2))(<= (q ?x) (p ?x ?y))";
+
+#[test]
+fn instances_share_a_body(rt: HostRuntime) -> Result<(), Fail> {
+    let items = read(rt.alloc(), SHARED)?;
+    let rules = RuleSet::check(rt.alloc(), &items)?;
+    let ground = instantiate_flat_alone(&rt, &rules, Width::Plain)?;
+    assert_eq!(rt; ground.many_kept(), 18);
+    assert_eq!(rt; ground.many_bodies(), 13);
+    Ok(())
+}
+
 /// Nine terms, four of which make a base proposition.
 const NINE: &[u8] = b"(role a)(d 0)(d 1)(d 2)(d 3)(d 4)(d 5)(d 6)(d 7)(d 8)
     (<= (base (n ?a ?b ?c ?d)) (d ?a) (d ?b) (d ?c) (d ?d))";
