@@ -1,7 +1,7 @@
 //! One run, with the game played over the kept instances.
 ghost use Rattle.std.specs.Prelude.{◌≡◌, ◌≢◌, ℕ, List, IfOk, IfErr};
 ghost use Rattle.std.specs.Io.KnownBytes.{Appends, Keeps};
-ghost use Rattle.kif.specs.Written.{AppendsFront};
+ghost use Rattle.statement.specs.Output.{AppendsFront};
 ghost use Rattle.statement.specs.Answers.{Reply};
 ghost use Rattle.statement.specs.Input.{RepliesTo};
 ghost use Rattle.words.specs.Asked.{query_of};

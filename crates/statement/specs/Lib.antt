@@ -55,6 +55,7 @@ pub mod Deepening
 pub mod Holding
 pub mod Replies
 pub mod Input
+pub mod Output
 -- Beside the statement: kinds of atoms, and what and gates read, of which several crates speak
 pub mod Kinds
 pub mod Kept
