@@ -11,17 +11,17 @@ use std::io::Write;
 /// Adds the line of a refusal to the text: `refused`, the fault as it is displayed, the name of the role where one is at fault, and
 /// a line feed. After an error, which is want of memory, the text may hold a beginning of the line.
 pub fn add_history_refusal<G: Game, A: Allocator>(
-    g: &G,
+    game: &G,
     fault: HistoryFault,
     text: &mut Vec<u8, A>,
 ) -> Result<(), AllocError>
-    requires { IsRoleOf (G.rules g.now).roles fault }
-    ensures { OnOk result (text.new.items ≡ text.old.items ++ refusal_line (history_fault_words fault ++ role_part (G.role_name g.now) fault)) }
+    requires { IsRoleOf (G.rules game.now).roles fault }
+    ensures { OnOk result (text.new.items ≡ text.old.items ++ refusal_line (history_fault_words fault ++ role_part (G.role_name game.now) fault)) }
 {
     write!(text, "refused {fault}").map_err(|_| AllocError)?;
     if let HistoryFault::NotLegal(_, role) = fault {
         text.push(b' ')?;
-        text.extend_from_slice(g.role_text(role))?;
+        text.extend_from_slice(game.role_text(role))?;
     }
     text.push(b'\n')?;
     Ok(())

@@ -48,16 +48,21 @@ fn check_forms<A: Allocator>(roles: usize, turns: &[Expr<A>]) -> Result<(), Hist
 }
 
 /// The legal move of a role that has the text of the tree.
-fn find_move<G: Game, A: Allocator>(g: &G, p: &G::Pos, role: usize, part: &Expr<A>) -> Option<u32>
-    requires fits { G.fits g.now p.now }
-    requires role { role < (G.rules g.now).roles }
-    ensures known { IfSome result (λ m. m < (G.rules g.now).moves role) }
-    ensures found { result ≡ find (λ m. name_eq (text (tree_of part.now)) (G.move_name g.now role m))
-        ((G.rules g.now).legal (G.state g.now p.now) role) }
+fn find_move<G: Game, A: Allocator>(
+    game: &G,
+    p: &G::Pos,
+    role: usize,
+    part: &Expr<A>,
+) -> Option<u32>
+    requires fits { G.fits game.now p.now }
+    requires role { role < (G.rules game.now).roles }
+    ensures known { IfSome result (λ m. m < (G.rules game.now).moves role) }
+    ensures found { result ≡ find (λ m. name_eq (text (tree_of part.now)) (G.move_name game.now role m))
+        ((G.rules game.now).legal (G.state game.now p.now) role) }
 {
     let mut place = 0;
-    while let Some(number) = g.legal(p, role, place) {
-        if text_is(part, g.move_text(role, number)) {
+    while let Some(number) = game.legal(p, role, place) {
+        if text_is(part, game.move_text(role, number)) {
             return Some(number);
         }
         place += 1;
@@ -67,23 +72,23 @@ fn find_move<G: Game, A: Allocator>(g: &G, p: &G::Pos, role: usize, part: &Expr<
 
 /// Writes the joint move that the parts of a turn name, or refuses the first role whose part is no legal move of its own.
 fn read_moves<G: Game, A: Allocator>(
-    g: &G,
+    game: &G,
     p: &G::Pos,
     number: usize,
     parts: &[Expr<A>],
     joint: &mut Joint,
 ) -> Result<(), HistoryFault>
-    requires fits { G.fits g.now p.now }
-    requires parts { length parts.now ≡ (G.rules g.now).roles }
-    requires joint { small_vec_len joint.old ≡ (G.rules g.now).roles }
-    ensures faults { result ≡ first_history_fault (illegal_faults (G.rules g.now) (G.move_name g.now) (G.state g.now p.now) (trees_in parts.now) number) tt }
-    ensures moves { OnOk result (joint.new.items ≡ named_turn (G.rules g.now) (G.move_name g.now) (G.state g.now p.now) (trees_in parts.now)) }
-    ensures turn { OnOk result (IsTurn (G.rules g.now) joint.new.items) }
-    ensures role { IfErr result (IsRoleOf (G.rules g.now).roles) }
-    ensures length { small_vec_len joint.new ≡ (G.rules g.now).roles }
+    requires fits { G.fits game.now p.now }
+    requires parts { length parts.now ≡ (G.rules game.now).roles }
+    requires joint { small_vec_len joint.old ≡ (G.rules game.now).roles }
+    ensures faults { result ≡ first_history_fault (illegal_faults (G.rules game.now) (G.move_name game.now) (G.state game.now p.now) (trees_in parts.now) number) tt }
+    ensures moves { OnOk result (joint.new.items ≡ named_turn (G.rules game.now) (G.move_name game.now) (G.state game.now p.now) (trees_in parts.now)) }
+    ensures turn { OnOk result (IsTurn (G.rules game.now) joint.new.items) }
+    ensures role { IfErr result (IsRoleOf (G.rules game.now).roles) }
+    ensures length { small_vec_len joint.new ≡ (G.rules game.now).roles }
 {
-    for role in 0..g.roles() {
-        let Some(chosen) = find_move(g, p, role, &parts[role]) else {
+    for role in 0..game.roles() {
+        let Some(chosen) = find_move(game, p, role, &parts[role]) else {
             return Err(HistoryFault::NotLegal(number, role));
         };
         put_move(joint, role, chosen);
@@ -93,28 +98,28 @@ fn read_moves<G: Game, A: Allocator>(
 
 /// Writes the joint move that a turn names, or refuses the turn.
 fn read_turn<G: Game, A: Allocator>(
-    g: &G,
+    game: &G,
     p: &G::Pos,
     number: usize,
     parts: &[Expr<A>],
     joint: &mut Joint,
 ) -> Result<(), HistoryFault>
-    requires fits { G.fits g.now p.now }
-    requires parts { length parts.now ≡ (G.rules g.now).roles }
-    requires joint { small_vec_len joint.old ≡ (G.rules g.now).roles }
-    ensures faults { result ≡ first_history_fault (turn_faults (G.rules g.now) (G.move_name g.now) (G.state g.now p.now) (trees_in parts.now) number) tt }
-    ensures moves { OnOk result (joint.new.items ≡ named_turn (G.rules g.now) (G.move_name g.now) (G.state g.now p.now) (trees_in parts.now)) }
-    ensures turn { OnOk result (IsTurn (G.rules g.now) joint.new.items) }
-    ensures role { IfErr result (IsRoleOf (G.rules g.now).roles) }
-    ensures length { small_vec_len joint.new ≡ (G.rules g.now).roles }
+    requires fits { G.fits game.now p.now }
+    requires parts { length parts.now ≡ (G.rules game.now).roles }
+    requires joint { small_vec_len joint.old ≡ (G.rules game.now).roles }
+    ensures faults { result ≡ first_history_fault (turn_faults (G.rules game.now) (G.move_name game.now) (G.state game.now p.now) (trees_in parts.now) number) tt }
+    ensures moves { OnOk result (joint.new.items ≡ named_turn (G.rules game.now) (G.move_name game.now) (G.state game.now p.now) (trees_in parts.now)) }
+    ensures turn { OnOk result (IsTurn (G.rules game.now) joint.new.items) }
+    ensures role { IfErr result (IsRoleOf (G.rules game.now).roles) }
+    ensures length { small_vec_len joint.new ≡ (G.rules game.now).roles }
 {
-    if g.ended(p) {
+    if game.ended(p) {
         return Err(HistoryFault::Over(number));
     }
-    if is_stuck(g, p) {
+    if is_stuck(game, p) {
         return Err(HistoryFault::Stuck(number));
     }
-    read_moves(g, p, number, parts, joint)
+    read_moves(game, p, number, parts, joint)
 }
 
 /// Plays a history from the start state, and writes to `p` the state after it. Each turn, counted from 1, is a list of a move for
@@ -123,28 +128,28 @@ fn read_turn<G: Game, A: Allocator>(
 /// memory included, `p` is unchanged.
 pub fn replay<G: Game, A: Allocator>(
     alloc: Global,
-    g: &G,
+    game: &G,
     turns: &[Expr<A>],
     p: &mut G::Pos,
 ) -> Result<(), HistoryFault>
-    requires { G.fits g.now p.old }
-    ensures fits { G.fits g.now p.new }
-    ensures played { OnOk result (played (G.rules g.now) (G.move_name g.now) (trees_in turns.now) ≡ Ok (G.state g.now p.new)) }
-    ensures refused { IfErr result (λ fault. fault ≢ HistoryFault.NoMemory → played (G.rules g.now) (G.move_name g.now) (trees_in turns.now) ≡ Err
+    requires { G.fits game.now p.old }
+    ensures fits { G.fits game.now p.new }
+    ensures played { OnOk result (played (G.rules game.now) (G.move_name game.now) (trees_in turns.now) ≡ Ok (G.state game.now p.new)) }
+    ensures refused { IfErr result (λ fault. fault ≢ HistoryFault.NoMemory → played (G.rules game.now) (G.move_name game.now) (trees_in turns.now) ≡ Err
         fault) }
-    ensures role { IfErr result (IsRoleOf (G.rules g.now).roles) }
-    ensures capacities { G.capacities g.now p.new ≡ G.capacities g.now p.old }
+    ensures role { IfErr result (IsRoleOf (G.rules game.now).roles) }
+    ensures capacities { G.capacities game.now p.new ≡ G.capacities game.now p.old }
     ensures unchanged { OnErr result (p.new ≡ p.old) }
 {
-    check_forms(g.roles(), turns)?;
-    let mut here = g.fresh()?;
-    let mut next = g.fresh()?;
-    let mut joint = new_joint(alloc, g.roles())?;
+    check_forms(game.roles(), turns)?;
+    let mut here = game.fresh()?;
+    let mut next = game.fresh()?;
+    let mut joint = new_joint(alloc, game.roles())?;
     for place in 0..turns.len() {
-        read_turn(g, &here, place + 1, parts(&turns[place]), &mut joint)?;
-        g.step(&here, &joint, &mut next);
+        read_turn(game, &here, place + 1, parts(&turns[place]), &mut joint)?;
+        game.step(&here, &joint, &mut next);
         mem::swap(&mut here, &mut next);
     }
-    g.copy(&here, p);
+    game.copy(&here, p);
     Ok(())
 }

@@ -140,39 +140,39 @@ impl<G: Game> PlainRoom<G> {
     /// memory.
     pub fn with_table(
         alloc: Global,
-        g: &G,
+        game: &G,
         asked: Question,
         bytes: usize,
     ) -> Result<PlainRoom<G>, AllocError>
-        ensures room { IfOk result (λ room. IsPlainOf G.Game g.now room) }
+        ensures room { IfOk result (λ room. IsPlainOf G.Game game.now room) }
         ensures depth { IfOk result (λ room. plain_depth room ≡ asked.depth) }
     {
-        let room = Room::with_table(alloc, g, asked, bytes)?;
-        Ok(closed_room(g, room))
+        let room = Room::with_table(alloc, game, asked, bytes)?;
+        Ok(closed_room(game, room))
     }
 }
 
 /// The value of a state for a role, within a window, as `value_in` tells it.
 pub fn value_in_plain<G: Game>(
-    g: &G,
+    game: &G,
     p: &G::Pos,
     asked: Question,
     a: i16,
     b: i16,
     room: &mut PlainRoom<G>,
 ) -> i16
-    requires fits { G.fits g.now p.now }
-    requires role { asked.role < (G.rules g.now).roles }
-    requires room { IsPlainOf G.Game g.now room.old }
+    requires fits { G.fits game.now p.now }
+    requires role { asked.role < (G.rules game.now).roles }
+    requires room { IsPlainOf G.Game game.now room.old }
     requires deep { asked.depth ≤ plain_depth room.old }
     requires window { IsWindow a b }
-    ensures answers { Answers (value (G.rules g.now) asked.role asked.depth asked.at (G.state g.now p.now)) a b result }
-    ensures room { IsPlainOf G.Game g.now room.new }
+    ensures answers { Answers (value (G.rules game.now) asked.role asked.depth asked.at (G.state game.now p.now)) a b result }
+    ensures room { IsPlainOf G.Game game.now room.new }
     ensures depth { plain_depth room.new ≡ plain_depth room.old }
 {
     let parts = room.parts.take().unwrap();
-    let mut open = room_of(g, parts);
-    let worth = value_in(g, p, asked, a, b, &mut open);
-    *room = closed_room(g, open);
+    let mut open = room_of(game, parts);
+    let worth = value_in(game, p, asked, a, b, &mut open);
+    *room = closed_room(game, open);
     worth
 }

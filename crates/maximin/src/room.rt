@@ -37,15 +37,15 @@ pub struct Room<G: Game> {
 /// So many levels for a game.
 fn new_levels<G: Game>(
     alloc: Global,
-    g: &G,
+    game: &G,
     depth: u32,
 ) -> Result<Vec<Level<G::Pos, G::Many>>, AllocError>
-    ensures levels { IfOk result (λ levels. All (IsLevelOf G.Game g.now) levels.items) }
+    ensures levels { IfOk result (λ levels. All (IsLevelOf G.Game game.now) levels.items) }
     ensures count { IfOk result (λ levels. length levels.items ≡ depth) }
 {
     let mut levels = Vec::new(alloc);
     for _ in 0..depth {
-        levels.push(new_level(alloc, g)?)?;
+        levels.push(new_level(alloc, game)?)?;
     }
     Ok(levels)
 }
@@ -64,8 +64,8 @@ fn history_of<G: Game>(
 
 impl<G: Game> Room<G> {
     /// A room for searches of this game to at most this depth, in turns. Nothing else here takes memory.
-    pub fn new(alloc: Global, g: &G, depth: u32) -> Result<Room<G>, AllocError>
-        ensures room { IfOk result (λ room. IsRoomOf G.Game g.now room) }
+    pub fn new(alloc: Global, game: &G, depth: u32) -> Result<Room<G>, AllocError>
+        ensures room { IfOk result (λ room. IsRoomOf G.Game game.now room) }
         ensures depth { IfOk result (λ room. room_depth room ≡ depth) }
     {
         let asked = Question {
@@ -73,42 +73,42 @@ impl<G: Game> Room<G> {
             depth,
             at: AtBound::Zero,
         };
-        Room::with_table(alloc, g, asked, 0)
+        Room::with_table(alloc, game, asked, 0)
     }
 
     /// The same, with a table of what states are worth, which takes at most so many bytes. It saves time where a search is for this role
     /// and this worth at the bound. Where the memory for it is refused the room has none.
     pub fn with_table(
         alloc: Global,
-        g: &G,
+        game: &G,
         asked: Question,
         bytes: usize,
     ) -> Result<Room<G>, AllocError>
-        ensures room { IfOk result (λ room. IsRoomOf G.Game g.now room) }
+        ensures room { IfOk result (λ room. IsRoomOf G.Game game.now room) }
         ensures depth { IfOk result (λ room. room_depth room ≡ asked.depth) }
     {
-        let levels = new_levels(alloc, g, asked.depth)?;
-        let history = History::new(alloc, g)?;
-        let memory = new_memory(alloc, g, asked, bytes)?;
-        let tools = new_tools(g, history, memory, Sight::alone())?;
+        let levels = new_levels(alloc, game, asked.depth)?;
+        let history = History::new(alloc, game)?;
+        let memory = new_memory(alloc, game, asked, bytes)?;
+        let tools = new_tools(game, history, memory, Sight::alone())?;
         Ok(Room { tools, levels })
     }
 
     /// The same for one who searches over the tables of a company while it has no workers.
     pub fn over_tables(
         alloc: Global,
-        g: &G,
+        game: &G,
         depth: u32,
         company: &Company<G>,
     ) -> Result<Room<G>, AllocError>
-        requires { company_game company.now ≡ g.now }
-        ensures room { IfOk result (λ room. IsRoomOf G.Game g.now room) }
+        requires { company_game company.now ≡ game.now }
+        ensures room { IfOk result (λ room. IsRoomOf G.Game game.now room) }
         ensures depth { IfOk result (λ room. room_depth room ≡ depth) }
     {
-        let levels = new_levels(alloc, g, depth)?;
+        let levels = new_levels(alloc, game, depth)?;
         let history = History::of(&company.history)?;
-        let memory = shared_memory(alloc, g, &company.tables)?;
-        let tools = new_tools(g, history, memory, Sight::alone())?;
+        let memory = shared_memory(alloc, game, &company.tables)?;
+        let tools = new_tools(game, history, memory, Sight::alone())?;
         Ok(Room { tools, levels })
     }
 
@@ -117,20 +117,20 @@ impl<G: Game> Room<G> {
     /// the first best of them, and lets the first alone say which moves cut off most.
     pub fn in_company(
         alloc: Global,
-        g: &G,
+        game: &G,
         depth: u32,
         company: &Company<G>,
         worker: u8,
     ) -> Result<Room<G>, AllocError>
-        requires { company_game company.now ≡ g.now }
-        ensures room { IfOk result (λ room. IsRoomOf G.Game g.now room) }
+        requires { company_game company.now ≡ game.now }
+        ensures room { IfOk result (λ room. IsRoomOf G.Game game.now room) }
         ensures depth { IfOk result (λ room. room_depth room ≡ depth) }
     {
-        let levels = new_levels(alloc, g, depth)?;
+        let levels = new_levels(alloc, game, depth)?;
         let history = history_of(company, depth, worker)?;
-        let memory = shared_memory(alloc, g, &company.tables)?;
+        let memory = shared_memory(alloc, game, &company.tables)?;
         let sight = Sight::among(&company.marks, worker)?;
-        let tools = new_tools(g, history, memory, sight)?;
+        let tools = new_tools(game, history, memory, sight)?;
         Ok(Room { tools, levels })
     }
 }
@@ -140,81 +140,81 @@ impl<G: Game> Room<G> {
 /// what `at` says of the state where the turns are over. An answer above a and below b is the value; a or less says that the value
 /// is no more than a, and b or more that it is no less than b.
 pub fn value_in<G: Game>(
-    g: &G,
+    game: &G,
     p: &G::Pos,
     asked: Question,
     a: i16,
     b: i16,
     room: &mut Room<G>,
 ) -> i16
-    requires fits { G.fits g.now p.now }
-    requires room { IsRoomFor G.Game g.now asked.role asked.depth room.old }
+    requires fits { G.fits game.now p.now }
+    requires room { IsRoomFor G.Game game.now asked.role asked.depth room.old }
     requires window { IsWindow a b }
-    ensures answers { Answers (value (G.rules g.now) asked.role asked.depth asked.at (G.state g.now p.now)) a b result }
-    ensures room { IsRoomKept G.Game g.now room.old room.new }
+    ensures answers { Answers (value (G.rules game.now) asked.role asked.depth asked.at (G.state game.now p.now)) a b result }
+    ensures room { IsRoomKept G.Game game.now room.old room.new }
 {
     let levels = room.levels.as_mut_slice();
     let window = SearchWindow { low: a, high: b };
-    value_within(g, p, asked, window, &mut room.tools, levels)
+    value_within(game, p, asked, window, &mut room.tools, levels)
 }
 
 /// Searches a state to help a search of it by others, who find what is kept of it in the tables that they share. It ends early once
 /// their search is over.
-pub fn help<G: Game>(g: &G, p: &G::Pos, asked: Question, room: &mut Room<G>)
-    requires fits { G.fits g.now p.now }
-    requires room { IsRoomFor G.Game g.now asked.role asked.depth room.old }
-    ensures room { IsRoomKept G.Game g.now room.old room.new }
+pub fn help<G: Game>(game: &G, p: &G::Pos, asked: Question, room: &mut Room<G>)
+    requires fits { G.fits game.now p.now }
+    requires room { IsRoomFor G.Game game.now asked.role asked.depth room.old }
+    ensures room { IsRoomKept G.Game game.now room.old room.new }
 {
     let levels = room.levels.as_mut_slice();
     let whole = SearchWindow {
         low: LEAST,
         high: GREATEST,
     };
-    let _ = try_known_at::<G, Dismissed>(g, p, asked, whole, &mut room.tools, levels);
+    let _ = try_known_at::<G, Dismissed>(game, p, asked, whole, &mut room.tools, levels);
 }
 
 /// The value of a state for a role, where there is a turn to come, and the place of the first legal move of the role, in printed
 /// order, that attains it. One search tells both.
 pub fn value_and_choice<G: Game>(
-    g: &G,
+    game: &G,
     p: &G::Pos,
     asked: Question,
     room: &mut Room<G>,
 ) -> (i16, usize)
-    requires fits { G.fits g.now p.now }
-    requires turn { IsOpen (G.rules g.now) asked.depth (G.state g.now p.now) }
-    requires room { IsRoomFor G.Game g.now asked.role asked.depth room.old }
-    ensures value { result.0 ≡ pos (value (G.rules g.now) asked.role asked.depth asked.at (G.state g.now p.now)) }
-    ensures choice { choice_of (G.rules g.now) asked.role asked.depth asked.at (G.state g.now p.now)
-        ≡ slice_get ((G.rules g.now).legal (G.state g.now p.now) asked.role) result.1 }
-    ensures within { result.1 < length ((G.rules g.now).legal (G.state g.now p.now) asked.role) }
-    ensures room { IsRoomKept G.Game g.now room.old room.new }
+    requires fits { G.fits game.now p.now }
+    requires turn { IsOpen (G.rules game.now) asked.depth (G.state game.now p.now) }
+    requires room { IsRoomFor G.Game game.now asked.role asked.depth room.old }
+    ensures value { result.0 ≡ pos (value (G.rules game.now) asked.role asked.depth asked.at (G.state game.now p.now)) }
+    ensures choice { choice_of (G.rules game.now) asked.role asked.depth asked.at (G.state game.now p.now)
+        ≡ slice_get ((G.rules game.now).legal (G.state game.now p.now) asked.role) result.1 }
+    ensures within { result.1 < length ((G.rules game.now).legal (G.state game.now p.now) asked.role) }
+    ensures room { IsRoomKept G.Game game.now room.old room.new }
 {
     let levels = room.levels.as_mut_slice();
-    let best = best_move(g, p, asked, &mut room.tools, levels);
+    let best = best_move(game, p, asked, &mut room.tools, levels);
     (best.worth, best.place)
 }
 
 /// The same, by a search that is to be short: it gives up once it has come to some tens to a thousand states, the fewer the longer their
 /// keys are. What it found until then is kept.
 pub fn value_and_choice_if_short<G: Game>(
-    g: &G,
+    game: &G,
     p: &G::Pos,
     asked: Question,
     room: &mut Room<G>,
 ) -> Option<(i16, usize)>
-    requires fits { G.fits g.now p.now }
-    requires turn { IsOpen (G.rules g.now) asked.depth (G.state g.now p.now) }
-    requires room { IsRoomFor G.Game g.now asked.role asked.depth room.old }
-    ensures value { IfSome result (λ r. r.0 ≡ pos (value (G.rules g.now) asked.role asked.depth asked.at (G.state g.now p.now))) }
-    ensures choice { IfSome result (λ r. choice_of (G.rules g.now) asked.role asked.depth asked.at (G.state g.now p.now)
-        ≡ slice_get ((G.rules g.now).legal (G.state g.now p.now) asked.role) r.1) }
-    ensures within { IfSome result (λ r. r.1 < length ((G.rules g.now).legal (G.state g.now p.now) asked.role)) }
-    ensures room { IsRoomKept G.Game g.now room.old room.new }
+    requires fits { G.fits game.now p.now }
+    requires turn { IsOpen (G.rules game.now) asked.depth (G.state game.now p.now) }
+    requires room { IsRoomFor G.Game game.now asked.role asked.depth room.old }
+    ensures value { IfSome result (λ r. r.0 ≡ pos (value (G.rules game.now) asked.role asked.depth asked.at (G.state game.now p.now))) }
+    ensures choice { IfSome result (λ r. choice_of (G.rules game.now) asked.role asked.depth asked.at (G.state game.now p.now)
+        ≡ slice_get ((G.rules game.now).legal (G.state game.now p.now) asked.role) r.1) }
+    ensures within { IfSome result (λ r. r.1 < length ((G.rules game.now).legal (G.state game.now p.now) asked.role)) }
+    ensures room { IsRoomKept G.Game game.now room.old room.new }
 {
-    room.tools.sight.restart(g.key_words());
+    room.tools.sight.restart(game.key_words());
     let levels = room.levels.as_mut_slice();
-    let Ok(best) = try_best_move::<G, TooLong>(g, p, asked, &mut room.tools, levels) else {
+    let Ok(best) = try_best_move::<G, TooLong>(game, p, asked, &mut room.tools, levels) else {
         return None;
     };
     Some((best.worth, best.place))
@@ -222,99 +222,106 @@ pub fn value_and_choice_if_short<G: Game>(
 
 /// The first legal move of the role, in printed order, that attains the value of the state. There is none where the game has ended,
 /// where some role has no legal move, and at depth 0.
-pub fn choice<G: Game>(g: &G, p: &G::Pos, asked: Question, room: &mut Room<G>) -> Option<u32>
-    requires fits { G.fits g.now p.now }
-    requires room { IsRoomFor G.Game g.now asked.role asked.depth room.old }
-    ensures choice { result ≡ choice_of (G.rules g.now) asked.role asked.depth asked.at (G.state g.now p.now) }
-    ensures room { IsRoomKept G.Game g.now room.old room.new }
+pub fn choice<G: Game>(game: &G, p: &G::Pos, asked: Question, room: &mut Room<G>) -> Option<u32>
+    requires fits { G.fits game.now p.now }
+    requires room { IsRoomFor G.Game game.now asked.role asked.depth room.old }
+    ensures choice { result ≡ choice_of (G.rules game.now) asked.role asked.depth asked.at (G.state game.now p.now) }
+    ensures room { IsRoomKept G.Game game.now room.old room.new }
 {
     let levels = room.levels.as_mut_slice();
-    choice_at(g, p, asked, &mut room.tools, levels)
+    choice_at(game, p, asked, &mut room.tools, levels)
 }
 
 /// The same as `choice`, where it is known that the value of the state is `worth`: each move is searched for whether it attains that,
 /// and a move that has no other behind it not at all.
 pub fn choice_by_value<G: Game>(
-    g: &G,
+    game: &G,
     p: &G::Pos,
     asked: Question,
     worth: i16,
     room: &mut Room<G>,
 ) -> Option<u32>
-    requires fits { G.fits g.now p.now }
-    requires room { IsRoomFor G.Game g.now asked.role asked.depth room.old }
-    requires worth { worth ≡ pos (value (G.rules g.now) asked.role asked.depth asked.at (G.state g.now p.now)) }
-    ensures choice { result ≡ choice_of (G.rules g.now) asked.role asked.depth asked.at (G.state g.now p.now) }
-    ensures room { IsRoomKept G.Game g.now room.old room.new }
+    requires fits { G.fits game.now p.now }
+    requires room { IsRoomFor G.Game game.now asked.role asked.depth room.old }
+    requires worth { worth ≡ pos (value (G.rules game.now) asked.role asked.depth asked.at (G.state game.now p.now)) }
+    ensures choice { result ≡ choice_of (G.rules game.now) asked.role asked.depth asked.at (G.state game.now p.now) }
+    ensures room { IsRoomKept G.Game game.now room.old room.new }
 {
     let levels = room.levels.as_mut_slice();
-    let Ok(choice) = try_choice_worth::<G, Infallible>(g, p, asked, worth, &mut room.tools, levels);
+    let Ok(choice) = try_choice_worth::<G, Infallible>(
+        game,
+        p,
+        asked,
+        worth,
+        &mut room.tools,
+        levels,
+    );
     choice
 }
 
 /// The same by a search that is to be short (`value_and_choice_if_short`).
 pub fn choice_if_short<G: Game>(
-    g: &G,
+    game: &G,
     p: &G::Pos,
     asked: Question,
     worth: i16,
     room: &mut Room<G>,
 ) -> Option<Option<u32>>
-    requires fits { G.fits g.now p.now }
-    requires room { IsRoomFor G.Game g.now asked.role asked.depth room.old }
-    requires worth { worth ≡ pos (value (G.rules g.now) asked.role asked.depth asked.at (G.state g.now p.now)) }
-    ensures choice { IfSome result (λ choice. choice ≡ choice_of (G.rules g.now) asked.role asked.depth asked.at (G.state g.now p.now)) }
-    ensures room { IsRoomKept G.Game g.now room.old room.new }
+    requires fits { G.fits game.now p.now }
+    requires room { IsRoomFor G.Game game.now asked.role asked.depth room.old }
+    requires worth { worth ≡ pos (value (G.rules game.now) asked.role asked.depth asked.at (G.state game.now p.now)) }
+    ensures choice { IfSome result (λ choice. choice ≡ choice_of (G.rules game.now) asked.role asked.depth asked.at (G.state game.now p.now)) }
+    ensures room { IsRoomKept G.Game game.now room.old room.new }
 {
-    room.tools.sight.restart(g.key_words());
+    room.tools.sight.restart(game.key_words());
     let levels = room.levels.as_mut_slice();
-    match try_choice_worth::<G, TooLong>(g, p, asked, worth, &mut room.tools, levels) {
+    match try_choice_worth::<G, TooLong>(game, p, asked, worth, &mut room.tools, levels) {
         Ok(choice) => Some(choice),
         Err(TooLong) => None,
     }
 }
 
 /// Helps others who look for the choice by the value of a state (`help`).
-pub fn help_choose<G: Game>(g: &G, p: &G::Pos, asked: Question, worth: i16, room: &mut Room<G>)
-    requires fits { G.fits g.now p.now }
-    requires room { IsRoomFor G.Game g.now asked.role asked.depth room.old }
-    requires worth { worth ≡ pos (value (G.rules g.now) asked.role asked.depth asked.at (G.state g.now p.now)) }
-    ensures room { IsRoomKept G.Game g.now room.old room.new }
+pub fn help_choose<G: Game>(game: &G, p: &G::Pos, asked: Question, worth: i16, room: &mut Room<G>)
+    requires fits { G.fits game.now p.now }
+    requires room { IsRoomFor G.Game game.now asked.role asked.depth room.old }
+    requires worth { worth ≡ pos (value (G.rules game.now) asked.role asked.depth asked.at (G.state game.now p.now)) }
+    ensures room { IsRoomKept G.Game game.now room.old room.new }
 {
     let levels = room.levels.as_mut_slice();
-    let _ = try_choice_worth::<G, Dismissed>(g, p, asked, worth, &mut room.tools, levels);
+    let _ = try_choice_worth::<G, Dismissed>(game, p, asked, worth, &mut room.tools, levels);
 }
 
 /// Writes the first joint legal move that leaves the least value where the role plays `own`, which stands in its place. Joint moves are
 /// compared role by role, the first role first, each by its printed order. `out` has to have room for a move of each role.
 pub fn first_reply<G: Game>(
-    g: &G,
+    game: &G,
     p: &G::Pos,
     asked: Question,
     own: u32,
     room: &mut Room<G>,
     out: &mut Joint,
 )
-    requires fits { G.fits g.now p.now }
-    requires own { Contains ((G.rules g.now).legal (G.state g.now p.now) asked.role) own }
-    requires turn { IsOpen (G.rules g.now) asked.depth (G.state g.now p.now) }
-    requires room { IsRoomFor G.Game g.now asked.role asked.depth room.old }
-    requires out { (G.rules g.now).roles ≤ out.old.capacity }
-    ensures reply { IsWritten (reply_of (G.rules g.now) asked.role (asked.depth - 1) asked.at (G.state g.now p.now) own) out.old out.new }
-    ensures room { IsRoomKept G.Game g.now room.old room.new }
+    requires fits { G.fits game.now p.now }
+    requires own { Contains ((G.rules game.now).legal (G.state game.now p.now) asked.role) own }
+    requires turn { IsOpen (G.rules game.now) asked.depth (G.state game.now p.now) }
+    requires room { IsRoomFor G.Game game.now asked.role asked.depth room.old }
+    requires out { (G.rules game.now).roles ≤ out.old.capacity }
+    ensures reply { IsWritten (reply_of (G.rules game.now) asked.role (asked.depth - 1) asked.at (G.state game.now p.now) own) out.old out.new }
+    ensures room { IsRoomKept G.Game game.now room.old room.new }
 {
     let next = Question {
         depth: asked.depth - 1,
         ..asked
     };
     let levels = room.levels.as_mut_slice();
-    reply_at(g, p, next, own, &mut room.tools, levels, out)
+    reply_at(game, p, next, own, &mut room.tools, levels, out)
 }
 
 /// The same as `first_reply`, where it is known that the least value that `own` leaves is `worth`: each joint move is searched for
 /// whether it leaves that, and one that has no other behind it not at all.
 pub fn reply_by_value<G: Game>(
-    g: &G,
+    game: &G,
     p: &G::Pos,
     asked: Question,
     own: u32,
@@ -322,14 +329,14 @@ pub fn reply_by_value<G: Game>(
     room: &mut Room<G>,
     out: &mut Joint,
 )
-    requires fits { G.fits g.now p.now }
-    requires own { Contains ((G.rules g.now).legal (G.state g.now p.now) asked.role) own }
-    requires turn { IsOpen (G.rules g.now) asked.depth (G.state g.now p.now) }
-    requires room { IsRoomFor G.Game g.now asked.role asked.depth room.old }
-    requires worth { worth ≡ pos (worst (G.rules g.now) asked.role (asked.depth - 1) asked.at (G.state g.now p.now) own) }
-    requires out { (G.rules g.now).roles ≤ out.old.capacity }
-    ensures reply { IsWritten (reply_of (G.rules g.now) asked.role (asked.depth - 1) asked.at (G.state g.now p.now) own) out.old out.new }
-    ensures room { IsRoomKept G.Game g.now room.old room.new }
+    requires fits { G.fits game.now p.now }
+    requires own { Contains ((G.rules game.now).legal (G.state game.now p.now) asked.role) own }
+    requires turn { IsOpen (G.rules game.now) asked.depth (G.state game.now p.now) }
+    requires room { IsRoomFor G.Game game.now asked.role asked.depth room.old }
+    requires worth { worth ≡ pos (worst (G.rules game.now) asked.role (asked.depth - 1) asked.at (G.state game.now p.now) own) }
+    requires out { (G.rules game.now).roles ≤ out.old.capacity }
+    ensures reply { IsWritten (reply_of (G.rules game.now) asked.role (asked.depth - 1) asked.at (G.state game.now p.now) own) out.old out.new }
+    ensures room { IsRoomKept G.Game game.now room.old room.new }
 {
     let next = Question {
         depth: asked.depth - 1,
@@ -337,12 +344,20 @@ pub fn reply_by_value<G: Game>(
     };
     let levels = room.levels.as_mut_slice();
     let known = KnownMove { own, worth };
-    let Ok(()) = try_reply_worth::<G, Infallible>(g, p, next, known, &mut room.tools, levels, out);
+    let Ok(()) = try_reply_worth::<G, Infallible>(
+        game,
+        p,
+        next,
+        known,
+        &mut room.tools,
+        levels,
+        out,
+    );
 }
 
 /// The same by a search that is to be short (`value_and_choice_if_short`). The answer is whether it came to its end.
 pub fn reply_if_short<G: Game>(
-    g: &G,
+    game: &G,
     p: &G::Pos,
     asked: Question,
     own: u32,
@@ -350,24 +365,24 @@ pub fn reply_if_short<G: Game>(
     room: &mut Room<G>,
     out: &mut Joint,
 ) -> bool
-    requires fits { G.fits g.now p.now }
-    requires own { Contains ((G.rules g.now).legal (G.state g.now p.now) asked.role) own }
-    requires turn { IsOpen (G.rules g.now) asked.depth (G.state g.now p.now) }
-    requires room { IsRoomFor G.Game g.now asked.role asked.depth room.old }
-    requires worth { worth ≡ pos (worst (G.rules g.now) asked.role (asked.depth - 1) asked.at (G.state g.now p.now) own) }
-    requires out { (G.rules g.now).roles ≤ out.old.capacity }
-    ensures reply { result ≡ true → IsWritten (reply_of (G.rules g.now) asked.role (asked.depth - 1) asked.at (G.state g.now p.now) own) out.old out.new }
+    requires fits { G.fits game.now p.now }
+    requires own { Contains ((G.rules game.now).legal (G.state game.now p.now) asked.role) own }
+    requires turn { IsOpen (G.rules game.now) asked.depth (G.state game.now p.now) }
+    requires room { IsRoomFor G.Game game.now asked.role asked.depth room.old }
+    requires worth { worth ≡ pos (worst (G.rules game.now) asked.role (asked.depth - 1) asked.at (G.state game.now p.now) own) }
+    requires out { (G.rules game.now).roles ≤ out.old.capacity }
+    ensures reply { result ≡ true → IsWritten (reply_of (G.rules game.now) asked.role (asked.depth - 1) asked.at (G.state game.now p.now) own) out.old out.new }
     ensures capacity { out.new.capacity ≡ out.old.capacity }
-    ensures room { IsRoomKept G.Game g.now room.old room.new }
+    ensures room { IsRoomKept G.Game game.now room.old room.new }
 {
     let next = Question {
         depth: asked.depth - 1,
         ..asked
     };
-    room.tools.sight.restart(g.key_words());
+    room.tools.sight.restart(game.key_words());
     let levels = room.levels.as_mut_slice();
     let known = KnownMove { own, worth };
-    let Ok(()) = try_reply_worth::<G, TooLong>(g, p, next, known, &mut room.tools, levels, out)
+    let Ok(()) = try_reply_worth::<G, TooLong>(game, p, next, known, &mut room.tools, levels, out)
     else {
         return false;
     };
@@ -376,7 +391,7 @@ pub fn reply_if_short<G: Game>(
 
 /// Helps others who look for the reply by what a move leaves (`help`). `out` has to have room for a move of each role.
 pub fn help_reply<G: Game>(
-    g: &G,
+    game: &G,
     p: &G::Pos,
     asked: Question,
     own: u32,
@@ -384,13 +399,13 @@ pub fn help_reply<G: Game>(
     room: &mut Room<G>,
     out: &mut Joint,
 )
-    requires fits { G.fits g.now p.now }
-    requires own { Contains ((G.rules g.now).legal (G.state g.now p.now) asked.role) own }
-    requires turn { IsOpen (G.rules g.now) asked.depth (G.state g.now p.now) }
-    requires room { IsRoomFor G.Game g.now asked.role asked.depth room.old }
-    requires worth { worth ≡ pos (worst (G.rules g.now) asked.role (asked.depth - 1) asked.at (G.state g.now p.now) own) }
-    requires out { (G.rules g.now).roles ≤ out.old.capacity }
-    ensures room { IsRoomKept G.Game g.now room.old room.new }
+    requires fits { G.fits game.now p.now }
+    requires own { Contains ((G.rules game.now).legal (G.state game.now p.now) asked.role) own }
+    requires turn { IsOpen (G.rules game.now) asked.depth (G.state game.now p.now) }
+    requires room { IsRoomFor G.Game game.now asked.role asked.depth room.old }
+    requires worth { worth ≡ pos (worst (G.rules game.now) asked.role (asked.depth - 1) asked.at (G.state game.now p.now) own) }
+    requires out { (G.rules game.now).roles ≤ out.old.capacity }
+    ensures room { IsRoomKept G.Game game.now room.old room.new }
 {
     let next = Question {
         depth: asked.depth - 1,
@@ -398,36 +413,42 @@ pub fn help_reply<G: Game>(
     };
     let levels = room.levels.as_mut_slice();
     let known = KnownMove { own, worth };
-    let _ = try_reply_worth::<G, Dismissed>(g, p, next, known, &mut room.tools, levels, out);
+    let _ = try_reply_worth::<G, Dismissed>(game, p, next, known, &mut room.tools, levels, out);
 }
 
 /// The first legal move of the role, in printed order, that makes sure of `bound` or more, if one does. There is none where the game has
 /// ended, where some role has no legal move, and at depth 0.
 pub fn first_at_least<G: Game>(
-    g: &G,
+    game: &G,
     p: &G::Pos,
     asked: Question,
     bound: u8,
     room: &mut Room<G>,
 ) -> Option<u32>
-    requires fits { G.fits g.now p.now }
-    requires room { IsRoomFor G.Game g.now asked.role asked.depth room.old }
+    requires fits { G.fits game.now p.now }
+    requires room { IsRoomFor G.Game game.now asked.role asked.depth room.old }
     requires bound { bound ≤ 101 }
-    ensures first { result ≡ within.first_at_least (G.rules g.now) asked.role asked.depth asked.at bound (G.state g.now p.now) }
-    ensures room { IsRoomKept G.Game g.now room.old room.new }
+    ensures first { result ≡ within.first_at_least (G.rules game.now) asked.role asked.depth asked.at bound (G.state game.now p.now) }
+    ensures room { IsRoomKept G.Game game.now room.old room.new }
 {
     let levels = room.levels.as_mut_slice();
-    first_reaching(g, p, asked, bound, &mut room.tools, levels)
+    first_reaching(game, p, asked, bound, &mut room.tools, levels)
 }
 
 /// What a move makes sure of: the least value of a state that can follow where the role plays `own`.
-pub fn move_worth<G: Game>(g: &G, p: &G::Pos, asked: Question, own: u32, room: &mut Room<G>) -> i16
-    requires fits { G.fits g.now p.now }
-    requires own { Contains ((G.rules g.now).legal (G.state g.now p.now) asked.role) own }
-    requires turn { IsOpen (G.rules g.now) asked.depth (G.state g.now p.now) }
-    requires room { IsRoomFor G.Game g.now asked.role asked.depth room.old }
-    ensures worth { result ≡ pos (worst (G.rules g.now) asked.role (asked.depth - 1) asked.at (G.state g.now p.now) own) }
-    ensures room { IsRoomKept G.Game g.now room.old room.new }
+pub fn move_worth<G: Game>(
+    game: &G,
+    p: &G::Pos,
+    asked: Question,
+    own: u32,
+    room: &mut Room<G>,
+) -> i16
+    requires fits { G.fits game.now p.now }
+    requires own { Contains ((G.rules game.now).legal (G.state game.now p.now) asked.role) own }
+    requires turn { IsOpen (G.rules game.now) asked.depth (G.state game.now p.now) }
+    requires room { IsRoomFor G.Game game.now asked.role asked.depth room.old }
+    ensures worth { result ≡ pos (worst (G.rules game.now) asked.role (asked.depth - 1) asked.at (G.state game.now p.now) own) }
+    ensures room { IsRoomKept G.Game game.now room.old room.new }
 {
     let next = Question {
         depth: asked.depth - 1,
@@ -435,5 +456,5 @@ pub fn move_worth<G: Game>(g: &G, p: &G::Pos, asked: Question, own: u32, room: &
     };
     let whole = SearchWindow { low: -1, high: 101 };
     let levels = room.levels.as_mut_slice();
-    worst_at(g, p, next, own, whole, &mut room.tools, levels)
+    worst_at(game, p, next, own, whole, &mut room.tools, levels)
 }

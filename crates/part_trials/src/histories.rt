@@ -14,14 +14,14 @@ const TABLE: Table = Table {
 };
 
 /// Adds how things stand for the first role.
-fn add_state<G: Game>(g: &G, p: &G::Pos, text: &mut Vec<u8, Global>) -> Result<(), Fail>
-    requires fits { G.fits g.now p.now }
-    requires roles { 0 < (G.rules g.now).roles }
+fn add_state<G: Game>(game: &G, p: &G::Pos, text: &mut Vec<u8, Global>) -> Result<(), Fail>
+    requires fits { G.fits game.now p.now }
+    requires roles { 0 < (G.rules game.now).roles }
 {
-    let goal = g.goal(p, 0);
-    if g.ended(p) {
+    let goal = game.goal(p, 0);
+    if game.ended(p) {
         writeln!(text, "ended {goal}")?;
-    } else if is_stuck(g, p) {
+    } else if is_stuck(game, p) {
         writeln!(text, "stuck {goal}")?;
     } else {
         writeln!(text, "open")?;
@@ -30,16 +30,16 @@ fn add_state<G: Game>(g: &G, p: &G::Pos, text: &mut Vec<u8, Global>) -> Result<(
 }
 
 /// Plays a history behind another, and tells the refusal of the second, if any, and how things stand then.
-fn told<G: Game>(alloc: Global, g: &G, before: &[u8], history: &[u8]) -> Result<Vec<u8>, Fail>
-    requires { 0 < (G.rules g.now).roles }
+fn told<G: Game>(alloc: Global, game: &G, before: &[u8], history: &[u8]) -> Result<Vec<u8>, Fail>
+    requires { 0 < (G.rules game.now).roles }
 {
     let mut text = Vec::new(alloc);
-    let mut p = g.fresh()?;
-    replay(alloc, g, &read(alloc, before)?, &mut p)?;
-    if let Err(fault) = replay(alloc, g, &read(alloc, history)?, &mut p) {
-        add_history_refusal(g, fault, &mut text)?;
+    let mut p = game.fresh()?;
+    replay(alloc, game, &read(alloc, before)?, &mut p)?;
+    if let Err(fault) = replay(alloc, game, &read(alloc, history)?, &mut p) {
+        add_history_refusal(game, fault, &mut text)?;
     }
-    add_state(g, &p, &mut text)?;
+    add_state(game, &p, &mut text)?;
     Ok(text)
 }
 

@@ -18,15 +18,15 @@ fn ask(role: usize, depth: u32, at: AtBound) -> Question
 }
 
 /// The value of the start state within a window, found through the bound alone, as in every caller.
-fn value_of<G: Game>(g: &G, alloc: Global, window: (i16, i16)) -> Result<i16, AllocError>
-    requires roles { 0 < (G.rules g.now).roles }
+fn value_of<G: Game>(game: &G, alloc: Global, window: (i16, i16)) -> Result<i16, AllocError>
+    requires roles { 0 < (G.rules game.now).roles }
     requires low { negsuc 1 ≤ℤ window.0 }
     requires order { window.0 <ℤ window.1 }
     requires high { window.1 ≤ℤ pos 101 }
 {
-    let mut room = Room::new(alloc, g, 1)?;
-    let start = g.fresh()?;
-    Ok(value_in(g, &start, ask(0, 1, Zero), window.0, window.1, &mut room))
+    let mut room = Room::new(alloc, game, 1)?;
+    let start = game.fresh()?;
+    Ok(value_in(game, &start, ask(0, 1, Zero), window.0, window.1, &mut room))
 }
 
 /// The row can be sure of 10 by its first side, and of 30 by its second.
@@ -324,25 +324,25 @@ fn ends_of_the_range_are_known_values(rt: HostRuntime) -> Result<(), AllocError>
 }
 
 /// The value of the start state for a role a turn ahead.
-fn value_for<G: Game>(g: &G, alloc: Global, role: usize, at: AtBound) -> Result<i16, AllocError>
-    requires { role < (G.rules g.now).roles }
+fn value_for<G: Game>(game: &G, alloc: Global, role: usize, at: AtBound) -> Result<i16, AllocError>
+    requires { role < (G.rules game.now).roles }
 {
-    let mut room = Room::new(alloc, g, 1)?;
-    let start = g.fresh()?;
-    Ok(value_in(g, &start, ask(role, 1, at), -1, 101, &mut room))
+    let mut room = Room::new(alloc, game, 1)?;
+    let start = game.fresh()?;
+    Ok(value_in(game, &start, ask(role, 1, at), -1, 101, &mut room))
 }
 
 /// The values of the start state for three roles, each by either bound.
-fn values_of<G: Game>(g: &G, alloc: Global) -> Result<[i16; 6], AllocError>
-    requires { 2 < (G.rules g.now).roles }
+fn values_of<G: Game>(game: &G, alloc: Global) -> Result<[i16; 6], AllocError>
+    requires { 2 < (G.rules game.now).roles }
 {
     Ok([
-        value_for(g, alloc, 0, Zero)?,
-        value_for(g, alloc, 0, Goal)?,
-        value_for(g, alloc, 1, Zero)?,
-        value_for(g, alloc, 1, Goal)?,
-        value_for(g, alloc, 2, Zero)?,
-        value_for(g, alloc, 2, Goal)?,
+        value_for(game, alloc, 0, Zero)?,
+        value_for(game, alloc, 0, Goal)?,
+        value_for(game, alloc, 1, Zero)?,
+        value_for(game, alloc, 1, Goal)?,
+        value_for(game, alloc, 2, Zero)?,
+        value_for(game, alloc, 2, Goal)?,
     ])
 }
 

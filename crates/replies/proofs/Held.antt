@@ -2,7 +2,7 @@
 use Rattle.std.proofs.Common.{ℕ, ◌≡◌, List, [], ◌∷◌, ◌++◌, refl, sym, ap, subst, ◌∙◌, append_assoc}
 use Rattle.std.specs.Prelude.{Option, Some, None, Result, Ok, Err, OnErr}
 use Rattle.std.specs.Io.KnownBytes.{Appends}
-use Rattle.kif.specs.Written.{AppendsFront}
+use Rattle.statement.specs.Output.{AppendsFront}
 
 append_none : (xs : List ℕ) → xs ≡ xs ++ []
 append_none [] = refl

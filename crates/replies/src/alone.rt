@@ -25,23 +25,28 @@ use std::alloc::{AllocError, AllocGlobal, Global};
 use words::{Command, Inquiry};
 
 /// The value of a state and the first best move, which one search of the state tells.
-pub(crate) fn found_in<G: Game>(g: &G, here: &G::Pos, asked: Question, room: &mut Room<G>) -> Answer
-    requires fits { G.fits g.now here.now }
-    requires room { IsRoomFor G.Game g.now asked.role asked.depth room.old }
-    ensures found { IsFoundOf (G.rules g.now) asked.role asked.depth asked.at (G.state g.now here.now) result }
-    ensures room { IsRoomKept G.Game g.now room.old room.new }
+pub(crate) fn found_in<G: Game>(
+    game: &G,
+    here: &G::Pos,
+    asked: Question,
+    room: &mut Room<G>,
+) -> Answer
+    requires fits { G.fits game.now here.now }
+    requires room { IsRoomFor G.Game game.now asked.role asked.depth room.old }
+    ensures found { IsFoundOf (G.rules game.now) asked.role asked.depth asked.at (G.state game.now here.now) result }
+    ensures room { IsRoomKept G.Game game.now room.old room.new }
 {
-    if asked.depth == 0 || g.ended(here) || is_stuck(g, here) {
-        let value = value_in(g, here, asked, -1, 101, room);
+    if asked.depth == 0 || game.ended(here) || is_stuck(game, here) {
+        let value = value_in(game, here, asked, -1, 101, room);
         return Answer {
             value,
             choice: None,
         };
     }
-    let (value, place) = value_and_choice(g, here, asked, room);
+    let (value, place) = value_and_choice(game, here, asked, room);
     Answer {
         value,
-        choice: g.legal(here, asked.role, place),
+        choice: game.legal(here, asked.role, place),
     }
 }
 

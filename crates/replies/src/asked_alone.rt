@@ -55,25 +55,25 @@ impl Wanted {
 /// bytes.
 fn lines_by<G: Game>(
     alloc: Global,
-    g: &G,
+    game: &G,
     asked: Question,
     wanted: Wanted,
     here: &G::Pos,
     bytes: usize,
     play: &mut Play<G>,
 ) -> Result<Vec<u8>, AllocError>
-    requires fits { G.fits g.now here.now }
-    requires play { IsPlayFor G.Game g.now asked.role asked.depth play.old }
-    ensures lines { IfOk result (λ output. output.items ≡ wanted_lines wanted (named (G.rules g.now) (G.role_name g.now) (G.move_name g.now))
-        asked.role asked.depth asked.at (G.state g.now here.now)) }
-    ensures play { OnOk result (IsPlayKept G.Game g.now play.old play.new) }
+    requires fits { G.fits game.now here.now }
+    requires play { IsPlayFor G.Game game.now asked.role asked.depth play.old }
+    ensures lines { IfOk result (λ output. output.items ≡ wanted_lines wanted (named (G.rules game.now) (G.role_name game.now) (G.move_name game.now))
+        asked.role asked.depth asked.at (G.state game.now here.now)) }
+    ensures play { OnOk result (IsPlayKept G.Game game.now play.old play.new) }
 {
     match wanted {
-        Wanted::Whole => best_lines(alloc, g, asked, here, play),
-        Wanted::Within(window) => lines_within(alloc, g, asked, window, here, play),
-        Wanted::OfEachMove => lines_of_moves(alloc, g, asked, here, play),
-        Wanted::LineOfEachMove => moves_with_lines(alloc, g, asked, here, play),
-        Wanted::OfEachDepth => lines_by_depth(alloc, g, asked, here, play, bytes),
+        Wanted::Whole => best_lines(alloc, game, asked, here, play),
+        Wanted::Within(window) => lines_within(alloc, game, asked, window, here, play),
+        Wanted::OfEachMove => lines_of_moves(alloc, game, asked, here, play),
+        Wanted::LineOfEachMove => moves_with_lines(alloc, game, asked, here, play),
+        Wanted::OfEachDepth => lines_by_depth(alloc, game, asked, here, play, bytes),
     }
 }
 
@@ -81,24 +81,24 @@ fn lines_by<G: Game>(
 /// so many bytes. After an error nothing is kept.
 fn lines_of<G: Game>(
     alloc: Global,
-    g: &G,
+    game: &G,
     asked: Question,
     wanted: Wanted,
     here: &G::Pos,
     bytes: usize,
     kept: &mut Option<KeptSearch<G>>,
 ) -> Result<Vec<u8>, AllocError>
-    requires fits { G.fits g.now here.now }
-    requires role { asked.role < (G.rules g.now).roles }
-    requires kept { IfSome kept.old (IsKeptSearch G.Game g.now) }
-    ensures lines { IfOk result (λ output. output.items ≡ wanted_lines wanted (named (G.rules g.now) (G.role_name g.now) (G.move_name g.now))
-        asked.role asked.depth asked.at (G.state g.now here.now)) }
-    ensures kept { IfSome kept.new (IsKeptSearch G.Game g.now) }
+    requires fits { G.fits game.now here.now }
+    requires role { asked.role < (G.rules game.now).roles }
+    requires kept { IfSome kept.old (IsKeptSearch G.Game game.now) }
+    ensures lines { IfOk result (λ output. output.items ≡ wanted_lines wanted (named (G.rules game.now) (G.role_name game.now) (G.move_name game.now))
+        asked.role asked.depth asked.at (G.state game.now here.now)) }
+    ensures kept { IfSome kept.new (IsKeptSearch G.Game game.now) }
 {
     let ours = wanted.of_room(bytes);
     let others = bytes.saturating_sub(ours);
-    let mut search = search_for_question(alloc, g, asked, ours, kept)?;
-    let lines = lines_by(alloc, g, asked, wanted, here, others, &mut search.play)?;
+    let mut search = search_for_question(alloc, game, asked, ours, kept)?;
+    let lines = lines_by(alloc, game, asked, wanted, here, others, &mut search.play)?;
     *kept = Some(search);
     Ok(lines)
 }
@@ -106,28 +106,28 @@ fn lines_of<G: Game>(
 /// The reply for a role after a history: the line that names the fault of the history, or what is wanted of the state.
 fn reply_after<G: Game>(
     alloc: Global,
-    g: &G,
+    game: &G,
     asked: Question,
     wanted: Wanted,
     after: &str,
     bytes: usize,
     kept: &mut Option<KeptSearch<G>>,
 ) -> Result<Reply, AllocError>
-    requires role { asked.role < (G.rules g.now).roles }
-    requires kept { IfSome kept.old (IsKeptSearch G.Game g.now) }
+    requires role { asked.role < (G.rules game.now).roles }
+    requires kept { IfSome kept.old (IsKeptSearch G.Game game.now) }
     ensures reply { IfOk result (λ reply. (ended : Result State HistoryFault)
-        × IsHistoryOf (named (G.rules g.now) (G.role_name g.now) (G.move_name g.now)) after.now ended
-        × (reply_of reply ≡ history_reply (named (G.rules g.now) (G.role_name g.now) (G.move_name g.now))
-        (wanted_lines wanted (named (G.rules g.now) (G.role_name g.now) (G.move_name g.now)) asked.role asked.depth asked.at) ended)) }
-    ensures kept { IfSome kept.new (IsKeptSearch G.Game g.now) }
+        × IsHistoryOf (named (G.rules game.now) (G.role_name game.now) (G.move_name game.now)) after.now ended
+        × (reply_of reply ≡ history_reply (named (G.rules game.now) (G.role_name game.now) (G.move_name game.now))
+        (wanted_lines wanted (named (G.rules game.now) (G.role_name game.now) (G.move_name game.now)) asked.role asked.depth asked.at) ended)) }
+    ensures kept { IfSome kept.new (IsKeptSearch G.Game game.now) }
 {
-    match position_after(alloc, g, after) {
+    match position_after(alloc, game, after) {
         Ok(here) => {
-            let lines = lines_of(alloc, g, asked, wanted, &here, bytes, kept)?;
+            let lines = lines_of(alloc, game, asked, wanted, &here, bytes, kept)?;
             Ok(answered(lines))
         }
         Err(HistoryFault::NoMemory) => Err(AllocError),
-        Err(fault) => refused_history(alloc, g, fault),
+        Err(fault) => refused_history(alloc, game, fault),
     }
 }
 
@@ -135,18 +135,18 @@ fn reply_after<G: Game>(
 /// the search stays for the next question.
 pub(crate) fn role_reply<G: Game>(
     alloc: Global,
-    g: &G,
+    game: &G,
     sought: &Sought,
     wanted: Wanted,
     kept: &mut Option<KeptSearch<G>>,
 ) -> Result<Reply, AllocError>
-    requires { IfSome kept.old (IsKeptSearch G.Game g.now) }
-    ensures reply { IfOk result (λ reply. IsRoleReply (named (G.rules g.now) (G.role_name g.now) (G.move_name g.now)) sought.now.role.now
-        (λ r. wanted_lines wanted (named (G.rules g.now) (G.role_name g.now) (G.move_name g.now)) r sought.now.depth sought.now.at_bound)
+    requires { IfSome kept.old (IsKeptSearch G.Game game.now) }
+    ensures reply { IfOk result (λ reply. IsRoleReply (named (G.rules game.now) (G.role_name game.now) (G.move_name game.now)) sought.now.role.now
+        (λ r. wanted_lines wanted (named (G.rules game.now) (G.role_name game.now) (G.move_name game.now)) r sought.now.depth sought.now.at_bound)
         sought.now.after.now (reply_of reply)) }
-    ensures kept { IfSome kept.new (IsKeptSearch G.Game g.now) }
+    ensures kept { IfSome kept.new (IsKeptSearch G.Game game.now) }
 {
-    match role_named(alloc, g, sought.role)? {
+    match role_named(alloc, game, sought.role)? {
         Some(role) => {
             let asked = Question {
                 role,
@@ -155,7 +155,7 @@ pub(crate) fn role_reply<G: Game>(
             };
             reply_after(
                 alloc,
-                g,
+                game,
                 asked,
                 wanted,
                 sought.after,

@@ -1,7 +1,7 @@
 //! What a role can be sure of within one turn, within two, and so on, written as it is found.
 ghost use Rattle.std.specs.Prelude.{◌≡◌, ◌≢◌, ◌<◌, pos, codes, [], IfOk, OnOk, OnErr};
 ghost use Rattle.std.specs.Io.KnownBytes.{Appends};
-ghost use Rattle.kif.specs.Written.{AppendsFront};
+ghost use Rattle.statement.specs.Output.{AppendsFront};
 ghost use Rattle.statement.specs.Value.{value};
 ghost use Rattle.statement.specs.Answers.{answer};
 ghost use Rattle.statement.specs.Deepening.{depth_lines, deepen_lines};
@@ -38,26 +38,26 @@ fn flush<W: Flushing>(out: &mut W) -> Result<(), WriteFault>
 
 /// Writes the depth of a question, and what the role can be sure of within so many turns, and flushes the writer. Answers the value.
 fn write_depth<G: Game, W: Flushing>(
-    g: &G,
+    game: &G,
     root: &G::Pos,
     asked: Question,
     play: &mut Play<G>,
     out: &mut W,
 ) -> Result<i16, WriteFault>
-    requires fits { G.fits g.now root.now }
-    requires play { IsPlayFor G.Game g.now asked.role asked.depth play.old }
+    requires fits { G.fits game.now root.now }
+    requires play { IsPlayFor G.Game game.now asked.role asked.depth play.old }
     ensures whole { OnOk result (Appends (W.contents out.old) (W.contents out.new)
-        (depth_lines (named (G.rules g.now) (G.role_name g.now) (G.move_name g.now)) asked.role asked.at (G.state g.now root.now) asked.depth)) }
+        (depth_lines (named (G.rules game.now) (G.role_name game.now) (G.move_name game.now)) asked.role asked.at (G.state game.now root.now) asked.depth)) }
     ensures front { OnErr result (AppendsFront (W.contents out.old) (W.contents out.new)
-        (depth_lines (named (G.rules g.now) (G.role_name g.now) (G.move_name g.now)) asked.role asked.at (G.state g.now root.now) asked.depth)) }
-    ensures value { IfOk result (λ worth. worth ≡ pos (value (G.rules g.now) asked.role asked.depth asked.at (G.state g.now root.now))) }
-    ensures play { OnOk result (IsPlayKept G.Game g.now play.old play.new) }
+        (depth_lines (named (G.rules game.now) (G.role_name game.now) (G.move_name game.now)) asked.role asked.at (G.state game.now root.now) asked.depth)) }
+    ensures value { IfOk result (λ worth. worth ≡ pos (value (G.rules game.now) asked.role asked.depth asked.at (G.state game.now root.now))) }
+    ensures play { OnOk result (IsPlayKept G.Game game.now play.old play.new) }
     ensures flushed { OnOk result (W.is_flushed out.new) }
 {
-    let found = found_in(g, root, asked, &mut play.room);
-    play.stand(g, root);
+    let found = found_in(game, root, asked, &mut play.room);
+    play.stand(game, root);
     write_count(b"depth", u64::from(asked.depth), out)?;
-    write_found(g, asked, &found, play, out)?;
+    write_found(game, asked, &found, play, out)?;
     flush(out)?;
     Ok(found.value)
 }
@@ -75,29 +75,29 @@ fn write_settled<W: Flushing>(out: &mut W) -> Result<(), WriteFault>
 /// Writes what the role can be sure of within one turn, within two and so on to the depth of the question, or until that is settled, and flushes
 /// the writer behind each.
 fn write_depths<G: Game, W: Flushing>(
-    g: &G,
+    game: &G,
     root: &G::Pos,
     asked: Question,
     play: &mut Play<G>,
     settling: &mut Settling<G>,
     out: &mut W,
 ) -> Result<(), WriteFault>
-    requires fits { G.fits g.now root.now }
-    requires play { IsPlayFor G.Game g.now asked.role asked.depth play.old }
-    requires settling { IsSettlingFor G.Game g.now asked.role asked.depth asked.at settling.old }
+    requires fits { G.fits game.now root.now }
+    requires play { IsPlayFor G.Game game.now asked.role asked.depth play.old }
+    requires settling { IsSettlingFor G.Game game.now asked.role asked.depth asked.at settling.old }
     ensures whole { OnOk result (Appends (W.contents out.old) (W.contents out.new)
-        (deepen_lines (named (G.rules g.now) (G.role_name g.now) (G.move_name g.now)) asked.role asked.depth asked.at (G.state g.now root.now))) }
+        (deepen_lines (named (G.rules game.now) (G.role_name game.now) (G.move_name game.now)) asked.role asked.depth asked.at (G.state game.now root.now))) }
     ensures front { OnErr result (AppendsFront (W.contents out.old) (W.contents out.new)
-        (deepen_lines (named (G.rules g.now) (G.role_name g.now) (G.move_name g.now)) asked.role asked.depth asked.at (G.state g.now root.now))) }
-    ensures play { OnOk result (IsPlayKept G.Game g.now play.old play.new) }
+        (deepen_lines (named (G.rules game.now) (G.role_name game.now) (G.move_name game.now)) asked.role asked.depth asked.at (G.state game.now root.now))) }
+    ensures play { OnOk result (IsPlayKept G.Game game.now play.old play.new) }
     ensures flushed { OnOk result (asked.depth ≢ 0 → W.is_flushed out.new) }
 {
     let mut depth = 0;
     while depth < asked.depth {
         depth += 1;
         let now = Question { depth, ..asked };
-        let worth = write_depth(g, root, now, play, out)?;
-        if settling.is_settled(g, root, now, worth) {
+        let worth = write_depth(game, root, now, play, out)?;
+        if settling.is_settled(game, root, now, worth) {
             return write_settled(out);
         }
     }
@@ -108,21 +108,21 @@ fn write_depths<G: Game, W: Flushing>(
 /// most so many bytes beside the memory that is given.
 pub(crate) fn lines_by_depth<G: Game>(
     alloc: Global,
-    g: &G,
+    game: &G,
     asked: Question,
     here: &G::Pos,
     play: &mut Play<G>,
     bytes: usize,
 ) -> Result<Vec<u8>, AllocError>
-    requires fits { G.fits g.now here.now }
-    requires play { IsPlayFor G.Game g.now asked.role asked.depth play.old }
+    requires fits { G.fits game.now here.now }
+    requires play { IsPlayFor G.Game game.now asked.role asked.depth play.old }
     ensures lines { IfOk result (λ output. output.items
-        ≡ deepen_lines (named (G.rules g.now) (G.role_name g.now) (G.move_name g.now)) asked.role asked.depth asked.at (G.state g.now here.now)) }
-    ensures play { OnOk result (IsPlayKept G.Game g.now play.old play.new) }
+        ≡ deepen_lines (named (G.rules game.now) (G.role_name game.now) (G.move_name game.now)) asked.role asked.depth asked.at (G.state game.now here.now)) }
+    ensures play { OnOk result (IsPlayKept G.Game game.now play.old play.new) }
 {
-    let mut settling = Settling::new(alloc, g, asked, bytes / 2)?;
+    let mut settling = Settling::new(alloc, game, asked, bytes / 2)?;
     let mut output = Vec::new(alloc);
-    let Ok(()) = write_depths(g, here, asked, play, &mut settling, &mut output) else {
+    let Ok(()) = write_depths(game, here, asked, play, &mut settling, &mut output) else {
         return Err(AllocError);
     };
     Ok(output)

@@ -17,17 +17,17 @@ use std::alloc::{AllocError, Allocator, Global};
 /// The state after these turns.
 fn after_turns<G: Game, A: Allocator>(
     alloc: Global,
-    g: &G,
+    game: &G,
     turns: &[Expr<A>],
 ) -> Result<G::Pos, HistoryFault>
-    ensures fits { IfOk result (λ p. G.fits g.now p) }
-    ensures played { IfOk result (λ p. played (G.rules g.now) (G.move_name g.now) (trees_in turns.now) ≡ Ok (G.state g.now p)) }
+    ensures fits { IfOk result (λ p. G.fits game.now p) }
+    ensures played { IfOk result (λ p. played (G.rules game.now) (G.move_name game.now) (trees_in turns.now) ≡ Ok (G.state game.now p)) }
     ensures refused { IfErr result (λ fault. fault ≢ HistoryFault.NoMemory
-        → played (G.rules g.now) (G.move_name g.now) (trees_in turns.now) ≡ Err fault) }
-    ensures role { IfErr result (IsRoleOf (G.rules g.now).roles) }
+        → played (G.rules game.now) (G.move_name game.now) (trees_in turns.now) ≡ Err fault) }
+    ensures role { IfErr result (IsRoleOf (G.rules game.now).roles) }
 {
-    let mut p = g.fresh()?;
-    replay(alloc, g, turns, &mut p)?;
+    let mut p = game.fresh()?;
+    replay(alloc, game, turns, &mut p)?;
     Ok(p)
 }
 
@@ -35,18 +35,18 @@ fn after_turns<G: Game, A: Allocator>(
 /// form at turn 0, and other faults are those of `replay`.
 pub(crate) fn position_after<G: Game>(
     alloc: Global,
-    g: &G,
+    game: &G,
     after: &str,
 ) -> Result<G::Pos, HistoryFault>
-    ensures fits { IfOk result (λ p. G.fits g.now p) }
-    ensures played { IfOk result (λ p. IsHistoryOf (named (G.rules g.now) (G.role_name g.now) (G.move_name g.now)) after.now (Ok (G.state g.now p))) }
+    ensures fits { IfOk result (λ p. G.fits game.now p) }
+    ensures played { IfOk result (λ p. IsHistoryOf (named (G.rules game.now) (G.role_name game.now) (G.move_name game.now)) after.now (Ok (G.state game.now p))) }
     ensures refused { IfErr result (λ fault. fault ≢ HistoryFault.NoMemory
-        → IsHistoryOf (named (G.rules g.now) (G.role_name g.now) (G.move_name g.now)) after.now (Err fault)) }
-    ensures role { IfErr result (IsRoleOf (G.rules g.now).roles) }
+        → IsHistoryOf (named (G.rules game.now) (G.role_name game.now) (G.move_name game.now)) after.now (Err fault)) }
+    ensures role { IfErr result (IsRoleOf (G.rules game.now).roles) }
 {
     let arena = Bump::new(alloc);
     match read(&arena, after.as_bytes()) {
-        Ok(turns) => after_turns(alloc, g, &turns),
+        Ok(turns) => after_turns(alloc, game, &turns),
         Err(KifFault::NoMemory) => Err(HistoryFault::NoMemory),
         Err(_) => Err(HistoryFault::BadForm(0)),
     }
@@ -55,15 +55,15 @@ pub(crate) fn position_after<G: Game>(
 /// The refusal that names the fault of a history, and the role where one is at fault.
 pub(crate) fn refused_history<G: Game>(
     alloc: Global,
-    g: &G,
+    game: &G,
     fault: HistoryFault,
 ) -> Result<Reply, AllocError>
-    requires { IsRoleOf (G.rules g.now).roles fault }
-    ensures line { IfOk result (λ reply. reply.output.items ≡ refusal_line (history_fault_words fault ++ role_part (G.role_name g.now) fault)) }
+    requires { IsRoleOf (G.rules game.now).roles fault }
+    ensures line { IfOk result (λ reply. reply.output.items ≡ refusal_line (history_fault_words fault ++ role_part (G.role_name game.now) fault)) }
     ensures status { IfOk result (λ reply. reply.status ≡ Status.Refused) }
 {
     let mut output = Vec::new(alloc);
-    add_history_refusal(g, fault, &mut output)?;
+    add_history_refusal(game, fault, &mut output)?;
     Ok(Reply {
         output,
         status: Status::Refused,

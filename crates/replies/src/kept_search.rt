@@ -32,16 +32,16 @@ impl<G: Game> KeptSearch<G> {
     /// Memory for a question. What is kept of states takes at most so many bytes.
     pub(crate) fn new(
         alloc: Global,
-        g: &G,
+        game: &G,
         asked: Question,
         bytes: usize,
     ) -> Result<KeptSearch<G>, AllocError>
-        ensures kept { IfOk result (IsKeptSearch G.Game g.now) }
+        ensures kept { IfOk result (IsKeptSearch G.Game game.now) }
         ensures made { IfOk result (λ kept. kept.made_for ≡ asked) }
     {
-        let room = Room::with_table(alloc, g, asked, bytes)?;
-        let start = g.fresh()?;
-        let play = Play::new(alloc, g, start, room)?;
+        let room = Room::with_table(alloc, game, asked, bytes)?;
+        let start = game.fresh()?;
+        let play = Play::new(alloc, game, start, room)?;
         Ok(KeptSearch {
             play,
             made_for: asked,
@@ -67,43 +67,43 @@ impl<G: Game> KeptSearch<G> {
 /// Memory for a question that looks further ahead than those before: for some turns more, where that can be had.
 fn deeper_search<G: Game>(
     alloc: Global,
-    g: &G,
+    game: &G,
     asked: Question,
     bytes: usize,
 ) -> Result<KeptSearch<G>, AllocError>
-    ensures { IfOk result (IsSearchFor G.Game g.now asked.depth) }
+    ensures { IfOk result (IsSearchFor G.Game game.now asked.depth) }
 {
     let further = Question {
         depth: asked.depth.saturating_add(MORE_TURNS),
         ..asked
     };
-    match KeptSearch::new(alloc, g, further, bytes) {
+    match KeptSearch::new(alloc, game, further, bytes) {
         Ok(made) => Ok(made),
-        Err(_) => KeptSearch::new(alloc, g, asked, bytes),
+        Err(_) => KeptSearch::new(alloc, game, asked, bytes),
     }
 }
 
 /// Memory for a question: what is kept, where it is of use and looks as far ahead, and else new. Nothing stays behind.
 pub(crate) fn search_for_question<G: Game>(
     alloc: Global,
-    g: &G,
+    game: &G,
     asked: Question,
     bytes: usize,
     kept: &mut Option<KeptSearch<G>>,
 ) -> Result<KeptSearch<G>, AllocError>
-    requires { IfSome kept.old (IsKeptSearch G.Game g.now) }
-    ensures search { IfOk result (IsSearchFor G.Game g.now asked.depth) }
+    requires { IfSome kept.old (IsKeptSearch G.Game game.now) }
+    ensures search { IfOk result (IsSearchFor G.Game game.now asked.depth) }
     ensures taken { kept.new ≡ None }
 {
     let Some(old) = kept.take() else {
-        return KeptSearch::new(alloc, g, asked, bytes);
+        return KeptSearch::new(alloc, game, asked, bytes);
     };
     if !old.is_alike(asked, bytes) {
-        return KeptSearch::new(alloc, g, asked, bytes);
+        return KeptSearch::new(alloc, game, asked, bytes);
     }
     if old.reaches(asked) {
         return Ok(old);
     }
     drop(old);
-    deeper_search(alloc, g, asked, bytes)
+    deeper_search(alloc, game, asked, bytes)
 }

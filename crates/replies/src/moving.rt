@@ -11,114 +11,123 @@ use std::alloc::{AllocError, Global};
 use std::io::Write;
 
 /// Adds the line of a role and its goal value. After an error the output may have a beginning of it.
-fn add_goal<G: Game>(g: &G, p: &G::Pos, role: usize, output: &mut Vec<u8>) -> Result<(), AllocError>
-    requires fits { G.fits g.now p.now }
-    requires role { role < (G.rules g.now).roles }
+fn add_goal<G: Game>(
+    game: &G,
+    p: &G::Pos,
+    role: usize,
+    output: &mut Vec<u8>,
+) -> Result<(), AllocError>
+    requires fits { G.fits game.now p.now }
+    requires role { role < (G.rules game.now).roles }
     ensures { OnOk result (output.new.items
-        ≡ output.old.items ++ goal_line (named (G.rules g.now) (G.role_name g.now) (G.move_name g.now)) (G.state g.now p.now) role) }
+        ≡ output.old.items ++ goal_line (named (G.rules game.now) (G.role_name game.now) (G.move_name game.now)) (G.state game.now p.now) role) }
 {
-    let value = g.goal(p, role);
+    let value = game.goal(p, role);
     output.extend_from_slice(b"goal ")?;
-    output.extend_from_slice(g.role_text(role))?;
+    output.extend_from_slice(game.role_text(role))?;
     writeln!(output, " {value}").map_err(|_| AllocError)
 }
 
 /// Adds the goal of each role. After an error the output may have a beginning of them.
-fn add_goals<G: Game>(g: &G, p: &G::Pos, output: &mut Vec<u8>) -> Result<(), AllocError>
-    requires { G.fits g.now p.now }
+fn add_goals<G: Game>(game: &G, p: &G::Pos, output: &mut Vec<u8>) -> Result<(), AllocError>
+    requires { G.fits game.now p.now }
     ensures { OnOk result (output.new.items
-        ≡ output.old.items ++ goal_lines (named (G.rules g.now) (G.role_name g.now) (G.move_name g.now)) (G.state g.now p.now)) }
+        ≡ output.old.items ++ goal_lines (named (G.rules game.now) (G.role_name game.now) (G.move_name game.now)) (G.state game.now p.now)) }
 {
-    for role in 0..g.roles() {
-        add_goal(g, p, role, output)?;
+    for role in 0..game.roles() {
+        add_goal(game, p, role, output)?;
     }
     Ok(())
 }
 
 /// Adds the line of a role and a move. After an error the output may have a beginning of it.
 fn add_move<G: Game>(
-    g: &G,
+    game: &G,
     role: usize,
     number: u32,
     output: &mut Vec<u8>,
 ) -> Result<(), AllocError>
-    requires role { role < (G.rules g.now).roles }
-    requires number { number < (G.rules g.now).moves role }
+    requires role { role < (G.rules game.now).roles }
+    requires number { number < (G.rules game.now).moves role }
     ensures { OnOk result (output.new.items
-        ≡ output.old.items ++ legal_line (named (G.rules g.now) (G.role_name g.now) (G.move_name g.now)) role number) }
+        ≡ output.old.items ++ legal_line (named (G.rules game.now) (G.role_name game.now) (G.move_name game.now)) role number) }
 {
     output.extend_from_slice(b"legal ")?;
-    output.extend_from_slice(g.role_text(role))?;
+    output.extend_from_slice(game.role_text(role))?;
     output.push(b' ')?;
-    output.extend_from_slice(g.move_text(role, number))?;
+    output.extend_from_slice(game.move_text(role, number))?;
     output.push(b'\n')?;
     Ok(())
 }
 
 /// Adds the legal moves of a role. After an error the output may have a beginning of them.
 fn add_moves_of<G: Game>(
-    g: &G,
+    game: &G,
     p: &G::Pos,
     role: usize,
     output: &mut Vec<u8>,
 ) -> Result<(), AllocError>
-    requires fits { G.fits g.now p.now }
-    requires role { role < (G.rules g.now).roles }
+    requires fits { G.fits game.now p.now }
+    requires role { role < (G.rules game.now).roles }
     ensures { OnOk result (output.new.items ≡ output.old.items
-        ++ flat_map (legal_line (named (G.rules g.now) (G.role_name g.now) (G.move_name g.now)) role)
-        ((G.rules g.now).legal (G.state g.now p.now) role)) }
+        ++ flat_map (legal_line (named (G.rules game.now) (G.role_name game.now) (G.move_name game.now)) role)
+        ((G.rules game.now).legal (G.state game.now p.now) role)) }
 {
     let mut place = 0;
-    while let Some(number) = g.legal(p, role, place) {
-        add_move(g, role, number, output)?;
+    while let Some(number) = game.legal(p, role, place) {
+        add_move(game, role, number, output)?;
         place += 1;
     }
     Ok(())
 }
 
 /// Adds the legal moves of each role. After an error the output may have a beginning of them.
-fn add_moves<G: Game>(g: &G, p: &G::Pos, output: &mut Vec<u8>) -> Result<(), AllocError>
-    requires { G.fits g.now p.now }
+fn add_moves<G: Game>(game: &G, p: &G::Pos, output: &mut Vec<u8>) -> Result<(), AllocError>
+    requires { G.fits game.now p.now }
     ensures { OnOk result (output.new.items
-        ≡ output.old.items ++ legal_lines (named (G.rules g.now) (G.role_name g.now) (G.move_name g.now)) (G.state g.now p.now)) }
+        ≡ output.old.items ++ legal_lines (named (G.rules game.now) (G.role_name game.now) (G.move_name game.now)) (G.state game.now p.now)) }
 {
-    for role in 0..g.roles() {
-        add_moves_of(g, p, role, output)?;
+    for role in 0..game.roles() {
+        add_moves_of(game, p, role, output)?;
     }
     Ok(())
 }
 
 /// How play stands, and then the goals of a game that has ended, else the legal moves.
-fn state_lines<G: Game>(alloc: Global, g: &G, p: &G::Pos) -> Result<Vec<u8>, AllocError>
-    requires { G.fits g.now p.now }
+fn state_lines<G: Game>(alloc: Global, game: &G, p: &G::Pos) -> Result<Vec<u8>, AllocError>
+    requires { G.fits game.now p.now }
     ensures { IfOk result (λ output. output.items
-        ≡ moves_lines (named (G.rules g.now) (G.role_name g.now) (G.move_name g.now)) (G.state g.now p.now)) }
+        ≡ moves_lines (named (G.rules game.now) (G.role_name game.now) (G.move_name game.now)) (G.state game.now p.now)) }
 {
     let mut output = Vec::new(alloc);
-    if g.ended(p) {
+    if game.ended(p) {
         output.extend_from_slice(b"state ended\n")?;
-        add_goals(g, p, &mut output)?;
+        add_goals(game, p, &mut output)?;
         return Ok(output);
     }
-    if is_stuck(g, p) {
+    if is_stuck(game, p) {
         output.extend_from_slice(b"state stuck\n")?;
-        add_moves(g, p, &mut output)?;
+        add_moves(game, p, &mut output)?;
         return Ok(output);
     }
     output.extend_from_slice(b"state open\n")?;
-    add_moves(g, p, &mut output)?;
+    add_moves(game, p, &mut output)?;
     Ok(output)
 }
 
 /// The reply to `moves` after the history of a text: the line that names its fault, or how play stands after
 /// it, with the goals of a game that has ended, else the legal moves.
-pub(crate) fn moves_reply<G: Game>(alloc: Global, g: &G, after: &str) -> Result<Reply, AllocError>
-    ensures { IfOk result (λ reply. IsMovesReply (named (G.rules g.now) (G.role_name g.now) (G.move_name g.now)) after.now
+pub(crate) fn moves_reply<G: Game>(
+    alloc: Global,
+    game: &G,
+    after: &str,
+) -> Result<Reply, AllocError>
+    ensures { IfOk result (λ reply. IsMovesReply (named (G.rules game.now) (G.role_name game.now) (G.move_name game.now)) after.now
         (record { output = reply.output.items; status = reply.status })) }
 {
-    match position_after(alloc, g, after) {
-        Ok(p) => Ok(answered(state_lines(alloc, g, &p)?)),
+    match position_after(alloc, game, after) {
+        Ok(p) => Ok(answered(state_lines(alloc, game, &p)?)),
         Err(HistoryFault::NoMemory) => Err(AllocError),
-        Err(fault) => refused_history(alloc, g, fault),
+        Err(fault) => refused_history(alloc, game, fault),
     }
 }

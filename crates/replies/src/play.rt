@@ -23,18 +23,18 @@ impl<G: Game> Play<G> {
     /// Play that stands at a state, with a room for searches. Nothing else here takes memory.
     pub(crate) fn new(
         alloc: Global,
-        g: &G,
+        game: &G,
         here: G::Pos,
         room: Room<G>,
     ) -> Result<Play<G>, AllocError>
-        requires fits { G.fits g.now here }
-        requires room { IsRoomOf G.Game g.now room }
+        requires fits { G.fits game.now here }
+        requires room { IsRoomOf G.Game game.now room }
         ensures here { IfOk result (λ play. play.here ≡ here) }
-        ensures play { IfOk result (λ play. IsPlayOf G.Game g.now play) }
+        ensures play { IfOk result (λ play. IsPlayOf G.Game game.now play) }
         ensures deep { IfOk result (λ play. room_depth play.room ≡ room_depth room) }
     {
-        let next = g.fresh()?;
-        let joint = new_joint(alloc, g.roles())?;
+        let next = game.fresh()?;
+        let joint = new_joint(alloc, game.roles())?;
         Ok(Play {
             here,
             next,
@@ -44,17 +44,17 @@ impl<G: Game> Play<G> {
     }
 
     /// Plays one turn, in which the role plays `own` and all others the first reply that leaves the least value, which is `worth`.
-    pub(crate) fn own_turn(&mut self, g: &G, asked: Question, own: u32, worth: i16)
-        requires play { IsPlayFor G.Game g.now asked.role asked.depth self.old }
-        requires open { IsOpen (G.rules g.now) asked.depth (G.state g.now self.old.here) }
-        requires own { Contains ((G.rules g.now).legal (G.state g.now self.old.here) asked.role) own }
-        requires worth { worth ≡ pos (worst (G.rules g.now) asked.role (asked.depth - 1) asked.at (G.state g.now self.old.here) own) }
-        ensures turn { IsTurnOf (G.rules g.now) asked.role (asked.depth - 1) asked.at (G.state g.now self.old.here) own worth self.new.joint.items
-            (G.state g.now self.new.here) }
-        ensures play { IsPlayKept G.Game g.now self.old self.new }
+    pub(crate) fn own_turn(&mut self, game: &G, asked: Question, own: u32, worth: i16)
+        requires play { IsPlayFor G.Game game.now asked.role asked.depth self.old }
+        requires open { IsOpen (G.rules game.now) asked.depth (G.state game.now self.old.here) }
+        requires own { Contains ((G.rules game.now).legal (G.state game.now self.old.here) asked.role) own }
+        requires worth { worth ≡ pos (worst (G.rules game.now) asked.role (asked.depth - 1) asked.at (G.state game.now self.old.here) own) }
+        ensures turn { IsTurnOf (G.rules game.now) asked.role (asked.depth - 1) asked.at (G.state game.now self.old.here) own worth self.new.joint.items
+            (G.state game.now self.new.here) }
+        ensures play { IsPlayKept G.Game game.now self.old self.new }
     {
         reply_by_value(
-            g,
+            game,
             &self.here,
             asked,
             own,
@@ -62,30 +62,30 @@ impl<G: Game> Play<G> {
             &mut self.room,
             &mut self.joint,
         );
-        g.step(&self.here, &self.joint, &mut self.next);
+        game.step(&self.here, &self.joint, &mut self.next);
         mem::swap(&mut self.here, &mut self.next);
     }
 
     /// Plays one turn, in which the role plays its choice and all others the first reply that leaves the least value. The value of
     /// the state, which is `worth`, stays.
-    pub(crate) fn turn(&mut self, g: &G, asked: Question, own: u32, worth: i16)
-        requires play { IsPlayFor G.Game g.now asked.role asked.depth self.old }
-        requires own { choice_of (G.rules g.now) asked.role asked.depth asked.at (G.state g.now self.old.here) ≡ Some own }
-        requires worth { worth ≡ pos (value (G.rules g.now) asked.role asked.depth asked.at (G.state g.now self.old.here)) }
-        ensures turn { IsTurnOf (G.rules g.now) asked.role (asked.depth - 1) asked.at (G.state g.now self.old.here) own worth self.new.joint.items
-            (G.state g.now self.new.here) }
-        ensures play { IsPlayKept G.Game g.now self.old self.new }
+    pub(crate) fn turn(&mut self, game: &G, asked: Question, own: u32, worth: i16)
+        requires play { IsPlayFor G.Game game.now asked.role asked.depth self.old }
+        requires own { choice_of (G.rules game.now) asked.role asked.depth asked.at (G.state game.now self.old.here) ≡ Some own }
+        requires worth { worth ≡ pos (value (G.rules game.now) asked.role asked.depth asked.at (G.state game.now self.old.here)) }
+        ensures turn { IsTurnOf (G.rules game.now) asked.role (asked.depth - 1) asked.at (G.state game.now self.old.here) own worth self.new.joint.items
+            (G.state game.now self.new.here) }
+        ensures play { IsPlayKept G.Game game.now self.old self.new }
     {
-        self.own_turn(g, asked, own, worth);
+        self.own_turn(game, asked, own, worth);
     }
 
     /// Play that stands at another state, with the same memory.
-    pub(crate) fn stand(&mut self, g: &G, at: &G::Pos)
-        requires fits { G.fits g.now at.now }
-        requires play { IsPlayOf G.Game g.now self.old }
-        ensures here { G.state g.now self.new.here ≡ G.state g.now at.now }
-        ensures play { IsPlayKept G.Game g.now self.old self.new }
+    pub(crate) fn stand(&mut self, game: &G, at: &G::Pos)
+        requires fits { G.fits game.now at.now }
+        requires play { IsPlayOf G.Game game.now self.old }
+        ensures here { G.state game.now self.new.here ≡ G.state game.now at.now }
+        ensures play { IsPlayKept G.Game game.now self.old self.new }
     {
-        g.copy(at, &mut self.here);
+        game.copy(at, &mut self.here);
     }
 }

@@ -16,17 +16,17 @@ use std::alloc::{AllocError, Global};
 
 /// Adds the line of the move that a role should play. After an error the output may have a beginning of it.
 pub(crate) fn add_choice<G: Game>(
-    g: &G,
+    game: &G,
     role: usize,
     chosen: Option<u32>,
     output: &mut Vec<u8>,
 ) -> Result<(), AllocError>
-    requires role { role < (G.rules g.now).roles }
-    requires chosen { IfSome chosen (λ own. own < (G.rules g.now).moves role) }
+    requires role { role < (G.rules game.now).roles }
+    requires chosen { IfSome chosen (λ own. own < (G.rules game.now).moves role) }
     ensures { OnOk result (output.new.items ≡ output.old.items
-        ++ move_line (choice_text (named (G.rules g.now) (G.role_name g.now) (G.move_name g.now)) role chosen)) }
+        ++ move_line (choice_text (named (G.rules game.now) (G.role_name game.now) (G.move_name game.now)) role chosen)) }
 {
-    let Ok(()) = write_choice(g, role, chosen, output) else {
+    let Ok(()) = write_choice(game, role, chosen, output) else {
         return Err(AllocError);
     };
     Ok(())
@@ -36,24 +36,24 @@ pub(crate) fn add_choice<G: Game>(
 /// move, with the room of the search.
 pub(crate) fn value_lines<G: Game>(
     alloc: Global,
-    g: &G,
+    game: &G,
     asked: Question,
     found: Answer,
     here: G::Pos,
     room: Room<G>,
 ) -> Result<Vec<u8>, AllocError>
-    requires fits { G.fits g.now here }
-    requires role { asked.role < (G.rules g.now).roles }
-    requires room { IsRoomOf G.Game g.now room }
+    requires fits { G.fits game.now here }
+    requires role { asked.role < (G.rules game.now).roles }
+    requires room { IsRoomOf G.Game game.now room }
     requires deep { asked.depth ≤ room_depth room }
-    requires value { found.value ≡ pos (value (G.rules g.now) asked.role asked.depth asked.at (G.state g.now here)) }
-    requires choice { found.choice ≡ choice_of (G.rules g.now) asked.role asked.depth asked.at (G.state g.now here) }
+    requires value { found.value ≡ pos (value (G.rules game.now) asked.role asked.depth asked.at (G.state game.now here)) }
+    requires choice { found.choice ≡ choice_of (G.rules game.now) asked.role asked.depth asked.at (G.state game.now here) }
     ensures { IfOk result (λ output. output.items
-        ≡ solve_lines (named (G.rules g.now) (G.role_name g.now) (G.move_name g.now)) asked.role asked.depth asked.at (G.state g.now here)) }
+        ≡ solve_lines (named (G.rules game.now) (G.role_name game.now) (G.move_name game.now)) asked.role asked.depth asked.at (G.state game.now here)) }
 {
-    let mut play = Play::new(alloc, g, here, room)?;
+    let mut play = Play::new(alloc, game, here, room)?;
     let mut output = Vec::new(alloc);
-    let Ok(()) = write_found(g, asked, &found, &mut play, &mut output) else {
+    let Ok(()) = write_found(game, asked, &found, &mut play, &mut output) else {
         return Err(AllocError);
     };
     Ok(output)
@@ -62,22 +62,22 @@ pub(crate) fn value_lines<G: Game>(
 /// The same of a state that stays, from the value and the first best move, by play in the memory that is given.
 pub(crate) fn lines_of_found<G: Game>(
     alloc: Global,
-    g: &G,
+    game: &G,
     asked: Question,
     found: &Answer,
     here: &G::Pos,
     play: &mut Play<G>,
 ) -> Result<Vec<u8>, AllocError>
-    requires fits { G.fits g.now here.now }
-    requires play { IsPlayFor G.Game g.now asked.role asked.depth play.old }
-    requires found { IsFoundOf (G.rules g.now) asked.role asked.depth asked.at (G.state g.now here.now) found.now }
+    requires fits { G.fits game.now here.now }
+    requires play { IsPlayFor G.Game game.now asked.role asked.depth play.old }
+    requires found { IsFoundOf (G.rules game.now) asked.role asked.depth asked.at (G.state game.now here.now) found.now }
     ensures lines { IfOk result (λ output. output.items
-        ≡ solve_lines (named (G.rules g.now) (G.role_name g.now) (G.move_name g.now)) asked.role asked.depth asked.at (G.state g.now here.now)) }
-    ensures play { OnOk result (IsPlayKept G.Game g.now play.old play.new) }
+        ≡ solve_lines (named (G.rules game.now) (G.role_name game.now) (G.move_name game.now)) asked.role asked.depth asked.at (G.state game.now here.now)) }
+    ensures play { OnOk result (IsPlayKept G.Game game.now play.old play.new) }
 {
-    play.stand(g, here);
+    play.stand(game, here);
     let mut output = Vec::new(alloc);
-    let Ok(()) = write_found(g, asked, found, play, &mut output) else {
+    let Ok(()) = write_found(game, asked, found, play, &mut output) else {
         return Err(AllocError);
     };
     Ok(output)
@@ -86,17 +86,17 @@ pub(crate) fn lines_of_found<G: Game>(
 /// The same by one search.
 pub(crate) fn best_lines<G: Game>(
     alloc: Global,
-    g: &G,
+    game: &G,
     asked: Question,
     here: &G::Pos,
     play: &mut Play<G>,
 ) -> Result<Vec<u8>, AllocError>
-    requires fits { G.fits g.now here.now }
-    requires play { IsPlayFor G.Game g.now asked.role asked.depth play.old }
+    requires fits { G.fits game.now here.now }
+    requires play { IsPlayFor G.Game game.now asked.role asked.depth play.old }
     ensures lines { IfOk result (λ output. output.items
-        ≡ solve_lines (named (G.rules g.now) (G.role_name g.now) (G.move_name g.now)) asked.role asked.depth asked.at (G.state g.now here.now)) }
-    ensures play { OnOk result (IsPlayKept G.Game g.now play.old play.new) }
+        ≡ solve_lines (named (G.rules game.now) (G.role_name game.now) (G.move_name game.now)) asked.role asked.depth asked.at (G.state game.now here.now)) }
+    ensures play { OnOk result (IsPlayKept G.Game game.now play.old play.new) }
 {
-    let found = found_in(g, here, asked, &mut play.room);
-    lines_of_found(alloc, g, asked, &found, here, play)
+    let found = found_in(game, here, asked, &mut play.room);
+    lines_of_found(alloc, game, asked, &found, here, play)
 }

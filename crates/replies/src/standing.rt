@@ -70,15 +70,15 @@ fn add_holding(ground: &FlatGround, key: &[u64], output: &mut Vec<u8>) -> Result
 }
 
 /// Adds the line that tells how play stands. After an error the output may have a beginning of it.
-fn add_standing<G: Game>(g: &G, here: &G::Pos, output: &mut Vec<u8>) -> Result<(), AllocError>
-    requires { G.fits g.now here.now }
-    ensures { OnOk result (output.new.items ≡ output.old.items ++ standing_line (G.rules g.now) (G.state g.now here.now)) }
+fn add_standing<G: Game>(game: &G, here: &G::Pos, output: &mut Vec<u8>) -> Result<(), AllocError>
+    requires { G.fits game.now here.now }
+    ensures { OnOk result (output.new.items ≡ output.old.items ++ standing_line (G.rules game.now) (G.state game.now here.now)) }
 {
-    if g.ended(here) {
+    if game.ended(here) {
         output.extend_from_slice(b"state ended\n")?;
         return Ok(());
     }
-    if is_stuck(g, here) {
+    if is_stuck(game, here) {
         output.extend_from_slice(b"state stuck\n")?;
         return Ok(());
     }
@@ -87,31 +87,35 @@ fn add_standing<G: Game>(g: &G, here: &G::Pos, output: &mut Vec<u8>) -> Result<(
 }
 
 /// How play stands, and what holds.
-fn standing_lines<G: GroundGame>(alloc: Global, g: &G, here: &G::Pos) -> Result<Vec<u8>, AllocError>
-    requires { G.fits g.now here.now }
-    ensures { IfOk result (λ output. (rules : List Alternative) → IsGround rules (G.source g.now) → output.items
-        ≡ state_lines rules (named (G.rules g.now) (G.role_name g.now) (G.move_name g.now)) (G.state g.now here.now)) }
+fn standing_lines<G: GroundGame>(
+    alloc: Global,
+    game: &G,
+    here: &G::Pos,
+) -> Result<Vec<u8>, AllocError>
+    requires { G.fits game.now here.now }
+    ensures { IfOk result (λ output. (rules : List Alternative) → IsGround rules (G.source game.now) → output.items
+        ≡ state_lines rules (named (G.rules game.now) (G.role_name game.now) (G.move_name game.now)) (G.state game.now here.now)) }
 {
-    let mut key = vec![in alloc; 0u64; g.key_words()]?;
-    g.write_key(here, &mut key);
+    let mut key = vec![in alloc; 0u64; game.key_words()]?;
+    game.write_key(here, &mut key);
     let mut output = Vec::new(alloc);
-    add_standing(g, here, &mut output)?;
-    add_holding(g.instantiation(), &key, &mut output)?;
+    add_standing(game, here, &mut output)?;
+    add_holding(game.instantiation(), &key, &mut output)?;
     Ok(output)
 }
 
 /// The reply to `state` after the history of a text: the line that names its fault, or how play stands after it and what holds.
 pub(crate) fn state_reply<G: GroundGame>(
     alloc: Global,
-    g: &G,
+    game: &G,
     after: &str,
 ) -> Result<Reply, AllocError>
-    ensures { IfOk result (λ reply. (rules : List Alternative) → IsGround rules (G.source g.now)
-        → IsStateReply rules (named (G.rules g.now) (G.role_name g.now) (G.move_name g.now)) after.now (reply_of reply)) }
+    ensures { IfOk result (λ reply. (rules : List Alternative) → IsGround rules (G.source game.now)
+        → IsStateReply rules (named (G.rules game.now) (G.role_name game.now) (G.move_name game.now)) after.now (reply_of reply)) }
 {
-    match position_after(alloc, g, after) {
-        Ok(here) => Ok(answered(standing_lines(alloc, g, &here)?)),
+    match position_after(alloc, game, after) {
+        Ok(here) => Ok(answered(standing_lines(alloc, game, &here)?)),
         Err(HistoryFault::NoMemory) => Err(AllocError),
-        Err(fault) => refused_history(alloc, g, fault),
+        Err(fault) => refused_history(alloc, game, fault),
     }
 }

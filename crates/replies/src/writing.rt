@@ -2,7 +2,7 @@
 ghost use Rattle.std.specs.Prelude.{◌≡◌, ◌<◌, ◌-◌, nat_abs, pos, IfSome, OnOk, OnErr, Contains};
 ghost use Rattle.std.specs.Fmt.{decimal};
 ghost use Rattle.std.specs.Io.KnownBytes.{Appends};
-ghost use Rattle.kif.specs.Written.{AppendsFront};
+ghost use Rattle.statement.specs.Output.{AppendsFront};
 ghost use Rattle.statement.specs.Rules.{IsTurn};
 ghost use Rattle.statement.specs.Value.{worst, line_of};
 ghost use Rattle.statement.specs.Checking.{count_line, spaced};
@@ -40,89 +40,89 @@ pub(crate) fn write_count<W: Write>(word: &[u8], count: u64, out: &mut W) -> Res
 }
 
 /// Writes each move of a joint move with a space before it.
-fn write_moves<G: Game, W: Write>(g: &G, joint: &Joint, out: &mut W) -> Result<(), WriteFault>
-    requires { IsTurn (G.rules g.now) joint.now.items }
+fn write_moves<G: Game, W: Write>(game: &G, joint: &Joint, out: &mut W) -> Result<(), WriteFault>
+    requires { IsTurn (G.rules game.now) joint.now.items }
     ensures whole { OnOk result (Appends (W.contents out.old) (W.contents out.new)
-        (spaced (move_texts (named (G.rules g.now) (G.role_name g.now) (G.move_name g.now)) joint.now.items))) }
+        (spaced (move_texts (named (G.rules game.now) (G.role_name game.now) (G.move_name game.now)) joint.now.items))) }
     ensures front { OnErr result (AppendsFront (W.contents out.old) (W.contents out.new)
-        (spaced (move_texts (named (G.rules g.now) (G.role_name g.now) (G.move_name g.now)) joint.now.items))) }
+        (spaced (move_texts (named (G.rules game.now) (G.role_name game.now) (G.move_name game.now)) joint.now.items))) }
 {
-    for role in 0..g.roles() {
+    for role in 0..game.roles() {
         write_bytes(out, b" ")?;
-        write_bytes(out, g.move_text(role, joint[role]))?;
+        write_bytes(out, game.move_text(role, joint[role]))?;
     }
     Ok(())
 }
 
 /// Writes the line of a turn.
 fn write_turn<G: Game, W: Write>(
-    g: &G,
+    game: &G,
     number: u64,
     joint: &Joint,
     out: &mut W,
 ) -> Result<(), WriteFault>
-    requires { IsTurn (G.rules g.now) joint.now.items }
+    requires { IsTurn (G.rules game.now) joint.now.items }
     ensures whole { OnOk result (Appends (W.contents out.old) (W.contents out.new)
-        (turn_line (named (G.rules g.now) (G.role_name g.now) (G.move_name g.now)) number joint.now.items)) }
+        (turn_line (named (G.rules game.now) (G.role_name game.now) (G.move_name game.now)) number joint.now.items)) }
     ensures front { OnErr result (AppendsFront (W.contents out.old) (W.contents out.new)
-        (turn_line (named (G.rules g.now) (G.role_name g.now) (G.move_name g.now)) number joint.now.items)) }
+        (turn_line (named (G.rules game.now) (G.role_name game.now) (G.move_name game.now)) number joint.now.items)) }
 {
     write_bytes(out, b"line ")?;
     write_number(number, out)?;
-    write_moves(g, joint, out)?;
+    write_moves(game, joint, out)?;
     write_bytes(out, b"\n")
 }
 
 /// The text of the move that a role should play.
-fn choice_text<G: Game>(g: &G, role: usize, chosen: Option<u32>) -> &[u8]
-    requires role { role < (G.rules g.now).roles }
-    requires chosen { IfSome chosen (λ own. own < (G.rules g.now).moves role) }
-    ensures { result.now ≡ choice_text (named (G.rules g.now) (G.role_name g.now) (G.move_name g.now)) role chosen }
+fn choice_text<G: Game>(game: &G, role: usize, chosen: Option<u32>) -> &[u8]
+    requires role { role < (G.rules game.now).roles }
+    requires chosen { IfSome chosen (λ own. own < (G.rules game.now).moves role) }
+    ensures { result.now ≡ choice_text (named (G.rules game.now) (G.role_name game.now) (G.move_name game.now)) role chosen }
 {
     match chosen {
-        Some(own) => g.move_text(role, own),
+        Some(own) => game.move_text(role, own),
         None => b"none",
     }
 }
 
 /// Writes the line of the move that a role should play.
 pub(crate) fn write_choice<G: Game, W: Write>(
-    g: &G,
+    game: &G,
     role: usize,
     chosen: Option<u32>,
     out: &mut W,
 ) -> Result<(), WriteFault>
-    requires role { role < (G.rules g.now).roles }
-    requires chosen { IfSome chosen (λ own. own < (G.rules g.now).moves role) }
+    requires role { role < (G.rules game.now).roles }
+    requires chosen { IfSome chosen (λ own. own < (G.rules game.now).moves role) }
     ensures whole { OnOk result (Appends (W.contents out.old) (W.contents out.new)
-        (move_line (choice_text (named (G.rules g.now) (G.role_name g.now) (G.move_name g.now)) role chosen))) }
+        (move_line (choice_text (named (G.rules game.now) (G.role_name game.now) (G.move_name game.now)) role chosen))) }
     ensures front { OnErr result (AppendsFront (W.contents out.old) (W.contents out.new)
-        (move_line (choice_text (named (G.rules g.now) (G.role_name g.now) (G.move_name g.now)) role chosen))) }
+        (move_line (choice_text (named (G.rules game.now) (G.role_name game.now) (G.move_name game.now)) role chosen))) }
 {
     write_bytes(out, b"move ")?;
-    write_bytes(out, choice_text(g, role, chosen))?;
+    write_bytes(out, choice_text(game, role, chosen))?;
     write_bytes(out, b"\n")
 }
 
 /// Writes the lines of the turns that follow the state at which play stands, the first with this number. What is found of the state is
 /// known: its value, which each state of the line has, and its first best move. Play stands at the end of the line then.
 fn write_turns<G: Game, W: Write>(
-    g: &G,
+    game: &G,
     asked: Question,
     found: &Answer,
     number: u32,
     play: &mut Play<G>,
     out: &mut W,
 ) -> Result<(), WriteFault>
-    requires play { IsPlayFor G.Game g.now asked.role asked.depth play.old }
-    requires found { IsFoundOf (G.rules g.now) asked.role asked.depth asked.at (G.state g.now play.old.here) found.now }
+    requires play { IsPlayFor G.Game game.now asked.role asked.depth play.old }
+    requires found { IsFoundOf (G.rules game.now) asked.role asked.depth asked.at (G.state game.now play.old.here) found.now }
     ensures whole { OnOk result (Appends (W.contents out.old) (W.contents out.new)
-        (turn_lines (named (G.rules g.now) (G.role_name g.now) (G.move_name g.now)) number
-        (line_of (G.rules g.now) asked.role asked.depth asked.at (G.state g.now play.old.here)))) }
+        (turn_lines (named (G.rules game.now) (G.role_name game.now) (G.move_name game.now)) number
+        (line_of (G.rules game.now) asked.role asked.depth asked.at (G.state game.now play.old.here)))) }
     ensures front { OnErr result (AppendsFront (W.contents out.old) (W.contents out.new)
-        (turn_lines (named (G.rules g.now) (G.role_name g.now) (G.move_name g.now)) number
-        (line_of (G.rules g.now) asked.role asked.depth asked.at (G.state g.now play.old.here)))) }
-    ensures play { OnOk result (IsPlayKept G.Game g.now play.old play.new) }
+        (turn_lines (named (G.rules game.now) (G.role_name game.now) (G.move_name game.now)) number
+        (line_of (G.rules game.now) asked.role asked.depth asked.at (G.state game.now play.old.here)))) }
+    ensures play { OnOk result (IsPlayKept G.Game game.now play.old play.new) }
 {
     let mut chosen = found.choice;
     let mut left = asked.depth;
@@ -131,15 +131,15 @@ fn write_turns<G: Game, W: Write>(
             depth: left,
             ..asked
         };
-        play.turn(g, now, own, found.value);
+        play.turn(game, now, own, found.value);
         let turns = u64::from(asked.depth - left);
-        write_turn(g, u64::from(number) + turns, &play.joint, out)?;
+        write_turn(game, u64::from(number) + turns, &play.joint, out)?;
         left -= 1;
         let next = Question {
             depth: left,
             ..asked
         };
-        chosen = choice_by_value(g, &play.here, next, found.value, &mut play.room);
+        chosen = choice_by_value(game, &play.here, next, found.value, &mut play.room);
     }
     Ok(())
 }
@@ -154,57 +154,57 @@ pub(crate) fn unsigned(value: i16) -> u64
 /// Writes what the state at which play stands is worth, the move that makes sure of it, and the line of play. Play stands at the end of
 /// the line then.
 pub(crate) fn write_found<G: Game, W: Write>(
-    g: &G,
+    game: &G,
     asked: Question,
     found: &Answer,
     play: &mut Play<G>,
     out: &mut W,
 ) -> Result<(), WriteFault>
-    requires play { IsPlayFor G.Game g.now asked.role asked.depth play.old }
-    requires found { IsFoundOf (G.rules g.now) asked.role asked.depth asked.at (G.state g.now play.old.here) found.now }
+    requires play { IsPlayFor G.Game game.now asked.role asked.depth play.old }
+    requires found { IsFoundOf (G.rules game.now) asked.role asked.depth asked.at (G.state game.now play.old.here) found.now }
     ensures whole { OnOk result (Appends (W.contents out.old) (W.contents out.new)
-        (solve_lines (named (G.rules g.now) (G.role_name g.now) (G.move_name g.now)) asked.role asked.depth asked.at (G.state g.now play.old.here))) }
+        (solve_lines (named (G.rules game.now) (G.role_name game.now) (G.move_name game.now)) asked.role asked.depth asked.at (G.state game.now play.old.here))) }
     ensures front { OnErr result (AppendsFront (W.contents out.old) (W.contents out.new)
-        (solve_lines (named (G.rules g.now) (G.role_name g.now) (G.move_name g.now)) asked.role asked.depth asked.at (G.state g.now play.old.here))) }
-    ensures play { OnOk result (IsPlayKept G.Game g.now play.old play.new) }
+        (solve_lines (named (G.rules game.now) (G.role_name game.now) (G.move_name game.now)) asked.role asked.depth asked.at (G.state game.now play.old.here))) }
+    ensures play { OnOk result (IsPlayKept G.Game game.now play.old play.new) }
 {
     write_count(b"value", unsigned(found.value), out)?;
-    write_choice(g, asked.role, found.choice, out)?;
-    write_turns(g, asked, found, 1, play, out)
+    write_choice(game, asked.role, found.choice, out)?;
+    write_turns(game, asked, found, 1, play, out)
 }
 
 /// Writes the turns that begin with an own move at the state at which play stands: first that of the move, which makes sure of `worth`.
 /// Play stands at the end of the line then.
 pub(crate) fn write_behind<G: Game, W: Write>(
-    g: &G,
+    game: &G,
     asked: Question,
     own: u32,
     worth: i16,
     play: &mut Play<G>,
     out: &mut W,
 ) -> Result<(), WriteFault>
-    requires play { IsPlayFor G.Game g.now asked.role asked.depth play.old }
-    requires open { IsOpen (G.rules g.now) asked.depth (G.state g.now play.old.here) }
-    requires own { Contains ((G.rules g.now).legal (G.state g.now play.old.here) asked.role) own }
-    requires worth { worth ≡ pos (worst (G.rules g.now) asked.role (asked.depth - 1) asked.at (G.state g.now play.old.here) own) }
+    requires play { IsPlayFor G.Game game.now asked.role asked.depth play.old }
+    requires open { IsOpen (G.rules game.now) asked.depth (G.state game.now play.old.here) }
+    requires own { Contains ((G.rules game.now).legal (G.state game.now play.old.here) asked.role) own }
+    requires worth { worth ≡ pos (worst (G.rules game.now) asked.role (asked.depth - 1) asked.at (G.state game.now play.old.here) own) }
     ensures whole { OnOk result (Appends (W.contents out.old) (W.contents out.new)
-        (turn_lines (named (G.rules g.now) (G.role_name g.now) (G.move_name g.now)) 1
-        (line_behind (G.rules g.now) asked.role (asked.depth - 1) asked.at (G.state g.now play.old.here) own))) }
+        (turn_lines (named (G.rules game.now) (G.role_name game.now) (G.move_name game.now)) 1
+        (line_behind (G.rules game.now) asked.role (asked.depth - 1) asked.at (G.state game.now play.old.here) own))) }
     ensures front { OnErr result (AppendsFront (W.contents out.old) (W.contents out.new)
-        (turn_lines (named (G.rules g.now) (G.role_name g.now) (G.move_name g.now)) 1
-        (line_behind (G.rules g.now) asked.role (asked.depth - 1) asked.at (G.state g.now play.old.here) own))) }
-    ensures play { OnOk result (IsPlayKept G.Game g.now play.old play.new) }
+        (turn_lines (named (G.rules game.now) (G.role_name game.now) (G.move_name game.now)) 1
+        (line_behind (G.rules game.now) asked.role (asked.depth - 1) asked.at (G.state game.now play.old.here) own))) }
+    ensures play { OnOk result (IsPlayKept G.Game game.now play.old play.new) }
 {
-    play.own_turn(g, asked, own, worth);
-    write_turn(g, 1, &play.joint, out)?;
+    play.own_turn(game, asked, own, worth);
+    write_turn(game, 1, &play.joint, out)?;
     let next = Question {
         depth: asked.depth - 1,
         ..asked
     };
-    let choice = choice_by_value(g, &play.here, next, worth, &mut play.room);
+    let choice = choice_by_value(game, &play.here, next, worth, &mut play.room);
     let found = Answer {
         value: worth,
         choice,
     };
-    write_turns(g, next, &found, 2, play, out)
+    write_turns(game, next, &found, 2, play, out)
 }

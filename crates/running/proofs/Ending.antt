@@ -2,7 +2,7 @@
 use Rattle.std.proofs.Common.{ℕ, ◌≡◌, ◌≤◌, inl, inr, List, [], arith, append-nil}
 use Rattle.std.specs.Prelude.{Option, Result, Ok, Err, OnOk, OnErr, ◌⊎◌}
 use Rattle.std.specs.Io.KnownBytes.{Appends, Keeps}
-use Rattle.kif.specs.Written.{AppendsFront}
+use Rattle.statement.specs.Output.{AppendsFront}
 use Rattle.statement.specs.Queries.{Query}
 use Rattle.words.specs.Asked.{query_of}
 use Rattle.words.specs.declared.grammar.Request.{Request}

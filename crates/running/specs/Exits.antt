@@ -2,7 +2,7 @@
 -- The exit status of the program, and what it says of the streams.
 use Rattle.std.specs.Prelude.{ℕ, List, Option, Result, Ok, Err}
 use Rattle.std.specs.Io.KnownBytes.{Appends, Keeps}
-use Rattle.kif.specs.Written.{AppendsFront}
+use Rattle.statement.specs.Output.{AppendsFront}
 use Rattle.statement.specs.Queries.{Query}
 use Rattle.statement.specs.Answers.{Reply}
 use Rattle.statement.specs.declared.status.Status.{Status}

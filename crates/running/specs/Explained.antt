@@ -2,7 +2,7 @@
 -- What is told to the errors behind what the program tells them without explanations.
 use Rattle.std.specs.Prelude.{ℕ, List, Option, Result, Ok, ◌≡◌, ◌⊎◌}
 use Rattle.std.specs.Io.KnownBytes.{Keeps}
-use Rattle.kif.specs.Written.{AppendsFront}
+use Rattle.statement.specs.Output.{AppendsFront}
 use Rattle.words.specs.Widths.{IsRequestIn}
 use Rattle.words.specs.declared.command.Command.{Command}
 use Rattle.words.specs.declared.grammar.Request.{Request}

@@ -2,7 +2,7 @@
 -- What becomes of a request.
 use Rattle.std.specs.Prelude.{ℕ, List, Option, Result, ◌≡◌, ◌⊎◌, string_bytes}
 use Rattle.std.specs.Io.KnownBytes.{Appends, Keeps}
-use Rattle.kif.specs.Written.{AppendsFront}
+use Rattle.statement.specs.Output.{AppendsFront}
 use Rattle.words.specs.declared.command.Command.{Command}
 use Rattle.words.specs.Asked.{query_of}
 use Rattle.words.specs.Widths.{IsRequestIn}

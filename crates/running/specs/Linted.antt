@@ -2,7 +2,7 @@
 -- What becomes of the command `lint`.
 use Rattle.std.specs.Prelude.{ℕ, ◌≡◌, ◌⊎◌, List, [], ◌∷◌, Option, Result, Ok, Err}
 use Rattle.std.specs.Io.KnownBytes.{Appends, Keeps}
-use Rattle.kif.specs.Written.{AppendsFront}
+use Rattle.statement.specs.Output.{AppendsFront}
 use Rattle.statement.specs.Answers.{Reply}
 use Rattle.statement.specs.Replies.{IsReply}
 use Rattle.statement.specs.Queries as query

@@ -1,7 +1,7 @@
 //! The command line: from words to a request, and from a request to its exit status.
 ghost use Rattle.std.specs.Prelude.{◌≡◌, ◌≤◌, ◌⊎◌, None};
 ghost use Rattle.std.specs.Io.KnownBytes.{Keeps};
-ghost use Rattle.kif.specs.Written.{AppendsFront};
+ghost use Rattle.statement.specs.Output.{AppendsFront};
 ghost use Rattle.running.specs.Exits.{exit_status, AreErrorsTold, Replied};
 ghost use Rattle.running.specs.Fulfilling.{AreDone, IsCommandRun, HasShown, IsFulfilled, streams};
 

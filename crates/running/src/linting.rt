@@ -1,7 +1,7 @@
 //! The command `lint`: what is lawful in rules and most likely wrong.
 ghost use Rattle.std.specs.Prelude.{◌≡◌, ◌≢◌, ℕ, List, IfOk, IfErr, Ok};
 ghost use Rattle.std.specs.Io.KnownBytes.{Appends, Keeps};
-ghost use Rattle.kif.specs.Written.{AppendsFront};
+ghost use Rattle.statement.specs.Output.{AppendsFront};
 ghost use Rattle.statement.specs.Tree.{trees_of};
 ghost use Rattle.statement.specs.Reading.{Reads};
 ghost use Rattle.statement.specs.Answers.{Reply};

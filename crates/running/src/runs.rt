@@ -1,7 +1,7 @@
 //! One run: from the bytes of the input to those of the output.
 ghost use Rattle.std.specs.Prelude.{◌≡◌, ◌≢◌, ℕ, List, IfOk, IfErr, OnOk, OnErr};
 ghost use Rattle.std.specs.Io.KnownBytes.{Appends, Keeps};
-ghost use Rattle.kif.specs.Written.{AppendsFront};
+ghost use Rattle.statement.specs.Output.{AppendsFront};
 ghost use Rattle.statement.specs.Answers.{Reply};
 ghost use Rattle.statement.specs.declared.status.Status.TheVariants.{Refused};
 ghost use Rattle.replies.specs.Replies.{reply_of};

@@ -3,7 +3,7 @@ use Rattle.std.proofs.Common.{ℕ, ◌≡◌, true, false, inl, inr, List, [], �
 use Rattle.std.proofs.KnownBytes.{Consumes-trans, Appends-trans, Appends-kept, Appends-nil}
 use Rattle.std.specs.Prelude.{Option, Ok, Err}
 use Rattle.std.specs.Io.KnownBytes.{Appends, Consumes, prepend_known}
-use Rattle.kif.specs.Written.{AppendsFront}
+use Rattle.statement.specs.Output.{AppendsFront}
 use Rattle.statement.specs.declared.status.Status.TheVariants.{Answer}
 use Rattle.running.specs.declared.fault.RunFault.{RunFault}
 use Rattle.running.specs.declared.fault.RunFault.TheVariants.{Memory, Read, Write}

@@ -2,7 +2,7 @@
 use Rattle.std.proofs.Common.{ℕ, ◌≡◌, Bool, true, false, inl, inr, List, refl, sym}
 use Rattle.std.specs.Prelude.{Option, Ok, Err}
 use Rattle.std.specs.Io.KnownBytes.{Appends}
-use Rattle.kif.specs.Written.{AppendsFront}
+use Rattle.statement.specs.Output.{AppendsFront}
 use Rattle.running.specs.declared.fault.RunFault.TheVariants.{Write}
 use Rattle.requests.specs.declared.desk.Desk.{Desk}
 use Rattle.requests.specs.declared.desk.Taken.{Taken}

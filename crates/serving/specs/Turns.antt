@@ -2,7 +2,7 @@
 -- A turn of a session.
 use Rattle.std.specs.Prelude.{ℕ, ◌⊎◌, Bool, true, false, List, Option, Result, Ok, Err}
 use Rattle.std.specs.Io.KnownBytes.{Consumes, Appends, Keeps, IsAtEnd}
-use Rattle.kif.specs.Written.{AppendsFront}
+use Rattle.statement.specs.Output.{AppendsFront}
 use Rattle.running.specs.declared.fault.RunFault.{RunFault}
 use Rattle.running.specs.declared.fault.RunFault.TheVariants.{Memory, Read, Write}
 use Rattle.requests.specs.Sessions.{IsExchange, IsLast}

@@ -35,10 +35,10 @@ use std::alloc::{AllocError, Global};
 use std::marker::Model;
 
 /// The most bytes that the head of a kept instance has as canonical text.
-pub const TEXT_LIMIT: usize = 4_096;
+pub const HEAD_LIMIT: usize = 4_096;
 
 /// Lengths are told apart up to this one, which is more than a text may have.
-const CUT: usize = TEXT_LIMIT + 1;
+const CUT: usize = HEAD_LIMIT + 1;
 
 /// For how many terms there is room from the beginning, with four numbers in each key, where so much memory can be had at once. The
 /// lists grow where there are more.

@@ -19,7 +19,7 @@ mod stating_laws;
 mod writing;
 
 pub use adding::{add_pairs, add_singles};
-pub use arena::{Arena, TEXT_LIMIT};
+pub use arena::{Arena, HEAD_LIMIT};
 pub use dropping::count_dropped;
 pub use flat::are_flat;
 pub use keyed::{Terms, numbers_are_trees};

@@ -9,7 +9,7 @@ ghost use Rattle.terms.specs.Keys.{trees};
 ghost use Rattle.terms.specs.Measuring.{bytes_of};
 ghost use Rattle.statement.specs.Most.{limits};
 
-use crate::arena::{Arena, TEXT_LIMIT};
+use crate::arena::{Arena, HEAD_LIMIT};
 use rules::Part;
 
 impl Arena {
@@ -37,7 +37,7 @@ impl Arena {
             → nat_lt limits.text (length (text (tree_at word
             (trees_of (ground_terms words (place_value (trees words self.now.keys) values.now) parts.now []))))) ≡ true }
     {
-        let mut left = TEXT_LIMIT;
+        let mut left = HEAD_LIMIT;
         for part in parts {
             let bytes = self.bytes_of(*part, values);
             if bytes > left {

@@ -2,7 +2,7 @@
 -- What becomes of the command `unroll`.
 use Rattle.std.specs.Prelude.{ℕ, ◌≡◌, ◌≢◌, ◌⊎◌, List, Option, Result, Ok, Err, IfOk, IfErr}
 use Rattle.std.specs.Io.KnownBytes.{Appends, Keeps}
-use Rattle.kif.specs.Written.{AppendsFront}
+use Rattle.statement.specs.Output.{AppendsFront}
 use Rattle.statement.specs.Answers.{Reply, answer, refusal}
 use Rattle.statement.specs.declared.status.Status.{Status}
 use Rattle.running.specs.declared.fault.RunFault.{RunFault}

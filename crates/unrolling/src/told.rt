@@ -1,7 +1,7 @@
 //! What is told of a text, with what explains it.
 ghost use Rattle.std.specs.Prelude.{◌≡◌, ◌≢◌, ◌≤◌, Ok, IfOk, IfErr};
 ghost use Rattle.std.specs.Io.KnownBytes.{Appends};
-ghost use Rattle.kif.specs.Written.{AppendsFront};
+ghost use Rattle.statement.specs.Output.{AppendsFront};
 ghost use Rattle.replies.specs.Replies.{reply_of};
 ghost use Rattle.running.specs.Explained.{TellsMore};
 ghost use Rattle.running.specs.Input.{IsReadFrom};

@@ -145,11 +145,7 @@ const UNFINISHED: [Played; 3] = [
 ];
 
 #[test]
-fn worth_of_unfinished_play_is_told(rt: HostRuntime) {
+fn worths_at_the_bound_are_told(rt: HostRuntime) {
     assert_eq!(rt; first_untold(&rt, &UNFINISHED), None);
-}
-
-#[test]
-fn worth_at_the_bound_is_told(rt: HostRuntime) {
     assert_eq!(rt; first_untold(&rt, &BOUNDED), None);
 }

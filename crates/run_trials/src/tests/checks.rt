@@ -145,11 +145,6 @@ const CHECKED: [Text; 34] = [
     ),
 ];
 
-#[test]
-fn worked_descriptions_are_checked(rt: HostRuntime) {
-    assert_eq!(rt; first_unlike(&rt, "check", &CHECKED), None);
-}
-
 /// What is told of a role and an item.
 const TWO: &[u8] = b"items 2\nalternatives 2\nrelations 2\nroles a\n";
 
@@ -178,11 +173,6 @@ const WELL_USED: [Text; 22] = [
     (b"(role a)(<= (base p) (input a m))", TWO, 0),
     (b"(role a)(<= (init p) (base p))", TWO, 0),
 ];
-
-#[test]
-fn words_of_the_language_stand_where_they_may(rt: HostRuntime) {
-    assert_eq!(rt; first_unlike(&rt, "check", &WELL_USED), None);
-}
 
 /// What is told of the second item.
 const MISUSED: &[u8] = b"refused G2 BadKeyword 2\n";
@@ -237,11 +227,6 @@ const BADLY_USED: [Text; 47] = [
     (b"(role a)(<= q (distinct a))", MISUSED, 2),
     (b"(role a)(<= q (not (distinct a b c)))", MISUSED, 2),
 ];
-
-#[test]
-fn words_of_the_language_elsewhere_are_refused(rt: HostRuntime) {
-    assert_eq!(rt; first_unlike(&rt, "check", &BADLY_USED), None);
-}
 
 /// What is told of an item with too many alternatives.
 const SPREAD: Pieces = &[(b"refused G7 TooMany 2 alternatives\n", 1)];
@@ -359,4 +344,11 @@ const LIMITS: [Built; 11] = [
 fn descriptions_are_checked_to_their_limits(rt: HostRuntime) -> Result<(), AllocError> {
     assert_eq!(rt; first_unbuilt(&rt, &LIMITS)?, None);
     Ok(())
+}
+
+#[test]
+fn worked_descriptions_are_checked(rt: HostRuntime) {
+    assert_eq!(rt; first_unlike(&rt, "check", &CHECKED), None);
+    assert_eq!(rt; first_unlike(&rt, "check", &WELL_USED), None);
+    assert_eq!(rt; first_unlike(&rt, "check", &BADLY_USED), None);
 }

@@ -83,11 +83,6 @@ const CUT: [Played; 4] = [
     ),
 ];
 
-#[test]
-fn worked_games_are_solved_by_several_threads(rt: HostRuntime) {
-    assert_eq!(rt; first_untold(&rt, &CUT), None);
-}
-
 /// The whole game of marks by cuts of one level.
 const ONE_LEVEL: [Played; 1] = [(
     MARKS,
@@ -144,21 +139,6 @@ const THREE_LEVELS: [Played; 1] = [(
     ],
 )];
 
-#[test]
-fn a_game_of_many_turns_is_solved_by_one_level(rt: HostRuntime) {
-    assert_eq!(rt; first_untold(&rt, &ONE_LEVEL), None);
-}
-
-#[test]
-fn a_game_of_many_turns_is_solved_by_two_levels(rt: HostRuntime) {
-    assert_eq!(rt; first_untold(&rt, &TWO_LEVELS), None);
-}
-
-#[test]
-fn a_game_of_many_turns_is_solved_by_three_levels(rt: HostRuntime) {
-    assert_eq!(rt; first_untold(&rt, &THREE_LEVELS), None);
-}
-
 /// Four roles with sixteen moves each.
 const WIDE: &[u8] =
     b"(role r1)(role r2)(role r3)(role r4)(d 0)(d 1)(d 2)(d 3)(d 4)(d 5)(d 6)(d 7)(d 8)(d 9)(d 10)(d 11)(d 12)(d 13)(d 14)(d 15)";
@@ -191,4 +171,12 @@ const TASKS: [Built; 2] = [
 fn tasks_are_solved_to_the_limit_of_a_board_and_past_it(rt: HostRuntime) -> Result<(), AllocError> {
     assert_eq!(rt; first_unbuilt(&rt, &TASKS)?, None);
     Ok(())
+}
+
+#[test]
+fn games_are_solved_by_several_threads(rt: HostRuntime) {
+    assert_eq!(rt; first_untold(&rt, &CUT), None);
+    assert_eq!(rt; first_untold(&rt, &ONE_LEVEL), None);
+    assert_eq!(rt; first_untold(&rt, &TWO_LEVELS), None);
+    assert_eq!(rt; first_untold(&rt, &THREE_LEVELS), None);
 }

@@ -211,16 +211,6 @@ const LINED: [Played; 6] = [
     ),
 ];
 
-#[test]
-fn depths_are_told_until_one_is_settled(rt: HostRuntime) {
-    assert_eq!(rt; first_untold(&rt, &DEEPENED), None);
-}
-
-#[test]
-fn moves_are_told_with_their_lines(rt: HostRuntime) {
-    assert_eq!(rt; first_untold(&rt, &LINED), None);
-}
-
 /// The same with worths at the bound, by a cut.
 const BOUNDED: [Played; 2] = [
     (
@@ -264,11 +254,6 @@ const BOUNDED: [Played; 2] = [
         ],
     ),
 ];
-
-#[test]
-fn a_value_is_settled_whatever_unfinished_play_is_worth(rt: HostRuntime) {
-    assert_eq!(rt; first_untold(&rt, &BOUNDED), None);
-}
 
 /// What `solve` writes for a role within so many turns after a history, where unfinished play is worth so much.
 fn solved<T: Threads + Sync + AllocGlobal>(
@@ -414,4 +399,11 @@ fn other_words_are_no_deepening(rt: HostRuntime) {
             "at {words:?}"
         );
     }
+}
+
+#[test]
+fn depths_are_told_until_one_is_settled(rt: HostRuntime) {
+    assert_eq!(rt; first_untold(&rt, &DEEPENED), None);
+    assert_eq!(rt; first_untold(&rt, &LINED), None);
+    assert_eq!(rt; first_untold(&rt, &BOUNDED), None);
 }

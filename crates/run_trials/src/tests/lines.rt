@@ -226,11 +226,6 @@ const SOLVED: [Played; 12] = [
     ),
 ];
 
-#[test]
-fn worked_games_are_solved(rt: HostRuntime) {
-    assert_eq!(rt; first_untold(&rt, &SOLVED), None);
-}
-
 /// What `solve` tells of the whole game of marks.
 pub(crate) const WHOLE: &[u8] =
     b"value 50\nmove (mark 1 1)\nline 1 (mark 1 1) noop\nline 2 noop (mark 2 2)\nline 3 (mark 1 2) noop\nline 4 noop (mark 1 3)\nline 5 (mark 3 1) noop\nline 6 noop (mark 2 1)\nline 7 (mark 2 3) noop\nline 8 noop (mark 3 2)\nline 9 (mark 3 3) noop\n";
@@ -262,16 +257,9 @@ const BEHIND: [Played; 1] = [(
 )];
 
 #[test]
-fn the_first_turn_is_solved(rt: HostRuntime) {
+fn games_are_solved_with_their_lines(rt: HostRuntime) {
+    assert_eq!(rt; first_untold(&rt, &SOLVED), None);
     assert_eq!(rt; first_untold(&rt, &FIRST), None);
-}
-
-#[test]
-fn a_game_of_many_turns_is_solved(rt: HostRuntime) {
     assert_eq!(rt; first_untold(&rt, &ALL), None);
-}
-
-#[test]
-fn a_game_is_solved_behind_its_first_turn(rt: HostRuntime) {
     assert_eq!(rt; first_untold(&rt, &BEHIND), None);
 }

@@ -258,21 +258,6 @@ const MOVED: [Played; 13] = [
     ),
 ];
 
-#[test]
-fn a_matching_game_is_played(rt: HostRuntime) {
-    assert_eq!(rt; first_untold(&rt, &MATCHED), None);
-}
-
-#[test]
-fn a_game_of_marks_is_played(rt: HostRuntime) {
-    assert_eq!(rt; first_untold(&rt, &MARKED), None);
-}
-
-#[test]
-fn worked_games_are_played(rt: HostRuntime) {
-    assert_eq!(rt; first_untold(&rt, &MOVED), None);
-}
-
 /// So many spaces.
 fn spaces(alloc: Global, count: usize) -> Result<String, AllocError> {
     let mut text = String::new(alloc);
@@ -300,4 +285,11 @@ fn a_history_has_at_most_1048576_bytes(rt: HostRuntime) -> Result<(), AllocError
     assert!(rt; is_played_after(&rt, 1_048_576, stuck, 0)?);
     assert!(rt; is_played_after(&rt, 1_048_577, b"refused H1 BadForm 0\n", 2)?);
     Ok(())
+}
+
+#[test]
+fn worked_games_are_played(rt: HostRuntime) {
+    assert_eq!(rt; first_untold(&rt, &MATCHED), None);
+    assert_eq!(rt; first_untold(&rt, &MARKED), None);
+    assert_eq!(rt; first_untold(&rt, &MOVED), None);
 }

@@ -296,11 +296,7 @@ const VALUED: [Played; 5] = [
 ];
 
 #[test]
-fn values_are_told_within_windows(rt: HostRuntime) {
+fn values_and_moves_are_told_within_windows(rt: HostRuntime) {
     assert_eq!(rt; first_untold(&rt, &WINDOWS), None);
-}
-
-#[test]
-fn moves_are_told_by_what_they_make_sure_of(rt: HostRuntime) {
     assert_eq!(rt; first_untold(&rt, &VALUED), None);
 }

@@ -8,9 +8,9 @@ use Rattle.game.proofs.replaying.read_moves.Goals as goal
 
 pub returns-in_default-clause-faults : goal.returns-in_default-clause-faults
 returns-in_default-clause-faults g c =
-    let rules = g.G.Game.rules c.args.g.now in
-    let names = g.G.Game.move_name c.args.g.now in
-    let state = g.G.Game.state c.args.g.now c.args.p.now in
+    let rules = g.G.Game.rules c.args.game.now in
+    let names = g.G.Game.move_name c.args.game.now in
+    let state = g.G.Game.state c.args.game.now c.args.p.now in
     let at = named_at rules names state c.args.parts.now c.loop-role.role c.index-parts-role.result c.find_move.result (omega arith)
     c.index-parts-role.is c.find_move.ensures.found in
     role_refused rules names state (trees_in c.args.parts.now) c.args.number c.loop-role.role (omega arith) c.loop-role.invariant.legal
@@ -18,9 +18,9 @@ returns-in_default-clause-faults g c =
 
 pub loop-role-preserved : goal.loop-role-preserved
 loop-role-preserved g c =
-    let rules = g.G.Game.rules c.args.g.now in
-    let names = g.G.Game.move_name c.args.g.now in
-    let state = g.G.Game.state c.args.g.now c.args.p.now in
+    let rules = g.G.Game.rules c.args.game.now in
+    let names = g.G.Game.move_name c.args.game.now in
+    let state = g.G.Game.state c.args.game.now c.args.p.now in
     let named = named_move rules names state (trees_in c.args.parts.now) in
     let size : length c.loop-role.joint.items ≡ rules.roles = c.loop-role.invariant.size in
     let at = named_at rules names state c.args.parts.now c.loop-role.role c.index-parts-role.result c.find_move.result (omega arith)
@@ -38,15 +38,15 @@ loop-role-preserved g c =
 
 pub returns-clause-faults : goal.returns-clause-faults
 returns-clause-faults g c =
-    roles_right (g.G.Game.rules c.args.g.now) (g.G.Game.move_name c.args.g.now) (g.G.Game.state c.args.g.now c.args.p.now) (trees_in c.args.parts.now)
+    roles_right (g.G.Game.rules c.args.game.now) (g.G.Game.move_name c.args.game.now) (g.G.Game.state c.args.game.now c.args.p.now) (trees_in c.args.parts.now)
     c.args.number
     c.loop-role.role (omega arith) c.loop-role.invariant.legal
 
 pub returns-clause-moves : goal.returns-clause-moves
 returns-clause-moves g c =
-    let rules = g.G.Game.rules c.args.g.now in
+    let rules = g.G.Game.rules c.args.game.now in
     let size : length c.loop-role.joint.items ≡ rules.roles = c.loop-role.invariant.size in
-    let named = named_move rules (g.G.Game.move_name c.args.g.now) (g.G.Game.state c.args.g.now c.args.p.now) (trees_in c.args.parts.now) in
+    let named = named_move rules (g.G.Game.move_name c.args.game.now) (g.G.Game.state c.args.game.now c.args.p.now) (trees_in c.args.parts.now) in
     list_by_index (λ k. unwrap_or (named k) 0) 0 rules.roles c.loop-role.joint.items size
     (λ k below. c.loop-role.invariant.written k (omega arith) ∙ ap (λ (n : ℕ). unwrap_or (named n) 0) (omega arith))
 

@@ -20,8 +20,8 @@ read_turn-requires-clause-parts g c κs within =
 pub returns-in_err-read_turn-clause-refused : goal.returns-in_err-read_turn-clause-refused
 returns-in_err-read_turn-clause-refused g c =
     let ts = trees_in c.args.turns.now in
-    let game = g.G.Game.rules c.args.g.now in
-    let names = g.G.Game.move_name c.args.g.now in
+    let game = g.G.Game.rules c.args.game.now in
+    let names = g.G.Game.move_name c.args.game.now in
     let size : length ts ≡ length c.args.turns.now = length-map c.args.turns.now tree_of in
     let at = tree_at_place c.args.turns.now c.loop-place.place c.index-turns-place.result (omega arith) c.index-turns-place.is in
     let parts = c.parts.ensures ∙ ap parts_of (sym at) in
@@ -41,21 +41,21 @@ pub loop-place-preserved : goal.loop-place-preserved
 loop-place-preserved g c =
     let ts = trees_in c.args.turns.now in
     let place = c.loop-place.place in
-    let game = g.G.Game.rules c.args.g.now in
-    let names = g.G.Game.move_name c.args.g.now in
+    let game = g.G.Game.rules c.args.game.now in
+    let names = g.G.Game.move_name c.args.game.now in
     let size : length ts ≡ length c.args.turns.now = length-map c.args.turns.now tree_of in
     let at = tree_at_place c.args.turns.now place c.index-turns-place.result (omega arith) c.index-turns-place.is in
     let parts : trees_in c.parts.result.now ≡ parts_of (nth_tree ts place) = c.parts.ensures ∙ ap parts_of (sym at) in
-    let known : g.G.Game.state c.args.g.now c.loop-place.here ≡ state_after game names (take place ts) = c.loop-place.invariant.state in
+    let known : g.G.Game.state c.args.game.now c.loop-place.here ≡ state_after game names (take place ts) = c.loop-place.invariant.state in
     let here = no_fault _ _ _ (sym c.in_ok-read_turn.ensures.faults) in
     record {
       here = rw c.swap.ensures.x_after c.step.ensures.fits;
       next = rw c.swap.ensures.y_after c.loop-place.invariant.here;
       size = c.read_turn.ensures.length;
       state =
-          ap (g.G.Game.state c.args.g.now) c.swap.ensures.x_after
+          ap (g.G.Game.state c.args.game.now) c.swap.ensures.x_after
           ∙ c.step.ensures.after
-          ∙ ap (λ (j : List ℕ). game.after (g.G.Game.state c.args.g.now c.loop-place.here) j) c.in_ok-read_turn.ensures.moves
+          ∙ ap (λ (j : List ℕ). game.after (g.G.Game.state c.args.game.now c.loop-place.here) j) c.in_ok-read_turn.ensures.moves
           ∙ ap (λ (s : State). game.after s (named_turn game names s (trees_in c.parts.result.now))) known
           ∙ ap (λ (us : List Tree). game.after (state_after game names (take place ts))
           (named_turn game names (state_after game names (take place ts)) us)) parts
@@ -66,8 +66,8 @@ loop-place-preserved g c =
 pub returns-clause-played : goal.returns-clause-played
 returns-clause-played g c =
     let ts = trees_in c.args.turns.now in
-    let game = g.G.Game.rules c.args.g.now in
-    let names = g.G.Game.move_name c.args.g.now in
+    let game = g.G.Game.rules c.args.game.now in
+    let names = g.G.Game.move_name c.args.game.now in
     let size : length ts ≡ length c.args.turns.now = length-map c.args.turns.now tree_of in
     let forms : form_faults game.roles ts ≡ [] = ap (λ (n : ℕ). form_faults n ts) (sym c.roles.ensures)
     ∙ no_fault _ _ _ (sym c.in_ok-check_forms.ensures.faults) in

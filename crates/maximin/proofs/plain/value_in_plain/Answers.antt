@@ -11,6 +11,6 @@ returns-clause-answers g c =
     let fits : SFits w16 r = search facts in
     let ea = to_z-of_z w16 c.args.a (search facts) in
     let eb = to_z-of_z w16 c.args.b (search facts) in
-    let worth = value (g.G.Game.rules c.args.g.now) c.args.asked.role c.args.asked.depth c.args.asked.at (g.G.Game.state c.args.g.now c.args.p.now) in
+    let worth = value (g.G.Game.rules c.args.game.now) c.args.asked.role c.args.asked.depth c.args.asked.at (g.G.Game.state c.args.game.now c.args.p.now) in
     let answers : Answers worth c.args.a c.args.b r = rw (ea, eb) at c.value_in-worth.ensures.answers in
     rw (to_z-of_z w16 r fits) answers

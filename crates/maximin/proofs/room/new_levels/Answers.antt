@@ -7,7 +7,7 @@ use Rattle.maximin.proofs.room.new_levels.Goals as goal
 
 pub loop-preserved : goal.loop-preserved
 loop-preserved g c =
-    let P = λ (level : Level g.row.G-Pos.Denot g.row.G-Many.Denot). IsLevelOf g.G.Game c.args.g.now level in
+    let P = λ (level : Level g.row.G-Pos.Denot g.row.G-Many.Denot). IsLevelOf g.G.Game c.args.game.now level in
     let level = c.in_ok-new_level.field-0 in
     record {
       count = grind (arith, common_steps);

@@ -8,7 +8,7 @@ use Rattle.replies.proofs.asked_alone.role_reply.Goals as goal
 
 pub returns-in-Some-clause-reply : goal.returns-in-Some-clause-reply
 returns-in-Some-clause-reply g c =
-    let game = named (g.G.Game.rules c.args.g.now) (g.G.Game.role_name c.args.g.now) (g.G.Game.move_name c.args.g.now) in
+    let game = named (g.G.Game.rules c.args.game.now) (g.G.Game.role_name c.args.game.now) (g.G.Game.move_name c.args.game.now) in
     let sought = c.args.sought.now in
     let lines : ℕ → State → List ℕ = λ r. wanted_lines c.args.wanted game r sought.depth sought.at_bound in
     let role : IsRoleNamed game sought.role.now (Some c.in-Some.role) = rw c.in-Some.is at c.in_ok-role.ensures.named in
@@ -16,7 +16,7 @@ returns-in-Some-clause-reply g c =
 
 pub returns-in-None-clause-reply : goal.returns-in-None-clause-reply
 returns-in-None-clause-reply g c =
-    let game = named (g.G.Game.rules c.args.g.now) (g.G.Game.role_name c.args.g.now) (g.G.Game.move_name c.args.g.now) in
+    let game = named (g.G.Game.rules c.args.game.now) (g.G.Game.role_name c.args.game.now) (g.G.Game.move_name c.args.game.now) in
     let sought = c.args.sought.now in
     let lines : ℕ → State → List ℕ = λ r. wanted_lines c.args.wanted game r sought.depth sought.at_bound in
     let none : IsRoleNamed game sought.role.now None = rw c.in-None.is at c.in_ok-role.ensures.named in

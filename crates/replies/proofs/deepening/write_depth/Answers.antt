@@ -17,13 +17,13 @@ write_found-requires-clause-found g c κs within = rw c.stand.ensures.here c.fou
 pub returns-in_err-write_count-clause-front : goal.returns-in_err-write_count-clause-front
 returns-in_err-write_count-clause-front g c =
     let asked = c.args.asked in
-    let pieces = depth_pieces (named (g.G.Game.rules c.args.g.now) (g.G.Game.role_name c.args.g.now) (g.G.Game.move_name c.args.g.now)) asked.role asked.at (g.G.Game.state c.args.g.now c.args.root.now) asked.depth in
+    let pieces = depth_pieces (named (g.G.Game.rules c.args.game.now) (g.G.Game.role_name c.args.game.now) (g.G.Game.move_name c.args.game.now)) asked.role asked.at (g.G.Game.state c.args.game.now c.args.root.now) asked.depth in
     on_err c.from_residual.result _ (broken _ _ _ _ _ _ _ (begun _ _) pieces (rw c.from.ensures at c.in_err-write_count.ensures.front))
 
 pub returns-in_err-write_found-clause-front : goal.returns-in_err-write_found-clause-front
 returns-in_err-write_found-clause-front g c =
     let asked = c.args.asked in
-    let pieces = depth_pieces (named (g.G.Game.rules c.args.g.now) (g.G.Game.role_name c.args.g.now) (g.G.Game.move_name c.args.g.now)) asked.role asked.at (g.G.Game.state c.args.g.now c.args.root.now) asked.depth in
+    let pieces = depth_pieces (named (g.G.Game.rules c.args.game.now) (g.G.Game.role_name c.args.game.now) (g.G.Game.move_name c.args.game.now)) asked.role asked.at (g.G.Game.state c.args.game.now c.args.root.now) asked.depth in
     let depth_line = further _ _ _ _ _ _ _ (begun _ _) pieces (rw c.from.ensures at c.in_ok-write_count.ensures.whole) in
     on_err c.from_residual-in_err-write_found.result _
     (broken _ _ _ _ _ _ _ depth_line refl (rw c.stand.ensures.here at c.in_err-write_found.ensures.front))
@@ -31,7 +31,7 @@ returns-in_err-write_found-clause-front g c =
 pub returns-in_err-flush-clause-front : goal.returns-in_err-flush-clause-front
 returns-in_err-flush-clause-front g c =
     let asked = c.args.asked in
-    let pieces = depth_pieces (named (g.G.Game.rules c.args.g.now) (g.G.Game.role_name c.args.g.now) (g.G.Game.move_name c.args.g.now)) asked.role asked.at (g.G.Game.state c.args.g.now c.args.root.now) asked.depth in
+    let pieces = depth_pieces (named (g.G.Game.rules c.args.game.now) (g.G.Game.role_name c.args.game.now) (g.G.Game.move_name c.args.game.now)) asked.role asked.at (g.G.Game.state c.args.game.now c.args.root.now) asked.depth in
     let depth_line = further _ _ _ _ _ _ _ (begun _ _) pieces (rw c.from.ensures at c.in_ok-write_count.ensures.whole) in
     let lines = further _ _ _ _ _ _ _ depth_line refl (rw c.stand.ensures.here at c.in_ok-write_found.ensures.whole) in
     on_err c.from_residual-in_err-flush.result _ (broken _ _ _ _ _ _ _ lines refl c.in_err-flush.ensures.front)
@@ -39,7 +39,7 @@ returns-in_err-flush-clause-front g c =
 pub returns-clause-whole : goal.returns-clause-whole
 returns-clause-whole g c =
     let asked = c.args.asked in
-    let pieces = depth_pieces (named (g.G.Game.rules c.args.g.now) (g.G.Game.role_name c.args.g.now) (g.G.Game.move_name c.args.g.now)) asked.role asked.at (g.G.Game.state c.args.g.now c.args.root.now) asked.depth in
+    let pieces = depth_pieces (named (g.G.Game.rules c.args.game.now) (g.G.Game.role_name c.args.game.now) (g.G.Game.move_name c.args.game.now)) asked.role asked.at (g.G.Game.state c.args.game.now c.args.root.now) asked.depth in
     let depth_line = further _ _ _ _ _ _ _ (begun _ _) pieces (rw c.from.ensures at c.in_ok-write_count.ensures.whole) in
     let lines = further _ _ _ _ _ _ _ depth_line refl (rw c.stand.ensures.here at c.in_ok-write_found.ensures.whole) in
     ended _ _ _ _ (further _ _ _ _ _ _ _ lines refl c.in_ok-flush.ensures.whole) refl

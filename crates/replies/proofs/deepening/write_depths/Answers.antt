@@ -8,8 +8,8 @@ use Rattle.replies.proofs.deepening.write_depths.Goals as goal
 
 pub loop-depth-init : goal.loop-depth-init
 loop-depth-init g c =
-    let game = named (g.G.Game.rules c.args.g.now) (g.G.Game.role_name c.args.g.now) (g.G.Game.move_name c.args.g.now) in
-    let state = g.G.Game.state c.args.g.now c.args.root.now in
+    let game = named (g.G.Game.rules c.args.game.now) (g.G.Game.role_name c.args.game.now) (g.G.Game.move_name c.args.game.now) in
+    let state = g.G.Game.state c.args.game.now c.args.root.now in
     let asked = c.args.asked in
     let none : asked.depth - 0 ≡ asked.depth = omega arith in
     let start : deepen_lines game asked.role asked.depth asked.at state ≡ lines_from game asked.role asked.at state 1 (asked.depth - 0) =
@@ -26,8 +26,8 @@ loop-depth-init g c =
 
 pub returns-in_err-worth-clause-front : goal.returns-in_err-worth-clause-front
 returns-in_err-worth-clause-front g c =
-    let game = named (g.G.Game.rules c.args.g.now) (g.G.Game.role_name c.args.g.now) (g.G.Game.move_name c.args.g.now) in
-    let state = g.G.Game.state c.args.g.now c.args.root.now in
+    let game = named (g.G.Game.rules c.args.game.now) (g.G.Game.role_name c.args.game.now) (g.G.Game.move_name c.args.game.now) in
+    let state = g.G.Game.state c.args.game.now c.args.root.now in
     let asked = c.args.asked in
     let first = c.loop-depth.depth + 1 in
     let more : asked.depth - c.loop-depth.depth ≡ suc (asked.depth - first) = omega arith in
@@ -37,8 +37,8 @@ returns-in_err-worth-clause-front g c =
 
 pub returns-then-is_settled-clause-whole : goal.returns-then-is_settled-clause-whole
 returns-then-is_settled-clause-whole g c =
-    let game = named (g.G.Game.rules c.args.g.now) (g.G.Game.role_name c.args.g.now) (g.G.Game.move_name c.args.g.now) in
-    let state = g.G.Game.state c.args.g.now c.args.root.now in
+    let game = named (g.G.Game.rules c.args.game.now) (g.G.Game.role_name c.args.game.now) (g.G.Game.move_name c.args.game.now) in
+    let state = g.G.Game.state c.args.game.now c.args.root.now in
     let asked = c.args.asked in
     let first = c.loop-depth.depth + 1 in
     let more : asked.depth - c.loop-depth.depth ≡ suc (asked.depth - first) = omega arith in
@@ -52,8 +52,8 @@ returns-then-is_settled-clause-whole g c =
 
 pub returns-then-is_settled-clause-front : goal.returns-then-is_settled-clause-front
 returns-then-is_settled-clause-front g c =
-    let game = named (g.G.Game.rules c.args.g.now) (g.G.Game.role_name c.args.g.now) (g.G.Game.move_name c.args.g.now) in
-    let state = g.G.Game.state c.args.g.now c.args.root.now in
+    let game = named (g.G.Game.rules c.args.game.now) (g.G.Game.role_name c.args.game.now) (g.G.Game.move_name c.args.game.now) in
+    let state = g.G.Game.state c.args.game.now c.args.root.now in
     let asked = c.args.asked in
     let first = c.loop-depth.depth + 1 in
     let more : asked.depth - c.loop-depth.depth ≡ suc (asked.depth - first) = omega arith in
@@ -69,8 +69,8 @@ returns-then-is_settled-clause-flushed g c = on_ok_map c.write_settled.result _ 
 
 pub loop-depth-preserved : goal.loop-depth-preserved
 loop-depth-preserved g c =
-    let game = named (g.G.Game.rules c.args.g.now) (g.G.Game.role_name c.args.g.now) (g.G.Game.move_name c.args.g.now) in
-    let state = g.G.Game.state c.args.g.now c.args.root.now in
+    let game = named (g.G.Game.rules c.args.game.now) (g.G.Game.role_name c.args.game.now) (g.G.Game.move_name c.args.game.now) in
+    let state = g.G.Game.state c.args.game.now c.args.root.now in
     let asked = c.args.asked in
     let first = c.loop-depth.depth + 1 in
     let more : asked.depth - c.loop-depth.depth ≡ suc (asked.depth - first) = omega arith in
@@ -94,8 +94,8 @@ loop-depth-preserved g c =
 
 pub returns-clause-whole : goal.returns-clause-whole
 returns-clause-whole g c =
-    let game = named (g.G.Game.rules c.args.g.now) (g.G.Game.role_name c.args.g.now) (g.G.Game.move_name c.args.g.now) in
-    let state = g.G.Game.state c.args.g.now c.args.root.now in
+    let game = named (g.G.Game.rules c.args.game.now) (g.G.Game.role_name c.args.game.now) (g.G.Game.move_name c.args.game.now) in
+    let state = g.G.Game.state c.args.game.now c.args.root.now in
     let asked = c.args.asked in
     let none : asked.depth - c.loop-depth.depth ≡ 0 = omega (arith, c.loop-depth.invariant.within) in
     ended _ _ _ _ c.loop-depth.invariant.lines (ap (λ (n : ℕ). lines_from game asked.role asked.at state (c.loop-depth.depth + 1) n) none)

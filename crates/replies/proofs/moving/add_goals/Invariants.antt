@@ -8,5 +8,5 @@ use Rattle.replies.proofs.moving.add_goals.Given as goal
 abbrev pub invariant-loop-role : goal.invariant-loop-role
 invariant-loop-role g l =
     let game = g.G.Game in
-    l.output.items ≡ l.fn.output.items ++ flat_map (goal_line (named (game.rules l.g) (game.role_name l.g) (game.move_name l.g)) (game.state l.g l.p))
+    l.output.items ≡ l.fn.output.items ++ flat_map (goal_line (named (game.rules l.game) (game.role_name l.game) (game.move_name l.game)) (game.state l.game l.p))
     (range_with_len 0 l.role)

@@ -8,5 +8,5 @@ use Rattle.replies.proofs.moving.add_moves.Given as goal
 abbrev pub invariant-loop-role : goal.invariant-loop-role
 invariant-loop-role g l =
     let game = g.G.Game in
-    l.output.items ≡ l.fn.output.items ++ flat_map (λ r. flat_map (legal_line (named (game.rules l.g) (game.role_name l.g) (game.move_name l.g)) r)
-    ((game.rules l.g).legal (game.state l.g l.p) r)) (range_with_len 0 l.role)
+    l.output.items ≡ l.fn.output.items ++ flat_map (λ r. flat_map (legal_line (named (game.rules l.game) (game.role_name l.game) (game.move_name l.game)) r)
+    ((game.rules l.game).legal (game.state l.game l.p) r)) (range_with_len 0 l.role)

@@ -8,12 +8,12 @@ use Rattle.replies.proofs.moving.add_moves_of.Given as goal
 abbrev pub invariant-loop-number : goal.invariant-loop-number
 invariant-loop-number g l =
     let game = g.G.Game in
-    let legal = (game.rules l.g).legal (game.state l.g l.p) l.role in
+    let legal = (game.rules l.game).legal (game.state l.game l.p) l.role in
     record {
       within : l.place ≤ length legal;
-      lines : l.output.items ≡ l.fn.output.items ++ flat_map (legal_line (named (game.rules l.g) (game.role_name l.g) (game.move_name l.g)) l.role)
+      lines : l.output.items ≡ l.fn.output.items ++ flat_map (legal_line (named (game.rules l.game) (game.role_name l.game) (game.move_name l.game)) l.role)
           (take l.place legal);
     }
 
 abbrev pub decreases-loop-number : goal.decreases-loop-number
-decreases-loop-number g l = length ((g.G.Game.rules l.g).legal (g.G.Game.state l.g l.p) l.role) - l.place
+decreases-loop-number g l = length ((g.G.Game.rules l.game).legal (g.G.Game.state l.game l.p) l.role) - l.place

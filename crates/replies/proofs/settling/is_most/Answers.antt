@@ -11,11 +11,11 @@ use Rattle.replies.proofs.settling.is_most.Goals as goal
 
 pub overflow_add-worth : goal.overflow_add-worth
 overflow_add-worth g c =
-    let rules = g.G.Game.rules c.args.g.now in
-    let state = g.G.Game.state c.args.g.now c.args.here.now in
+    let rules = g.G.Game.rules c.args.game.now in
+    let state = g.G.Game.state c.args.game.now c.args.here.now in
     let asked = c.args.asked in
     let law = g.met.G.Game g.world.𝓛 g.world.𝓜 g.world.𝓡 ((λ _ x. x), (λ x. x), (λ x. x), λ x. x) in
-    let few = value_at_most rules asked.role (λ t k. law.goal_within c.args.g.now t k) asked.depth asked.at state in
+    let few = value_at_most rules asked.role (λ t k. law.goal_within c.args.game.now t k) asked.depth asked.at state in
     let v = value rules asked.role asked.depth asked.at state in
     let z = to_z w16 (of_z w16 c.args.worth) in
     let is : z ≡ pos v = to_z-of_z w16 c.args.worth c.ranges.worth ∙ c.requires.worth in
@@ -23,11 +23,11 @@ overflow_add-worth g c =
 
 pub value_in-found-requires-clause-window : goal.value_in-found-requires-clause-window
 value_in-found-requires-clause-window g c κs within =
-    let rules = g.G.Game.rules c.args.g.now in
-    let state = g.G.Game.state c.args.g.now c.args.here.now in
+    let rules = g.G.Game.rules c.args.game.now in
+    let state = g.G.Game.state c.args.game.now c.args.here.now in
     let asked = c.args.asked in
     let law = g.met.G.Game g.world.𝓛 g.world.𝓜 g.world.𝓡 ((λ _ x. x), (λ x. x), (λ x. x), λ x. x) in
-    let few = value_at_most rules asked.role (λ t k. law.goal_within c.args.g.now t k) asked.depth asked.at state in
+    let few = value_at_most rules asked.role (λ t k. law.goal_within c.args.game.now t k) asked.depth asked.at state in
     let v = value rules asked.role asked.depth asked.at state in
     let z = to_z w16 (of_z w16 c.args.worth) in
     let is : z ≡ pos v = to_z-of_z w16 c.args.worth c.ranges.worth ∙ c.requires.worth in
@@ -36,11 +36,11 @@ value_in-found-requires-clause-window g c κs within =
 
 pub returns-clause-most : goal.returns-clause-most
 returns-clause-most g c =
-    let rules = g.G.Game.rules c.args.g.now in
-    let state = g.G.Game.state c.args.g.now c.args.here.now in
+    let rules = g.G.Game.rules c.args.game.now in
+    let state = g.G.Game.state c.args.game.now c.args.here.now in
     let asked = c.args.asked in
     let law = g.met.G.Game g.world.𝓛 g.world.𝓜 g.world.𝓡 ((λ _ x. x), (λ x. x), (λ x. x), λ x. x) in
-    let few = value_at_most rules asked.role (λ t k. law.goal_within c.args.g.now t k) asked.depth asked.at state in
+    let few = value_at_most rules asked.role (λ t k. law.goal_within c.args.game.now t k) asked.depth asked.at state in
     let v = value rules asked.role asked.depth asked.at state in
     let z = to_z w16 (of_z w16 c.args.worth) in
     let is : z ≡ pos v = to_z-of_z w16 c.args.worth c.ranges.worth ∙ c.requires.worth in

@@ -8,8 +8,8 @@ use Rattle.replies.proofs.standing.standing_lines.Goals as goal
 
 pub returns : goal.returns
 returns g c = λ rules is.
-    let game = named (g.G.Game.rules c.args.g.now) (g.G.Game.role_name c.args.g.now) (g.G.Game.move_name c.args.g.now) in
-    let state = g.G.Game.state c.args.g.now c.args.here.now in
+    let game = named (g.G.Game.rules c.args.game.now) (g.G.Game.role_name c.args.game.now) (g.G.Game.move_name c.args.game.now) in
+    let state = g.G.Game.state c.args.game.now c.args.here.now in
     let key = c.write_key.new.key in
     let law = g.met.G.GroundGame g.world.𝓛 g.world.𝓜 g.world.𝓡 ((λ _ x. x), (λ x. x), (λ x. x), λ x. x) in
     let source = c.instantiation.ensures in
@@ -19,5 +19,5 @@ returns g c = λ rules is.
     c.add_holding.new.output.items
     (subst (IsGround rules) (sym source) is)
     (subst (λ (f : FlatGround). state ≡ state_of_bits (length f.starts.items) key) (sym source)
-    (sym c.write_key.ensures.keyed ∙ law.keyed_by_bits c.args.g.now key))
+    (sym c.write_key.ensures.keyed ∙ law.keyed_by_bits c.args.game.now key))
     c.new-output.ensures.items c.in_ok-add_standing.ensures (rw same at c.in_ok-add_holding.ensures)

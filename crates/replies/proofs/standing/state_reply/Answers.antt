@@ -7,8 +7,8 @@ use Rattle.replies.proofs.standing.state_reply.Goals as goal
 
 pub returns-in_ok-standing_lines-in-Ok : goal.returns-in_ok-standing_lines-in-Ok
 returns-in_ok-standing_lines-in-Ok g c = λ rules is.
-    let game = named (g.G.Game.rules c.args.g.now) (g.G.Game.role_name c.args.g.now) (g.G.Game.move_name c.args.g.now) in
-    let state = g.G.Game.state c.args.g.now c.in-Ok.here in
+    let game = named (g.G.Game.rules c.args.game.now) (g.G.Game.role_name c.args.game.now) (g.G.Game.move_name c.args.game.now) in
+    let state = g.G.Game.state c.args.game.now c.in-Ok.here in
     let same : c.answered.result.output.items ≡ c.in_ok-standing_lines-in-Ok.field-0.items = search facts in
     let line : c.answered.result.output.items ≡ state_lines rules game state = same ∙ c.in_ok-standing_lines-in-Ok.ensures rules is in
     let status = c.answered.ensures.status in
@@ -16,6 +16,6 @@ returns-in_ok-standing_lines-in-Ok g c = λ rules is.
 
 pub returns-in-Err : goal.returns-in-Err
 returns-in-Err g c =
-    let game = named (g.G.Game.rules c.args.g.now) (g.G.Game.role_name c.args.g.now) (g.G.Game.move_name c.args.g.now) in
-    fault_told game c.args.after.now (g.G.GroundGame.source c.args.g.now) c.in-Err.fault c.refused_history.result
+    let game = named (g.G.Game.rules c.args.game.now) (g.G.Game.role_name c.args.game.now) (g.G.Game.move_name c.args.game.now) in
+    fault_told game c.args.after.now (g.G.GroundGame.source c.args.game.now) c.in-Err.fault c.refused_history.result
     (c.in-Err.ensures.refused (search facts)) c.refused_history.ensures.line c.refused_history.ensures.status

@@ -7,16 +7,16 @@ use Rattle.replies.proofs.windowed.lines_within.Goals as goal
 
 pub returns-in-Below-clause-lines : goal.returns-in-Below-clause-lines
 returns-in-Below-clause-lines g c =
-    let game = named (g.G.Game.rules c.args.g.now) (g.G.Game.role_name c.args.g.now) (g.G.Game.move_name c.args.g.now) in
-    let state = g.G.Game.state c.args.g.now c.args.here.now in
+    let game = named (g.G.Game.rules c.args.game.now) (g.G.Game.role_name c.args.game.now) (g.G.Game.move_name c.args.game.now) in
+    let state = g.G.Game.state c.args.game.now c.args.here.now in
     let asked = c.args.asked in
     rw (told_below game c.args.window asked.role asked.depth asked.at state c.place_value.result c.place_value.ensures.placed c.in-Below.is)
     (rw c.saturating_sub.ensures at c.below_lines.ensures)
 
 pub lines_of_value-requires-clause-worth : goal.lines_of_value-requires-clause-worth
 lines_of_value-requires-clause-worth g c κs within =
-    let game = named (g.G.Game.rules c.args.g.now) (g.G.Game.role_name c.args.g.now) (g.G.Game.move_name c.args.g.now) in
-    let state = g.G.Game.state c.args.g.now c.args.here.now in
+    let game = named (g.G.Game.rules c.args.game.now) (g.G.Game.role_name c.args.game.now) (g.G.Game.move_name c.args.game.now) in
+    let state = g.G.Game.state c.args.game.now c.args.here.now in
     let asked = c.args.asked in
     let fits : SFits w16 c.in-Between.worth = search facts in
     to_z-of_z w16 c.in-Between.worth fits
@@ -25,8 +25,8 @@ lines_of_value-requires-clause-worth g c κs within =
 
 pub returns-in-Between-clause-lines : goal.returns-in-Between-clause-lines
 returns-in-Between-clause-lines g c =
-    let game = named (g.G.Game.rules c.args.g.now) (g.G.Game.role_name c.args.g.now) (g.G.Game.move_name c.args.g.now) in
-    let state = g.G.Game.state c.args.g.now c.args.here.now in
+    let game = named (g.G.Game.rules c.args.game.now) (g.G.Game.role_name c.args.game.now) (g.G.Game.move_name c.args.game.now) in
+    let state = g.G.Game.state c.args.game.now c.args.here.now in
     let asked = c.args.asked in
     rw (told_between game c.args.window asked.role asked.depth asked.at state c.place_value.result c.place_value.ensures.placed c.in-Between.worth
     c.in-Between.is) c.lines_of_value.ensures.lines

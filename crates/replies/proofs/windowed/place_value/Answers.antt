@@ -16,8 +16,8 @@ value_in-found-requires-clause-window g c κs within =
 
 pub returns-then-found-low-clause-placed : goal.returns-then-found-low-clause-placed
 returns-then-found-low-clause-placed g c =
-    let rules = g.G.Game.rules c.args.g.now in
-    let state = g.G.Game.state c.args.g.now c.args.here.now in
+    let rules = g.G.Game.rules c.args.game.now in
+    let state = g.G.Game.state c.args.game.now c.args.here.now in
     let worth = value rules c.args.asked.role c.args.asked.depth c.args.asked.at state in
     let low = c.bounds_of-low.result.0 in
     let high = c.bounds_of-low.result.1 in
@@ -30,8 +30,8 @@ returns-then-found-low-clause-placed g c =
 
 pub returns-then-found-high-clause-placed : goal.returns-then-found-high-clause-placed
 returns-then-found-high-clause-placed g c =
-    let rules = g.G.Game.rules c.args.g.now in
-    let state = g.G.Game.state c.args.g.now c.args.here.now in
+    let rules = g.G.Game.rules c.args.game.now in
+    let state = g.G.Game.state c.args.game.now c.args.here.now in
     let worth = value rules c.args.asked.role c.args.asked.depth c.args.asked.at state in
     let low = c.bounds_of-low.result.0 in
     let high = c.bounds_of-low.result.1 in
@@ -44,8 +44,8 @@ returns-then-found-high-clause-placed g c =
 
 pub returns-clause-placed : goal.returns-clause-placed
 returns-clause-placed g c =
-    let rules = g.G.Game.rules c.args.g.now in
-    let state = g.G.Game.state c.args.g.now c.args.here.now in
+    let rules = g.G.Game.rules c.args.game.now in
+    let state = g.G.Game.state c.args.game.now c.args.here.now in
     let worth = value rules c.args.asked.role c.args.asked.depth c.args.asked.at state in
     let low = c.bounds_of-low.result.0 in
     let high = c.bounds_of-low.result.1 in

@@ -10,11 +10,11 @@ use Rattle.replies.proofs.worths.add_each.Given as goal
 abbrev pub invariant-loop-own : goal.invariant-loop-own
 invariant-loop-own g l =
     let game = g.G.Game in
-    let state = game.state l.g l.here in
-    let legal = (game.rules l.g).legal state l.asked.role in
-    let named_game = named (game.rules l.g) (game.role_name l.g) (game.move_name l.g) in
+    let state = game.state l.game l.here in
+    let legal = (game.rules l.game).legal state l.asked.role in
+    let named_game = named (game.rules l.game) (game.role_name l.game) (game.move_name l.game) in
     record {
-      play : IsPlayFor game l.g l.asked.role l.asked.depth l.play;
+      play : IsPlayFor game l.game l.asked.role l.asked.depth l.play;
       same : room_depth l.play.room ≡ room_depth l.fn.play.room;
       within : l.place ≤ length legal;
       lines : l.output.items ≡ l.fn.output.items ++ flat_map (move_lines named_game l.asked.role (l.asked.depth - 1) l.asked.at state)
@@ -22,4 +22,4 @@ invariant-loop-own g l =
     }
 
 abbrev pub decreases-loop-own : goal.decreases-loop-own
-decreases-loop-own g l = length ((g.G.Game.rules l.g).legal (g.G.Game.state l.g l.here) l.asked.role) - l.place
+decreases-loop-own g l = length ((g.G.Game.rules l.game).legal (g.G.Game.state l.game l.here) l.asked.role) - l.place

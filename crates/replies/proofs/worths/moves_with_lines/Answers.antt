@@ -7,14 +7,14 @@ use Rattle.replies.proofs.worths.moves_with_lines.Goals as goal
 
 pub returns-then-is_closed-clause-lines : goal.returns-then-is_closed-clause-lines
 returns-then-is_closed-clause-lines g c =
-    let game = named (g.G.Game.rules c.args.g.now) (g.G.Game.role_name c.args.g.now) (g.G.Game.move_name c.args.g.now) in
-    rw (lines_closed game c.args.asked.role c.args.asked.depth c.args.asked.at (g.G.Game.state c.args.g.now c.args.here.now)
+    let game = named (g.G.Game.rules c.args.game.now) (g.G.Game.role_name c.args.game.now) (g.G.Game.move_name c.args.game.now) in
+    rw (lines_closed game c.args.asked.role c.args.asked.depth c.args.asked.at (g.G.Game.state c.args.game.now c.args.here.now)
     (c.is_closed.ensures.yes c.if-is_closed.true)) c.best_lines.ensures.lines
 
 pub returns-clause-lines : goal.returns-clause-lines
 returns-clause-lines g c =
-    let game = named (g.G.Game.rules c.args.g.now) (g.G.Game.role_name c.args.g.now) (g.G.Game.move_name c.args.g.now) in
-    let state = g.G.Game.state c.args.g.now c.args.here.now in
+    let game = named (g.G.Game.rules c.args.game.now) (g.G.Game.role_name c.args.game.now) (g.G.Game.move_name c.args.game.now) in
+    let state = g.G.Game.state c.args.game.now c.args.here.now in
     let asked = c.args.asked in
     c.in_ok-add_each.ensures.lines
     ∙ ap (λ (xs : List ℕ). xs ++ flat_map (move_lines game asked.role (asked.depth - 1) asked.at state) (game.rules.legal state asked.role))

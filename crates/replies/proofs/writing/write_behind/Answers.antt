@@ -27,29 +27,29 @@ write_turns-requires-clause-play g c κs within =
 
 pub returns-in_err-write_turn-clause-front : goal.returns-in_err-write_turn-clause-front
 returns-in_err-write_turn-clause-front g c =
-    let game = named (g.G.Game.rules c.args.g.now) (g.G.Game.role_name c.args.g.now) (g.G.Game.move_name c.args.g.now) in
+    let game = named (g.G.Game.rules c.args.game.now) (g.G.Game.role_name c.args.game.now) (g.G.Game.move_name c.args.game.now) in
     let asked = c.args.asked in
     let t = c.own_turn.ensures.turn in
-    let pieces = behind_pieces game asked.role (asked.depth - 1) asked.at (g.G.Game.state c.args.g.now c.args.play.now.here) (g.G.Game.state c.args.g.now c.own_turn.new.self.here) c.args.own
+    let pieces = behind_pieces game asked.role (asked.depth - 1) asked.at (g.G.Game.state c.args.game.now c.args.play.now.here) (g.G.Game.state c.args.game.now c.own_turn.new.self.here) c.args.own
     c.own_turn.new.self.joint.items t.reply t.after in
     on_err c.from_residual.result _ (broken _ _ _ _ _ _ _ (begun _ _) pieces c.in_err-write_turn.ensures.front)
 
 pub returns-clause-whole : goal.returns-clause-whole
 returns-clause-whole g c =
-    let game = named (g.G.Game.rules c.args.g.now) (g.G.Game.role_name c.args.g.now) (g.G.Game.move_name c.args.g.now) in
+    let game = named (g.G.Game.rules c.args.game.now) (g.G.Game.role_name c.args.game.now) (g.G.Game.move_name c.args.game.now) in
     let asked = c.args.asked in
     let t = c.own_turn.ensures.turn in
-    let pieces = behind_pieces game asked.role (asked.depth - 1) asked.at (g.G.Game.state c.args.g.now c.args.play.now.here) (g.G.Game.state c.args.g.now c.own_turn.new.self.here) c.args.own
+    let pieces = behind_pieces game asked.role (asked.depth - 1) asked.at (g.G.Game.state c.args.game.now c.args.play.now.here) (g.G.Game.state c.args.game.now c.own_turn.new.self.here) c.args.own
     c.own_turn.new.self.joint.items t.reply t.after in
     let turn = further _ _ _ _ _ _ _ (begun _ _) pieces c.in_ok-write_turn.ensures.whole in
     on_ok_map c.write_turns.result _ _ (λ h. ended _ _ _ _ (further _ _ _ _ _ _ _ turn refl h) refl) c.write_turns.ensures.whole
 
 pub returns-clause-front : goal.returns-clause-front
 returns-clause-front g c =
-    let game = named (g.G.Game.rules c.args.g.now) (g.G.Game.role_name c.args.g.now) (g.G.Game.move_name c.args.g.now) in
+    let game = named (g.G.Game.rules c.args.game.now) (g.G.Game.role_name c.args.game.now) (g.G.Game.move_name c.args.game.now) in
     let asked = c.args.asked in
     let t = c.own_turn.ensures.turn in
-    let pieces = behind_pieces game asked.role (asked.depth - 1) asked.at (g.G.Game.state c.args.g.now c.args.play.now.here) (g.G.Game.state c.args.g.now c.own_turn.new.self.here) c.args.own
+    let pieces = behind_pieces game asked.role (asked.depth - 1) asked.at (g.G.Game.state c.args.game.now c.args.play.now.here) (g.G.Game.state c.args.game.now c.own_turn.new.self.here) c.args.own
     c.own_turn.new.self.joint.items t.reply t.after in
     let turn = further _ _ _ _ _ _ _ (begun _ _) pieces c.in_ok-write_turn.ensures.whole in
     on_err_map c.write_turns.result _ _ (λ h. broken _ _ _ _ _ _ _ turn refl h) c.write_turns.ensures.front

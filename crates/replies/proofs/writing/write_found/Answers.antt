@@ -13,14 +13,14 @@ use Rattle.replies.proofs.writing.write_found.Goals as goal
 pub write_choice-requires-clause-chosen : goal.write_choice-requires-clause-chosen
 write_choice-requires-clause-chosen g c κs within =
     let law = g.met.G.Game g.world.𝓛 g.world.𝓜 g.world.𝓡 ((λ _ x. x), (λ x. x), (λ x. x), λ x. x) in
-    rw c.requires.found.choice_is (choice_within (g.G.Game.rules c.args.g.now) (λ s r below. law.legal_within c.args.g.now s r below) c.args.asked.role c.args.asked.depth
-    c.args.asked.at (g.G.Game.state c.args.g.now c.args.play.now.here) c.requires.play.known)
+    rw c.requires.found.choice_is (choice_within (g.G.Game.rules c.args.game.now) (λ s r below. law.legal_within c.args.game.now s r below) c.args.asked.role c.args.asked.depth
+    c.args.asked.at (g.G.Game.state c.args.game.now c.args.play.now.here) c.requires.play.known)
 
 pub returns-in_err-write_count-clause-front : goal.returns-in_err-write_count-clause-front
 returns-in_err-write_count-clause-front g c =
-    let game = named (g.G.Game.rules c.args.g.now) (g.G.Game.role_name c.args.g.now) (g.G.Game.move_name c.args.g.now) in
+    let game = named (g.G.Game.rules c.args.game.now) (g.G.Game.role_name c.args.game.now) (g.G.Game.move_name c.args.game.now) in
     let asked = c.args.asked in
-    let state = (g.G.Game.state c.args.g.now c.args.play.now.here) in
+    let state = (g.G.Game.state c.args.game.now c.args.play.now.here) in
     let fits : SFits w16 c.args.found.now.value = search facts in
     let same : c.unsigned.result ≡ value game.rules asked.role asked.depth asked.at state =
     c.unsigned.ensures ∙ ap nat_abs (to_z-of_z w16 c.args.found.now.value fits) ∙ ap nat_abs c.requires.found.value_is in
@@ -29,9 +29,9 @@ returns-in_err-write_count-clause-front g c =
 
 pub returns-in_err-write_choice-clause-front : goal.returns-in_err-write_choice-clause-front
 returns-in_err-write_choice-clause-front g c =
-    let game = named (g.G.Game.rules c.args.g.now) (g.G.Game.role_name c.args.g.now) (g.G.Game.move_name c.args.g.now) in
+    let game = named (g.G.Game.rules c.args.game.now) (g.G.Game.role_name c.args.game.now) (g.G.Game.move_name c.args.game.now) in
     let asked = c.args.asked in
-    let state = (g.G.Game.state c.args.g.now c.args.play.now.here) in
+    let state = (g.G.Game.state c.args.game.now c.args.play.now.here) in
     let fits : SFits w16 c.args.found.now.value = search facts in
     let same : c.unsigned.result ≡ value game.rules asked.role asked.depth asked.at state =
     c.unsigned.ensures ∙ ap nat_abs (to_z-of_z w16 c.args.found.now.value fits) ∙ ap nat_abs c.requires.found.value_is in
@@ -42,9 +42,9 @@ returns-in_err-write_choice-clause-front g c =
 
 pub returns-clause-whole : goal.returns-clause-whole
 returns-clause-whole g c =
-    let game = named (g.G.Game.rules c.args.g.now) (g.G.Game.role_name c.args.g.now) (g.G.Game.move_name c.args.g.now) in
+    let game = named (g.G.Game.rules c.args.game.now) (g.G.Game.role_name c.args.game.now) (g.G.Game.move_name c.args.game.now) in
     let asked = c.args.asked in
-    let state = (g.G.Game.state c.args.g.now c.args.play.now.here) in
+    let state = (g.G.Game.state c.args.game.now c.args.play.now.here) in
     let fits : SFits w16 c.args.found.now.value = search facts in
     let same : c.unsigned.result ≡ value game.rules asked.role asked.depth asked.at state =
     c.unsigned.ensures ∙ ap nat_abs (to_z-of_z w16 c.args.found.now.value fits) ∙ ap nat_abs c.requires.found.value_is in
@@ -55,9 +55,9 @@ returns-clause-whole g c =
 
 pub returns-clause-front : goal.returns-clause-front
 returns-clause-front g c =
-    let game = named (g.G.Game.rules c.args.g.now) (g.G.Game.role_name c.args.g.now) (g.G.Game.move_name c.args.g.now) in
+    let game = named (g.G.Game.rules c.args.game.now) (g.G.Game.role_name c.args.game.now) (g.G.Game.move_name c.args.game.now) in
     let asked = c.args.asked in
-    let state = (g.G.Game.state c.args.g.now c.args.play.now.here) in
+    let state = (g.G.Game.state c.args.game.now c.args.play.now.here) in
     let fits : SFits w16 c.args.found.now.value = search facts in
     let same : c.unsigned.result ≡ value game.rules asked.role asked.depth asked.at state =
     c.unsigned.ensures ∙ ap nat_abs (to_z-of_z w16 c.args.found.now.value fits) ∙ ap nat_abs c.requires.found.value_is in

@@ -12,11 +12,11 @@ loop-role-init g c = begun _ _
 
 pub loop-role-preserved : goal.loop-role-preserved
 loop-role-preserved g c =
-    let game = g.G.Game.rules c.args.g.now in
-    let names = g.G.Game.move_name c.args.g.now in
+    let game = g.G.Game.rules c.args.game.now in
+    let names = g.G.Game.move_name c.args.game.now in
     let role = c.loop-role.role in
     let text = λ (q : ℕ). names q (slice_index c.args.joint.now.items q) in
-    let all = move_texts (named (g.G.Game.rules c.args.g.now) (g.G.Game.role_name c.args.g.now) (g.G.Game.move_name c.args.g.now)) c.args.joint.now.items in
+    let all = move_texts (named (g.G.Game.rules c.args.game.now) (g.G.Game.role_name c.args.game.now) (g.G.Game.move_name c.args.game.now)) c.args.joint.now.items in
     let count = length-map-range_with_len text 0 game.roles in
     let here : get_or all role (text role) ≡ text role =
     get_or-map-range_with_len text 0 game.roles role role (text role) (omega arith) (omega arith) in
@@ -27,11 +27,11 @@ loop-role-preserved g c =
 
 pub returns-in_err-write_bytes-clause-front : goal.returns-in_err-write_bytes-clause-front
 returns-in_err-write_bytes-clause-front g c =
-    let game = g.G.Game.rules c.args.g.now in
-    let names = g.G.Game.move_name c.args.g.now in
+    let game = g.G.Game.rules c.args.game.now in
+    let names = g.G.Game.move_name c.args.game.now in
     let role = c.loop-role.role in
     let text = λ (q : ℕ). names q (slice_index c.args.joint.now.items q) in
-    let all = move_texts (named (g.G.Game.rules c.args.g.now) (g.G.Game.role_name c.args.g.now) (g.G.Game.move_name c.args.g.now)) c.args.joint.now.items in
+    let all = move_texts (named (g.G.Game.rules c.args.game.now) (g.G.Game.role_name c.args.game.now) (g.G.Game.move_name c.args.game.now)) c.args.joint.now.items in
     let count = length-map-range_with_len text 0 game.roles in
     let here : get_or all role (text role) ≡ text role =
     get_or-map-range_with_len text 0 game.roles role role (text role) (omega arith) (omega arith) in
@@ -40,11 +40,11 @@ returns-in_err-write_bytes-clause-front g c =
 
 pub returns-in_err-write_bytes-2-clause-front : goal.returns-in_err-write_bytes-2-clause-front
 returns-in_err-write_bytes-2-clause-front g c =
-    let game = g.G.Game.rules c.args.g.now in
-    let names = g.G.Game.move_name c.args.g.now in
+    let game = g.G.Game.rules c.args.game.now in
+    let names = g.G.Game.move_name c.args.game.now in
     let role = c.loop-role.role in
     let text = λ (q : ℕ). names q (slice_index c.args.joint.now.items q) in
-    let all = move_texts (named (g.G.Game.rules c.args.g.now) (g.G.Game.role_name c.args.g.now) (g.G.Game.move_name c.args.g.now)) c.args.joint.now.items in
+    let all = move_texts (named (g.G.Game.rules c.args.game.now) (g.G.Game.role_name c.args.game.now) (g.G.Game.move_name c.args.game.now)) c.args.joint.now.items in
     let count = length-map-range_with_len text 0 game.roles in
     let here : get_or all role (text role) ≡ text role =
     get_or-map-range_with_len text 0 game.roles role role (text role) (omega arith) (omega arith) in
@@ -55,9 +55,9 @@ returns-in_err-write_bytes-2-clause-front g c =
 
 pub returns-clause-whole : goal.returns-clause-whole
 returns-clause-whole g c =
-    let game = g.G.Game.rules c.args.g.now in
-    let names = g.G.Game.move_name c.args.g.now in
+    let game = g.G.Game.rules c.args.game.now in
+    let names = g.G.Game.move_name c.args.game.now in
     let text = λ (q : ℕ). names q (slice_index c.args.joint.now.items q) in
-    let all = move_texts (named (g.G.Game.rules c.args.g.now) (g.G.Game.role_name c.args.g.now) (g.G.Game.move_name c.args.g.now)) c.args.joint.now.items in
+    let all = move_texts (named (g.G.Game.rules c.args.game.now) (g.G.Game.role_name c.args.game.now) (g.G.Game.move_name c.args.game.now)) c.args.joint.now.items in
     let count = length-map-range_with_len text 0 game.roles in
     ended _ _ _ _ c.loop-role.invariant (spaced_done all c.loop-role.role (omega (arith, count)))

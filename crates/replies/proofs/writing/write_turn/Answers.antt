@@ -7,25 +7,25 @@ use Rattle.replies.proofs.writing.write_turn.Goals as goal
 
 pub returns-in_err-write_bytes-clause-front : goal.returns-in_err-write_bytes-clause-front
 returns-in_err-write_bytes-clause-front g c =
-    let pieces = turn_pieces (named (g.G.Game.rules c.args.g.now) (g.G.Game.role_name c.args.g.now) (g.G.Game.move_name c.args.g.now)) c.args.number c.args.joint.now.items in
+    let pieces = turn_pieces (named (g.G.Game.rules c.args.game.now) (g.G.Game.role_name c.args.game.now) (g.G.Game.move_name c.args.game.now)) c.args.number c.args.joint.now.items in
     on_err c.from_residual.result _ (broken _ _ _ _ _ _ _ (begun _ _) pieces c.in_err-write_bytes.ensures.front)
 
 pub returns-in_err-write_number-clause-front : goal.returns-in_err-write_number-clause-front
 returns-in_err-write_number-clause-front g c =
-    let pieces = turn_pieces (named (g.G.Game.rules c.args.g.now) (g.G.Game.role_name c.args.g.now) (g.G.Game.move_name c.args.g.now)) c.args.number c.args.joint.now.items in
+    let pieces = turn_pieces (named (g.G.Game.rules c.args.game.now) (g.G.Game.role_name c.args.game.now) (g.G.Game.move_name c.args.game.now)) c.args.number c.args.joint.now.items in
     let word = further _ _ _ _ _ _ _ (begun _ _) pieces c.in_ok-write_bytes.ensures.whole in
     on_err c.from_residual-in_err-write_number.result _ (broken _ _ _ _ _ _ _ word refl c.in_err-write_number.ensures.front)
 
 pub returns-in_err-write_moves-clause-front : goal.returns-in_err-write_moves-clause-front
 returns-in_err-write_moves-clause-front g c =
-    let pieces = turn_pieces (named (g.G.Game.rules c.args.g.now) (g.G.Game.role_name c.args.g.now) (g.G.Game.move_name c.args.g.now)) c.args.number c.args.joint.now.items in
+    let pieces = turn_pieces (named (g.G.Game.rules c.args.game.now) (g.G.Game.role_name c.args.game.now) (g.G.Game.move_name c.args.game.now)) c.args.number c.args.joint.now.items in
     let word = further _ _ _ _ _ _ _ (begun _ _) pieces c.in_ok-write_bytes.ensures.whole in
     let number = further _ _ _ _ _ _ _ word refl c.in_ok-write_number.ensures.whole in
     on_err c.from_residual-in_err-write_moves.result _ (broken _ _ _ _ _ _ _ number refl c.in_err-write_moves.ensures.front)
 
 pub returns-clause-whole : goal.returns-clause-whole
 returns-clause-whole g c =
-    let pieces = turn_pieces (named (g.G.Game.rules c.args.g.now) (g.G.Game.role_name c.args.g.now) (g.G.Game.move_name c.args.g.now)) c.args.number c.args.joint.now.items in
+    let pieces = turn_pieces (named (g.G.Game.rules c.args.game.now) (g.G.Game.role_name c.args.game.now) (g.G.Game.move_name c.args.game.now)) c.args.number c.args.joint.now.items in
     let word = further _ _ _ _ _ _ _ (begun _ _) pieces c.in_ok-write_bytes.ensures.whole in
     let number = further _ _ _ _ _ _ _ word refl c.in_ok-write_number.ensures.whole in
     let moves = further _ _ _ _ _ _ _ number refl c.in_ok-write_moves.ensures.whole in
@@ -33,7 +33,7 @@ returns-clause-whole g c =
 
 pub returns-clause-front : goal.returns-clause-front
 returns-clause-front g c =
-    let pieces = turn_pieces (named (g.G.Game.rules c.args.g.now) (g.G.Game.role_name c.args.g.now) (g.G.Game.move_name c.args.g.now)) c.args.number c.args.joint.now.items in
+    let pieces = turn_pieces (named (g.G.Game.rules c.args.game.now) (g.G.Game.role_name c.args.game.now) (g.G.Game.move_name c.args.game.now)) c.args.number c.args.joint.now.items in
     let word = further _ _ _ _ _ _ _ (begun _ _) pieces c.in_ok-write_bytes.ensures.whole in
     let number = further _ _ _ _ _ _ _ word refl c.in_ok-write_number.ensures.whole in
     let moves = further _ _ _ _ _ _ _ number refl c.in_ok-write_moves.ensures.whole in

@@ -10,11 +10,11 @@ use Rattle.replies.proofs.writing.write_turns.Goals as goal
 
 pub returns-in_err-write_turn-clause-front : goal.returns-in_err-write_turn-clause-front
 returns-in_err-write_turn-clause-front g c =
-    let game = named (g.G.Game.rules c.args.g.now) (g.G.Game.role_name c.args.g.now) (g.G.Game.move_name c.args.g.now) in
+    let game = named (g.G.Game.rules c.args.game.now) (g.G.Game.role_name c.args.game.now) (g.G.Game.move_name c.args.game.now) in
     let asked = c.args.asked in
     let left = c.loop-chosen.left in
-    let here = g.G.Game.state c.args.g.now c.loop-chosen.play.here in
-    let next = g.G.Game.state c.args.g.now c.turn.new.self.here in
+    let here = g.G.Game.state c.args.game.now c.loop-chosen.play.here in
+    let next = g.G.Game.state c.args.game.now c.turn.new.self.here in
     let t = c.turn.ensures.turn in
     let chosen : choice_of game.rules asked.role left asked.at here ≡ Some c.in-Some.own = sym c.loop-chosen.invariant.chosen ∙ c.in-Some.is in
     let number : c.from.result + c.from-turns.result ≡ c.args.number + (asked.depth - left) = omega (arith, c.from.ensures, c.from-turns.ensures) in
@@ -24,11 +24,11 @@ returns-in_err-write_turn-clause-front g c =
 
 pub loop-chosen-preserved : goal.loop-chosen-preserved
 loop-chosen-preserved g c =
-    let game = named (g.G.Game.rules c.args.g.now) (g.G.Game.role_name c.args.g.now) (g.G.Game.move_name c.args.g.now) in
+    let game = named (g.G.Game.rules c.args.game.now) (g.G.Game.role_name c.args.game.now) (g.G.Game.move_name c.args.game.now) in
     let asked = c.args.asked in
     let left = c.loop-chosen.left in
-    let here = g.G.Game.state c.args.g.now c.loop-chosen.play.here in
-    let next = g.G.Game.state c.args.g.now c.turn.new.self.here in
+    let here = g.G.Game.state c.args.game.now c.loop-chosen.play.here in
+    let next = g.G.Game.state c.args.game.now c.turn.new.self.here in
     let t = c.turn.ensures.turn in
     let chosen : choice_of game.rules asked.role left asked.at here ≡ Some c.in-Some.own = sym c.loop-chosen.invariant.chosen ∙ c.in-Some.is in
     let number : c.from.result + c.from-turns.result ≡ c.args.number + (asked.depth - left) = omega (arith, c.from.ensures, c.from-turns.ensures) in

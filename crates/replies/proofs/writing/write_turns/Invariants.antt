@@ -11,11 +11,11 @@ use Rattle.replies.proofs.writing.write_turns.Given as goal
 -- the lines of the turns that are left are still to be written
 abbrev pub invariant-loop-chosen : goal.invariant-loop-chosen
 invariant-loop-chosen g l =
-    let rules = g.G.Game.rules l.g in
-    let state = g.G.Game.state l.g in
-    let game = named rules (g.G.Game.role_name l.g) (g.G.Game.move_name l.g) in
+    let rules = g.G.Game.rules l.game in
+    let state = g.G.Game.state l.game in
+    let game = named rules (g.G.Game.role_name l.game) (g.G.Game.move_name l.game) in
     record {
-      play : IsPlayOf g.G.Game l.g l.play;
+      play : IsPlayOf g.G.Game l.game l.play;
       same : room_depth l.play.room ≡ room_depth l.fn.play.room;
       deep : l.left ≤ room_depth l.play.room;
       within : l.left ≤ l.asked.depth;
