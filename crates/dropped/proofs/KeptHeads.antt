@@ -68,7 +68,7 @@ module _ (rules : List Alternative) (words : List (List ℕ)) (held : Held) (ato
       → (bytes : List ℕ) → bytes ≡ text (term_at (trees words held.keys) head)
       → HasLackingHead rules alternative lack bytes
   lacking_head differ k named i d h alternative head a b within lack lacking bytes shows =
-      let there = same_at (told (trees words held.keys)) (told_by rules) found (listing rules).kept l.listed.found_are.same i d h in
+      let there = same_at (told (trees words held.keys)) (told_by rules (listing rules).atoms) found (listing rules).kept l.listed.found_are.same i d h in
       let tree : term_at (trees words held.keys) head ≡ tree_of there.other.head =
       ap (term_at (trees words held.keys)) b ∙ ap (λ t. t.head) there.same in
       record {

@@ -1,4 +1,3 @@
 mod RunLemmas
 mod Lists
-mod SomeLiterals
 pub mod Facts

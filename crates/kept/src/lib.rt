@@ -5,10 +5,8 @@
 mod atom_literal;
 mod entry;
 mod found_list;
-mod leaving_out;
 mod runs;
 
 pub use atom_literal::AtomLiteral;
 pub use entry::{AlternativeRun, Entry};
 pub use found_list::{FoundList, push_instance, push_literal, push_sharing};
-pub use leaving_out::leave_out;

@@ -39,7 +39,24 @@ fn is_last(runs: &[AlternativeRun], alternative: usize) -> bool
     many > 0 && runs[many - 1].alternative as usize == alternative
 }
 
-/// AddsRun the run of an instance behind those of all before it, unless it is of the last one's alternative.
+/// Begins the run of an alternative at an instance.
+fn begin_run(
+    runs: &mut Vec<AlternativeRun>,
+    alternative: usize,
+    place: usize,
+) -> Result<(), AllocError>
+    ensures { OnOk result (RunsRise 0 runs.old.items place → AddsRun alternative place runs.old.items runs.new.items) }
+{
+    let run = AlternativeRun {
+        alternative: in_32_bits(alternative)?,
+        first: in_32_bits(place)?,
+    };
+    runs.push(run)?;
+    Ok(())
+}
+
+/// Adds the run of an instance behind those of all before it, unless it is of the last one's alternative.
+#[inline(always)]
 pub fn add_run(
     runs: &mut Vec<AlternativeRun>,
     alternative: usize,
@@ -50,10 +67,5 @@ pub fn add_run(
     if is_last(runs, alternative) {
         return Ok(());
     }
-    let run = AlternativeRun {
-        alternative: in_32_bits(alternative)?,
-        first: in_32_bits(place)?,
-    };
-    runs.push(run)?;
-    Ok(())
+    begin_run(runs, alternative, place)
 }

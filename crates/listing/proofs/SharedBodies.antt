@@ -5,9 +5,10 @@ use Rattle.std.proofs.lemmas.List.{length-append}
 use Rattle.statement.specs.Tree.{Tree}
 use Rattle.statement.specs.Clause.{Atom, Alternative, Literal, positive, negative, relation_of}
 use Rattle.statement.specs.Dependence.{is_fixed}
-use Rattle.statement.specs.Listing.{passes, all_pass}
+use Rattle.statement.specs.Kept.{is_read, reading}
+use Rattle.statement.specs.Listing.{passes, all_pass, is_atom_in}
 use Rattle.statement.specs.Substitution.{Map, atom_under, literal_under}
-use Rattle.clauses.specs.Marks.{literal_in, IsInside}
+use Rattle.clauses.specs.Marks.{literal_in, IsInside, NumbersBelow}
 use Rattle.clauses.specs.Numbers.{BeginsWith}
 use Rattle.clauses.specs.Store as store
 use Rattle.clauses.specs.Store.{Data, relation_at, stated_literal}
@@ -17,13 +18,12 @@ use Rattle.kept.proofs.Facts.{many_bodies, get_last}
 use Rattle.matching.specs.Placed.{placed_atom}
 use Rattle.matching.specs.Plans.{CanBuild, CanBuildEach, number_in}
 use Rattle.terms.specs.Keys.{trees}
-use Rattle.listing.specs.Founds.{is_open, told_literal, numbers_of_atoms}
 use Rattle.listing.specs.Instances.{row_map, IsRow, HaveNumbers, literal_by, ReadsLiterals}
 use Rattle.listing.specs.Matchers.{passes_always}
 use Rattle.listing.specs.RuledOut.{FailsAlike}
 use Rattle.listing.specs.Sharing.{IsCommon, AreCommon, failing, IsBodyBy, IsBodyIn}
-use Rattle.terms.proofs.Facts.{below_more, front_length, trees_front}
-use Rattle.listing.proofs.FoundLemmas.{body_front}
+use Rattle.terms.specs.Atoms.{AreAtoms}
+use Rattle.terms.proofs.Facts.{front_length, terms_front, trees_front}
 use Rattle.listing.proofs.PassAlways.{one_passes}
 use Rattle.listing.proofs.RowAtoms.{map_stays, row_stays, below_trees}
 use Rattle.listing.proofs.RowBodies.{made_of, row_relation}
@@ -44,10 +44,10 @@ none_known d from keys atoms places values ns i k less e =
     ap (λ (o : Option (Option ℕ)). number_in atoms (number_in values (unwrap_or o None))) (none_noted i) in
     absurd (let bad : Some k ≡ None = sym e ∙ none in cc)
 
-split_told : (b : Bool) (x : Literal) (rest : List Literal)
-    → map told_literal (cond b (x ∷ rest) rest) ≡ map told_literal (cond b (x ∷ []) []) ++ map told_literal rest
-split_told true x rest = refl
-split_told false x rest = refl
+split_read : (so_far : List Atom) (b : Bool) (x : Literal) (rest : List Literal)
+    → map (reading so_far) (cond b (x ∷ rest) rest) ≡ map (reading so_far) (cond b (x ∷ []) []) ++ map (reading so_far) rest
+split_read so_far true x rest = refl
+split_read so_far false x rest = refl
 
 pub none_shared : (o : Option ℕ) (P : ℕ → Type 0) → o ≡ None → IfSome o P
 none_shared o P none = subst (λ (p : Option ℕ). IfSome p P) (sym none) tt
@@ -59,6 +59,17 @@ none_maps (Some k) P Q f p = tt
 pub some_maps : (o : Option ℕ) (P Q : ℕ → Type 0) → ((k : ℕ) → P k → Q k) → IfSome o P → IfSome o Q
 some_maps None P Q f p = tt
 some_maps (Some k) P Q f p = f k p
+
+-- atoms of later terms that are numbers of earlier ones are atoms of those
+atoms_back : (terms all : List Tree) (numbers : List ℕ) (xs : List Atom) → BeginsWith terms all → NumbersBelow (length terms) numbers
+    → AreAtoms all numbers xs → AreAtoms terms numbers xs
+atoms_back terms all numbers xs f b a = record { below = b; same = sym (terms_front terms all f numbers b) ∙ a.same }
+
+-- the literals that were read by themselves
+pub alone_read : (rules : List Alternative) (words keys : List (List ℕ)) (numbers : List ℕ) (body : List (ℕ × Bool)) (ls : List Literal)
+    → ReadsLiterals rules words keys numbers [] body ls → (so_far : List Atom) → AreAtoms (trees words keys) numbers so_far
+    → body ≡ map (reading so_far) (filter (is_read rules so_far) ls)
+alone_read rules words keys numbers body ls r so_far a = r.same ∙ r.read_are so_far a
 
 -- a body behind those of all others has the next number
 pub pushed_body : (f g : FoundList) (body : List (ℕ × Bool)) (number : ℕ) → bodies_of g ≡ bodies_of f ++ body ∷ [] → number ≡ length f.ends.items
@@ -88,60 +99,60 @@ module _ (rules : List Alternative) (d : Data) (from : ℕ) (places : List (Opti
       go (inl h) = before i h
       go (inr e) = subst (λ (k : ℕ). IsCommon rules d from places (get_or ns k 0)) (sym e) here
 
-  -- whether it is kept stands with the relation
-  open_is : (keys : List (List ℕ)) (values : List ℕ) (n : ℕ) → IsInside from d (literal_in d n).atom
-      → is_open rules (literal_by d from keys places values n) ≡ not (is_fixed rules (relation_at d (literal_in d n).atom.relation))
-  open_is keys values n inside =
-      ap (λ (k : Literal). is_open rules k) (sym (made_of d from keys places values n (literal_in d n) refl))
+  -- one of a fixed relation is not read
+  fixed_unread : (so_far : List Atom) (keys : List (List ℕ)) (values : List ℕ) (n : ℕ) → IsInside from d (literal_in d n).atom
+      → is_fixed rules (relation_at d (literal_in d n).atom.relation) ≡ true
+      → is_read rules so_far (literal_by d from keys places values n) ≡ false
+  fixed_unread so_far keys values n inside fixed =
+      ap (λ (k : Literal). is_read rules so_far k) (sym (made_of d from keys places values n (literal_in d n) refl))
       ∙ go (literal_in d n).is_negated
-      ∙ ap (λ p. not (is_fixed rules p)) (row_relation d from (row_map d keys places values) (literal_in d n).atom inside)
+      (ap (λ p. is_fixed rules p) (row_relation d from (row_map d keys places values) (literal_in d n).atom inside) ∙ fixed)
     where
       x : Atom
       x = atom_under (row_map d keys places values) (store.stated_atom d from (literal_in d n).atom)
 
-      go : (b : Bool) → is_open rules (cond b (negative x) (positive x)) ≡ not (is_fixed rules (relation_of x))
-      go true = refl
-      go false = refl
+      go : (b : Bool) → is_fixed rules (relation_of x) ≡ true → is_read rules so_far (cond b (negative x) (positive x)) ≡ false
+      go true e = ap (λ (c : Bool). not c && is_atom_in x so_far) e
+      go false e = ap (λ (c : Bool). not c) e
 
   -- what two rows make of a common literal is kept alike
-  told_common : (keys : List (List ℕ)) (xs ys : List ℕ) (n : ℕ) → IsRow d keys places xs → IsRow d keys places ys
+  read_common : (so_far : List Atom) (keys : List (List ℕ)) (xs ys : List ℕ) (n : ℕ) → IsRow d keys places xs → IsRow d keys places ys
       → CanBuild d from places (literal_in d n).atom → IsCommon rules d from places n
-      → map told_literal (filter (is_open rules) (literal_by d from keys places xs n ∷ []))
-      ≡ map told_literal (filter (is_open rules) (literal_by d from keys places ys n ∷ []))
-  told_common keys xs ys n r s can (inl fixed) = none xs ∙ sym (none ys)
+      → map (reading so_far) (filter (is_read rules so_far) (literal_by d from keys places xs n ∷ []))
+      ≡ map (reading so_far) (filter (is_read rules so_far) (literal_by d from keys places ys n ∷ []))
+  read_common so_far keys xs ys n r s can (inl fixed) = none xs ∙ sym (none ys)
     where
-      none : (vs : List ℕ) → map told_literal (filter (is_open rules) (literal_by d from keys places vs n ∷ [])) ≡ []
+      none : (vs : List ℕ) → map (reading so_far) (filter (is_read rules so_far) (literal_by d from keys places vs n ∷ [])) ≡ []
       none vs =
-          ap (λ (b : Bool). map told_literal (cond b (literal_by d from keys places vs n ∷ []) []))
-          (open_is keys vs n can.inside ∙ ap (λ (b : Bool). not b) fixed)
-  told_common keys xs ys n r s can (inr same) =
-      ap (λ (l : Literal). map told_literal (filter (is_open rules) (l ∷ [])))
+          ap (λ (b : Bool). map (reading so_far) (cond b (literal_by d from keys places vs n ∷ []) []))
+          (fixed_unread so_far keys vs n can.inside fixed)
+  read_common so_far keys xs ys n r s can (inr same) =
+      ap (λ (l : Literal). map (reading so_far) (filter (is_read rules so_far) (l ∷ [])))
       (literal_again d from keys places ys xs n (placed_atom d from places (literal_in d n).atom) refl s r can (same xs ys))
 
-  told_all : (keys : List (List ℕ)) (xs ys ns : List ℕ) → IsRow d keys places xs → IsRow d keys places ys → CanBuildEach d from places ns
+  read_all : (so_far : List Atom) (keys : List (List ℕ)) (xs ys ns : List ℕ) → IsRow d keys places xs → IsRow d keys places ys → CanBuildEach d from places ns
       → AreCommon rules d from places ns
-      → map told_literal (filter (is_open rules) (map (literal_by d from keys places xs) ns))
-      ≡ map told_literal (filter (is_open rules) (map (literal_by d from keys places ys) ns))
-  told_all keys xs ys [] r s each common = refl
-  told_all keys xs ys (n ∷ ns) r s each common =
-      let one = told_common keys xs ys n r s each.0.1 (common 0 (omega arith)) in
-      let more = told_all keys xs ys ns r s each.1 (λ i less. common (suc i) (omega (arith, less))) in
-      split_told (is_open rules (literal_by d from keys places xs n)) (literal_by d from keys places xs n)
-      (filter (is_open rules) (map (literal_by d from keys places xs) ns))
-      ∙ ap (λ (l : List (Tree × Bool)). l ++ map told_literal (filter (is_open rules) (map (literal_by d from keys places xs) ns))) one
-      ∙ ap (λ (l : List (Tree × Bool)). map told_literal (filter (is_open rules) (literal_by d from keys places ys n ∷ [])) ++ l) more
-      ∙ sym (split_told (is_open rules (literal_by d from keys places ys n)) (literal_by d from keys places ys n)
-      (filter (is_open rules) (map (literal_by d from keys places ys) ns)))
+      → map (reading so_far) (filter (is_read rules so_far) (map (literal_by d from keys places xs) ns))
+      ≡ map (reading so_far) (filter (is_read rules so_far) (map (literal_by d from keys places ys) ns))
+  read_all so_far keys xs ys [] r s each common = refl
+  read_all so_far keys xs ys (n ∷ ns) r s each common =
+      let one = read_common so_far keys xs ys n r s each.0.1 (common 0 (omega arith)) in
+      let more = read_all so_far keys xs ys ns r s each.1 (λ i less. common (suc i) (omega (arith, less))) in
+      split_read so_far (is_read rules so_far (literal_by d from keys places xs n)) (literal_by d from keys places xs n)
+      (filter (is_read rules so_far) (map (literal_by d from keys places xs) ns))
+      ∙ ap (λ (l : List (ℕ × Bool)). l ++ map (reading so_far) (filter (is_read rules so_far) (map (literal_by d from keys places xs) ns))) one
+      ∙ ap (λ (l : List (ℕ × Bool)). map (reading so_far) (filter (is_read rules so_far) (literal_by d from keys places ys n ∷ [])) ++ l) more
+      ∙ sym (split_read so_far (is_read rules so_far (literal_by d from keys places ys n)) (literal_by d from keys places ys n)
+      (filter (is_read rules so_far) (map (literal_by d from keys places ys) ns)))
 
   -- the body that some row made is that of each row
-  pub shared_reads : (keys : List (List ℕ)) (ns : List ℕ) (body : List (ℕ × Bool)) (values : List ℕ) → CanBuildEach d from places ns
-      → AreCommon rules d from places ns → IsBodyBy rules d from places ns keys body → IsRow d keys places values
-      → ReadsLiterals rules d.words keys [] body (map (literal_by d from keys places values) ns)
-  shared_reads keys ns body values each common b r = record {
+  pub shared_reads : (keys : List (List ℕ)) (ns numbers : List ℕ) (body : List (ℕ × Bool)) (values : List ℕ) → CanBuildEach d from places ns
+      → AreCommon rules d from places ns → IsBodyBy rules d from places ns numbers keys body → IsRow d keys places values
+      → ReadsLiterals rules d.words keys numbers [] body (map (literal_by d from keys places values) ns)
+  shared_reads keys ns numbers body values each common b r = record {
     more = b.reads.more;
     same = b.reads.same;
-    below = b.reads.below;
-    told_are = b.reads.told_are ∙ told_all keys b.values values ns b.row r each common;
+    read_are = λ so_far a. b.reads.read_are so_far a ∙ read_all so_far keys b.values values ns b.row r each common;
   }
 
   -- while terms grow, a row makes the same of literals
@@ -150,59 +161,61 @@ module _ (rules : List Alternative) (d : Data) (from : ℕ) (places : List (Opti
   made_later old new values ns f r =
       ap (λ (m : Map). map (λ n. literal_under m (stated_literal d from n)) ns) (sym (map_stays d old new places values f r.below))
 
-  pub body_later : (old new : List (List ℕ)) (ns : List ℕ) (body : List (ℕ × Bool)) → BeginsWith old new
-      → IsBodyBy rules d from places ns old body → IsBodyBy rules d from places ns new body
-  body_later old new ns body f b = record {
+  pub body_later : (old new : List (List ℕ)) (ns numbers : List ℕ) (body : List (ℕ × Bool)) → BeginsWith old new → NumbersBelow (length old) numbers
+      → IsBodyBy rules d from places ns numbers old body → IsBodyBy rules d from places ns numbers new body
+  body_later old new ns numbers body f within b = record {
     values = b.values;
     row = row_stays d old new places b.values (front_length old new f) b.row;
     reads = record {
       more = b.reads.more;
       same = b.reads.same;
-      below = below_more (length old) (length new) (numbers_of_atoms b.reads.more) (front_length old new f) b.reads.below;
-      told_are = body_front (trees d.words old) (trees d.words new) (trees_front d.words old new f) b.reads.more
-          (below_trees d.words old (numbers_of_atoms b.reads.more) b.reads.below)
-          ∙ b.reads.told_are
-          ∙ ap (λ (ls : List Literal). map told_literal (filter (is_open rules) ls)) (made_later old new b.values ns f b.row);
+      read_are = λ so_far a. b.reads.read_are so_far (atoms_back (trees d.words old) (trees d.words new) numbers so_far (trees_front d.words old new f)
+          (below_trees d.words old numbers within) a)
+          ∙ ap (λ (ls : List Literal). map (reading so_far) (filter (is_read rules so_far) ls)) (made_later old new b.values ns f b.row);
     };
   }
 
   -- what a row made of all literals is its body
-  pub body_made : (old mid : List (List ℕ)) (ns values : List ℕ) (before after : List (ℕ × Bool)) → BeginsWith old mid → IsRow d old places values
-      → (r : ReadsLiterals rules d.words mid before after (map (literal_by d from old places values) ns))
-      → IsBodyBy rules d from places ns mid r.more
-  body_made old mid ns values before after f row r = record {
+  pub body_made : (old mid : List (List ℕ)) (ns numbers values : List ℕ) (before after : List (ℕ × Bool)) → BeginsWith old mid
+      → NumbersBelow (length old) numbers → IsRow d old places values
+      → (r : ReadsLiterals rules d.words old numbers before after (map (literal_by d from old places values) ns))
+      → IsBodyBy rules d from places ns numbers mid r.more
+  body_made old mid ns numbers values before after f within row r = record {
     values = values;
     row = row_stays d old mid places values (front_length old mid f) row;
     reads = record {
       more = r.more;
       same = refl;
-      below = r.below;
-      told_are = r.told_are
-          ∙ ap (λ (ls : List Literal). map told_literal (filter (is_open rules) ls)) (made_later old mid values ns f row);
+      read_are = λ so_far a. r.read_are so_far (atoms_back (trees d.words old) (trees d.words mid) numbers so_far (trees_front d.words old mid f)
+          (below_trees d.words old numbers within) a)
+          ∙ ap (λ (ls : List Literal). map (reading so_far) (filter (is_read rules so_far) ls)) (made_later old mid values ns f row);
     };
   }
 
   -- a body that is there stays
-  pub body_stays : (old new : List (List ℕ)) (ns : List ℕ) (f g : FoundList) (b : ℕ) → BeginsWith old new → length f.ends.items ≡ length g.ends.items
+  pub body_stays : (old new : List (List ℕ)) (ns numbers : List ℕ) (f g : FoundList) (b : ℕ) → BeginsWith old new → NumbersBelow (length old) numbers
+      → length f.ends.items ≡ length g.ends.items
       → get_or (bodies_of g) b [] ≡ get_or (bodies_of f) b []
-      → IsBodyIn rules d from places ns old f b → IsBodyIn rules d from places ns new g b
-  body_stays old new ns f g b front many same is =
+      → IsBodyIn rules d from places ns numbers old f b → IsBodyIn rules d from places ns numbers new g b
+  body_stays old new ns numbers f g b front within many same is =
       let less = is.0 in (
         omega (arith, less, many),
-        subst (λ (body : List (ℕ × Bool)). IsBodyBy rules d from places ns new body) (sym same)
-            (body_later old new ns (get_or (bodies_of f) b []) front is.1),
+        subst (λ (body : List (ℕ × Bool)). IsBodyBy rules d from places ns numbers new body) (sym same)
+            (body_later old new ns numbers (get_or (bodies_of f) b []) front within is.1),
       )
 
   -- and where there is none, there is none
-  pub shared_stays : (shares : Type 0) (old new : List (List ℕ)) (ns : List ℕ) (f g : FoundList) (o : Option ℕ) → BeginsWith old new
+  pub shared_stays : (shares : Type 0) (old new : List (List ℕ)) (ns numbers : List ℕ) (f g : FoundList) (o : Option ℕ) → BeginsWith old new
+      → NumbersBelow (length old) numbers
       → g.ends.items ≡ f.ends.items → g.literals.items ≡ f.literals.items
-      → IfSome o (λ b. shares × IsBodyIn rules d from places ns old f b) → IfSome o (λ b. shares × IsBodyIn rules d from places ns new g b)
-  shared_stays shares old new ns f g None front ends literals is = tt
-  shared_stays shares old new ns f g (Some b) front ends literals is =
+      → IfSome o (λ b. shares × IsBodyIn rules d from places ns numbers old f b)
+      → IfSome o (λ b. shares × IsBodyIn rules d from places ns numbers new g b)
+  shared_stays shares old new ns numbers f g None front within ends literals is = tt
+  shared_stays shares old new ns numbers f g (Some b) front within ends literals is =
       let bodies : bodies_of g ≡ bodies_of f =
       ap (λ (ls : List (ℕ × Bool)). bodies_behind ls 0 g.ends.items) literals ∙ ap (bodies_behind f.literals.items 0) ends in (
         is.0,
-        body_stays old new ns f g b front (sym (ap length ends)) (ap (λ (bs : List (List (ℕ × Bool))). get_or bs b []) bodies) is.1,
+        body_stays old new ns numbers f g b front within (sym (ap length ends)) (ap (λ (bs : List (List (ℕ × Bool))). get_or bs b []) bodies) is.1,
       )
 
   -- Only literals that a row may fail at need be asked.

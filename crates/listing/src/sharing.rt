@@ -1,7 +1,7 @@
 //! Alternatives whose instances have all the same body.
 //!
-//! Where each literal is of a fixed relation or has no variables, what is kept of the body is the same in each row. It is made for the
-//! first row that passes; of the others only those literals are asked that a row may fail at.
+//! Where each literal is of a fixed relation or has no variables, what is kept of the body is the same in each row, and so is whether a
+//! negated literal is read. It is made for the first row that passes; of the others only those literals are asked that a row may fail at.
 ghost use Rattle.std.specs.Prelude.{ℕ, List, Option, ◌≡◌, ◌<◌, length, false, true, IfOk};
 ghost use Rattle.clauses.specs.Marks.{literal_in};
 ghost use Rattle.matching.specs.Placed.{placed_atom, placed_body};
@@ -13,10 +13,12 @@ ghost use Rattle.listing.specs.Pairs.{HaveSameValues, simple_number};
 ghost use Rattle.listing.specs.Sharing.{AreCommon, IsCommon, IsLean, failing};
 
 use crate::collected::passes_always;
+use crate::sought::{Sought, sought_atoms};
 use crate::steps::{LiteralStep, steps_of};
 use matching::{Join, RowPlan, parts_at, plan_of};
 use rules::{Alternative, Part, RuleSet};
 use std::alloc::{AllocError, Global};
+use terms::Terms;
 
 /// What is asked of a row of an alternative whose instances have all the same body.
 #[derive(Drop)]
@@ -29,6 +31,8 @@ pub struct Lean {
     pub plan: RowPlan,
     /// What is done with each of these literals.
     pub steps: Vec<LiteralStep>,
+    /// What is kept of the keys of long atoms.
+    pub sought: Vec<Option<Sought>>,
 }
 
 /// Whether a part with a place is a variable.
@@ -120,14 +124,16 @@ fn no_lean(alloc: Global, alternative: &Alternative) -> Lean
             marks: Vec::new(alloc),
         },
         steps: Vec::new(alloc),
+        sought: Vec::new(alloc),
     }
 }
 
 /// What is asked of a row of an alternative with a plan, whose rows are those of a join, if all instances have the same body. Where it has
-/// one row there is nothing to share.
+/// one row there is nothing to share. The terms are those that are there now.
 pub fn lean_of(
     alloc: Global,
     set: &RuleSet,
+    terms: &Terms,
     alternative: &Alternative,
     plan: &RowPlan,
     join: &Join,
@@ -136,7 +142,7 @@ pub fn lean_of(
         alternative.now.body.items }
     requires head { CanBuild (lists_of_set set.now) alternative.now.variables.from join.now.places.items alternative.now.head }
     requires each { CanBuildEach (lists_of_set set.now) alternative.now.variables.from join.now.places.items alternative.now.body.items }
-    ensures { IfOk result (λ l. l.shares ≡ true → IsLean (rules_in set.now) (lists_of_set set.now) join.now.places.items (numbered alternative.now) l) }
+    ensures { IfOk result (λ l. l.shares ≡ true → IsLean (rules_in set.now) (lists_of_set set.now) terms.now join.now.places.items (numbered alternative.now) l) }
 {
     if join.levels.len() == 0 {
         return Ok(no_lean(alloc, alternative));
@@ -151,10 +157,12 @@ pub fn lean_of(
     };
     let own = plan_of(alloc, set, &lean, &join.places)?;
     let steps = steps_of(alloc, &own, &[])?;
+    let sought = sought_atoms(alloc, set, terms, &lean, &own)?;
     Ok(Lean {
         shares: true,
         alternative: lean,
         plan: own,
         steps,
+        sought,
     })
 }

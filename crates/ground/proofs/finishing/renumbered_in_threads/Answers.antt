@@ -1,17 +1,15 @@
-use Rattle.std.proofs.Common.{◌∙◌, length, ap}
-use Rattle.std.proofs.lemmas.List.{length-map}
-use Rattle.kept.specs.Lists.{numbers_of_list}
-use Rattle.ground.specs.Finishing.{reading_in}
-use Rattle.ground.proofs.FinishLemmas.{both_numbered, laid_stay}
+use Rattle.std.proofs.Common.{length}
+use Rattle.kept.specs.Lists.{bodies_of}
+use Rattle.ground.proofs.FinishLemmas.{all_numbered, laid_stay}
 use Rattle.ground.proofs.finishing.renumbered_in_threads.Goals as goal
 
 pub returns : goal.returns
 returns g c =
     let keys = c.args.atoms.now.keys in
-    let left = c.leave_unread.new.found in
+    let found = c.args.found in
+    let new = c.renumber_heads_in_threads.new.entries.items in
     record {
-      numbers = both_numbered keys left.runs.items left.literals.items c.renumber_literals_in_threads.new.literals.items left.ends.items left.entries.items
-          c.renumber_heads_in_threads.new.entries.items (numbers_of_list c.args.found) c.leave_unread.ensures.read c.renumber_literals_in_threads.ensures c.renumber_heads_in_threads.ensures;
-      laid = laid_stay keys left.runs.items left.ends.items left.entries.items c.renumber_heads_in_threads.new.entries.items (length left.literals.items) _ c.renumber_heads_in_threads.ensures
-          (ap length c.renumber_literals_in_threads.ensures ∙ length-map left.literals.items (reading_in keys)) c.leave_unread.ensures.laid;
+      numbers = all_numbered keys found.runs.items (bodies_of found) found.entries.items new c.renumber_heads_in_threads.ensures;
+      laid = laid_stay keys found.runs.items found.ends.items found.entries.items new (length found.literals.items)
+          c.renumber_heads_in_threads.ensures c.requires.found;
     }

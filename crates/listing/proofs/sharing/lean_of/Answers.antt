@@ -3,8 +3,10 @@ use Rattle.std.proofs.lemmas.List.{length-map}
 use Rattle.rules.specs.RuleSetView.{lists_of_set, rules_in}
 use Rattle.matching.specs.Placed.{placed_body}
 use Rattle.matching.specs.Plans.{CanBuildEach, HaveRelations, mark_of}
+use Rattle.terms.specs.Vectors.{items_of}
 use Rattle.matching.proofs.Facts.{build_at}
 use Rattle.listing.specs.Sharing.{AreCommon, failing}
+use Rattle.listing.specs.Sought.{AreSought}
 use Rattle.listing.proofs.SharedBodies.{each_failing}
 use Rattle.listing.proofs.sharing.lean_of.Goals as goal
 
@@ -39,6 +41,23 @@ plan_of-requires-clause-each c =
     subst (λ (ps : List (Option ℕ)). CanBuildEach d from ps made) (sym c.deref-3.ensures.value)
     (subst (λ (ns : List ℕ). CanBuildEach d from places ns) (sym ms) (each_failing r d from places body c.requires.each))
 
+pub sought_atoms-requires-clause-relations : goal.sought_atoms-requires-clause-relations
+sought_atoms-requires-clause-relations c =
+    let r = rules_in c.args.set.now in
+    let d = lists_of_set c.args.set.now in
+    let from = c.args.alternative.now.variables.from in
+    let places = c.args.join.now.places.items in
+    let body = c.args.alternative.now.body.items in
+    let made = c.in_ok-failing_literals.field-0.items in
+    let ms : made ≡ failing r d body = c.in_ok-failing_literals.ensures ∙ ap (λ (ns : List ℕ). failing r d ns) c.deref-2.ensures.value in
+    let each : CanBuildEach d from places made =
+    subst (λ (ns : List ℕ). CanBuildEach d from places ns) (sym ms) (each_failing r d from places body c.requires.each) in
+    λ i h. let b = build_at d from places made i each h in (b.0, b.1.inside.relation)
+
+pub sought_atoms-requires-clause-parts : goal.sought_atoms-requires-clause-parts
+sought_atoms-requires-clause-parts c =
+    sym (length-map c.in_ok-own.own.body.items _) ∙ ap length c.in_ok-own.ensures.body ∙ length-map c.in_ok-failing_literals.field-0.items _
+
 pub returns : goal.returns
 returns c = λ yes.
     let r = rules_in c.args.set.now in
@@ -58,4 +77,5 @@ returns c = λ yes.
           ∙ ap (λ (ns : List ℕ). placed_body d from places ns) ms;
       marks = c.in_ok-own.ensures.marks ∙ ap (λ (ns : List ℕ). map (mark_of r d) ns) ms;
       steps = c.in_ok-steps.ensures;
+      sought = subst (λ (ns : List ℕ). AreSought d c.args.terms.now ns (items_of c.in_ok-own.own.body.items) c.in_ok-sought.sought.items) ms c.in_ok-sought.ensures;
     }
