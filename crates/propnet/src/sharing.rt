@@ -12,13 +12,26 @@ ghost use Rattle.propnet.specs.Builders.{gates_made, IsAlike};
 use crate::builder::NetBuilder;
 use crate::nodes::Nodes;
 use ground::FlatGround;
+use kept::AtomLiteral;
 use statement::Name;
 use std::alloc::{AllocError, Global};
 
-/// A hint for each body, and none where each instance has a body of its own.
-pub(crate) fn hints_for(alloc: Global, ground: &FlatGround) -> Result<Vec<u32>, AllocError> {
+/// How many literals a body has at least whose operands are shared. To look for a gate that reads the same costs more than a few operands.
+const LONG: usize = 16;
+
+/// Whether a body is so long that its operands are shared.
+pub(crate) fn is_long(body: &[AtomLiteral]) -> bool {
+    body.len() >= LONG
+}
+
+/// A hint for each body, and none where each instance has a body of its own or no body is long.
+pub(crate) fn hints_for(
+    alloc: Global,
+    ground: &FlatGround,
+    some_long: bool,
+) -> Result<Vec<u32>, AllocError> {
     let bodies = ground.many_bodies();
-    let many = if bodies < ground.many_kept() {
+    let many = if some_long && bodies < ground.many_kept() {
         bodies
     } else {
         0
