@@ -12,14 +12,14 @@ use std::test::Fail;
 use trial_games::watched::{Watch, Watched};
 
 /// The state after a history. Any fault is told as want of memory.
-fn state_after<G: Game>(alloc: Global, g: &G, history: &[u8]) -> Result<G::Pos, AllocError>
-    ensures { IfOk result (λ p. G.fits g.now p) }
+fn state_after<G: Game>(alloc: Global, game: &G, history: &[u8]) -> Result<G::Pos, AllocError>
+    ensures { IfOk result (λ p. G.fits game.now p) }
 {
-    let mut p = g.fresh()?;
+    let mut p = game.fresh()?;
     let Ok(turns) = read(alloc, history) else {
         return Err(AllocError);
     };
-    if replay(alloc, g, &turns, &mut p).is_err() {
+    if replay(alloc, game, &turns, &mut p).is_err() {
         return Err(AllocError);
     }
     Ok(p)
@@ -28,25 +28,25 @@ fn state_after<G: Game>(alloc: Global, g: &G, history: &[u8]) -> Result<G::Pos, 
 /// The value of a state for the first role within one turn, found in a window. A game without roles is told as want of memory.
 fn value_of<G: Game>(
     alloc: Global,
-    g: &G,
+    game: &G,
     p: &G::Pos,
     window: (i16, i16),
 ) -> Result<i16, AllocError>
-    requires fits { G.fits g.now p.now }
+    requires fits { G.fits game.now p.now }
     requires low { negsuc 1 ≤ℤ window.0 }
     requires order { window.0 <ℤ window.1 }
     requires high { window.1 ≤ℤ pos 101 }
 {
-    if g.roles() == 0 {
+    if game.roles() == 0 {
         return Err(AllocError);
     }
-    let mut room = Room::new(alloc, g, 1)?;
+    let mut room = Room::new(alloc, game, 1)?;
     let asked = Question {
         role: 0,
         depth: 1,
         at: AtBound::Zero,
     };
-    Ok(value_in(g, p, asked, window.0, window.1, &mut room))
+    Ok(value_in(game, p, asked, window.0, window.1, &mut room))
 }
 
 /// How many steps were made.

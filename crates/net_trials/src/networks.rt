@@ -90,14 +90,14 @@ fn net_game<R: AllocGlobal>(rt: &R, text: &[u8]) -> Result<NetGame, Fail> {
 }
 
 /// Adds what is told of a state: whether the game has ended, and the goal and the legal moves of each role.
-fn add_state<G: Game>(g: &G, p: &G::Pos, text: &mut Vec<u8>) -> Result<(), Fail>
-    requires { G.fits g.now p.now }
+fn add_state<G: Game>(game: &G, p: &G::Pos, text: &mut Vec<u8>) -> Result<(), Fail>
+    requires { G.fits game.now p.now }
 {
-    write!(text, "{}", g.ended(p))?;
-    for role in 0..g.roles() {
-        write!(text, " {}:", g.goal(p, role))?;
+    write!(text, "{}", game.ended(p))?;
+    for role in 0..game.roles() {
+        write!(text, " {}:", game.goal(p, role))?;
         for place in 0..100usize {
-            if let Some(number) = g.legal(p, role, place) {
+            if let Some(number) = game.legal(p, role, place) {
                 write!(text, " {number}")?;
             }
         }
@@ -107,25 +107,25 @@ fn add_state<G: Game>(g: &G, p: &G::Pos, text: &mut Vec<u8>) -> Result<(), Fail>
 }
 
 /// The legal move of a role at a place, or, where there is none, the first.
-fn move_at<G: Game>(g: &G, p: &G::Pos, role: usize, place: usize) -> Option<u32>
-    requires fits { G.fits g.now p.now }
-    requires role { role < (G.rules g.now).roles }
-    ensures { IfSome result (λ m. m < (G.rules g.now).moves role) }
+fn move_at<G: Game>(game: &G, p: &G::Pos, role: usize, place: usize) -> Option<u32>
+    requires fits { G.fits game.now p.now }
+    requires role { role < (G.rules game.now).roles }
+    ensures { IfSome result (λ m. m < (G.rules game.now).moves role) }
 {
-    if let Some(number) = g.legal(p, role, place) {
+    if let Some(number) = game.legal(p, role, place) {
         return Some(number);
     }
-    g.legal(p, role, 0)
+    game.legal(p, role, 0)
 }
 
 /// The legal moves of all roles at a place, each the first where there is none at that place.
-fn turn_at<G: Game>(alloc: Global, g: &G, p: &G::Pos, place: usize) -> Result<Joint, Fail>
-    requires { G.fits g.now p.now }
-    ensures { IfOk result (λ joint. IsTurn (G.rules g.now) joint.items) }
+fn turn_at<G: Game>(alloc: Global, game: &G, p: &G::Pos, place: usize) -> Result<Joint, Fail>
+    requires { G.fits game.now p.now }
+    ensures { IfOk result (λ joint. IsTurn (G.rules game.now) joint.items) }
 {
-    let mut joint = new_joint(alloc, g.roles())?;
-    for role in 0..g.roles() {
-        let Some(number) = move_at(g, p, role, place) else {
+    let mut joint = new_joint(alloc, game.roles())?;
+    for role in 0..game.roles() {
+        let Some(number) = move_at(game, p, role, place) else {
             return Err(Fail::new("no legal move"));
         };
         put_move(&mut joint, role, number);
@@ -135,43 +135,43 @@ fn turn_at<G: Game>(alloc: Global, g: &G, p: &G::Pos, place: usize) -> Result<Jo
 
 /// Writes the state after another and the second of two turns, stepped to alone or taken out of two.
 fn play<G: Game>(
-    g: &G,
+    game: &G,
     here: &G::Pos,
     turns: [Joint; 2],
     many: bool,
     next: &mut G::Pos,
 ) -> Result<(), Fail>
-    requires here { G.fits g.now here.now }
-    requires next { G.fits g.now next.old }
-    requires turns { All (λ j. IsTurn (G.rules g.now) j.items) turns }
-    ensures { G.fits g.now next.new }
+    requires here { G.fits game.now here.now }
+    requires next { G.fits game.now next.old }
+    requires turns { All (λ j. IsTurn (G.rules game.now) j.items) turns }
+    ensures { G.fits game.now next.new }
 {
     if !many {
-        g.step(here, &turns[1], next);
+        game.step(here, &turns[1], next);
         return Ok(());
     }
-    let mut wide = g.new_wide()?;
-    let mut states = g.new_many()?;
-    g.steps(here, &turns, &mut wide, &mut states);
-    g.take(&states, 1, next);
+    let mut wide = game.new_wide()?;
+    let mut states = game.new_many()?;
+    game.steps(here, &turns, &mut wide, &mut states);
+    game.take(&states, 1, next);
     Ok(())
 }
 
 /// What is told of the states of a play, until it is over.
-fn course<G: Game>(alloc: Global, g: &G, many: bool) -> Result<Vec<u8>, Fail> {
+fn course<G: Game>(alloc: Global, game: &G, many: bool) -> Result<Vec<u8>, Fail> {
     let mut text = Vec::new(alloc);
-    let mut here = g.fresh()?;
-    let mut next = g.fresh()?;
-    add_state(g, &here, &mut text)?;
+    let mut here = game.fresh()?;
+    let mut next = game.fresh()?;
+    add_state(game, &here, &mut text)?;
     for place in 0..9usize {
-        if g.ended(&here) || is_stuck(g, &here) {
+        if game.ended(&here) || is_stuck(game, &here) {
             return Ok(text);
         }
-        let first = turn_at(alloc, g, &here, place + 1)?;
-        let second = turn_at(alloc, g, &here, place)?;
-        play(g, &here, [first, second], many, &mut next)?;
-        g.copy(&next, &mut here);
-        add_state(g, &here, &mut text)?;
+        let first = turn_at(alloc, game, &here, place + 1)?;
+        let second = turn_at(alloc, game, &here, place)?;
+        play(game, &here, [first, second], many, &mut next)?;
+        game.copy(&next, &mut here);
+        add_state(game, &here, &mut text)?;
     }
     Ok(text)
 }
@@ -220,33 +220,33 @@ fn networks_tell_of_states(rt: HostRuntime) -> Result<(), Fail> {
 }
 
 /// The first joint moves of a state, as the second role's moves go on.
-fn turns_of<G: Game>(alloc: Global, g: &G, p: &G::Pos, count: usize) -> Result<Vec<Joint>, Fail>
-    requires { G.fits g.now p.now }
+fn turns_of<G: Game>(alloc: Global, game: &G, p: &G::Pos, count: usize) -> Result<Vec<Joint>, Fail>
+    requires { G.fits game.now p.now }
     ensures size { IfOk result (λ turns. length turns.items ≡ count) }
-    ensures each { IfOk result (λ turns. All (λ j. IsTurn (G.rules g.now) j.items) turns.items) }
+    ensures each { IfOk result (λ turns. All (λ j. IsTurn (G.rules game.now) j.items) turns.items) }
 {
     let mut turns = Vec::new(alloc);
     for place in 0..count {
-        turns.push(turn_at(alloc, g, p, place)?)?;
+        turns.push(turn_at(alloc, game, p, place)?)?;
     }
     Ok(turns)
 }
 
 /// Whether the game has ended after each of the first joint moves, and the goal of the first role then.
-fn told_after<G: Game>(alloc: Global, g: &G, count: usize) -> Result<Vec<u8>, Fail> {
-    if g.roles() == 0 || count == 0 || count > 64 {
+fn told_after<G: Game>(alloc: Global, game: &G, count: usize) -> Result<Vec<u8>, Fail> {
+    if game.roles() == 0 || count == 0 || count > 64 {
         return Err(Fail::new("not of this game"));
     }
-    let start = g.fresh()?;
-    let mut child = g.fresh()?;
-    let mut wide = g.new_wide()?;
-    let mut states = g.new_many()?;
-    let turns = turns_of(alloc, g, &start, count)?;
-    g.steps(&start, &turns, &mut wide, &mut states);
+    let start = game.fresh()?;
+    let mut child = game.fresh()?;
+    let mut wide = game.new_wide()?;
+    let mut states = game.new_many()?;
+    let turns = turns_of(alloc, game, &start, count)?;
+    game.steps(&start, &turns, &mut wide, &mut states);
     let mut text = Vec::new(alloc);
     for place in 0..count {
-        g.take(&states, place, &mut child);
-        writeln!(text, "{} {}", g.ended(&child), g.goal(&child, 0))?;
+        game.take(&states, place, &mut child);
+        writeln!(text, "{} {}", game.ended(&child), game.goal(&child, 0))?;
     }
     Ok(text)
 }

@@ -459,13 +459,9 @@ fn finds_alike<R: Threads + Abort + Sync + AllocGlobal, G: Game>(
 }
 
 #[test]
-fn every_task_of_the_limit_passes_the_gate(rt: HostRuntime) -> Result<(), Fail> {
+fn as_many_tasks_as_the_limit_pass_the_gate(rt: HostRuntime) -> Result<(), Fail> {
     let game = game_of(&rt, WIDE)?;
-    finds_alike(&rt, &game, 65_536)
-}
-
-#[test]
-fn no_task_past_the_limit_passes_the_gate(rt: HostRuntime) -> Result<(), Fail> {
+    finds_alike(&rt, &game, 65_536)?;
     let game = game_of(&rt, WIDER)?;
     finds_alike(&rt, &game, 0)
 }

@@ -84,19 +84,9 @@ fn refuse<R: Threads + Sync + AllocGlobal>(rt: &R, text: &[u8]) -> Result<bool, 
 }
 
 #[test]
-fn several_threads_find_what_one_finds(rt: HostRuntime) -> Result<(), Fail> {
+fn several_threads_do_what_one_does(rt: HostRuntime) -> Result<(), Fail> {
     assert!(rt; agree(&rt, DEAR, 3398)?);
-    Ok(())
-}
-
-#[test]
-fn several_threads_number_atoms_as_one_does(rt: HostRuntime) -> Result<(), Fail> {
     assert!(rt; agree(&rt, LARGE, 100_021)?);
-    Ok(())
-}
-
-#[test]
-fn several_threads_name_the_limit_that_one_names(rt: HostRuntime) -> Result<(), Fail> {
     assert!(rt; refuse(&rt, PRODUCT)?);
     Ok(())
 }

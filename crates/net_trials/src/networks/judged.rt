@@ -19,76 +19,81 @@ fn add_worth(worth: Option<u8>, text: &mut Vec<u8>) -> Result<(), Fail> {
 }
 
 /// The goal value of a role, if the game has ended.
-fn worth_of<G: Game>(g: &G, p: &G::Pos, role: usize) -> Option<u8>
-    requires fits { G.fits g.now p.now }
-    requires role { role < (G.rules g.now).roles }
+fn worth_of<G: Game>(game: &G, p: &G::Pos, role: usize) -> Option<u8>
+    requires fits { G.fits game.now p.now }
+    requires role { role < (G.rules game.now).roles }
 {
-    if g.ended(p) {
-        return Some(g.goal(p, role));
+    if game.ended(p) {
+        return Some(game.goal(p, role));
     }
     None
 }
 
 /// Adds the goals in the states after some joint moves, if the game has ended there, each state taken out of many.
-fn add_taken<G: Game>(g: &G, p: &G::Pos, turns: &[Joint], text: &mut Vec<u8>) -> Result<(), Fail>
-    requires from { G.fits g.now p.now }
+fn add_taken<G: Game>(game: &G, p: &G::Pos, turns: &[Joint], text: &mut Vec<u8>) -> Result<(), Fail>
+    requires from { G.fits game.now p.now }
     requires some { 0 < length turns.now }
     requires few { length turns.now ≤ 64 }
-    requires turns { All (λ j. IsTurn (G.rules g.now) j.items) turns.now }
+    requires turns { All (λ j. IsTurn (G.rules game.now) j.items) turns.now }
 {
-    let mut child = g.fresh()?;
-    let mut wide = g.new_wide()?;
-    let mut states = g.new_many()?;
-    g.steps(p, turns, &mut wide, &mut states);
+    let mut child = game.fresh()?;
+    let mut wide = game.new_wide()?;
+    let mut states = game.new_many()?;
+    game.steps(p, turns, &mut wide, &mut states);
     for place in 0..turns.len() {
-        g.take(&states, place, &mut child);
-        for role in 0..g.roles() {
-            add_worth(worth_of(g, &child, role), text)?;
+        game.take(&states, place, &mut child);
+        for role in 0..game.roles() {
+            add_worth(worth_of(game, &child, role), text)?;
         }
     }
     Ok(())
 }
 
 /// Adds the same, judged.
-fn add_judged<G: Game>(g: &G, p: &G::Pos, turns: &[Joint], text: &mut Vec<u8>) -> Result<(), Fail>
-    requires from { G.fits g.now p.now }
+fn add_judged<G: Game>(
+    game: &G,
+    p: &G::Pos,
+    turns: &[Joint],
+    text: &mut Vec<u8>,
+) -> Result<(), Fail>
+    requires from { G.fits game.now p.now }
     requires some { 0 < length turns.now }
     requires few { length turns.now ≤ 64 }
-    requires turns { All (λ j. IsTurn (G.rules g.now) j.items) turns.now }
+    requires turns { All (λ j. IsTurn (G.rules game.now) j.items) turns.now }
 {
-    let mut wide = g.new_wide()?;
-    if !g.judge(p, turns, &mut wide) {
+    let mut wide = game.new_wide()?;
+    if !game.judge(p, turns, &mut wide) {
         return Err(Fail::new("not judged"));
     }
     for place in 0..turns.len() {
-        for role in 0..g.roles() {
-            add_worth(g.verdict(&wide, place, role), text)?;
+        for role in 0..game.roles() {
+            add_worth(game.verdict(&wide, place, role), text)?;
         }
     }
     Ok(())
 }
 
 /// The goals in the states after the first joint moves of each state of a play, until it is over.
-fn worths<G: Game>(alloc: Global, g: &G, count: usize, judged: bool) -> Result<Vec<u8>, Fail> {
+fn worths<G: Game>(alloc: Global, game: &G, count: usize, judged: bool) -> Result<Vec<u8>, Fail> {
     if count == 0 || count > 64 {
         return Err(Fail::new("not so many"));
     }
     let mut text = Vec::new(alloc);
-    let mut here = g.fresh()?;
-    let mut next = g.fresh()?;
+    let mut here = game.fresh()?;
+    let mut next = game.fresh()?;
     for place in 0..9usize {
-        if g.ended(&here) || is_stuck(g, &here) {
+        if game.ended(&here) || is_stuck(game, &here) {
             return Ok(text);
         }
-        let turns = turns_of(alloc, g, &here, count)?;
+        let turns = turns_of(alloc, game, &here, count)?;
         if judged {
-            add_judged(g, &here, &turns, &mut text)?;
+            add_judged(game, &here, &turns, &mut text)?;
         } else {
-            add_taken(g, &here, &turns, &mut text)?;
+            add_taken(game, &here, &turns, &mut text)?;
         }
-        let turn = turn_at(alloc, g, &here, place)?;
-        g.step(&here, &turn, &mut next);
-        g.copy(&next, &mut here);
+        let turn = turn_at(alloc, game, &here, place)?;
+        game.step(&here, &turn, &mut next);
+        game.copy(&next, &mut here);
     }
     Ok(text)
 }
@@ -148,24 +153,24 @@ fn places_of(alloc: Global, count: usize) -> Result<Vec<usize>, Fail>
 
 /// Adds the goals in the states after joint moves that each begin at one of many states, if the game has ended there.
 fn add_stepped<G: Game>(
-    g: &G,
+    game: &G,
     states: &G::Many,
     places: &[usize],
     turns: &[Joint],
     text: &mut Vec<u8>,
 ) -> Result<(), Fail>
-    requires states { G.fits_many g.now states.now }
+    requires states { G.fits_many game.now states.now }
     requires count { length places.now ≡ length turns.now }
-    requires places { All (λ k. k < length (G.states g.now states.now)) places.now }
-    requires turns { All (λ j. IsTurn (G.rules g.now) j.items) turns.now }
+    requires places { All (λ k. k < length (G.states game.now states.now)) places.now }
+    requires turns { All (λ j. IsTurn (G.rules game.now) j.items) turns.now }
 {
-    let mut child = g.fresh()?;
-    let mut next = g.fresh()?;
+    let mut child = game.fresh()?;
+    let mut next = game.fresh()?;
     for turn in 0..turns.len() {
-        g.take(states, places[turn], &mut child);
-        g.step(&child, &turns[turn], &mut next);
-        for role in 0..g.roles() {
-            add_worth(worth_of(g, &next, role), text)?;
+        game.take(states, places[turn], &mut child);
+        game.step(&child, &turns[turn], &mut next);
+        for role in 0..game.roles() {
+            add_worth(worth_of(game, &next, role), text)?;
         }
     }
     Ok(())
@@ -174,30 +179,30 @@ fn add_stepped<G: Game>(
 /// The goals two turns after the start: by each of the first joint moves and then one of them again, the last state first.
 fn second_worths<G: Game>(
     alloc: Global,
-    g: &G,
+    game: &G,
     count: usize,
     judged: bool,
 ) -> Result<Vec<u8>, Fail> {
     if count == 0 || count > 64 {
         return Err(Fail::new("not so many"));
     }
-    let start = g.fresh()?;
-    let mut wide = g.new_wide()?;
-    let mut states = g.new_many()?;
-    let turns = turns_of(alloc, g, &start, count)?;
+    let start = game.fresh()?;
+    let mut wide = game.new_wide()?;
+    let mut states = game.new_many()?;
+    let turns = turns_of(alloc, game, &start, count)?;
     let places = places_of(alloc, count)?;
     let mut text = Vec::new(alloc);
-    g.steps(&start, &turns, &mut wide, &mut states);
+    game.steps(&start, &turns, &mut wide, &mut states);
     if !judged {
-        add_stepped(g, &states, &places, &turns, &mut text)?;
+        add_stepped(game, &states, &places, &turns, &mut text)?;
         return Ok(text);
     }
-    if !g.judge_from(&states, &places, &turns, &mut wide) {
+    if !game.judge_from(&states, &places, &turns, &mut wide) {
         return Err(Fail::new("not judged"));
     }
     for place in 0..count {
-        for role in 0..g.roles() {
-            add_worth(g.verdict(&wide, place, role), &mut text)?;
+        for role in 0..game.roles() {
+            add_worth(game.verdict(&wide, place, role), &mut text)?;
         }
     }
     Ok(text)

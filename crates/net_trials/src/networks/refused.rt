@@ -60,11 +60,11 @@ fn held(alloc: Global, free: usize) -> Result<Vec<u8>, AllocError> {
 }
 
 /// What is told of a state.
-fn told<G: Game>(alloc: Global, g: &G, p: &G::Pos) -> Result<Vec<u8>, Fail>
-    requires { G.fits g.now p.now }
+fn told<G: Game>(alloc: Global, game: &G, p: &G::Pos) -> Result<Vec<u8>, Fail>
+    requires { G.fits game.now p.now }
 {
     let mut text = Vec::with_capacity(alloc, 256)?;
-    add_state(g, p, &mut text)?;
+    add_state(game, p, &mut text)?;
     Ok(text)
 }
 
@@ -72,19 +72,19 @@ fn told<G: Game>(alloc: Global, g: &G, p: &G::Pos) -> Result<Vec<u8>, Fail>
 /// position is told of as before.
 fn plays_within<R: Abort + AllocGlobal, G: Game>(
     rt: &R,
-    g: &G,
+    game: &G,
     turns: &[Expr<Global>],
     free: usize,
 ) -> Result<bool, Fail> {
     let alloc = rt.alloc();
-    let mut p = g.fresh()?;
-    let before = told(alloc, g, &p)?;
+    let mut p = game.fresh()?;
+    let before = told(alloc, game, &p)?;
     let taken = held(alloc, free)?;
     mark(alloc);
-    let played = replay(alloc, g, turns, &mut p);
+    let played = replay(alloc, game, turns, &mut p);
     mark(alloc);
     drop(taken);
-    let after = told(alloc, g, &p)?;
+    let after = told(alloc, game, &p)?;
     let starved = played == Err(HistoryFault::NoMemory);
     assert!(rt; played.is_ok() || starved);
     assert_eq!(rt; after == before, starved);
@@ -92,7 +92,7 @@ fn plays_within<R: Abort + AllocGlobal, G: Game>(
 }
 
 /// Plays where all memory is taken, then with some left, and more and more, and answers how often it was not enough.
-fn refused_times<R: Abort + AllocGlobal, G: Game>(rt: &R, g: &G) -> Result<usize, Fail> {
+fn refused_times<R: Abort + AllocGlobal, G: Game>(rt: &R, game: &G) -> Result<usize, Fail> {
     let alloc = rt.alloc();
     let turns = read(alloc, b"(h t)")?;
     // A large block that was given back lets the next ones come from the heap.
@@ -101,7 +101,7 @@ fn refused_times<R: Abort + AllocGlobal, G: Game>(rt: &R, g: &G) -> Result<usize
     let _blocks = filled(alloc)?;
     drop(room);
     for times in 0..10_000usize {
-        if plays_within(rt, g, &turns, times.saturating_mul(8))? {
+        if plays_within(rt, game, &turns, times.saturating_mul(8))? {
             return Ok(times);
         }
     }
@@ -123,9 +123,9 @@ fn refused_history_leaves_a_position_of_a_network(rt: HostRuntime) -> Result<(),
 }
 
 /// Plays with enough memory, or ends with an error for want of it.
-fn plays<R: Abort + AllocGlobal, G: Game>(rt: &R, g: &G) -> Result<(), Fail> {
+fn plays<R: Abort + AllocGlobal, G: Game>(rt: &R, game: &G) -> Result<(), Fail> {
     let turns = read(rt.alloc(), b"(h t)")?;
-    if plays_within(rt, g, &turns, ROOM)? {
+    if plays_within(rt, game, &turns, ROOM)? {
         Ok(())
     } else {
         Err(Fail::new("no memory"))

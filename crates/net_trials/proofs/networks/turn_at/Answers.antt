@@ -5,7 +5,7 @@ use Rattle.net_trials.proofs.networks.turn_at.Goals as goal
 
 pub loop-role-preserved : goal.loop-role-preserved
 loop-role-preserved g c =
-    let rules = g.G.Game.rules c.args.g.now in
+    let rules = g.G.Game.rules c.args.game.now in
     let size : length c.loop-role.joint.items ≡ rules.roles = c.loop-role.invariant.size in
     record {
       size = ap length c.put_move.ensures ∙ simp length-set size;

@@ -8,5 +8,5 @@ use Rattle.net_trials.proofs.networks.turns_of.Given as goal
 abbrev pub invariant-loop-place : goal.invariant-loop-place
 invariant-loop-place g l = record {
   size : length l.turns.items ≡ l.place;
-  each : All (λ (j : SmallVec _). IsTurn (g.G.Game.rules l.g) j.items) l.turns.items;
+  each : All (λ (j : SmallVec _). IsTurn (g.G.Game.rules l.game) j.items) l.turns.items;
 }
