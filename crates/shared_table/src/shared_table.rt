@@ -1,7 +1,7 @@
 //! The tables in memory, and the calls of threads.
 ghost use Rattle.std.specs.Prelude.{◌≡◌, ◌<◌, ◌≤◌, List, ℕ, true, length, replicate, IfOk, IfSome, All};
 ghost use Rattle.statement.specs.Rules.{Rules, State};
-ghost use Rattle.table.specs.Worths.{IsWithin};
+ghost use Rattle.table.specs.Worths.{AreBoundsOf};
 ghost use Rattle.table.specs.Tables.{IsTableOf, worth_of};
 ghost use Rattle.shared_table.specs.Sharing.{Holds, IsRight};
 
@@ -65,9 +65,13 @@ fn empty_tables<G: Game>(
 
 /// Nothing is known of a worth.
 fn nothing_known() -> Bounds
-    ensures { (worth : ℕ) → worth ≤ 100 → IsWithin worth result }
+    ensures { (worth : ℕ → ℕ) (depth : ℕ) → ((d : ℕ) → worth d ≤ 100) → AreBoundsOf worth depth result }
 {
-    Bounds { lo: 0, hi: 100 }
+    Bounds {
+        lo: 0,
+        hi: 100,
+        lasts: true,
+    }
 }
 
 /// The two say the same of a state in which play goes on when the turns are over.
@@ -97,7 +101,7 @@ fn serves(table: &PositionTable, asked: Question) -> bool
 fn look_in(table: &PositionTable, key: &[u64], asked: Question) -> Bounds
     ensures { (g : Rules) (keyed : List ℕ → State) → ((s : State) (role : ℕ) → g.goal s role ≤ 100)
         → IsTableOf g keyed table.now.role table.now.at table.now
-        → IsWithin (worth_of g keyed asked.role asked.at key.now asked.depth) result }
+        → AreBoundsOf (worth_of g keyed asked.role asked.at key.now) asked.depth result }
 {
     if !serves(table, asked) {
         return nothing_known();
@@ -108,13 +112,13 @@ fn look_in(table: &PositionTable, key: &[u64], asked: Question) -> Bounds
 /// Writes bounds of what the state of a key is worth into a table for this role and bound.
 fn note_in(table: &mut PositionTable, key: &[u64], asked: Question, bounds: Bounds)
     ensures { (g : Rules) (keyed : List ℕ → State) → IsTableOf g keyed table.old.role table.old.at table.old
-        → IsWithin (worth_of g keyed asked.role asked.at key.now asked.depth) bounds
+        → AreBoundsOf (worth_of g keyed asked.role asked.at key.now) asked.depth bounds
         → IsTableOf g keyed table.new.role table.new.at table.new }
 {
     if !serves(table, asked) {
         return;
     }
-    table.store(key, asked.depth, bounds, false);
+    table.store(key, asked.depth, bounds);
 }
 
 impl<G: Game> SharedTable<G> {
@@ -197,7 +201,7 @@ impl<G: Game> SharedTable<G> {
     ) -> Bounds
         requires table { seat.old.table_id ≡ self.now.table.shared.table_id }
         requires right { Holds (IsRight G.Game (game_of self.now)) place seat.old.me }
-        ensures within { IsWithin (worth_of (G.rules (game_of self.now)) (G.keyed (game_of self.now)) asked.role asked.at key.now asked.depth)
+        ensures within { AreBoundsOf (worth_of (G.rules (game_of self.now)) (G.keyed (game_of self.now)) asked.role asked.at key.now) asked.depth
             result }
         ensures table { seat.new.table_id ≡ seat.old.table_id }
         ensures right { Holds (IsRight G.Game (game_of self.now)) place seat.new.me }
@@ -208,7 +212,7 @@ impl<G: Game> SharedTable<G> {
 
     /// Bounds of what the state of a key is worth. They are 0 and 100 where another thread has the table.
     pub fn find(&self, key: &[u64], asked: Question) -> Bounds
-        ensures { IsWithin (worth_of (G.rules (game_of self.now)) (G.keyed (game_of self.now)) asked.role asked.at key.now asked.depth)
+        ensures { AreBoundsOf (worth_of (G.rules (game_of self.now)) (G.keyed (game_of self.now)) asked.role asked.at key.now) asked.depth
             result }
     {
         let place = self.place_of(key);
@@ -231,7 +235,7 @@ impl<G: Game> SharedTable<G> {
     )
         requires table { seat.old.table_id ≡ self.now.table.shared.table_id }
         requires right { Holds (IsRight G.Game (game_of self.now)) place seat.old.me }
-        requires bounds { IsWithin (worth_of (G.rules (game_of self.now)) (G.keyed (game_of self.now)) asked.role asked.at key.now asked.depth)
+        requires bounds { AreBoundsOf (worth_of (G.rules (game_of self.now)) (G.keyed (game_of self.now)) asked.role asked.at key.now) asked.depth
             bounds }
         ensures table { seat.new.table_id ≡ seat.old.table_id }
         ensures right { Holds (IsRight G.Game (game_of self.now)) place seat.new.me }
@@ -242,7 +246,7 @@ impl<G: Game> SharedTable<G> {
 
     /// Keeps bounds of what the state of a key is worth, or forgets them, as where another thread has the table.
     pub fn store(&self, key: &[u64], asked: Question, bounds: Bounds)
-        requires { IsWithin (worth_of (G.rules (game_of self.now)) (G.keyed (game_of self.now)) asked.role asked.at key.now asked.depth)
+        requires { AreBoundsOf (worth_of (G.rules (game_of self.now)) (G.keyed (game_of self.now)) asked.role asked.at key.now) asked.depth
             bounds }
     {
         let place = self.place_of(key);

@@ -3,7 +3,7 @@
 use Rattle.std.specs.Prelude.{ℕ, ◌≡◌, ◌≢◌, ◌<◌, ◌≤◌, ◌/◌, ◌%◌}
 use Rattle.table.specs.declared.entry.Entry.{Entry}
 use Rattle.table.specs.declared.entry.Found.{Found}
-use Rattle.table.specs.Worths.{IsBoundOf}
+use Rattle.table.specs.Worths.{AreBoundsOf}
 
 -- the depth that stands for every depth
 abbrev pub every_depth : ℕ
@@ -35,4 +35,4 @@ entry_in word = record {
 
 -- what was found is so
 abbrev pub IsFound : Found → (ℕ → ℕ) → Type 0
-IsFound f worth = IsBoundOf worth f.depth f.bounds f.lasts
+IsFound f worth = AreBoundsOf worth f.depth f.bounds

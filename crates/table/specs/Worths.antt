@@ -20,7 +20,7 @@ pub record AreWorths (rising : Bool) (worth : ℕ → ℕ) : Type 0 where
 abbrev pub IsWithin : ℕ → Bounds → Type 0
 IsWithin worth b = (b.lo ≤ worth) × (worth ≤ b.hi)
 
--- the worth at a depth is within the bounds, and if the upper one lasts no worth at another is above it
-pub record IsBoundOf (worth : ℕ → ℕ) (depth : ℕ) (b : Bounds) (lasts : Bool) : Type 0 where
+-- the worth at a depth is within the bounds, and if the upper one lasts no worth at a greater depth is above it
+pub record AreBoundsOf (worth : ℕ → ℕ) (depth : ℕ) (b : Bounds) : Type 0 where
   pub within : IsWithin (worth depth) b
-  pub lasting : lasts ≡ true → (d : ℕ) → worth d ≤ b.hi
+  pub lasting : b.lasts ≡ true → (d : ℕ) → depth ≤ d → worth d ≤ b.hi

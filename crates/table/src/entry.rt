@@ -1,6 +1,6 @@
 //! What is kept of a state.
 ghost use Rattle.std.specs.Prelude.{◌≡◌, ◌≢◌, ◌<◌, ◌≤◌, ◌+◌, ◌*◌, ◌/◌, ◌%◌, ◌^◌, ◌⊎◌, ℕ, true};
-ghost use Rattle.table.specs.Worths.{AreWorths, IsWithin};
+ghost use Rattle.table.specs.Worths.{AreBoundsOf, AreWorths};
 ghost use Rattle.table.specs.Says.{Says, IsSmall, IsFound, entry_in};
 
 use crate::bounds::Bounds;
@@ -19,12 +19,11 @@ pub(crate) struct Entry {
     pub(crate) depth: u8,
 }
 
-/// What a search found: bounds of a state's worth at a depth. If the upper one lasts it holds at every depth.
+/// What a search found: bounds of a state's worth at a depth.
 #[derive(Debug, Clone, Copy)]
 pub(crate) struct Found {
     pub(crate) depth: u8,
     pub(crate) bounds: Bounds,
-    pub(crate) lasts: bool,
 }
 
 /// What is known of every state.
@@ -99,7 +98,8 @@ fn lower_at(entry: Entry, rising: bool, depth: u32) -> u8
 
 /// What the worth at a depth is at most.
 fn upper_at(entry: Entry, rising: bool, depth: u32) -> u8
-    ensures { (worth : ℕ → ℕ) → AreWorths rising worth → Says entry worth → worth depth ≤ result }
+    ensures at_most { (worth : ℕ → ℕ) → AreWorths rising worth → Says entry worth → worth depth ≤ result }
+    ensures of_every { entry.hi_depth ≡ 127 → result ≡ entry.hi }
 {
     if entry.hi_depth == EVERY_DEPTH {
         return entry.hi;
@@ -115,13 +115,14 @@ fn upper_at(entry: Entry, rising: bool, depth: u32) -> u8
 }
 
 /// What an entry says of the worth at a depth. Where worths rise with the depth, a lower bound holds at each greater depth, and an
-/// upper one at each smaller depth.
+/// upper one at each smaller depth. An upper bound of every depth lasts.
 pub(crate) fn bounds_at(entry: Entry, rising: bool, depth: u32) -> Bounds
-    ensures { (worth : ℕ → ℕ) → AreWorths rising worth → Says entry worth → IsWithin (worth depth) result }
+    ensures { (worth : ℕ → ℕ) → AreWorths rising worth → Says entry worth → AreBoundsOf worth depth result }
 {
     Bounds {
         lo: lower_at(entry, rising, depth),
         hi: upper_at(entry, rising, depth),
+        lasts: entry.hi_depth == EVERY_DEPTH,
     }
 }
 
@@ -145,14 +146,14 @@ fn with_lower(entry: Entry, found: Found) -> Entry
     entry
 }
 
-/// The depth to which an upper bound holds.
-fn depth_of_upper(hi: u8, found: Found) -> u8
+/// The depth to which an upper bound holds: every one where it lasts and worths rise with the depth, so that it holds at smaller depths too.
+fn depth_of_upper(hi: u8, rising: bool, found: Found) -> u8
     requires { found.depth < 127 }
     ensures found { result ≢ 127 → result ≡ found.depth }
-    ensures lasts { result ≡ 127 → (100 ≤ hi) ⊎ (found.lasts ≡ true) }
+    ensures lasts { result ≡ 127 → (100 ≤ hi) ⊎ ((rising ≡ true) × (found.bounds.lasts ≡ true)) }
     ensures small { result < 128 }
 {
-    if hi >= 100 || found.lasts {
+    if hi >= 100 || (rising && found.bounds.lasts) {
         EVERY_DEPTH
     } else {
         found.depth
@@ -160,14 +161,14 @@ fn depth_of_upper(hi: u8, found: Found) -> u8
 }
 
 /// An entry with an upper bound that was found, if that is smaller or of greater depth.
-fn with_upper(entry: Entry, found: Found) -> Entry
+fn with_upper(entry: Entry, rising: bool, found: Found) -> Entry
     requires small { IsSmall entry }
     requires depth { found.depth < 127 }
-    ensures says { (worth : ℕ → ℕ) → ((d : ℕ) → worth d ≤ 100) → IsFound found worth → Says entry worth → Says result worth }
+    ensures says { (worth : ℕ → ℕ) → AreWorths rising worth → IsFound found worth → Says entry worth → Says result worth }
     ensures small { IsSmall result }
 {
     let hi = found.bounds.hi.min(100);
-    let hi_depth = depth_of_upper(hi, found);
+    let hi_depth = depth_of_upper(hi, rising, found);
     if hi < entry.hi
         || entry.hi_depth < found.depth
         || (hi == entry.hi && entry.hi_depth < hi_depth)
@@ -187,7 +188,7 @@ fn with_upper(entry: Entry, found: Found) -> Entry
 pub(crate) fn merged(entry: Entry, rising: bool, found: Found) -> Entry
     requires small { IsSmall entry }
     requires depth { found.depth < 127 }
-    ensures says { (worth : ℕ → ℕ) → ((d : ℕ) → worth d ≤ 100) → IsFound found worth → Says entry worth → Says result worth }
+    ensures says { (worth : ℕ → ℕ) → AreWorths rising worth → IsFound found worth → Says entry worth → Says result worth }
     ensures small { IsSmall result }
 {
     let kept = if rising || entry.depth == found.depth {
@@ -195,7 +196,7 @@ pub(crate) fn merged(entry: Entry, rising: bool, found: Found) -> Entry
     } else {
         nothing_known()
     };
-    let known = with_upper(with_lower(kept, found), found);
+    let known = with_upper(with_lower(kept, found), rising, found);
     Entry {
         lo: known.lo,
         hi: known.hi,

@@ -59,7 +59,7 @@ fn is_rising(at: AtBound) -> bool
 }
 
 impl PositionTable {
-    ghost use Rattle.table.specs.Worths.{IsWithin, IsBoundOf};
+    ghost use Rattle.table.specs.Worths.{AreBoundsOf};
     ghost use Rattle.table.specs.Tables.{IsTableOf, worth_of, table_capacity};
     ghost use Rattle.table.specs.Says.{IsFound};
 
@@ -114,18 +114,18 @@ impl PositionTable {
     /// Bounds of what the state of a key is worth within so many turns.
     pub fn find(&self, key: &[u64], depth: u32) -> Bounds
         ensures { (g : Rules) (keyed : List ℕ → State) (role : ℕ) (at : Bound) → IsTableOf g keyed role at self.now
-            → IsWithin (worth_of g keyed role at key.now depth) result }
+            → AreBoundsOf (worth_of g keyed role at key.now) depth result }
     {
         let first = bucket_of(key, self.entries);
         let entry = known_in(&self.words, self.stride, first, key);
         bounds_at(entry, is_rising(self.at), depth)
     }
 
-    /// Keeps bounds of what the state of a key is worth within so many turns. If the upper one lasts, it holds for every number of
-    /// turns. What is kept is only a hint: the table may forget it, and depths above 126 are not kept.
-    pub fn store(&mut self, key: &[u64], depth: u32, bounds: Bounds, lasts: bool)
+    /// Keeps bounds of what the state of a key is worth within so many turns. That the upper one lasts is kept where worths rise with
+    /// the number of turns. What is kept is only a hint: the table may forget it, and depths above 126 are not kept.
+    pub fn store(&mut self, key: &[u64], depth: u32, bounds: Bounds)
         ensures table { (g : Rules) (keyed : List ℕ → State) (role : ℕ) (at : Bound) → IsTableOf g keyed role at self.old
-            → IsBoundOf (worth_of g keyed role at key.now) depth bounds lasts → IsTableOf g keyed role at self.new }
+            → AreBoundsOf (worth_of g keyed role at key.now) depth bounds → IsTableOf g keyed role at self.new }
         ensures capacity { table_capacity self.new ≡ table_capacity self.old }
     {
         if depth >= DEPTHS || key.len() + 1 != self.stride {
@@ -135,7 +135,6 @@ impl PositionTable {
         let found = Found {
             depth: depth as u8,
             bounds,
-            lasts,
         };
         self.put(key, found);
     }

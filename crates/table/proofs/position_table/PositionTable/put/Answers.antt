@@ -26,7 +26,7 @@ returns-clause-table c = λ g keyed role at table found.
     let before : RowHolds worth c.row_at-row.result.now =
     subst (λ (row : List ℕ). RowHolds worth row)
     (sym (c.row_at-row.ensures ∙ ap (λ (ws : List ℕ). key_at ws self.stride e) c.deref-2.ensures.value)) (table.rows e (omega arith)) in
-    let says = c.merged-entry.ensures.says (worth key) (are key).few found (c.known_of.ensures.says worth (are key).few before) in
+    let says = c.merged-entry.ensures.says (worth key) (are key) found (c.known_of.ensures.says worth (are key).few before) in
     let size : length new ≡ length old.items = c.write_row.auto.words ∙ ap length c.deref_mut.ensures.value in
     let same : take old.len (new ++ drop (length new) old.items) ≡ new = written_over new old.items old.len old.ok.0 size in
     let rows : RowsHold worth new self.stride self.entries =
