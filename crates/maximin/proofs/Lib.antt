@@ -17,5 +17,7 @@ mod Ends
 mod Orders
 mod Packs
 mod LeftWindows
+mod Lasting
+mod LastingLeaves
 mod Reaching
 pub mod Facts

@@ -39,7 +39,7 @@ use Rattle.statement.specs.Value.{value, worst, least, greatest}
 use Rattle.maximin.specs.Alone.{IsAlone}
 use Rattle.maximin.specs.Turns.{StandsAt}
 use Rattle.maximin.proofs.Choices.{length-choices, choices_own, choices_other}
-use Rattle.maximin.proofs.Windows.{le_greatest, greatest_reached, raised_most, raised_seen, raised_now}
+use Rattle.maximin.proofs.Windows.{le_greatest, greatest_reached, raised_most, raised_seen}
 
 -- a joint move with another own move
 pub own_turn : (g : Rules) (j : Turn) (role own : ℕ) → role < g.roles → own < g.moves role → IsTurn g j → IsTurn g (set j role own)
@@ -138,12 +138,11 @@ part_at_most xs p n some within =
 
 -- the best of a run of own moves raises the lower bound
 pub run_seen : (xs : List ℕ) (p n : ℕ) (b best r : ℤ) → p + n ≤ length xs → ((k : ℕ) → k < p → int_min (pos (get_or xs k 0)) b ≤ℤ best)
-    → Answers (greatest (take n (drop p xs))) best b r → (k : ℕ) → k < p + n → int_min (pos (get_or xs k 0)) b ≤ℤ int_max best r
+    → int_min (pos (greatest (take n (drop p xs)))) b ≤ℤ r → (k : ℕ) → k < p + n → int_min (pos (get_or xs k 0)) b ≤ℤ int_max best r
 run_seen xs p n b best r within seen h k lt = elim (cases_lt k p) [
   | inl before ↦ raised_seen (get_or xs k 0) b best r (seen k before)
   | inr here ↦
       let part = part_below xs p n k within here lt in
-      let now = raised_now (greatest (take n (drop p xs))) b best r h in
       omega (arith, ints, clamps)
 ]
 

@@ -54,7 +54,7 @@ use Rattle.maximin.specs.declared.pack.Pack.{Pack}
 use Rattle.maximin.specs.declared.pack.Part.{Part}
 use Rattle.maximin.specs.declared.run.Run.{Run}
 use Rattle.table.specs.declared.bounds.Bounds.{Bounds}
-use Rattle.table.specs.Worths.{IsWithin}
+use Rattle.table.specs.Worths.{AreBoundsOf}
 use Rattle.maximin.specs.Ahead.{IsAheadOf}
 use Rattle.maximin.specs.Alone.{IsAlone}
 use Rattle.maximin.specs.Pack.{picked, packed_after, IsPartOf, IsPackOf}
@@ -288,21 +288,21 @@ packed_count g states roles places run h room =
     turns_after_count g states (take run.count places) (turns_in run) (omega arith) ∙ size
 
 -- bounds of one more worth are noted
-pub note_more : (states : List State) (worth : State → ℕ) (old new : Ahead) (place : ℕ) (found : Bounds) → place < length old.bounds
-    → new.count ≡ old.count → new.bounds ≡ set old.bounds place found → IsWithin (worth (get_or states place [])) found
-    → IsAheadOf states worth old → IsAheadOf states worth new
-note_more states worth old new place found room count bounds is h = record {
+pub note_more : (states : List State) (worth : State → ℕ → ℕ) (depth : ℕ) (old new : Ahead) (place : ℕ) (found : Bounds)
+    → place < length old.bounds → new.count ≡ old.count → new.bounds ≡ set old.bounds place found
+    → AreBoundsOf (worth (get_or states place [])) depth found → IsAheadOf states worth depth old → IsAheadOf states worth depth new
+note_more states worth depth old new place found room count bounds is h = record {
   count = count ∙ h.count;
   few = h.few;
   bounds = λ k d below.
-      subst (λ (bs : List Bounds). IsWithin (worth (get_or states k [])) (get_or bs k d)) (sym bounds)
+      subst (λ (bs : List Bounds). AreBoundsOf (worth (get_or states k [])) depth (get_or bs k d)) (sym bounds)
       (elim (cases_eq k place) [
         | inl same ↦
-            subst (λ (i : ℕ). IsWithin (worth (get_or states i [])) (get_or (set old.bounds place found) i d)) (sym same)
-            (subst (λ (b : Bounds). IsWithin (worth (get_or states place [])) b)
+            subst (λ (i : ℕ). AreBoundsOf (worth (get_or states i [])) depth (get_or (set old.bounds place found) i d)) (sym same)
+            (subst (λ (b : Bounds). AreBoundsOf (worth (get_or states place [])) depth b)
             (sym (get_or-set_same old.bounds place found d room)) is)
         | inr other ↦
-            subst (λ (b : Bounds). IsWithin (worth (get_or states k [])) b)
+            subst (λ (b : Bounds). AreBoundsOf (worth (get_or states k [])) depth b)
             (sym (get_or-set_other old.bounds place k found d other)) (h.bounds k d below)
       ]);
 }

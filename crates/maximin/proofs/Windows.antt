@@ -1,6 +1,6 @@
 use Rattle.std.proofs.Common.{true, false, ◌≡◌, ℕ, ◌<◌, ◌≤◌, List, [], ◌∷◌, length, zero, suc, ◌∙◌, arith, get_or, inl, inr}
 use Rattle.std.proofs.lemmas.Int.{ints, clamps}
-use Rattle.std.specs.Prelude.{ℤ, pos, ◌<ℤ◌, ◌≤ℤ◌, min, Option, Some, None, IfSome, unwrap_or}
+use Rattle.std.specs.Prelude.{ℤ, pos, ◌<ℤ◌, ◌≤ℤ◌, min}
 use Rattle.std.proofs.lemmas.Bool.{cases_lt}
 use Rattle.std.specs.Int.{int_min, int_max}
 use Rattle.std.specs.Int.Signed.{le_z, lt_z}
@@ -93,14 +93,3 @@ lt_z_true a b h = grind (arith, ints)
 
 pub lt_z_false : (a b : ℤ) → lt_z a b ≡ false → b ≤ℤ a
 lt_z_false a b h = grind (arith, ints)
-
--- what is told of a state, or else the bound, keeps the upper bound above what all states are worth
-pub told_low : (told : Option ℤ) (v all : ℕ) (b upper worth : ℤ) → IfSome told (λ w. w ≡ pos v) → all ≤ v → worth ≡ unwrap_or told b
-    → int_min (pos all) b ≤ℤ upper → int_min (pos all) b ≤ℤ int_min upper worth
-told_low None v all b upper worth h part is low = omega (arith, ints, clamps, is)
-told_low (Some w) v all b upper worth h part is low = omega (arith, ints, clamps, h, is)
-
-pub told_high : (told : Option ℤ) (v all : ℕ) (a lower worth : ℤ) → IfSome told (λ w. w ≡ pos v) → v ≤ all → worth ≡ unwrap_or told a
-    → lower ≤ℤ int_max (pos all) a → int_max lower worth ≤ℤ int_max (pos all) a
-told_high None v all a lower worth h part is high = omega (arith, ints, clamps, is)
-told_high (Some w) v all a lower worth h part is high = omega (arith, ints, clamps, h, is)

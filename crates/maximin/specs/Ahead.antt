@@ -6,13 +6,13 @@ use Rattle.statement.specs.Rules.{Rules, State}
 use Rattle.game.specs.declared.question.Question.{Question}
 use Rattle.maximin.specs.declared.ahead.Ahead.{Ahead}
 use Rattle.table.specs.declared.bounds.Bounds.{Bounds}
-use Rattle.table.specs.Worths.{IsWithin}
+use Rattle.table.specs.Worths.{AreBoundsOf}
 
--- the bounds that are known are of the worth of their state
-pub record IsAheadOf (states : List State) (worth : State → ℕ) (ahead : Ahead) : Type 0 where
+-- the bounds that are known are of the worth of their state by depth, at this depth
+pub record IsAheadOf (states : List State) (worth : State → ℕ → ℕ) (depth : ℕ) (ahead : Ahead) : Type 0 where
   pub count : ahead.count ≡ length states
   pub few : length states ≤ 64
-  pub bounds : (k : ℕ) (d : Bounds) → k < length states → IsWithin (worth (slice_index_or states k [])) (slice_index_or ahead.bounds k d)
+  pub bounds : (k : ℕ) (d : Bounds) → k < length states → AreBoundsOf (worth (slice_index_or states k [])) depth (slice_index_or ahead.bounds k d)
 
 -- what a state with one turn left is worth, where only an end is worth more than 0
 pub record IsOfLastTurn (g : Rules) (asked : Question) : Type 0 where

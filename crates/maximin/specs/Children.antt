@@ -29,7 +29,7 @@ module _ {G P W M : Type 0} (of : Ghosts G P W M) (game : G) where
   pub record AreLookedAt (asked : Question) (children : Children P M) : Type 0 where
     pub many : of.fits_many game children.many
     pub position : of.fits game children.position
-    pub ahead : IsAheadOf (of.states game children.many) (value (of.rules game) asked.role asked.depth asked.at) children.ahead
+    pub ahead : IsAheadOf (of.states game children.many) (λ s d. value (of.rules game) asked.role d asked.at s) asked.depth children.ahead
 
   -- they are the same states, and have grown nowhere
   pub record AreSameStates (old new : Children P M) : Type 0 where

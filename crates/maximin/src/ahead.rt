@@ -3,19 +3,21 @@
 //!
 //! A state is taken for this once, or twice where it had no room. What is judged is the value itself, so it answers any window.
 //! The run of the level below serves, which the search does not use at that moment, so no memory is taken.
-ghost use Rattle.std.specs.Prelude.{◌≡◌, ◌+◌, ◌-◌, ◌<◌, ◌≤◌, ◌≤ℤ◌, ℕ, pos, List, [], true, length, map, take, drop, slice_index_or, None, IfSome};
-ghost use Rattle.std.specs.Int.{int_min, int_max};
+ghost use Rattle.std.specs.Prelude.{◌≡◌, ◌+◌, ◌-◌, ◌<◌, ◌≤◌, ◌≤ℤ◌, ℕ, ℤ, pos, List, [], true, length, map, take, drop, slice_index_or, None, IfSome};
+ghost use Rattle.std.specs.Int.{int_max};
 ghost use Rattle.statement.specs.Rules.{State};
 ghost use Rattle.statement.specs.Value.{greatest, least, value};
 ghost use Rattle.statement.specs.declared.at_bound.AtBound.TheVariants.{Zero};
 ghost use Rattle.maximin.specs.Ahead.{IsAheadOf, IsOfLastTurn};
+ghost use Rattle.maximin.specs.Answer.{IsUpperBound};
 ghost use Rattle.maximin.specs.Children.{AreLookedAt, AreSameStates};
 ghost use Rattle.maximin.specs.Level.{IsLevelLeft, IsLevelOf, level_capacities};
 ghost use Rattle.maximin.specs.Pack.{picked, packed_after, ArePackable, IsPacked, IsPartOf, IsPackOf, IsPlacedRun};
 ghost use Rattle.maximin.specs.Run.{IsRunOf};
 ghost use Rattle.maximin.specs.Tools.{AreFit, AreKept, AreToolsKept, AreToolsOf};
-ghost use Rattle.table.specs.Worths.{IsWithin};
+ghost use Rattle.table.specs.Worths.{AreBoundsOf};
 
+use crate::answer::{SearchAnswer, lesser_lasts};
 use crate::children::Children;
 use crate::end::{greatest_of, least_of};
 use crate::level::Level;
@@ -38,16 +40,23 @@ pub struct Ahead {
     pub bounds: [Bounds; LONGEST_RUN],
 }
 
+/// Each worth is within these bounds, at every number of turns.
+const NOTHING_KNOWN: Bounds = Bounds {
+    lo: 0,
+    hi: 100,
+    lasts: true,
+};
+
 /// Nothing is known of so many states.
 pub fn new_ahead(count: usize) -> Ahead
     requires { count ≤ 64 }
-    ensures { (states : List State) (worth : State → ℕ) → length states ≡ count → ((s : State) → worth s ≤ 100)
-        → IsAheadOf states worth result }
+    ensures { (states : List State) (worth : State → ℕ → ℕ) (depth : ℕ) → length states ≡ count
+        → ((s : State) (d : ℕ) → worth s d ≤ 100) → IsAheadOf states worth depth result }
 {
     Ahead {
         count,
         next: 0,
-        bounds: [Bounds { lo: 0, hi: 100 }; LONGEST_RUN],
+        bounds: [NOTHING_KNOWN; LONGEST_RUN],
     }
 }
 
@@ -87,8 +96,8 @@ pub fn look_back<G: Game>(
 /// What is known of one of the states.
 pub fn bounds_of(ahead: &Ahead, place: usize) -> Bounds
     requires { place < 64 }
-    ensures { (states : List State) (worth : State → ℕ) → IsAheadOf states worth ahead.now → place < length states
-        → IsWithin (worth (slice_index_or states place [])) result }
+    ensures { (states : List State) (worth : State → ℕ → ℕ) (depth : ℕ) → IsAheadOf states worth depth ahead.now → place < length states
+        → AreBoundsOf (worth (slice_index_or states place [])) depth result }
 {
     ahead.bounds[place]
 }
@@ -163,7 +172,8 @@ fn part_worth<G: Game>(game: &G, wide: &G::Wide, part: Part, asked: Question) ->
     }
 }
 
-/// What is known of a state by its part of those that were judged, if it has one, and else what was known before.
+/// What is known of a state by its part of those that were judged, if it has one, and else what was known before. What is judged is
+/// not said to last: the turns are over there.
 fn noted<G: Game>(
     game: &G,
     wide: &G::Wide,
@@ -178,8 +188,9 @@ fn noted<G: Game>(
     requires role { asked.role < (G.rules game.now).roles }
     requires depth { asked.depth ≡ 0 }
     requires bound { asked.at ≡ Zero }
-    ensures { (worth : ℕ) → IfSome part (IsPartOf (value (G.rules game.now) asked.role asked.depth asked.at) (G.judged game.now wide.now) worth)
-        → IsWithin worth known → IsWithin worth result }
+    ensures { (worth : ℕ → ℕ) (depth : ℕ)
+        → IfSome part (IsPartOf (value (G.rules game.now) asked.role asked.depth asked.at) (G.judged game.now wide.now) (worth depth))
+        → AreBoundsOf worth depth known → AreBoundsOf worth depth result }
 {
     let Some(part) = part else {
         return known;
@@ -188,6 +199,7 @@ fn noted<G: Game>(
     Bounds {
         lo: worth,
         hi: worth,
+        lasts: false,
     }
 }
 
@@ -279,24 +291,34 @@ pub fn look_ahead<G: Game>(
 }
 
 /// The lesser of a bound and the least of the upper bounds of states.
-pub fn least_bound(ahead: &Ahead, b: i16) -> i16
-    ensures at_most { result ≤ℤ b }
-    ensures at_least { (states : List State) (worth : State → ℕ) → IsAheadOf states worth ahead.now
-        → int_min (pos (least (map worth states))) b ≤ℤ result }
+pub fn least_bound(ahead: &Ahead, b: SearchAnswer) -> SearchAnswer
+    ensures at_most { result.worth ≤ℤ b.worth }
+    ensures upper { (states : List State) (worth : State → ℕ → ℕ) (depth : ℕ) (top : ℤ) → IsAheadOf states worth depth ahead.now
+        → b.worth ≤ℤ top → IsUpperBound (λ d. least (map (λ s. worth s d) states)) depth top b
+        → IsUpperBound (λ d. least (map (λ s. worth s d) states)) depth top result }
 {
-    let mut upper = b;
+    let mut upper = b.worth;
+    let mut lasts = b.lasts;
     for place in 0..ahead.count.min(LONGEST_RUN) {
         let known = bounds_of(ahead, place);
-        upper = upper.min(i16::from(known.hi));
+        let bound = SearchAnswer {
+            worth: i16::from(known.hi),
+            lasts: known.lasts,
+        };
+        lasts = lesser_lasts(upper, lasts, bound);
+        upper = upper.min(bound.worth);
     }
-    upper
+    SearchAnswer {
+        worth: upper,
+        lasts,
+    }
 }
 
 /// The greater of a bound and the greatest of the lower bounds of states.
 pub fn greatest_bound(ahead: &Ahead, a: i16) -> i16
     ensures at_least { a ≤ℤ result }
-    ensures at_most { (states : List State) (worth : State → ℕ) → IsAheadOf states worth ahead.now
-        → result ≤ℤ int_max (pos (greatest (map worth states))) a }
+    ensures at_most { (states : List State) (worth : State → ℕ → ℕ) (depth : ℕ) → IsAheadOf states worth depth ahead.now
+        → result ≤ℤ int_max (pos (greatest (map (λ s. worth s depth) states))) a }
 {
     let mut lower = a;
     for place in 0..ahead.count.min(LONGEST_RUN) {

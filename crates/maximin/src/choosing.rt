@@ -96,7 +96,8 @@ fn child_above<G: Game, E: Ending>(
         low,
         high: GREATEST,
     };
-    try_child_at::<G, E>(game, place, asked, window, tools, children, levels)
+    let answer = try_child_at::<G, E>(game, place, asked, window, tools, children, levels)?;
+    Ok(answer.worth)
 }
 
 /// The first best move up to the end of a run of moves. These are the states after them.
@@ -216,7 +217,8 @@ fn worst_above<G: Game, E: Ending>(
         low,
         high: GREATEST,
     };
-    try_worst_at::<G, E>(game, from, asked, own, window, tools, levels)
+    let answer = try_worst_at::<G, E>(game, from, asked, own, window, tools, levels)?;
+    Ok(answer.worth)
 }
 
 /// The first best of all moves, one by one.

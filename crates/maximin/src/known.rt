@@ -50,7 +50,7 @@ pub fn try_choice_worth<G: Game, E: Ending>(
             high: worth,
         };
         let least = try_worst_at::<G, E>(game, from, next, own, window, tools, levels)?;
-        if least >= worth {
+        if least.worth >= worth {
             return Ok(Some(own));
         }
         own = further;

@@ -7,7 +7,7 @@ ghost use Rattle.std.specs.Arc.{arc_value};
 ghost use Rattle.game.specs.Keys.{key_at};
 ghost use Rattle.statement.specs.Value.{value};
 ghost use Rattle.table.specs.Tables.{IsTableOf, table_capacity, worth_of};
-ghost use Rattle.table.specs.Worths.{IsWithin};
+ghost use Rattle.table.specs.Worths.{AreBoundsOf};
 ghost use Rattle.shared_table.specs.Games.{game_of};
 ghost use Rattle.maximin.specs.Memory.{ArePositionsOf, IsMemoryOf, memory_capacities, position_capacities};
 
@@ -118,9 +118,13 @@ pub fn shared_memory<G: Game>(
 
 /// Nothing is known of what a state is worth.
 fn unknown<G: Game>(_game: &G, _asked: Question) -> Bounds
-    ensures { (s : List ℕ) → IsWithin (value (G.rules _game.now) _asked.role _asked.depth _asked.at s) result }
+    ensures { (s : List ℕ) → AreBoundsOf (λ d. value (G.rules _game.now) _asked.role d _asked.at s) _asked.depth result }
 {
-    Bounds { lo: 0, hi: 100 }
+    Bounds {
+        lo: 0,
+        hi: 100,
+        lasts: true,
+    }
 }
 
 /// Whether two worths of a state at the bound are the same.
@@ -156,7 +160,7 @@ pub fn may_find<G: Game>(positions: &Positions<G>, asked: Question) -> bool {
 /// What a table says of the state of a key.
 fn find_in_own<G: Game>(game: &G, table: &PositionTable, key: &[u64], asked: Question) -> Bounds
     requires { IsTableOf (G.rules game.now) (G.keyed game.now) table.now.role table.now.at table.now }
-    ensures { IsWithin (worth_of (G.rules game.now) (G.keyed game.now) asked.role asked.at key.now asked.depth) result }
+    ensures { AreBoundsOf (worth_of (G.rules game.now) (G.keyed game.now) asked.role asked.at key.now) asked.depth result }
 {
     if !is_of(table, asked) {
         return unknown(game, asked);
@@ -167,7 +171,7 @@ fn find_in_own<G: Game>(game: &G, table: &PositionTable, key: &[u64], asked: Que
 /// Bounds of what the state of a key is worth, by what is kept of it.
 pub fn find_in<G: Game>(game: &G, positions: &Positions<G>, key: &[u64], asked: Question) -> Bounds
     requires { ArePositionsOf G.Game game.now positions.now }
-    ensures { IsWithin (worth_of (G.rules game.now) (G.keyed game.now) asked.role asked.at key.now asked.depth) result }
+    ensures { AreBoundsOf (worth_of (G.rules game.now) (G.keyed game.now) asked.role asked.at key.now) asked.depth result }
 {
     match positions {
         Positions::Nowhere => unknown(game, asked),
@@ -185,14 +189,14 @@ fn keep_in_own<G: Game>(
     found: Bounds,
 )
     requires table { IsTableOf (G.rules _game.now) (G.keyed _game.now) table.old.role table.old.at table.old }
-    requires found { IsWithin (worth_of (G.rules _game.now) (G.keyed _game.now) asked.role asked.at key.now asked.depth) found }
+    requires found { AreBoundsOf (worth_of (G.rules _game.now) (G.keyed _game.now) asked.role asked.at key.now) asked.depth found }
     ensures table { IsTableOf (G.rules _game.now) (G.keyed _game.now) table.new.role table.new.at table.new }
     ensures capacity { table_capacity table.new ≡ table_capacity table.old }
 {
     if !is_of(table, asked) {
         return;
     }
-    table.store(key, asked.depth, found, false);
+    table.store(key, asked.depth, found);
 }
 
 /// Keeps bounds of what the state of a key is worth.
@@ -204,7 +208,7 @@ fn keep_in<G: Game>(
     found: Bounds,
 )
     requires positions { ArePositionsOf G.Game game.now positions.old }
-    requires found { IsWithin (worth_of (G.rules game.now) (G.keyed game.now) asked.role asked.at key.now asked.depth) found }
+    requires found { AreBoundsOf (worth_of (G.rules game.now) (G.keyed game.now) asked.role asked.at key.now) asked.depth found }
     ensures positions { ArePositionsOf G.Game game.now positions.new }
     ensures capacities { position_capacities positions.new ≡ position_capacities positions.old }
 {
@@ -229,7 +233,7 @@ pub fn key_in(keys: &[u64], words: usize, place: usize) -> &[u64]
 pub fn recall<G: Game>(game: &G, from: &G::Pos, asked: Question, memory: &mut Memory<G>) -> Bounds
     requires fits { G.fits game.now from.now }
     requires memory { IsMemoryOf G.Game game.now memory.old }
-    ensures within { IsWithin (value (G.rules game.now) asked.role asked.depth asked.at (G.state game.now from.now)) result }
+    ensures within { AreBoundsOf (λ d. value (G.rules game.now) asked.role d asked.at (G.state game.now from.now)) asked.depth result }
     ensures memory { IsMemoryOf G.Game game.now memory.new }
     ensures capacities { memory_capacities memory.new ≡ memory_capacities memory.old }
 {
@@ -250,7 +254,7 @@ pub fn keep<G: Game>(
 )
     requires fits { G.fits game.now from.now }
     requires memory { IsMemoryOf G.Game game.now memory.old }
-    requires found { IsWithin (value (G.rules game.now) asked.role asked.depth asked.at (G.state game.now from.now)) found }
+    requires found { AreBoundsOf (λ d. value (G.rules game.now) asked.role d asked.at (G.state game.now from.now)) asked.depth found }
     ensures memory { IsMemoryOf G.Game game.now memory.new }
     ensures capacities { memory_capacities memory.new ≡ memory_capacities memory.old }
 {

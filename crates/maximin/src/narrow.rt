@@ -1,9 +1,11 @@
 //! What bounds of a value say in a window.
-ghost use Rattle.std.specs.Prelude.{◌≡◌, ◌≤◌, ◌≤ℤ◌, ℕ, pos};
+ghost use Rattle.std.specs.Prelude.{◌≡◌, ◌≤◌, ◌≤ℤ◌, ℕ, pos, true, false, if◌then◌else◌};
 ghost use Rattle.std.specs.Int.{int_min, int_max};
-ghost use Rattle.game.specs.Value.{Answers};
-ghost use Rattle.table.specs.Worths.{IsWithin};
+ghost use Rattle.std.specs.Int.Signed.{lt_z};
+ghost use Rattle.table.specs.Worths.{AreBoundsOf};
+ghost use Rattle.maximin.specs.Answer.{IsAnswer};
 
+use crate::answer::{SearchAnswer, both_last};
 use crate::window::SearchWindow;
 use table::Bounds;
 
@@ -19,10 +21,30 @@ pub fn narrowed(known: Bounds, window: SearchWindow) -> SearchWindow
 }
 
 /// The answer where bounds of a value leave nothing of a window that ends here.
-pub fn settled(known: Bounds, high: i16) -> i16
-    ensures { result ≡ int_max high (pos known.lo) }
+pub fn settled(known: Bounds, high: i16) -> SearchAnswer
+    ensures worth { result.worth ≡ int_max high (pos known.lo) }
+    ensures lasts { result.lasts ≡ known.lasts }
 {
-    high.max(i16::from(known.lo))
+    SearchAnswer {
+        worth: high.max(i16::from(known.lo)),
+        lasts: known.lasts,
+    }
+}
+
+/// The answer in a window, by one in the part of it that bounds leave, which ends here. It lasts only if they do, where it is this end.
+pub fn widened(known: Bounds, high: i16, answer: SearchAnswer) -> SearchAnswer
+    ensures worth { result.worth ≡ answer.worth }
+    ensures lasts { result.lasts ≡ (if answer.lasts then (if lt_z answer.worth high then true else known.lasts) else false) }
+{
+    let lasts = if answer.worth < high {
+        true
+    } else {
+        known.lasts
+    };
+    SearchAnswer {
+        worth: answer.worth,
+        lasts: both_last(lasts, answer),
+    }
 }
 
 /// An answer as a value is.
@@ -47,11 +69,13 @@ fn at_most(high: i16, answer: i16) -> u8
 }
 
 /// What an answer in a window says of the value.
-pub fn bounds_by(window: SearchWindow, answer: i16) -> Bounds
-    ensures { (worth : ℕ) → worth ≤ 100 → Answers worth window.low window.high answer → IsWithin worth result }
+pub fn bounds_by(window: SearchWindow, answer: SearchAnswer) -> Bounds
+    ensures { (worth : ℕ → ℕ) (depth : ℕ) → ((d : ℕ) → worth d ≤ 100) → IsAnswer worth depth window.low window.high answer
+        → AreBoundsOf worth depth result }
 {
     Bounds {
-        lo: at_least(window.low, answer),
-        hi: at_most(window.high, answer),
+        lo: at_least(window.low, answer.worth),
+        hi: at_most(window.high, answer.worth),
+        lasts: answer.lasts,
     }
 }

@@ -6,6 +6,7 @@ ghost use Rattle.statement.specs.Rules.{is_stuck as stuck};
 ghost use Rattle.game.specs.Value.{Answers};
 ghost use Rattle.statement.specs.Value.{greatest, least, reply_of, value, worst};
 ghost use Rattle.maximin.specs.Alone.{IsAlone};
+ghost use Rattle.maximin.specs.Answer.{IsAnswer};
 ghost use Rattle.maximin.specs.Children.{AreChildrenOf, AreJointsTo, AreLookedAt, AreSameStates};
 ghost use Rattle.maximin.specs.Level.{IsFilled, IsLevelKept};
 ghost use Rattle.maximin.specs.Run.{turns_in};
@@ -14,6 +15,7 @@ ghost use Rattle.maximin.specs.Tools.{AreFit, AreKept, IsWindow};
 
 use crate::ahead::{bounds_of, greatest_bound, least_bound, look_ahead, look_back, new_ahead};
 use crate::alone::{gather_own, is_alone};
+use crate::answer::{SearchAnswer, both_last, lesser_lasts};
 use crate::children::Children;
 use crate::cursor::{next_turn, start_turns, write_joint};
 use crate::end::{greatest_judged, judge_last, least_judged};
@@ -22,7 +24,7 @@ use crate::history::Movers;
 use crate::level::Level;
 use crate::memory::{keep, recall};
 use crate::moves::gather;
-use crate::narrow::{bounds_by, narrowed, settled};
+use crate::narrow::{bounds_by, narrowed, settled, widened};
 use crate::order::{order_of, put_off};
 use crate::run::LONGEST_RUN;
 use crate::sight::{mark_state, unmark_state};
@@ -55,22 +57,31 @@ fn value_at<G: Game, E: Ending>(
     window: SearchWindow,
     tools: &mut Tools<G>,
     levels: &mut [Level<G::Pos, G::Many>],
-) -> Result<i16, E>
+) -> Result<SearchAnswer, E>
     requires fits { G.fits game.now from.now }
     requires fit { AreFit G.Game game.now asked.role asked.depth tools.old levels.old }
     requires window { IsWindow window.low window.high }
-    ensures answers { IfOk result (Answers (value (G.rules game.now) asked.role asked.depth asked.at (G.state game.now from.now))
-        window.low window.high) }
+    ensures answers { IfOk result (IsAnswer (λ d. value (G.rules game.now) asked.role d asked.at (G.state game.now from.now))
+        asked.depth window.low window.high) }
     ensures kept { AreKept G.Game game.now tools.old levels.old tools.new levels.new }
 {
     if game.ended(from) {
-        return Ok(i16::from(game.goal(from, asked.role)));
+        return Ok(SearchAnswer {
+            worth: i16::from(game.goal(from, asked.role)),
+            lasts: true,
+        });
     }
     if asked.depth == 0 {
-        return Ok(bound_at(game, from, asked.role, asked.at));
+        return Ok(SearchAnswer {
+            worth: bound_at(game, from, asked.role, asked.at),
+            lasts: false,
+        });
     }
     if is_stuck(game, from) {
-        return Ok(0);
+        return Ok(SearchAnswer {
+            worth: 0,
+            lasts: true,
+        });
     }
     let next = Question {
         depth: asked.depth - 1,
@@ -80,6 +91,7 @@ fn value_at<G: Game, E: Ending>(
         return best_at::<G, E>(game, from, next, window, tools, levels);
     }
     let mut best = window.low;
+    let mut lasts = true;
     let mut place = 0;
     while let Some(own) = game.legal(from, asked.role, place) {
         let above = SearchWindow {
@@ -87,13 +99,14 @@ fn value_at<G: Game, E: Ending>(
             ..window
         };
         let worst = try_worst_at::<G, E>(game, from, next, own, above, tools, levels)?;
-        best = best.max(worst);
+        best = best.max(worst.worth);
+        lasts = both_last(lasts, worst);
         if best >= window.high {
-            return Ok(best);
+            return Ok(SearchAnswer { worth: best, lasts });
         }
         place += 1;
     }
-    Ok(best)
+    Ok(SearchAnswer { worth: best, lasts })
 }
 
 /// The least value of a state that can follow where the role plays `own`, within a window.
@@ -106,20 +119,21 @@ pub fn try_worst_at<G: Game, E: Ending>(
     window: SearchWindow,
     tools: &mut Tools<G>,
     levels: &mut [Level<G::Pos, G::Many>],
-) -> Result<i16, E>
+) -> Result<SearchAnswer, E>
     requires fits { G.fits game.now from.now }
     requires fit { AreFit G.Game game.now asked.role (asked.depth + 1) tools.old levels.old }
     requires own { own < (G.rules game.now).moves asked.role }
     requires open { stuck (G.rules game.now) (G.state game.now from.now) ≡ false }
     requires window { IsWindow window.low window.high }
-    ensures answers { IfOk result (Answers (worst (G.rules game.now) asked.role asked.depth asked.at (G.state game.now from.now) own)
-        window.low window.high) }
+    ensures answers { IfOk result (IsAnswer (λ d. worst (G.rules game.now) asked.role d asked.at (G.state game.now from.now) own)
+        asked.depth window.low window.high) }
     ensures kept { AreKept G.Game game.now tools.old levels.old tools.new levels.new }
 {
     let (first, rest) = levels.split_at_mut(1);
     let level = &mut first[0];
     start_turns(game, from, asked.role, own, &mut level.moves.cursor);
     let mut upper = window.high;
+    let mut lasts = true;
     let mut most = game.abreast();
     'runs: loop {
         let more = gather(game, from, asked.role, own, most, &mut level.moves);
@@ -128,9 +142,13 @@ pub fn try_worst_at<G: Game, E: Ending>(
             ..window
         };
         let least = least_after::<G, E>(game, from, asked, below, tools, level, rest)?;
-        upper = upper.min(least);
+        lasts = lesser_lasts(upper, lasts, least);
+        upper = upper.min(least.worth);
         if upper <= window.low || !more {
-            return Ok(upper);
+            return Ok(SearchAnswer {
+                worth: upper,
+                lasts,
+            });
         }
         most = LONGEST_RUN.min(most * 8);
     }
@@ -146,20 +164,23 @@ fn least_after<G: Game, E: Ending>(
     tools: &mut Tools<G>,
     level: &mut Level<G::Pos, G::Many>,
     levels: &mut [Level<G::Pos, G::Many>],
-) -> Result<i16, E>
+) -> Result<SearchAnswer, E>
     requires fits { G.fits game.now from.now }
     requires fit { AreFit G.Game game.now asked.role asked.depth tools.old levels.old }
     requires level { IsFilled G.Game game.now level.old }
     requires window { IsWindow window.low window.high }
-    ensures answers { IfOk result (Answers (least (map (λ j. value (G.rules game.now) asked.role asked.depth asked.at
-        ((G.rules game.now).after (G.state game.now from.now) j)) (turns_in level.old.moves.run))) window.low window.high) }
+    ensures answers { IfOk result (IsAnswer (λ d. least (map (λ j. value (G.rules game.now) asked.role d asked.at
+        ((G.rules game.now).after (G.state game.now from.now) j)) (turns_in level.old.moves.run))) asked.depth window.low window.high) }
     ensures kept { AreKept G.Game game.now tools.old levels.old tools.new levels.new }
     ensures level { IsLevelKept G.Game game.now level.old level.new }
 {
     let count = level.moves.run.count;
     let joints = &level.moves.run.joints[..count];
     if judge_last(game, from, joints, asked, &mut tools.wide) {
-        return Ok(least_judged(game, &tools.wide, count, asked, window));
+        return Ok(SearchAnswer {
+            worth: least_judged(game, &tools.wide, count, asked, window),
+            lasts: false,
+        });
     }
     game.steps(from, joints, &mut tools.wide, &mut level.children.many);
     least_at::<G, E>(
@@ -183,19 +204,19 @@ pub fn try_child_at<G: Game, E: Ending>(
     tools: &mut Tools<G>,
     children: &mut Children<G::Pos, G::Many>,
     levels: &mut [Level<G::Pos, G::Many>],
-) -> Result<i16, E>
+) -> Result<SearchAnswer, E>
     requires place { place < length (G.states game.now children.old.many) }
     requires fit { AreFit G.Game game.now asked.role asked.depth tools.old levels.old }
     requires children { AreLookedAt G.Game game.now asked children.old }
     requires window { IsWindow window.low window.high }
-    ensures answers { IfOk result (Answers (value (G.rules game.now) asked.role asked.depth asked.at (get_or (G.states game.now children.old.many) place []))
-        window.low window.high) }
+    ensures answers { IfOk result (IsAnswer (λ d. value (G.rules game.now) asked.role d asked.at (get_or (G.states game.now children.old.many) place []))
+        asked.depth window.low window.high) }
     ensures kept { AreKept G.Game game.now tools.old levels.old tools.new levels.new }
     ensures children { AreLookedAt G.Game game.now asked children.new }
     ensures same { AreSameStates G.Game game.now children.old children.new }
 {
-    if let Some(worth) = told_worth(game, &children.many, place, asked) {
-        return Ok(worth);
+    if let Some(told) = told_worth(game, &children.many, place, asked) {
+        return Ok(told);
     }
     look_ahead(game, place, asked, tools, children, levels);
     let known = bounds_of(&children.ahead, place);
@@ -204,7 +225,8 @@ pub fn try_child_at<G: Game, E: Ending>(
         return Ok(settled(known, left.high));
     }
     game.take(&children.many, place, &mut children.position);
-    try_known_at::<G, E>(game, &children.position, asked, left, tools, levels)
+    let answer = try_known_at::<G, E>(game, &children.position, asked, left, tools, levels)?;
+    Ok(widened(known, left.high, answer))
 }
 
 /// The value of a state within a window, by what is kept of it, or else by a search in what that leaves of the window.
@@ -216,12 +238,12 @@ pub fn try_known_at<G: Game, E: Ending>(
     window: SearchWindow,
     tools: &mut Tools<G>,
     levels: &mut [Level<G::Pos, G::Many>],
-) -> Result<i16, E>
+) -> Result<SearchAnswer, E>
     requires fits { G.fits game.now from.now }
     requires fit { AreFit G.Game game.now asked.role asked.depth tools.old levels.old }
     requires window { IsWindow window.low window.high }
-    ensures answers { IfOk result (Answers (value (G.rules game.now) asked.role asked.depth asked.at (G.state game.now from.now))
-        window.low window.high) }
+    ensures answers { IfOk result (IsAnswer (λ d. value (G.rules game.now) asked.role d asked.at (G.state game.now from.now))
+        asked.depth window.low window.high) }
     ensures kept { AreKept G.Game game.now tools.old levels.old tools.new levels.new }
 {
     E::check(&tools.sight)?;
@@ -233,6 +255,7 @@ pub fn try_known_at<G: Game, E: Ending>(
     let mark = mark_state(&tools.memory, &tools.sight, asked);
     let answer = value_at::<G, E>(game, from, asked, left, tools, levels)?;
     unmark_state(&tools.sight, mark);
+    let answer = widened(known, left.high, answer);
     let found = bounds_by(window, answer);
     keep(game, from, asked, found, &mut tools.memory);
     Ok(answer)
@@ -248,27 +271,29 @@ fn least_at<G: Game, E: Ending>(
     tools: &mut Tools<G>,
     children: &mut Children<G::Pos, G::Many>,
     levels: &mut [Level<G::Pos, G::Many>],
-) -> Result<i16, E>
+) -> Result<SearchAnswer, E>
     requires joints { AreJointsTo (G.states game.now children.old.many) joints.now }
     requires fit { AreFit G.Game game.now asked.role asked.depth tools.old levels.old }
     requires children { AreChildrenOf G.Game game.now children.old }
     requires window { IsWindow window.low window.high }
-    ensures answers { IfOk result (Answers (least (map (value (G.rules game.now) asked.role asked.depth asked.at) (G.states game.now children.old.many)))
-        window.low window.high) }
+    ensures answers { IfOk result (IsAnswer (λ d. least (map (value (G.rules game.now) asked.role d asked.at) (G.states game.now children.old.many)))
+        asked.depth window.low window.high) }
     ensures kept { AreKept G.Game game.now tools.old levels.old tools.new levels.new }
     ensures same { AreSameStates G.Game game.now children.old children.new }
 {
     let count = joints.len();
-    let mut upper = least_told(game, &children.many, count, asked, window.high);
-    if upper <= window.low {
-        return Ok(upper);
+    let told = least_told(game, &children.many, count, asked, window.high);
+    if told.worth <= window.low {
+        return Ok(told);
     }
     children.ahead = new_ahead(count);
     look_back(game, asked, tools, children);
-    upper = least_bound(&children.ahead, upper);
-    if upper <= window.low {
-        return Ok(upper);
+    let known = least_bound(&children.ahead, told);
+    if known.worth <= window.low {
+        return Ok(known);
     }
+    let mut upper = known.worth;
+    let mut lasts = known.lasts;
     let mut order = order_of(&tools.history, joints, asked.depth);
     for place in 0..count {
         put_off(
@@ -284,15 +309,22 @@ fn least_at<G: Game, E: Ending>(
             high: upper,
             ..window
         };
-        let worth = try_child_at::<G, E>(game, child, asked, below, tools, children, levels)?;
-        upper = upper.min(worth);
+        let answer = try_child_at::<G, E>(game, child, asked, below, tools, children, levels)?;
+        lasts = lesser_lasts(upper, lasts, answer);
+        upper = upper.min(answer.worth);
         if upper <= window.low {
             let movers = Movers::Others(asked.role);
             tools.history.note_cut(&joints[child], movers, asked.depth);
-            return Ok(upper);
+            return Ok(SearchAnswer {
+                worth: upper,
+                lasts,
+            });
         }
     }
-    Ok(upper)
+    Ok(SearchAnswer {
+        worth: upper,
+        lasts,
+    })
 }
 
 /// The greatest value of a state that can follow, within a window, where no other role has a choice.
@@ -304,20 +336,21 @@ fn best_at<G: Game, E: Ending>(
     window: SearchWindow,
     tools: &mut Tools<G>,
     levels: &mut [Level<G::Pos, G::Many>],
-) -> Result<i16, E>
+) -> Result<SearchAnswer, E>
     requires fits { G.fits game.now from.now }
     requires fit { AreFit G.Game game.now asked.role (asked.depth + 1) tools.old levels.old }
     requires open { stuck (G.rules game.now) (G.state game.now from.now) ≡ false }
     requires alone { IsAlone (G.rules game.now) (G.state game.now from.now) asked.role }
     requires window { IsWindow window.low window.high }
-    ensures answers { IfOk result (Answers (greatest (map (worst (G.rules game.now) asked.role asked.depth asked.at (G.state game.now from.now))
-        ((G.rules game.now).legal (G.state game.now from.now) asked.role))) window.low window.high) }
+    ensures answers { IfOk result (IsAnswer (λ d. greatest (map (worst (G.rules game.now) asked.role d asked.at (G.state game.now from.now))
+        ((G.rules game.now).legal (G.state game.now from.now) asked.role))) asked.depth window.low window.high) }
     ensures kept { AreKept G.Game game.now tools.old levels.old tools.new levels.new }
 {
     let (first, rest) = levels.split_at_mut(1);
     let level = &mut first[0];
     start_turns(game, from, asked.role, 0, &mut level.moves.cursor);
     let mut best = window.low;
+    let mut lasts = true;
     let mut place = 0;
     let mut most = game.abreast();
     'runs: loop {
@@ -332,16 +365,17 @@ fn best_at<G: Game, E: Ending>(
         );
         let count = level.moves.run.count;
         if count == 0 {
-            return Ok(best);
+            return Ok(SearchAnswer { worth: best, lasts });
         }
         let above = SearchWindow {
             low: best,
             ..window
         };
         let greatest = greatest_after::<G, E>(game, from, asked, above, tools, level, rest)?;
-        best = best.max(greatest);
+        best = best.max(greatest.worth);
+        lasts = both_last(lasts, greatest);
         if best >= window.high {
-            return Ok(best);
+            return Ok(SearchAnswer { worth: best, lasts });
         }
         place += count;
         most = LONGEST_RUN.min(8 * most);
@@ -358,20 +392,23 @@ fn greatest_after<G: Game, E: Ending>(
     tools: &mut Tools<G>,
     level: &mut Level<G::Pos, G::Many>,
     levels: &mut [Level<G::Pos, G::Many>],
-) -> Result<i16, E>
+) -> Result<SearchAnswer, E>
     requires fits { G.fits game.now from.now }
     requires fit { AreFit G.Game game.now asked.role asked.depth tools.old levels.old }
     requires level { IsFilled G.Game game.now level.old }
     requires window { IsWindow window.low window.high }
-    ensures answers { IfOk result (Answers (greatest (map (λ j. value (G.rules game.now) asked.role asked.depth asked.at
-        ((G.rules game.now).after (G.state game.now from.now) j)) (turns_in level.old.moves.run))) window.low window.high) }
+    ensures answers { IfOk result (IsAnswer (λ d. greatest (map (λ j. value (G.rules game.now) asked.role d asked.at
+        ((G.rules game.now).after (G.state game.now from.now) j)) (turns_in level.old.moves.run))) asked.depth window.low window.high) }
     ensures kept { AreKept G.Game game.now tools.old levels.old tools.new levels.new }
     ensures level { IsLevelKept G.Game game.now level.old level.new }
 {
     let count = level.moves.run.count;
     let joints = &level.moves.run.joints[..count];
     if judge_last(game, from, joints, asked, &mut tools.wide) {
-        return Ok(greatest_judged(game, &tools.wide, count, asked, window));
+        return Ok(SearchAnswer {
+            worth: greatest_judged(game, &tools.wide, count, asked, window),
+            lasts: false,
+        });
     }
     game.steps(from, joints, &mut tools.wide, &mut level.children.many);
     greatest_at::<G, E>(
@@ -395,27 +432,34 @@ fn greatest_at<G: Game, E: Ending>(
     tools: &mut Tools<G>,
     children: &mut Children<G::Pos, G::Many>,
     levels: &mut [Level<G::Pos, G::Many>],
-) -> Result<i16, E>
+) -> Result<SearchAnswer, E>
     requires joints { AreJointsTo (G.states game.now children.old.many) joints.now }
     requires fit { AreFit G.Game game.now asked.role asked.depth tools.old levels.old }
     requires children { AreChildrenOf G.Game game.now children.old }
     requires window { IsWindow window.low window.high }
-    ensures answers { IfOk result (Answers (greatest (map (value (G.rules game.now) asked.role asked.depth asked.at) (G.states game.now children.old.many)))
-        window.low window.high) }
+    ensures answers { IfOk result (IsAnswer (λ d. greatest (map (value (G.rules game.now) asked.role d asked.at) (G.states game.now children.old.many)))
+        asked.depth window.low window.high) }
     ensures kept { AreKept G.Game game.now tools.old levels.old tools.new levels.new }
     ensures same { AreSameStates G.Game game.now children.old children.new }
 {
     let count = joints.len();
     let mut lower = greatest_told(game, &children.many, count, asked, window.low);
     if lower >= window.high {
-        return Ok(lower);
+        return Ok(SearchAnswer {
+            worth: lower,
+            lasts: true,
+        });
     }
     children.ahead = new_ahead(count);
     look_back(game, asked, tools, children);
     lower = greatest_bound(&children.ahead, lower);
     if lower >= window.high {
-        return Ok(lower);
+        return Ok(SearchAnswer {
+            worth: lower,
+            lasts: true,
+        });
     }
+    let mut lasts = true;
     let mut order = order_of(&tools.history, joints, asked.depth);
     for place in 0..count {
         put_off(
@@ -431,15 +475,22 @@ fn greatest_at<G: Game, E: Ending>(
             low: lower,
             ..window
         };
-        let worth = try_child_at::<G, E>(game, child, asked, above, tools, children, levels)?;
-        lower = lower.max(worth);
+        let answer = try_child_at::<G, E>(game, child, asked, above, tools, children, levels)?;
+        lower = lower.max(answer.worth);
+        lasts = both_last(lasts, answer);
         if lower >= window.high {
             let movers = Movers::Role(asked.role);
             tools.history.note_cut(&joints[child], movers, asked.depth);
-            return Ok(lower);
+            return Ok(SearchAnswer {
+                worth: lower,
+                lasts,
+            });
         }
     }
-    Ok(lower)
+    Ok(SearchAnswer {
+        worth: lower,
+        lasts,
+    })
 }
 
 /// The least value of a state that can follow where the role plays `own`, within a window.
@@ -461,7 +512,7 @@ pub fn worst_at<G: Game>(
     ensures kept { AreKept G.Game game.now tools.old levels.old tools.new levels.new }
 {
     let Ok(worst) = try_worst_at::<G, Infallible>(game, from, asked, own, window, tools, levels);
-    worst
+    worst.worth
 }
 
 /// The value of a state within a window, by what is kept of it, or else by a search in what that leaves of the window.
@@ -479,8 +530,8 @@ fn known_at<G: Game>(
     ensures answers { Answers (value (G.rules game.now) asked.role asked.depth asked.at (G.state game.now from.now)) window.low window.high result }
     ensures kept { AreKept G.Game game.now tools.old levels.old tools.new levels.new }
 {
-    let Ok(worth) = try_known_at::<G, Infallible>(game, from, asked, window, tools, levels);
-    worth
+    let Ok(answer) = try_known_at::<G, Infallible>(game, from, asked, window, tools, levels);
+    answer.worth
 }
 
 /// The least and the greatest value of a state, as goal values are.
@@ -508,7 +559,9 @@ pub fn try_value_within<G: Game, E: Ending>(
     if low >= high {
         return Ok(high);
     }
-    try_known_at::<G, E>(game, from, asked, SearchWindow { low, high }, tools, levels)
+    let inner = SearchWindow { low, high };
+    let answer = try_known_at::<G, E>(game, from, asked, inner, tools, levels)?;
+    Ok(answer.worth)
 }
 
 /// The same, by a search that always answers.

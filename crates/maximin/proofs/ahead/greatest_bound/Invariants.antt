@@ -9,5 +9,6 @@ use Rattle.maximin.proofs.ahead.greatest_bound.Given as goal
 abbrev pub invariant-loop-place : goal.invariant-loop-place
 invariant-loop-place l = record {
   at_least : l.a ≤ℤ l.lower;
-  at_most : (states : List State) (worth : State → ℕ) → IsAheadOf states worth l.ahead → l.lower ≤ℤ int_max (pos (greatest (map worth states))) l.a;
+  at_most : (states : List State) (worth : State → ℕ → ℕ) (depth : ℕ) → IsAheadOf states worth depth l.ahead
+      → l.lower ≤ℤ int_max (pos (greatest (map (λ s. worth s depth) states))) l.a;
 }

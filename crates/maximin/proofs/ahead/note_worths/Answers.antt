@@ -23,6 +23,8 @@ loop-place-preserved g c =
     let rules = g.G.Game.rules c.args.game.now in
     let states = g.G.Game.states c.args.game.now c.args.children.now.many in
     let worth : State → ℕ = λ s. value rules c.args.asked.role c.args.asked.depth c.args.asked.at s in
+    let worths : State → ℕ → ℕ = λ s d. value rules c.args.asked.role d c.args.asked.at s in
+    let depth = c.args.asked.depth in
     let next : State → ℕ = λ s. value rules c.args.asked.role (c.args.asked.depth - 1) c.args.asked.at s in
     let place = c.loop-place.place in
     let pack = c.args.pack.now in
@@ -39,8 +41,8 @@ loop-place-preserved g c =
       known = record {
         many = is.known.many;
         position = is.known.position;
-        ahead = rw same (note_more states worth children.ahead _ place c.noted.result room refl refl
-            (c.noted.ensures (worth (get_or states place [])) part (known.bounds place _ inside)) known);
+        ahead = rw same (note_more states worths depth children.ahead _ place c.noted.result room refl refl
+            (c.noted.ensures (worths (get_or states place [])) depth part (known.bounds place _ inside)) known);
       };
       same = record { position = is.same.position; capacities = is.same.capacities; many = is.same.many };
       count = is.count;

@@ -31,8 +31,8 @@ best_among-requires-clause-children g c κs within =
     record {
       many = c.steps.ensures.many;
       position = c.requires.level.level.children.position;
-      ahead = c.new_ahead-level.ensures states (value rules c.args.asked.role c.args.asked.depth c.args.asked.at) size
-          (λ s. value_at_most rules c.args.asked.role (λ q r. law.goal_within c.args.game.now q r) c.args.asked.depth c.args.asked.at s);
+      ahead = c.new_ahead-level.ensures states (λ s d. value rules c.args.asked.role d c.args.asked.at s) c.args.asked.depth size
+          (λ s d. value_at_most rules c.args.asked.role (λ q r. law.goal_within c.args.game.now q r) d c.args.asked.at s);
     }
 
 pub best_among-requires-clause-few : goal.best_among-requires-clause-few

@@ -1,6 +1,5 @@
 use Rattle.std.proofs.Common.{◌≡◌, ◌≤◌, ◌∙◌, ap, refl, arith, w16, rules as facts}
 use Rattle.std.proofs.lemmas.Int.{to_z-of_z, ints, clamps}
-use Rattle.std.proofs.lemmas.Result.{IfOk-weaker}
 use mir.Val.{SFits, of_z, to_z}
 use Rattle.std.specs.Prelude.{pos}
 use Rattle.std.specs.Int.{int_max}
@@ -38,5 +37,6 @@ returns-clause-answers g c =
     let fits_low : SFits w16 c.max-low.result = search facts in
     let low_is : low ≡ int_max c.args.best (pos 0) =
     to_z-of_z w16 c.max-low.result fits_low ∙ c.max-low.ensures.value ∙ ap (λ z. int_max z (pos 0)) (to_z-of_z w16 c.args.best c.ranges.best) in
-    IfOk-weaker c.try_worst_at.result _ _ (λ r h. within_goals worth c.args.best (pos 101) low (pos 100) r few low_is refl h)
-    c.try_worst_at.ensures.answers
+    let r = c.in_ok-answer.answer.worth in
+    let fits : SFits w16 r = search facts in
+    rw (to_z-of_z w16 r fits) (within_goals worth c.args.best (pos 101) low (pos 100) r few low_is refl c.in_ok-answer.ensures.answers.now)

@@ -103,14 +103,14 @@ returns-then-least-worth-clause-choice g c =
     let part : here ≤ whole = rw c.loop-further.invariant.here at
     (worst_le_value rules c.args.asked.role c.args.asked.depth c.args.asked.at state place free c.loop-further.invariant.in_list) in
     let known : to_z w16 (of_z w16 c.args.worth) ≡ pos whole = to_z-of_z w16 c.args.worth c.ranges.worth ∙ c.requires.worth in
-    let fits : SFits w16 c.in_ok-least.least = search facts in
-    let above : to_z w16 (of_z w16 c.args.worth) ≤ℤ c.in_ok-least.least = rw (← to_z-of_z w16 c.in_ok-least.least fits)
+    let fits : SFits w16 c.in_ok-least.least.worth = search facts in
+    let above : to_z w16 (of_z w16 c.args.worth) ≤ℤ c.in_ok-least.least.worth = rw (← to_z-of_z w16 c.in_ok-least.least.worth fits)
     (le_z_true _ _ c.if-least-worth.true) in
     let law = g.met.G.Game g.world.𝓛 g.world.𝓜 g.world.𝓡 ((λ _ x. x), (λ x. x), (λ x. x), λ x. x) in
     let few = value_at_most rules c.args.asked.role (λ s r. law.goal_within c.args.game.now s r) c.args.asked.depth c.args.asked.at state in
-    let same : here ≡ whole = attained whole here _ (to_z w16 (of_z w16 c.args.worth)) c.in_ok-least.least part
+    let same : here ≡ whole = attained whole here _ (to_z w16 (of_z w16 c.args.worth)) c.in_ok-least.least.worth part
     (less_below whole (to_z w16 (of_z w16 c.args.worth)) few known) known
-    c.in_ok-least.ensures.answers above in
+    c.in_ok-least.ensures.answers.now above in
     sym (slice_get-get_or legal place 0 c.loop-further.invariant.in_list ∙ ap Some c.loop-further.invariant.here)
     ∙ sym (choice_here rules c.args.asked.role c.args.asked.depth c.args.asked.at state place free c.loop-further.invariant.in_list
     (rw c.loop-further.invariant.here same) c.loop-further.invariant.before)
@@ -123,10 +123,11 @@ loop-further-preserved g c =
     let here = worst rules c.args.asked.role (c.args.asked.depth - 1) c.args.asked.at state c.loop-further.own in
     let next = legal_place rules state c.args.asked.role (c.loop-further.place + 1) c.in-Some-legal.further c.legal-in-loop-further.result c.legal-in-loop-further.ensures c.in-Some-legal.is in
     let known : to_z w16 (of_z w16 c.args.worth) ≡ pos whole = to_z-of_z w16 c.args.worth c.ranges.worth ∙ c.requires.worth in
-    let fits : SFits w16 c.in_ok-least.least = search facts in
-    let below : c.in_ok-least.least <ℤ to_z w16 (of_z w16 c.args.worth) = rw (← to_z-of_z w16 c.in_ok-least.least fits)
+    let fits : SFits w16 c.in_ok-least.least.worth = search facts in
+    let below : c.in_ok-least.least.worth <ℤ to_z w16 (of_z w16 c.args.worth) = rw (← to_z-of_z w16 c.in_ok-least.least.worth fits)
     (le_z_false _ _ c.if-least-worth.false) in
-    let less : here < whole = missed whole here _ (to_z w16 (of_z w16 c.args.worth)) c.in_ok-least.least known c.in_ok-least.ensures.answers below in
+    let less : here < whole = missed whole here _ (to_z w16 (of_z w16 c.args.worth)) c.in_ok-least.least.worth known
+    c.in_ok-least.ensures.answers.now below in
     record {
       kept = kept_then c.loop-further.invariant.kept c.try_worst_at.ensures.kept;
       deep = omega arith;

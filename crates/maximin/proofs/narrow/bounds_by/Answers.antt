@@ -7,5 +7,11 @@ pub returns : goal.returns
 returns c =
     let ea : to_z w16 (of_z w16 c.args.window.low) ≡ c.args.window.low = to_z-of_z w16 c.args.window.low (search facts) in
     let eb : to_z w16 (of_z w16 c.args.window.high) ≡ c.args.window.high = to_z-of_z w16 c.args.window.high (search facts) in
-    let er : to_z w16 (of_z w16 c.args.answer) ≡ c.args.answer = to_z-of_z w16 c.args.answer (search facts) in
-    λ worth few is. (c.at_least.ensures worth few (rw (er, ea) is.at_most), c.at_most.ensures worth few (rw (er, eb) is.at_least))
+    let er : to_z w16 (of_z w16 c.args.answer.worth) ≡ c.args.answer.worth = to_z-of_z w16 c.args.answer.worth (search facts) in
+    λ worth depth few is. record {
+      within = (
+        c.at_least.ensures (worth depth) (few depth) (rw (er, ea) is.now.at_most),
+        c.at_most.ensures (worth depth) (few depth) (rw (er, eb) is.now.at_least),
+      );
+      lasting = λ lasts d more. c.at_most.ensures (worth d) (few d) (rw (er, eb) (is.later lasts d more));
+    }

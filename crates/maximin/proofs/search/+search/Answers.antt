@@ -1,5 +1,6 @@
 use Rattle.std.proofs.Common.{
   ◌≡◌,
+  true,
   ℕ,
   ◌+◌,
   ◌-◌,
@@ -34,7 +35,7 @@ use mir.Val.{SFits, of_z, to_z}
 use Rattle.std.specs.Prelude.{ℤ, pos, ◌≤ℤ◌, map}
 use Rattle.std.specs.Int.{int_min, int_max}
 use Rattle.smallvec.specs.SmallVec.{SmallVec}
-use Rattle.statement.specs.Rules.{Turn, choices, IsTurn}
+use Rattle.statement.specs.Rules.{State, Turn, choices, IsTurn}
 use Rattle.game.specs.Value.{Answers}
 use Rattle.statement.specs.Value.{value, worst, least, greatest}
 use Rattle.maximin.specs.declared.level.Level.{Level}
@@ -64,10 +65,12 @@ use Rattle.maximin.proofs.Orders.{place_within, all_places}
 use Rattle.maximin.proofs.Choices.{legal_some}
 use Rattle.maximin.proofs.OwnTurns.{alone_worst, own_worths, run_seen, run_most, run_end, greatest_worth_above, greatest_worth_reached, map_part}
 use Rattle.maximin.specs.Open.{IsOpen}
-use Rattle.maximin.proofs.Values.{turn_known, value_open, worst_le_value, value_reached, value_ended, value_stuck, value_at_bound}
+use Rattle.maximin.proofs.Values.{turn_known, worst_le_value, value_reached, value_ended, value_stuck, value_at_bound}
 use Rattle.maximin.proofs.Bounds.{value_at_most}
 use Rattle.maximin.proofs.Kept.{kept_at_first, kept_then, memory_kept, all_levels_kept, level_kept, moves_kept, same_states_then}
-use Rattle.maximin.proofs.LeftWindows.{settled_answers, narrow_answers, narrow_window, lower_yet, higher_yet}
+use Rattle.maximin.proofs.LeftWindows.{narrow_window, higher_yet}
+use Rattle.maximin.specs.Answer.{IsUpperBound}
+use Rattle.maximin.proofs.Lasting.{lesser_later, both_true, cut_later, raised_later, exact_later, always, open_answer, upper_answer, settled_answer, widened_answer}
 use Rattle.maximin.proofs.Runs.{
   known_each,
   steps_of,
@@ -107,7 +110,7 @@ value_at-returns-then-best-window-clause-answers g t c =
     let ea : to_z w16 (of_z w16 a) ≡ a = to_z-of_z w16 a (search facts) in
     let b = c.args.window.high in
     let eb : to_z w16 (of_z w16 b) ≡ b = to_z-of_z w16 b (search facts) in
-    let r = c.in_ok-worst.worst in
+    let r = c.in_ok-worst.worst.worth in
     let best = to_z w16 c.loop-own.best-bits in
     let fits_r : SFits w16 r = search facts in
     let fits_m : SFits w16 c.max-best.result = search facts in
@@ -117,9 +120,12 @@ value_at-returns-then-best-window-clause-answers g t c =
     raised_most (value rules c.args.asked.role c.args.asked.depth c.args.asked.at state)
     (worst rules c.args.asked.role (c.args.asked.depth - 1) c.args.asked.at state c.in-Some.own) a b best r
     (rw here.1 at (worst_le_value rules c.args.asked.role c.args.asked.depth c.args.asked.at state c.loop-own.place free here.0))
-    c.loop-own.invariant.at_most (rw eb at c.in_ok-worst.ensures.answers) in
+    c.loop-own.invariant.at_most (rw eb at c.in_ok-worst.ensures.answers.now) in
     let cut : b ≤ℤ int_max best r = rw (raised, eb) at (le_z_true (to_z w16 (of_z w16 b)) (to_z w16 (of_z w16 c.max-best.result)) c.if-best-window.true) in
-    rw raised (cut_above (value rules c.args.asked.role c.args.asked.depth c.args.asked.at state) a b (int_max best r) cut most)
+    rw raised record {
+      now = cut_above (value rules c.args.asked.role c.args.asked.depth c.args.asked.at state) a b (int_max best r) cut most;
+      later = λ lasts d more. cut_later (value rules c.args.asked.role d c.args.asked.at state) b (int_max best r) cut;
+    }
 
 pub value_at-overflow_add-place : goal.value_at-overflow_add-place
 value_at-overflow_add-place g t c =
@@ -157,7 +163,7 @@ value_at-loop-own-preserved g t c =
     let ea : to_z w16 (of_z w16 a) ≡ a = to_z-of_z w16 a (search facts) in
     let b = c.args.window.high in
     let eb : to_z w16 (of_z w16 b) ≡ b = to_z-of_z w16 b (search facts) in
-    let r = c.in_ok-worst.worst in
+    let r = c.in_ok-worst.worst.worth in
     let best = to_z w16 c.loop-own.best-bits in
     let fits_r : SFits w16 r = search facts in
     let fits_m : SFits w16 c.max-best.result = search facts in
@@ -167,7 +173,7 @@ value_at-loop-own-preserved g t c =
     raised_most (value rules c.args.asked.role c.args.asked.depth c.args.asked.at state)
     (worst rules c.args.asked.role (c.args.asked.depth - 1) c.args.asked.at state c.in-Some.own) a b best r
     (rw here.1 at (worst_le_value rules c.args.asked.role c.args.asked.depth c.args.asked.at state c.loop-own.place free here.0))
-    c.loop-own.invariant.at_most (rw eb at c.in_ok-worst.ensures.answers) in
+    c.loop-own.invariant.at_most (rw eb at c.in_ok-worst.ensures.answers.now) in
     record {
       kept = kept_then c.loop-own.invariant.kept c.try_worst_at.ensures.kept;
       deep = omega arith;
@@ -179,7 +185,15 @@ value_at-loop-own-preserved g t c =
           (λ k lt. rw raised (raised_seen (worst rules c.args.asked.role (c.args.asked.depth - 1) c.args.asked.at state (get_or legal k 0)) b best r
           (c.loop-own.invariant.seen k lt)))
           (rw (raised, here.1) (raised_now (worst rules c.args.asked.role (c.args.asked.depth - 1) c.args.asked.at state c.in-Some.own) b best r
-          (rw eb at c.in_ok-worst.ensures.answers)));
+          (rw eb at c.in_ok-worst.ensures.answers.now)));
+      later = λ lasts d more.
+          let both = both_true c.loop-own.lasts c.in_ok-worst.worst.lasts c.both_last-lasts.result c.both_last-lasts.ensures lasts in
+          let deep : c.args.asked.depth - 1 ≤ d - 1 = omega arith in
+          below_more _ _
+          (λ k lt. rw raised (raised_seen (worst rules c.args.asked.role (d - 1) c.args.asked.at state (get_or legal k 0)) b best r
+          (c.loop-own.invariant.later both.0 d more k lt)))
+          (rw (raised, here.1) (raised_later (worst rules c.args.asked.role (d - 1) c.args.asked.at state c.in-Some.own) b best r
+          (rw eb at (c.in_ok-worst.ensures.answers.later both.1 (d - 1) deep))));
     }
 
 pub value_at-returns-clause-answers : goal.value_at-returns-clause-answers
@@ -199,8 +213,14 @@ value_at-returns-clause-answers g t c =
     let b = c.args.window.high in
     let eb : to_z w16 (of_z w16 b) ≡ b = to_z-of_z w16 b (search facts) in
     record {
-      at_least = rw top.2 at (c.loop-own.invariant.seen top.0 (omega (arith, top.1)));
-      at_most = c.loop-own.invariant.at_most;
+      now = record {
+        at_least = rw top.2 at (c.loop-own.invariant.seen top.0 (omega (arith, top.1)));
+        at_most = c.loop-own.invariant.at_most;
+      };
+      later = λ lasts d more.
+          let open_yet : IsOpen rules d state = record { turn = λ none. free.turn (omega arith); going = free.going; free = free.free } in
+          let best = value_reached rules c.args.asked.role d c.args.asked.at state open_yet c.requires.fit.role in
+          rw best.2 at (c.loop-own.invariant.later lasts d more best.0 (omega (arith, best.1)));
     }
 
 pub value_at-returns-then-ended-clause-answers : goal.value_at-returns-then-ended-clause-answers
@@ -209,23 +229,26 @@ value_at-returns-then-ended-clause-answers g t c =
     let state = g.G.Game.state c.args.game.now c.args.from.now in
     let fits : SFits w16 c.from.result = search facts in
     let same = to_z-of_z w16 c.from.result fits in
-    exact (value rules c.args.asked.role c.args.asked.depth c.args.asked.at state) c.args.window.low c.args.window.high (to_z w16 (of_z w16 c.from.result))
-    (same ∙ c.from.ensures ∙ ap pos (c.goal.ensures
-    ∙ sym (value_ended rules c.args.asked.role c.args.asked.depth c.args.asked.at state (sym c.ended.ensures ∙ c.if-ended.true))))
+    let worth : (d : ℕ) → to_z w16 (of_z w16 c.from.result) ≡ pos (value rules c.args.asked.role d c.args.asked.at state) =
+    λ d. same ∙ c.from.ensures ∙ ap pos (c.goal.ensures
+    ∙ sym (value_ended rules c.args.asked.role d c.args.asked.at state (sym c.ended.ensures ∙ c.if-ended.true))) in
+    always (λ d. value rules c.args.asked.role d c.args.asked.at state) c.args.asked.depth c.args.window.low c.args.window.high
+    (to_z w16 (of_z w16 c.from.result)) worth
 
 pub value_at-returns-then-is_stuck-clause-answers : goal.value_at-returns-then-is_stuck-clause-answers
 value_at-returns-then-is_stuck-clause-answers g t c =
     let rules = g.G.Game.rules c.args.game.now in
     let state = g.G.Game.state c.args.game.now c.args.from.now in
-    exact (value rules c.args.asked.role c.args.asked.depth c.args.asked.at state) c.args.window.low c.args.window.high (pos 0)
-    (ap pos (sym (value_stuck rules c.args.asked.role c.args.asked.depth c.args.asked.at state (sym c.ended.ensures ∙ c.if-ended.false)
+    always (λ d. value rules c.args.asked.role d c.args.asked.at state) c.args.asked.depth c.args.window.low c.args.window.high (pos 0)
+    (λ d. ap pos (sym (value_stuck rules c.args.asked.role d c.args.asked.at state (sym c.ended.ensures ∙ c.if-ended.false)
     (sym c.is_stuck.ensures ∙ c.if-is_stuck.true))))
 
 pub least_at-loop-place-preserved : goal.least_at-loop-place-preserved
 least_at-loop-place-preserved g t c =
     let rules = g.G.Game.rules c.args.game.now in
     let states = g.G.Game.states c.args.game.now c.args.children.now.many in
-    let worth : List ℕ → ℕ = λ s. value rules c.args.asked.role c.args.asked.depth c.args.asked.at s in
+    let worth_at : ℕ → List ℕ → ℕ = λ d s. value rules c.args.asked.role d c.args.asked.at s in
+    let worth = worth_at c.args.asked.depth in
     let all = least (map worth states) in
     let count = length c.args.joints.now in
     let order = c.put_off.new.order in
@@ -239,13 +262,13 @@ least_at-loop-place-preserved g t c =
     let b = c.args.window.high in
     let eb : to_z w16 (of_z w16 b) ≡ b = to_z-of_z w16 b (search facts) in
     let same : c.loop-place.children.many ≡ c.args.children.now.many = c.loop-place.invariant.same.many in
-    let r = c.in_ok-worth.worth in
+    let r = c.in_ok-answer.answer.worth in
     let upper = to_z w16 c.loop-place.upper-bits in
     let fits_r : SFits w16 r = search facts in
     let fits_m : SFits w16 c.min-upper.result = search facts in
     let lowered : to_z w16 (of_z w16 c.min-upper.result) ≡ int_min upper r =
     to_z-of_z w16 c.min-upper.result fits_m ∙ c.min-upper.ensures.value ∙ ap (λ z. int_min upper z) (to_z-of_z w16 r fits_r) in
-    let answers : Answers here a upper r = rw (same, ea) at c.in_ok-worth.ensures.answers in
+    let answers : Answers here a upper r = rw (same, ea) at c.in_ok-answer.ensures.answers.now in
     let part : all ≤ here = least_worth_below worth states child (omega (arith, c.requires.joints.count)) in
     record {
       kept = kept_then c.loop-place.invariant.kept c.try_child_at.ensures.kept;
@@ -254,35 +277,40 @@ least_at-loop-place-preserved g t c =
       same = same_states_then c.loop-place.invariant.same c.try_child_at.ensures.same;
       size = c.put_off.ensures.size ∙ c.loop-place.invariant.size;
       order = ordered;
-      above = rw ea at (le_z_false (to_z w16 (of_z w16 c.min-upper.result)) (to_z w16 (of_z w16 a)) c.if-upper-window-3.false);
+      above = rw ea at (le_z_false (to_z w16 (of_z w16 c.min-upper.result)) (to_z w16 (of_z w16 a)) c.if-upper-window.false);
       below = rw lowered (lowered_below b upper r c.loop-place.invariant.below);
       at_least = rw lowered (lowered_least all here a b upper r part c.loop-place.invariant.at_least c.loop-place.invariant.below answers);
+      later = λ lasts d more. rw lowered (lesser_later (least (map (worth_at d) states)) (worth_at d (get_or states child [])) b upper r c.loop-place.lasts
+          c.in_ok-answer.answer.lasts c.lesser_lasts-lasts.result c.lesser_lasts-lasts.ensures
+          (λ e. c.loop-place.invariant.later e d more) (λ e. rw same at (c.in_ok-answer.ensures.answers.later e d more))
+          (least_worth_below (worth_at d) states child (omega (arith, c.requires.joints.count))) c.loop-place.invariant.below lasts);
       seen = below_more _ _
           (λ k lt. rw lowered (lowered_seen (worth (get_or states (get_or order k 0) [])) a upper r
           (rw (c.put_off.ensures.before k lt) (c.loop-place.invariant.seen k lt))))
           (rw lowered (lowered_now here a upper r answers));
     }
 
-pub least_at-returns-then-upper-window-clause-answers : goal.least_at-returns-then-upper-window-clause-answers
-least_at-returns-then-upper-window-clause-answers g t c =
+pub least_at-returns-then-told-window-clause-answers : goal.least_at-returns-then-told-window-clause-answers
+least_at-returns-then-told-window-clause-answers g t c =
     let rules = g.G.Game.rules c.args.game.now in
     let states = g.G.Game.states c.args.game.now c.args.children.now.many in
-    let worth : List ℕ → ℕ = λ s. value rules c.args.asked.role c.args.asked.depth c.args.asked.at s in
+    let all : ℕ → ℕ = λ d. least (map (λ s. value rules c.args.asked.role d c.args.asked.at s) states) in
     let a = c.args.window.low in
     let ea : to_z w16 (of_z w16 a) ≡ a = to_z-of_z w16 a (search facts) in
     let b = c.args.window.high in
     let eb : to_z w16 (of_z w16 b) ≡ b = to_z-of_z w16 b (search facts) in
-    let upper = c.least_told-upper.result in
-    let fits : SFits w16 upper = search facts in
-    let eu : to_z w16 (of_z w16 upper) ≡ upper = to_z-of_z w16 upper fits in
-    rw eu (cut_below (least (map worth states)) a b upper (rw (eu, ea) at (le_z_true (to_z w16 (of_z w16 upper)) (to_z w16 (of_z w16 a)) c.if-upper-window.true))
-    (subst (λ (z : ℤ). int_min (pos (least (map worth states))) z ≤ℤ upper) eb c.least_told-upper.ensures.at_least))
+    let told = c.least_told-told.result in
+    let et : to_z w16 (of_z w16 told.worth) ≡ told.worth = to_z-of_z w16 told.worth (search facts) in
+    let upper : IsUpperBound all c.args.asked.depth b told = subst (λ (z : ℤ). IsUpperBound all c.args.asked.depth z told) eb c.least_told-told.ensures.upper in
+    let cut : told.worth ≤ℤ a = rw (et, ea) at (le_z_true (to_z w16 (of_z w16 told.worth)) (to_z w16 (of_z w16 a)) c.if-told-window.true) in
+    upper_answer all c.args.asked.depth a b told cut upper
 
-pub least_at-returns-then-upper-window-3-clause-answers : goal.least_at-returns-then-upper-window-3-clause-answers
-least_at-returns-then-upper-window-3-clause-answers g t c =
+pub least_at-returns-then-upper-window-clause-answers : goal.least_at-returns-then-upper-window-clause-answers
+least_at-returns-then-upper-window-clause-answers g t c =
     let rules = g.G.Game.rules c.args.game.now in
     let states = g.G.Game.states c.args.game.now c.args.children.now.many in
-    let worth : List ℕ → ℕ = λ s. value rules c.args.asked.role c.args.asked.depth c.args.asked.at s in
+    let worth_at : ℕ → List ℕ → ℕ = λ d s. value rules c.args.asked.role d c.args.asked.at s in
+    let worth = worth_at c.args.asked.depth in
     let all = least (map worth states) in
     let count = length c.args.joints.now in
     let order = c.put_off.new.order in
@@ -296,17 +324,24 @@ least_at-returns-then-upper-window-3-clause-answers g t c =
     let b = c.args.window.high in
     let eb : to_z w16 (of_z w16 b) ≡ b = to_z-of_z w16 b (search facts) in
     let same : c.loop-place.children.many ≡ c.args.children.now.many = c.loop-place.invariant.same.many in
-    let r = c.in_ok-worth.worth in
+    let r = c.in_ok-answer.answer.worth in
     let upper = to_z w16 c.loop-place.upper-bits in
     let fits_r : SFits w16 r = search facts in
     let fits_m : SFits w16 c.min-upper.result = search facts in
     let lowered : to_z w16 (of_z w16 c.min-upper.result) ≡ int_min upper r =
     to_z-of_z w16 c.min-upper.result fits_m ∙ c.min-upper.ensures.value ∙ ap (λ z. int_min upper z) (to_z-of_z w16 r fits_r) in
-    let answers : Answers here a upper r = rw (same, ea) at c.in_ok-worth.ensures.answers in
+    let answers : Answers here a upper r = rw (same, ea) at c.in_ok-answer.ensures.answers.now in
     let part : all ≤ here = least_worth_below worth states child (omega (arith, c.requires.joints.count)) in
     let low : int_min (pos all) b ≤ℤ int_min upper r = lowered_least all here a b upper r part c.loop-place.invariant.at_least
     c.loop-place.invariant.below answers in
-    rw lowered (cut_below all a b (int_min upper r) (rw (lowered, ea) at (le_z_true (to_z w16 (of_z w16 c.min-upper.result)) (to_z w16 (of_z w16 a)) c.if-upper-window-3.true)) low)
+    rw lowered record {
+      now = cut_below all a b (int_min upper r)
+          (rw (lowered, ea) at (le_z_true (to_z w16 (of_z w16 c.min-upper.result)) (to_z w16 (of_z w16 a)) c.if-upper-window.true)) low;
+      later = λ lasts d more. lesser_later (least (map (worth_at d) states)) (worth_at d (get_or states child [])) b upper r c.loop-place.lasts
+          c.in_ok-answer.answer.lasts c.lesser_lasts-lasts.result c.lesser_lasts-lasts.ensures
+          (λ e. c.loop-place.invariant.later e d more) (λ e. rw same at (c.in_ok-answer.ensures.answers.later e d more))
+          (least_worth_below (worth_at d) states child (omega (arith, c.requires.joints.count))) c.loop-place.invariant.below lasts;
+    }
 
 pub least_at-returns-clause-answers : goal.least_at-returns-clause-answers
 least_at-returns-clause-answers g t c =
@@ -322,8 +357,11 @@ least_at-returns-clause-answers g t c =
     let each = all_places (λ k. upper ≤ℤ int_max (pos (worth (get_or states k []))) a) (length c.args.joints.now) c.loop-place.order
     c.loop-place.invariant.order (λ k lt. c.loop-place.invariant.seen k (omega (arith, c.loop-place-test.false))) in
     record {
-      at_least = c.loop-place.invariant.at_least;
-      at_most = rw bottom.2 at (each bottom.0 (omega (arith, bottom.1, c.requires.joints.count)));
+      now = record {
+        at_least = c.loop-place.invariant.at_least;
+        at_most = rw bottom.2 at (each bottom.0 (omega (arith, bottom.1, c.requires.joints.count)));
+      };
+      later = c.loop-place.invariant.later;
     }
 
 pub try_worst_at-runs-init : goal.try_worst_at-runs-init
@@ -331,14 +369,15 @@ try_worst_at-runs-init g t c =
     let rules = g.G.Game.rules c.args.game.now in
     let state = g.G.Game.state c.args.game.now c.args.from.now in
     let lists = choices rules state c.args.asked.role c.args.own in
-    let worth : List ℕ → ℕ = λ j. value rules c.args.asked.role c.args.asked.depth c.args.asked.at (rules.after state j) in
-    let all = worst rules c.args.asked.role c.args.asked.depth c.args.asked.at state c.args.own in
+    let worth : ℕ → List ℕ → ℕ = λ d j. value rules c.args.asked.role d c.args.asked.at (rules.after state j) in
+    let all : ℕ → ℕ = λ d. worst rules c.args.asked.role d c.args.asked.at state c.args.own in
+    let depth = c.args.asked.depth in
     let a = c.args.window.low in
     let ea : to_z w16 (of_z w16 a) ≡ a = to_z-of_z w16 a (search facts) in
     let b = c.args.window.high in
     let eb : to_z w16 (of_z w16 b) ≡ b = to_z-of_z w16 b (search facts) in
-    let left = least (map worth (c.start_turns.new.cursor.joint.items ∷ later lists c.start_turns.new.cursor.places.items)) in
-    let same : all ≡ left = ap (λ (turns : List (List ℕ)). least (map worth turns)) c.start_turns.ensures.first in
+    let left : ℕ → ℕ = λ d. least (map (worth d) (c.start_turns.new.cursor.joint.items ∷ later lists c.start_turns.new.cursor.places.items)) in
+    let same : (d : ℕ) → all d ≡ left d = λ d. ap (λ (turns : List (List ℕ)). least (map (worth d) turns)) c.start_turns.ensures.first in
     let first = c.requires.fit.levels 0 c.index-first-0.result (omega arith) in
     let there = c.split_at_mut-first.ensures.by_index.0 0 c.index-first-0.result (omega arith) in
     record {
@@ -360,9 +399,10 @@ try_worst_at-runs-init g t c =
       stands = c.start_turns.ensures.stands;
       above = omega (arith, ints);
       below = omega (arith, ints);
-      at_least = subst (λ (z : ℤ). int_min (pos all) b ≤ℤ z) (sym eb) (start_least all b);
-      part = omega (arith, same);
-      at_most = subst (λ (z : ℤ). int_min z (pos left) ≤ℤ int_max (pos all) a) (sym eb) (start_most all left a b same);
+      at_least = subst (λ (z : ℤ). int_min (pos (all depth)) b ≤ℤ z) (sym eb) (start_least (all depth) b);
+      part = λ d. omega (arith, same d);
+      at_most = subst (λ (z : ℤ). int_min z (pos (left depth)) ≤ℤ int_max (pos (all depth)) a) (sym eb) (start_most (all depth) (left depth) a b (same depth));
+      later = λ lasts d more. subst (λ (z : ℤ). int_min (pos (all d)) b ≤ℤ z) (sym eb) (start_least (all d) b);
     }
 
 pub try_worst_at-least_after-requires-clause-level : goal.try_worst_at-least_after-requires-clause-level
@@ -379,9 +419,10 @@ try_worst_at-returns-then-upper-window-clause-answers g t c =
     let rules = g.G.Game.rules c.args.game.now in
     let state = g.G.Game.state c.args.game.now c.args.from.now in
     let lists = choices rules state c.args.asked.role c.args.own in
-    let value_of : List ℕ → ℕ = λ s. value rules c.args.asked.role c.args.asked.depth c.args.asked.at s in
-    let worth : List ℕ → ℕ = λ j. value_of (rules.after state j) in
-    let all = worst rules c.args.asked.role c.args.asked.depth c.args.asked.at state c.args.own in
+    let worth_at : ℕ → List ℕ → ℕ = λ d j. value rules c.args.asked.role d c.args.asked.at (rules.after state j) in
+    let worth = worth_at c.args.asked.depth in
+    let all_at : ℕ → ℕ = λ d. worst rules c.args.asked.role d c.args.asked.at state c.args.own in
+    let all = all_at c.args.asked.depth in
     let run = c.gather-more.new.moves.run in
     let here = least (map worth (turns_in run)) in
     let left = c.runs.level.moves.cursor.joint.items ∷ later lists c.runs.level.moves.cursor.places.items in
@@ -389,31 +430,40 @@ try_worst_at-returns-then-upper-window-clause-answers g t c =
     let ea : to_z w16 (of_z w16 a) ≡ a = to_z-of_z w16 a (search facts) in
     let b = c.args.window.high in
     let eb : to_z w16 (of_z w16 b) ≡ b = to_z-of_z w16 b (search facts) in
-    let r = c.in_ok-least.least in
+    let r = c.in_ok-least.least.worth in
     let upper = to_z w16 c.runs.upper-bits in
     let fits_r : SFits w16 r = search facts in
     let fits_m : SFits w16 c.min-upper.result = search facts in
     let lowered : to_z w16 (of_z w16 c.min-upper.result) ≡ int_min upper r =
     to_z-of_z w16 c.min-upper.result fits_m ∙ c.min-upper.ensures.value ∙ ap (λ z. int_min upper z) (to_z-of_z w16 r fits_r) in
-    let answers : Answers here a upper r = rw ea at c.in_ok-least.ensures.answers in
+    let answers : Answers here a upper r = rw ea at c.in_ok-least.ensures.answers.now in
     let some : 0 < length (turns_in run) = some_taken run.joints.items run.count c.gather-more.ensures.taken.some
     (omega (arith, c.gather-more.ensures.taken.moves.run.size)) in
-    let part : all ≤ here =
+    let part_at : (d : ℕ) → all_at d ≤ least (map (worth_at d) (turns_in run)) = λ d.
     omega (
       arith,
-      c.runs.invariant.part,
-      least_of_run worth left (turns_in run) c.gather-more.new.moves.cursor.joint.items (later lists c.gather-more.new.moves.cursor.places.items)
+      c.runs.invariant.part d,
+      least_of_run (worth_at d) left (turns_in run) c.gather-more.new.moves.cursor.joint.items (later lists c.gather-more.new.moves.cursor.places.items)
           c.gather-more.result c.gather-more.ensures.left.more c.gather-more.ensures.left.all some,
     ) in
+    let part : all ≤ here = part_at c.args.asked.depth in
     let low : int_min (pos all) b ≤ℤ int_min upper r = lowered_least all here a b upper r part c.runs.invariant.at_least c.runs.invariant.below
     answers in
+    let later_low : c.lesser_lasts-lasts.result ≡ true → (d : ℕ) → c.args.asked.depth ≤ d → int_min (pos (all_at d)) b ≤ℤ int_min upper r = λ lasts d more.
+    lesser_later (all_at d) (least (map (worth_at d) (turns_in run))) b upper r c.runs.lasts c.in_ok-least.least.lasts
+    c.lesser_lasts-lasts.result c.lesser_lasts-lasts.ensures (λ e. c.runs.invariant.later e d more)
+    (λ e. c.in_ok-least.ensures.answers.later e d more) (part_at d) c.runs.invariant.below lasts in
     rw lowered (elim c.then-upper-window.branch [
-      | try_worst_at-then-upper-window-via-then-upper-window w ↦ cut_below all a b (int_min upper r) (rw (lowered, ea) at (le_z_true (to_z w16 (of_z w16 c.min-upper.result)) (to_z w16 (of_z w16 a)) w.if-upper-window.true)) low
+      | try_worst_at-then-upper-window-via-then-upper-window w ↦ record {
+        now = cut_below all a b (int_min upper r)
+            (rw (lowered, ea) at (le_z_true (to_z w16 (of_z w16 c.min-upper.result)) (to_z w16 (of_z w16 a)) w.if-upper-window.true)) low;
+        later = later_low;
+      }
       | try_worst_at-then-upper-window-via-else-upper-window+then-not-more w ↦
           let end : int_min upper (pos here) ≤ℤ int_max (pos all) a =
           subst (λ (turns : List Turn). int_min upper (pos (least (map worth turns))) ≤ℤ int_max (pos all) a) w.if-not-more.ensures.left.all
           c.runs.invariant.at_most in
-          record { at_least = low; at_most = lowered_end all here a upper r end answers }
+          record { now = record { at_least = low; at_most = lowered_end all here a upper r end answers }; later = later_low }
     ])
 
 pub try_worst_at-returns-then-upper-window-clause-kept : goal.try_worst_at-returns-then-upper-window-clause-kept
@@ -454,30 +504,34 @@ try_worst_at-runs-preserved g t c =
     let rules = g.G.Game.rules c.args.game.now in
     let state = g.G.Game.state c.args.game.now c.args.from.now in
     let lists = choices rules state c.args.asked.role c.args.own in
-    let value_of : List ℕ → ℕ = λ s. value rules c.args.asked.role c.args.asked.depth c.args.asked.at s in
-    let worth : List ℕ → ℕ = λ j. value_of (rules.after state j) in
-    let all = worst rules c.args.asked.role c.args.asked.depth c.args.asked.at state c.args.own in
+    let worth_at : ℕ → List ℕ → ℕ = λ d j. value rules c.args.asked.role d c.args.asked.at (rules.after state j) in
+    let worth = worth_at c.args.asked.depth in
+    let all_at : ℕ → ℕ = λ d. worst rules c.args.asked.role d c.args.asked.at state c.args.own in
+    let all = all_at c.args.asked.depth in
     let run = c.gather-more.new.moves.run in
     let here = least (map worth (turns_in run)) in
     let before = c.runs.level.moves.cursor.joint.items ∷ later lists c.runs.level.moves.cursor.places.items in
-    let left = least (map worth (c.gather-more.new.moves.cursor.joint.items ∷ later lists c.gather-more.new.moves.cursor.places.items)) in
+    let left_at : ℕ → ℕ = λ d. least (map (worth_at d) (c.gather-more.new.moves.cursor.joint.items ∷ later lists c.gather-more.new.moves.cursor.places.items)) in
+    let left = left_at c.args.asked.depth in
     let a = c.args.window.low in
     let ea : to_z w16 (of_z w16 a) ≡ a = to_z-of_z w16 a (search facts) in
     let b = c.args.window.high in
     let eb : to_z w16 (of_z w16 b) ≡ b = to_z-of_z w16 b (search facts) in
-    let r = c.in_ok-least.least in
+    let r = c.in_ok-least.least.worth in
     let upper = to_z w16 c.runs.upper-bits in
     let fits_r : SFits w16 r = search facts in
     let fits_m : SFits w16 c.min-upper.result = search facts in
     let lowered : to_z w16 (of_z w16 c.min-upper.result) ≡ int_min upper r =
     to_z-of_z w16 c.min-upper.result fits_m ∙ c.min-upper.ensures.value ∙ ap (λ z. int_min upper z) (to_z-of_z w16 r fits_r) in
-    let answers : Answers here a upper r = rw ea at c.in_ok-least.ensures.answers in
+    let answers : Answers here a upper r = rw ea at c.in_ok-least.ensures.answers.now in
     let some : 0 < length (turns_in run) = some_taken run.joints.items run.count c.gather-more.ensures.taken.some
     (omega (arith, c.gather-more.ensures.taken.moves.run.size)) in
-    let next : least (map worth before) ≡ min here left =
-    least_behind worth before (turns_in run) c.gather-more.new.moves.cursor.joint.items (later lists c.gather-more.new.moves.cursor.places.items)
+    let next_at : (d : ℕ) → least (map (worth_at d) before) ≡ min (least (map (worth_at d) (turns_in run))) (left_at d) = λ d.
+    least_behind (worth_at d) before (turns_in run) c.gather-more.new.moves.cursor.joint.items (later lists c.gather-more.new.moves.cursor.places.items)
     c.if-not-more.ensures.left.more some in
-    let part : all ≤ here = omega (arith, next, c.runs.invariant.part) in
+    let part_at : (d : ℕ) → all_at d ≤ least (map (worth_at d) (turns_in run)) = λ d. omega (arith, next_at d, c.runs.invariant.part d) in
+    let next = next_at c.args.asked.depth in
+    let part : all ≤ here = part_at c.args.asked.depth in
     let low : int_min (pos all) b ≤ℤ int_min upper r = lowered_least all here a b upper r part c.runs.invariant.at_least c.runs.invariant.below
     answers in
     let now = c.runs.level in
@@ -494,15 +548,19 @@ try_worst_at-runs-preserved g t c =
       above = rw ea at (le_z_false (to_z w16 (of_z w16 c.min-upper.result)) (to_z w16 (of_z w16 a)) c.if-upper-window.false);
       below = rw lowered (lowered_below b upper r c.runs.invariant.below);
       at_least = rw lowered low;
-      part = rw c.least_after.ensures.level.moves (omega (arith, next, c.runs.invariant.part));
+      part = λ d. rw c.least_after.ensures.level.moves (omega (arith, next_at d, c.runs.invariant.part d));
       at_most = rw (lowered, c.least_after.ensures.level.moves) (lowered_most all here left a upper r (rw next at c.runs.invariant.at_most) answers);
+      later = λ lasts d more. rw lowered (lesser_later (all_at d) (least (map (worth_at d) (turns_in run))) b upper r c.runs.lasts c.in_ok-least.least.lasts
+          c.lesser_lasts-lasts.result c.lesser_lasts-lasts.ensures (λ e. c.runs.invariant.later e d more)
+          (λ e. c.in_ok-least.ensures.answers.later e d more) (part_at d) c.runs.invariant.below lasts);
     }
 
 pub greatest_at-loop-place-preserved : goal.greatest_at-loop-place-preserved
 greatest_at-loop-place-preserved g t c =
     let rules = g.G.Game.rules c.args.game.now in
     let states = g.G.Game.states c.args.game.now c.args.children.now.many in
-    let worth : List ℕ → ℕ = λ s. value rules c.args.asked.role c.args.asked.depth c.args.asked.at s in
+    let worth_at : ℕ → List ℕ → ℕ = λ d s. value rules c.args.asked.role d c.args.asked.at s in
+    let worth = worth_at c.args.asked.depth in
     let all = greatest (map worth states) in
     let count = length c.args.joints.now in
     let order = c.put_off.new.order in
@@ -516,13 +574,13 @@ greatest_at-loop-place-preserved g t c =
     let b = c.args.window.high in
     let eb : to_z w16 (of_z w16 b) ≡ b = to_z-of_z w16 b (search facts) in
     let same : c.loop-place.children.many ≡ c.args.children.now.many = c.loop-place.invariant.same.many in
-    let r = c.in_ok-worth.worth in
+    let r = c.in_ok-answer.answer.worth in
     let lower = to_z w16 c.loop-place.lower-bits in
     let fits_r : SFits w16 r = search facts in
     let fits_m : SFits w16 c.max-lower.result = search facts in
     let raised : to_z w16 (of_z w16 c.max-lower.result) ≡ int_max lower r =
     to_z-of_z w16 c.max-lower.result fits_m ∙ c.max-lower.ensures.value ∙ ap (λ z. int_max lower z) (to_z-of_z w16 r fits_r) in
-    let answers : Answers here lower b r = rw (same, eb) at c.in_ok-worth.ensures.answers in
+    let answers : Answers here lower b r = rw (same, eb) at c.in_ok-answer.ensures.answers.now in
     let part : here ≤ all = greatest_worth_above worth states child (omega (arith, c.requires.joints.count)) in
     record {
       kept = kept_then c.loop-place.invariant.kept c.try_child_at.ensures.kept;
@@ -538,6 +596,12 @@ greatest_at-loop-place-preserved g t c =
           (λ k lt. rw raised (raised_seen (worth (get_or states (get_or order k 0) [])) b lower r
           (rw (c.put_off.ensures.before k lt) (c.loop-place.invariant.seen k lt))))
           (rw raised (raised_now here b lower r answers));
+      later = λ lasts d more.
+          let both = both_true c.loop-place.lasts c.in_ok-answer.answer.lasts c.both_last-lasts.result c.both_last-lasts.ensures lasts in
+          below_more _ _
+          (λ k lt. rw raised (raised_seen (worth_at d (get_or states (get_or order k 0) [])) b lower r
+          (rw (c.put_off.ensures.before k lt) (c.loop-place.invariant.later both.0 d more k lt))))
+          (rw raised (raised_later (worth_at d (get_or states child [])) b lower r (rw (same, eb) at (c.in_ok-answer.ensures.answers.later both.1 d more))));
     }
 
 pub greatest_at-returns-then-lower-window-clause-answers : goal.greatest_at-returns-then-lower-window-clause-answers
@@ -552,8 +616,12 @@ greatest_at-returns-then-lower-window-clause-answers g t c =
     let lower = c.greatest_told-lower.result in
     let fits : SFits w16 lower = search facts in
     let el : to_z w16 (of_z w16 lower) ≡ lower = to_z-of_z w16 lower fits in
-    rw el (cut_above (greatest (map worth states)) a b lower (rw (el, eb) at (le_z_true (to_z w16 (of_z w16 b)) (to_z w16 (of_z w16 lower)) c.if-lower-window.true))
-    (subst (λ (z : ℤ). lower ≤ℤ int_max (pos (greatest (map worth states))) z) ea c.greatest_told-lower.ensures.at_most))
+    let cut : b ≤ℤ lower = rw (el, eb) at (le_z_true (to_z w16 (of_z w16 b)) (to_z w16 (of_z w16 lower)) c.if-lower-window.true) in
+    rw el record {
+      now = cut_above (greatest (map worth states)) a b lower cut
+          (subst (λ (z : ℤ). lower ≤ℤ int_max (pos (greatest (map worth states))) z) ea c.greatest_told-lower.ensures.at_most);
+      later = λ lasts d more. cut_later (greatest (map (λ s. value rules c.args.asked.role d c.args.asked.at s) states)) b lower cut;
+    }
 
 pub greatest_at-returns-then-lower-window-3-clause-answers : goal.greatest_at-returns-then-lower-window-3-clause-answers
 greatest_at-returns-then-lower-window-3-clause-answers g t c =
@@ -573,16 +641,21 @@ greatest_at-returns-then-lower-window-3-clause-answers g t c =
     let b = c.args.window.high in
     let eb : to_z w16 (of_z w16 b) ≡ b = to_z-of_z w16 b (search facts) in
     let same : c.loop-place.children.many ≡ c.args.children.now.many = c.loop-place.invariant.same.many in
-    let r = c.in_ok-worth.worth in
+    let r = c.in_ok-answer.answer.worth in
     let lower = to_z w16 c.loop-place.lower-bits in
     let fits_r : SFits w16 r = search facts in
     let fits_m : SFits w16 c.max-lower.result = search facts in
     let raised : to_z w16 (of_z w16 c.max-lower.result) ≡ int_max lower r =
     to_z-of_z w16 c.max-lower.result fits_m ∙ c.max-lower.ensures.value ∙ ap (λ z. int_max lower z) (to_z-of_z w16 r fits_r) in
-    let answers : Answers here lower b r = rw (same, eb) at c.in_ok-worth.ensures.answers in
+    let answers : Answers here lower b r = rw (same, eb) at c.in_ok-answer.ensures.answers.now in
     let part : here ≤ all = greatest_worth_above worth states child (omega (arith, c.requires.joints.count)) in
     let most : int_max lower r ≤ℤ int_max (pos all) a = raised_most all here a b lower r part c.loop-place.invariant.at_most answers in
-    rw raised (cut_above all a b (int_max lower r) (rw (raised, eb) at (le_z_true (to_z w16 (of_z w16 b)) (to_z w16 (of_z w16 c.max-lower.result)) c.if-lower-window-3.true)) most)
+    let cut : b ≤ℤ int_max lower r =
+    rw (raised, eb) at (le_z_true (to_z w16 (of_z w16 b)) (to_z w16 (of_z w16 c.max-lower.result)) c.if-lower-window-3.true) in
+    rw raised record {
+      now = cut_above all a b (int_max lower r) cut most;
+      later = λ lasts d more. cut_later (greatest (map (λ s. value rules c.args.asked.role d c.args.asked.at s) states)) b (int_max lower r) cut;
+    }
 
 pub greatest_at-returns-clause-answers : goal.greatest_at-returns-clause-answers
 greatest_at-returns-clause-answers g t c =
@@ -598,8 +671,16 @@ greatest_at-returns-clause-answers g t c =
     let each = all_places (λ k. int_min (pos (worth (get_or states k []))) b ≤ℤ lower) (length c.args.joints.now) c.loop-place.order
     c.loop-place.invariant.order (λ k lt. c.loop-place.invariant.seen k (omega (arith, c.loop-place-test.false))) in
     record {
-      at_least = rw top.2 at (each top.0 (omega (arith, top.1, c.requires.joints.count)));
-      at_most = c.loop-place.invariant.at_most;
+      now = record {
+        at_least = rw top.2 at (each top.0 (omega (arith, top.1, c.requires.joints.count)));
+        at_most = c.loop-place.invariant.at_most;
+      };
+      later = λ lasts d more.
+          let worth_at : List ℕ → ℕ = λ s. value rules c.args.asked.role d c.args.asked.at s in
+          let best = greatest_worth_reached worth_at states (omega (arith, c.requires.joints.count, c.requires.joints.some)) in
+          let every = all_places (λ k. int_min (pos (worth_at (get_or states k []))) b ≤ℤ lower) (length c.args.joints.now) c.loop-place.order
+          c.loop-place.invariant.order (λ k lt. c.loop-place.invariant.later lasts d more k (omega (arith, c.loop-place-test.false))) in
+          rw best.2 at (every best.0 (omega (arith, best.1, c.requires.joints.count)));
     }
 
 pub value_at-returns-then-is_alone-clause-answers : goal.value_at-returns-then-is_alone-clause-answers
@@ -611,7 +692,8 @@ value_at-returns-then-is_alone-clause-answers g t c =
       going = sym c.ended.ensures ∙ c.if-ended.false;
       free = sym c.is_stuck.ensures ∙ c.if-is_stuck.false;
     } in
-    rw (value_open rules c.args.asked.role c.args.asked.depth c.args.asked.at state free) c.best_at.ensures.answers
+    IfOk-weaker c.best_at.result _ _ (λ x h. open_answer rules c.args.asked.role c.args.asked.depth c.args.asked.at state free c.args.window.low c.args.window.high x h)
+    c.best_at.ensures.answers
 
 pub best_at-runs-init : goal.best_at-runs-init
 best_at-runs-init g t c =
@@ -641,6 +723,7 @@ best_at-runs-init g t c =
       below = omega (arith, ints);
       at_most = omega (arith, ints, clamps);
       seen = λ k lt. absurd (omega arith);
+      later = λ lasts d more k lt. absurd (omega arith);
     }
 
 pub best_at-gather_own-requires-clause-joint : goal.best_at-gather_own-requires-clause-joint
@@ -668,9 +751,9 @@ pub best_at-returns-then-count-eq0-clause-answers : goal.best_at-returns-then-co
 best_at-returns-then-count-eq0-clause-answers g t c =
     let rules = g.G.Game.rules c.args.game.now in
     let state = g.G.Game.state c.args.game.now c.args.from.now in
-    let worths = map (worst rules c.args.asked.role c.args.asked.depth c.args.asked.at state) (rules.legal state c.args.asked.role) in
-    let size : length worths ≡ length (rules.legal state c.args.asked.role) = length-map (rules.legal state c.args.asked.role)
-    (worst rules c.args.asked.role c.args.asked.depth c.args.asked.at state) in
+    let worths : ℕ → List ℕ = λ d. map (worst rules c.args.asked.role d c.args.asked.at state) (rules.legal state c.args.asked.role) in
+    let size : (d : ℕ) → length (worths d) ≡ length (rules.legal state c.args.asked.role) = λ d. length-map (rules.legal state c.args.asked.role)
+    (worst rules c.args.asked.role d c.args.asked.at state) in
     let some = legal_some rules state c.args.asked.role c.requires.«open» c.requires.fit.role in
     let none = c.if-count-eq0.true in
     let past = c.gather_own.ensures.own.all (omega (arith, c.runs.invariant.some)) in
@@ -678,9 +761,14 @@ best_at-returns-then-count-eq0-clause-answers g t c =
     let ea : to_z w16 (of_z w16 a) ≡ a = to_z-of_z w16 a (search facts) in
     let b = c.args.window.high in
     let eb : to_z w16 (of_z w16 b) ≡ b = to_z-of_z w16 b (search facts) in
+    let best = to_z w16 c.runs.best-bits in
+    let depth = c.args.asked.depth in
     record {
-      at_least = run_end worths c.runs.place b (to_z w16 c.runs.best-bits) (omega arith) (omega arith) c.runs.invariant.seen;
-      at_most = c.runs.invariant.at_most;
+      now = record {
+        at_least = run_end (worths depth) c.runs.place b best (omega (arith, size depth)) (omega (arith, size depth)) c.runs.invariant.seen;
+        at_most = c.runs.invariant.at_most;
+      };
+      later = λ lasts d more. run_end (worths d) c.runs.place b best (omega (arith, size d)) (omega (arith, size d)) (c.runs.invariant.later lasts d more);
     }
 
 pub best_at-returns-then-count-eq0-clause-kept : goal.best_at-returns-then-count-eq0-clause-kept
@@ -719,7 +807,7 @@ best_at-returns-then-best-window-clause-answers g t c =
     let b = c.args.window.high in
     let eb : to_z w16 (of_z w16 b) ≡ b = to_z-of_z w16 b (search facts) in
     let best = to_z w16 c.runs.best-bits in
-    let r = c.in_ok-greatest.greatest in
+    let r = c.in_ok-greatest.greatest.worth in
     let fits_r : SFits w16 r = search facts in
     let fits_m : SFits w16 c.max-best.result = search facts in
     let raised : to_z w16 (of_z w16 c.max-best.result) ≡ int_max best r =
@@ -731,12 +819,16 @@ best_at-returns-then-best-window-clause-answers g t c =
     ∙ own_worths (λ t. value_of (rules.after state t)) (λ m. set joint c.args.asked.role m) own_worth each (take run.count (drop c.runs.place legal))
     ∙ map_part own_worth c.runs.place run.count legal in
     let answers : Answers (greatest (take run.count (drop c.runs.place worths))) best b r = subst (λ (ws : List ℕ). Answers (greatest ws) best b r)
-    found (rw eb at c.in_ok-greatest.ensures.answers) in
+    found (rw eb at c.in_ok-greatest.ensures.answers.now) in
     let size : length worths ≡ length legal = length-map legal own_worth in
     let some = c.if-count-eq0.false in
     let most = run_most worths c.runs.place run.count a b best r (omega arith) (omega (arith, c.gather_own.ensures.own.within)) c.runs.invariant.at_most
     answers in
-    rw raised (cut_above (greatest worths) a b (int_max best r) (rw (raised, eb) at (le_z_true (to_z w16 (of_z w16 b)) (to_z w16 (of_z w16 c.max-best.result)) c.if-best-window.true)) most)
+    let cut : b ≤ℤ int_max best r = rw (raised, eb) at (le_z_true (to_z w16 (of_z w16 b)) (to_z w16 (of_z w16 c.max-best.result)) c.if-best-window.true) in
+    rw raised record {
+      now = cut_above (greatest worths) a b (int_max best r) cut most;
+      later = λ lasts d more. cut_later (greatest (map (worst rules c.args.asked.role d c.args.asked.at state) legal)) b (int_max best r) cut;
+    }
 
 pub best_at-returns-then-best-window-clause-kept : goal.best_at-returns-then-best-window-clause-kept
 best_at-returns-then-best-window-clause-kept g t c =
@@ -770,19 +862,22 @@ best_at-runs-preserved g t c =
     let b = c.args.window.high in
     let eb : to_z w16 (of_z w16 b) ≡ b = to_z-of_z w16 b (search facts) in
     let best = to_z w16 c.runs.best-bits in
-    let r = c.in_ok-greatest.greatest in
+    let r = c.in_ok-greatest.greatest.worth in
     let fits_r : SFits w16 r = search facts in
     let fits_m : SFits w16 c.max-best.result = search facts in
     let raised : to_z w16 (of_z w16 c.max-best.result) ≡ int_max best r =
     to_z-of_z w16 c.max-best.result fits_m ∙ c.max-best.ensures.value ∙ ap (λ z. int_max best z) (to_z-of_z w16 r fits_r) in
-    let each = alone_worst rules c.args.asked.role c.args.asked.depth c.args.asked.at state 0 c.runs.level.moves.cursor.places.items joint c.requires.fit.role
+    let own_at : ℕ → ℕ → ℕ = λ d. worst rules c.args.asked.role d c.args.asked.at state in
+    let after_at : ℕ → Turn → ℕ = λ d j. value rules c.args.asked.role d c.args.asked.at (rules.after state j) in
+    let found_at : (d : ℕ) → map (after_at d) (turns_in run) ≡ take run.count (drop c.runs.place (map (own_at d) legal)) = λ d.
+    let each = alone_worst rules c.args.asked.role d c.args.asked.at state 0 c.runs.level.moves.cursor.places.items joint c.requires.fit.role
     c.requires.alone c.runs.invariant.stands in
-    let found : map (λ j. value_of (rules.after state j)) (turns_in run) ≡ take run.count (drop c.runs.place worths) =
-    ap (λ (ts : List Turn). map (λ t. value_of (rules.after state t)) ts) c.gather_own.ensures.own.turns
-    ∙ own_worths (λ t. value_of (rules.after state t)) (λ m. set joint c.args.asked.role m) own_worth each (take run.count (drop c.runs.place legal))
-    ∙ map_part own_worth c.runs.place run.count legal in
+    ap (λ (ts : List Turn). map (after_at d) ts) c.gather_own.ensures.own.turns
+    ∙ own_worths (after_at d) (λ m. set joint c.args.asked.role m) (own_at d) each (take run.count (drop c.runs.place legal))
+    ∙ map_part (own_at d) c.runs.place run.count legal in
+    let found = found_at c.args.asked.depth in
     let answers : Answers (greatest (take run.count (drop c.runs.place worths))) best b r = subst (λ (ws : List ℕ). Answers (greatest ws) best b r)
-    found (rw eb at c.in_ok-greatest.ensures.answers) in
+    found (rw eb at c.in_ok-greatest.ensures.answers.now) in
     let size : length worths ≡ length legal = length-map legal own_worth in
     let some = c.if-count-eq0.false in
     let inside : c.runs.place + run.count ≤ length worths = omega (arith, c.gather_own.ensures.own.within) in
@@ -802,7 +897,14 @@ best_at-runs-preserved g t c =
       above = rw raised (raised_above a best r c.runs.invariant.above);
       below = rw eb at (le_z_false (to_z w16 (of_z w16 b)) (to_z w16 (of_z w16 c.max-best.result)) c.if-best-window.false);
       at_most = rw raised (run_most worths c.runs.place run.count a b best r (omega arith) inside c.runs.invariant.at_most answers);
-      seen = λ k lt. rw raised (run_seen worths c.runs.place run.count b best r inside c.runs.invariant.seen answers k lt);
+      seen = λ k lt. rw raised (run_seen worths c.runs.place run.count b best r inside c.runs.invariant.seen answers.at_least k lt);
+      later = λ lasts d more k lt.
+          let both = both_true c.runs.lasts c.in_ok-greatest.greatest.lasts c.both_last-lasts.result c.both_last-lasts.ensures lasts in
+          let size_at : length (map (own_at d) legal) ≡ length legal = length-map legal (own_at d) in
+          let part : int_min (pos (greatest (take run.count (drop c.runs.place (map (own_at d) legal))))) b ≤ℤ r =
+          subst (λ (ws : List ℕ). int_min (pos (greatest ws)) b ≤ℤ r) (found_at d) (rw eb at (c.in_ok-greatest.ensures.answers.later both.1 d more)) in
+          rw raised (run_seen (map (own_at d) legal) c.runs.place run.count b best r (omega (arith, c.gather_own.ensures.own.within))
+          (c.runs.invariant.later both.0 d more) part k lt);
     }
 
 pub best_at-overflow_add-place : goal.best_at-overflow_add-place
@@ -842,25 +944,30 @@ least_after-returns-then-judge_last-clause-answers g t c =
     ap (map value_of) ((c.judge_last.ensures.judged c.if-judge_last.true).after
     ∙ ap (λ (js : List (SmallVec ℕ)). map (λ (j : SmallVec ℕ). rules.after state j.items) (take run.count js)) c.deref.ensures.value)
     ∙ worths_after value_of (rules.after state) (take run.count run.joints.items) in
-    rw (to_z-of_z w16 r fits_r)
-    (subst (λ (ws : List ℕ). Answers (least ws) c.args.window.low c.args.window.high r) worths c.least_judged.ensures)
+    rw (to_z-of_z w16 r fits_r) record {
+      now = subst (λ (ws : List ℕ). Answers (least ws) c.args.window.low c.args.window.high r) worths c.least_judged.ensures;
+      later = λ lasts. absurd cc;
+    }
 
 pub least_after-returns-clause-answers : goal.least_after-returns-clause-answers
 least_after-returns-clause-answers g t c =
     let rules = g.G.Game.rules c.args.game.now in
     let state = g.G.Game.state c.args.game.now c.args.from.now in
-    let value_of : List ℕ → ℕ = λ s. value rules c.args.asked.role c.args.asked.depth c.args.asked.at s in
-    let worth : List ℕ → ℕ = λ j. value_of (rules.after state j) in
+    let value_of : ℕ → List ℕ → ℕ = λ d s. value rules c.args.asked.role d c.args.asked.at s in
+    let worth : ℕ → List ℕ → ℕ = λ d j. value_of d (rules.after state j) in
     let run = c.args.level.now.moves.run in
     let a = c.args.window.low in
     let ea : to_z w16 (of_z w16 a) ≡ a = to_z-of_z w16 a (search facts) in
     let b = c.args.window.high in
     let eb : to_z w16 (of_z w16 b) ≡ b = to_z-of_z w16 b (search facts) in
-    let worths : map value_of (g.G.Game.states c.args.game.now c.steps.new.out) ≡ map worth (turns_in run) =
-    ap (map value_of) (c.steps.ensures.after
+    let worths : (d : ℕ) → map (value_of d) (g.G.Game.states c.args.game.now c.steps.new.out) ≡ map (worth d) (turns_in run) = λ d.
+    ap (map (value_of d)) (c.steps.ensures.after
     ∙ ap (λ (js : List (SmallVec ℕ)). map (λ (j : SmallVec ℕ). rules.after state j.items) (take run.count js)) c.deref.ensures.value)
-    ∙ worths_after value_of (rules.after state) (take run.count run.joints.items) in
-    IfOk-weaker c.least_at.result _ _ (λ r h. subst (λ (ws : List ℕ). Answers (least ws) c.args.window.low c.args.window.high r) worths h)
+    ∙ worths_after (value_of d) (rules.after state) (take run.count run.joints.items) in
+    IfOk-weaker c.least_at.result _ _ (λ x h. record {
+      now = subst (λ (ws : List ℕ). Answers (least ws) c.args.window.low c.args.window.high x.worth) (worths c.args.asked.depth) h.now;
+      later = λ lasts d more. subst (λ (ws : List ℕ). int_min (pos (least ws)) c.args.window.high ≤ℤ x.worth) (worths d) (h.later lasts d more);
+    })
     c.least_at.ensures.answers
 
 pub greatest_after-judge_last-requires-clause-joints : goal.greatest_after-judge_last-requires-clause-joints
@@ -890,25 +997,30 @@ greatest_after-returns-then-judge_last-clause-answers g t c =
     ap (map value_of) ((c.judge_last.ensures.judged c.if-judge_last.true).after
     ∙ ap (λ (js : List (SmallVec ℕ)). map (λ (j : SmallVec ℕ). rules.after state j.items) (take run.count js)) c.deref.ensures.value)
     ∙ worths_after value_of (rules.after state) (take run.count run.joints.items) in
-    rw (to_z-of_z w16 r fits_r)
-    (subst (λ (ws : List ℕ). Answers (greatest ws) c.args.window.low c.args.window.high r) worths c.greatest_judged.ensures)
+    rw (to_z-of_z w16 r fits_r) record {
+      now = subst (λ (ws : List ℕ). Answers (greatest ws) c.args.window.low c.args.window.high r) worths c.greatest_judged.ensures;
+      later = λ lasts. absurd cc;
+    }
 
 pub greatest_after-returns-clause-answers : goal.greatest_after-returns-clause-answers
 greatest_after-returns-clause-answers g t c =
     let rules = g.G.Game.rules c.args.game.now in
     let state = g.G.Game.state c.args.game.now c.args.from.now in
-    let value_of : List ℕ → ℕ = λ s. value rules c.args.asked.role c.args.asked.depth c.args.asked.at s in
-    let worth : List ℕ → ℕ = λ j. value_of (rules.after state j) in
+    let value_of : ℕ → List ℕ → ℕ = λ d s. value rules c.args.asked.role d c.args.asked.at s in
+    let worth : ℕ → List ℕ → ℕ = λ d j. value_of d (rules.after state j) in
     let run = c.args.level.now.moves.run in
     let a = c.args.window.low in
     let ea : to_z w16 (of_z w16 a) ≡ a = to_z-of_z w16 a (search facts) in
     let b = c.args.window.high in
     let eb : to_z w16 (of_z w16 b) ≡ b = to_z-of_z w16 b (search facts) in
-    let worths : map value_of (g.G.Game.states c.args.game.now c.steps.new.out) ≡ map worth (turns_in run) =
-    ap (map value_of) (c.steps.ensures.after
+    let worths : (d : ℕ) → map (value_of d) (g.G.Game.states c.args.game.now c.steps.new.out) ≡ map (worth d) (turns_in run) = λ d.
+    ap (map (value_of d)) (c.steps.ensures.after
     ∙ ap (λ (js : List (SmallVec ℕ)). map (λ (j : SmallVec ℕ). rules.after state j.items) (take run.count js)) c.deref.ensures.value)
-    ∙ worths_after value_of (rules.after state) (take run.count run.joints.items) in
-    IfOk-weaker c.greatest_at.result _ _ (λ r h. subst (λ (ws : List ℕ). Answers (greatest ws) c.args.window.low c.args.window.high r) worths h)
+    ∙ worths_after (value_of d) (rules.after state) (take run.count run.joints.items) in
+    IfOk-weaker c.greatest_at.result _ _ (λ x h. record {
+      now = subst (λ (ws : List ℕ). Answers (greatest ws) c.args.window.low c.args.window.high x.worth) (worths c.args.asked.depth) h.now;
+      later = λ lasts d more. subst (λ (ws : List ℕ). int_min (pos (greatest ws)) c.args.window.high ≤ℤ x.worth) (worths d) (h.later lasts d more);
+    })
     c.greatest_at.ensures.answers
 
 pub least_at-try_child_at-requires-clause-place : goal.least_at-try_child_at-requires-clause-place
@@ -963,25 +1075,21 @@ pub least_at-loop-place-init : goal.least_at-loop-place-init
 least_at-loop-place-init g t c =
     let rules = g.G.Game.rules c.args.game.now in
     let states = g.G.Game.states c.args.game.now c.args.children.now.many in
-    let worth : List ℕ → ℕ = λ s. value rules c.args.asked.role c.args.asked.depth c.args.asked.at s in
-    let all = least (map worth states) in
+    let worth : State → ℕ → ℕ = λ s d. value rules c.args.asked.role d c.args.asked.at s in
+    let all : ℕ → ℕ = λ d. least (map (λ s. worth s d) states) in
     let a = c.args.window.low in
     let ea : to_z w16 (of_z w16 a) ≡ a = to_z-of_z w16 a (search facts) in
     let b = c.args.window.high in
     let eb : to_z w16 (of_z w16 b) ≡ b = to_z-of_z w16 b (search facts) in
-    let first = c.least_told-upper.result in
-    let fits_first : SFits w16 first = search facts in
-    let ef : to_z w16 (of_z w16 first) ≡ first = to_z-of_z w16 first fits_first in
-    let upper = c.least_bound-upper.result in
-    let fits : SFits w16 upper = search facts in
-    let eu : to_z w16 (of_z w16 upper) ≡ upper = to_z-of_z w16 upper fits in
+    let told = c.least_told-told.result in
+    let upper = c.least_bound-known.result in
+    let eu : to_z w16 (of_z w16 upper.worth) ≡ upper.worth = to_z-of_z w16 upper.worth (search facts) in
     let same : c.look_back.new.children.many ≡ c.args.children.now.many = c.look_back.ensures.same.many in
     let known = rw same at c.look_back.ensures.children.ahead in
-    let told : int_min (pos all) b ≤ℤ first = subst (λ (z : ℤ). int_min (pos all) z ≤ℤ first) eb c.least_told-upper.ensures.at_least in
-    let found : int_min (pos all) first ≤ℤ upper = subst (λ (z : ℤ). int_min (pos all) z ≤ℤ upper) ef (c.least_bound-upper.ensures.at_least states worth known) in
-    let least_known : int_min (pos all) b ≤ℤ upper = lower_yet all b first upper told found in
-    let most_told : first ≤ℤ b = subst (λ (z : ℤ). first ≤ℤ z) eb c.least_told-upper.ensures.at_most in
-    let most_known : upper ≤ℤ first = subst (λ (z : ℤ). upper ≤ℤ z) ef c.least_bound-upper.ensures.at_most in
+    let most_told : told.worth ≤ℤ b = subst (λ (z : ℤ). told.worth ≤ℤ z) eb c.least_told-told.ensures.at_most in
+    let is_told : IsUpperBound all c.args.asked.depth b told = subst (λ (z : ℤ). IsUpperBound all c.args.asked.depth z told) eb c.least_told-told.ensures.upper in
+    let found : IsUpperBound all c.args.asked.depth b upper = c.least_bound-known.ensures.upper states worth c.args.asked.depth b known most_told is_told in
+    let most_known = c.least_bound-known.ensures.at_most in
     record {
       kept = record {
         wide = c.look_back.ensures.tools.wide;
@@ -993,41 +1101,38 @@ least_at-loop-place-init g t c =
       deep = refl;
       known = c.look_back.ensures.children;
       same = record { position = c.look_back.ensures.same.position; capacities = c.look_back.ensures.same.capacities; many = same };
-      above = rw ea at (le_z_false (to_z w16 (of_z w16 upper)) (to_z w16 (of_z w16 a)) c.if-upper-window-2.false);
+      above = rw ea at (le_z_false (to_z w16 (of_z w16 upper.worth)) (to_z w16 (of_z w16 a)) c.if-known-window.false);
       below = rw eu (omega (arith, ints));
-      at_least = rw eu least_known;
+      at_least = rw eu found.now;
+      later = rw eu found.later;
       size = search facts;
       order = c.order_of-order.ensures;
       seen = λ k lt. absurd (omega arith);
     }
 
-pub least_at-returns-then-upper-window-2-clause-answers : goal.least_at-returns-then-upper-window-2-clause-answers
-least_at-returns-then-upper-window-2-clause-answers g t c =
+pub least_at-returns-then-known-window-clause-answers : goal.least_at-returns-then-known-window-clause-answers
+least_at-returns-then-known-window-clause-answers g t c =
     let rules = g.G.Game.rules c.args.game.now in
     let states = g.G.Game.states c.args.game.now c.args.children.now.many in
-    let worth : List ℕ → ℕ = λ s. value rules c.args.asked.role c.args.asked.depth c.args.asked.at s in
-    let all = least (map worth states) in
+    let worth : State → ℕ → ℕ = λ s d. value rules c.args.asked.role d c.args.asked.at s in
+    let all : ℕ → ℕ = λ d. least (map (λ s. worth s d) states) in
     let a = c.args.window.low in
     let ea : to_z w16 (of_z w16 a) ≡ a = to_z-of_z w16 a (search facts) in
     let b = c.args.window.high in
     let eb : to_z w16 (of_z w16 b) ≡ b = to_z-of_z w16 b (search facts) in
-    let first = c.least_told-upper.result in
-    let fits_first : SFits w16 first = search facts in
-    let ef : to_z w16 (of_z w16 first) ≡ first = to_z-of_z w16 first fits_first in
-    let upper = c.least_bound-upper.result in
-    let fits : SFits w16 upper = search facts in
-    let eu : to_z w16 (of_z w16 upper) ≡ upper = to_z-of_z w16 upper fits in
+    let told = c.least_told-told.result in
+    let upper = c.least_bound-known.result in
+    let eu : to_z w16 (of_z w16 upper.worth) ≡ upper.worth = to_z-of_z w16 upper.worth (search facts) in
     let same : c.look_back.new.children.many ≡ c.args.children.now.many = c.look_back.ensures.same.many in
     let known = rw same at c.look_back.ensures.children.ahead in
-    let told : int_min (pos all) b ≤ℤ first = subst (λ (z : ℤ). int_min (pos all) z ≤ℤ first) eb c.least_told-upper.ensures.at_least in
-    let found : int_min (pos all) first ≤ℤ upper = subst (λ (z : ℤ). int_min (pos all) z ≤ℤ upper) ef (c.least_bound-upper.ensures.at_least states worth known) in
-    let least_known : int_min (pos all) b ≤ℤ upper = lower_yet all b first upper told found in
-    let most_told : first ≤ℤ b = subst (λ (z : ℤ). first ≤ℤ z) eb c.least_told-upper.ensures.at_most in
-    let most_known : upper ≤ℤ first = subst (λ (z : ℤ). upper ≤ℤ z) ef c.least_bound-upper.ensures.at_most in
-    rw eu (cut_below all a b upper (rw (eu, ea) at (le_z_true (to_z w16 (of_z w16 upper)) (to_z w16 (of_z w16 a)) c.if-upper-window-2.true)) least_known)
+    let most_told : told.worth ≤ℤ b = subst (λ (z : ℤ). told.worth ≤ℤ z) eb c.least_told-told.ensures.at_most in
+    let is_told : IsUpperBound all c.args.asked.depth b told = subst (λ (z : ℤ). IsUpperBound all c.args.asked.depth z told) eb c.least_told-told.ensures.upper in
+    let found : IsUpperBound all c.args.asked.depth b upper = c.least_bound-known.ensures.upper states worth c.args.asked.depth b known most_told is_told in
+    let cut : upper.worth ≤ℤ a = rw (eu, ea) at (le_z_true (to_z w16 (of_z w16 upper.worth)) (to_z w16 (of_z w16 a)) c.if-known-window.true) in
+    upper_answer all c.args.asked.depth a b upper cut found
 
-pub least_at-returns-then-upper-window-2-clause-kept : goal.least_at-returns-then-upper-window-2-clause-kept
-least_at-returns-then-upper-window-2-clause-kept g t c = record {
+pub least_at-returns-then-known-window-clause-kept : goal.least_at-returns-then-known-window-clause-kept
+least_at-returns-then-known-window-clause-kept g t c = record {
   wide = c.look_back.ensures.tools.wide;
   memory = c.look_back.ensures.tools.memory;
   levels = c.requires.fit.levels;
@@ -1039,13 +1144,13 @@ pub least_at-look_back-requires-clause-children : goal.least_at-look_back-requir
 least_at-look_back-requires-clause-children g t c κs within =
     let rules = g.G.Game.rules c.args.game.now in
     let states = g.G.Game.states c.args.game.now c.args.children.now.many in
-    let worth : List ℕ → ℕ = λ s. value rules c.args.asked.role c.args.asked.depth c.args.asked.at s in
+    let worth : State → ℕ → ℕ = λ s d. value rules c.args.asked.role d c.args.asked.at s in
     let law = g.met.G.Game g.world.𝓛 g.world.𝓜 g.world.𝓡 ((λ _ x. x), (λ x. x), (λ x. x), λ x. x) in
     record {
       many = c.requires.children.many;
       position = c.requires.children.position;
-      ahead = c.new_ahead-children.ensures states worth (sym c.requires.joints.count)
-          (λ s. value_at_most rules c.args.asked.role (λ q r. law.goal_within c.args.game.now q r) c.args.asked.depth c.args.asked.at s);
+      ahead = c.new_ahead-children.ensures states worth c.args.asked.depth (sym c.requires.joints.count)
+          (λ s d. value_at_most rules c.args.asked.role (λ q r. law.goal_within c.args.game.now q r) d c.args.asked.at s);
     }
 
 pub greatest_at-loop-place-init : goal.greatest_at-loop-place-init
@@ -1067,7 +1172,7 @@ greatest_at-loop-place-init g t c =
     let same : c.look_back.new.children.many ≡ c.args.children.now.many = c.look_back.ensures.same.many in
     let known = rw same at c.look_back.ensures.children.ahead in
     let told : first ≤ℤ int_max (pos all) a = subst (λ (z : ℤ). first ≤ℤ int_max (pos all) z) ea c.greatest_told-lower.ensures.at_most in
-    let found : lower ≤ℤ int_max (pos all) first = subst (λ (z : ℤ). lower ≤ℤ int_max (pos all) z) ef (c.greatest_bound-lower.ensures.at_most states worth known) in
+    let found : lower ≤ℤ int_max (pos all) first = subst (λ (z : ℤ). lower ≤ℤ int_max (pos all) z) ef (c.greatest_bound-lower.ensures.at_most states (λ s d. value rules c.args.asked.role d c.args.asked.at s) c.args.asked.depth known) in
     let most_known : lower ≤ℤ int_max (pos all) a = higher_yet all a first lower told found in
     let least_told : a ≤ℤ first = subst (λ (z : ℤ). z ≤ℤ first) ea c.greatest_told-lower.ensures.at_least in
     let least_known : first ≤ℤ lower = subst (λ (z : ℤ). z ≤ℤ lower) ef c.greatest_bound-lower.ensures.at_least in
@@ -1088,6 +1193,7 @@ greatest_at-loop-place-init g t c =
       size = search facts;
       order = c.order_of-order.ensures;
       seen = λ k lt. absurd (omega arith);
+      later = λ lasts d more k lt. absurd (omega arith);
     }
 
 pub greatest_at-returns-then-lower-window-2-clause-answers : goal.greatest_at-returns-then-lower-window-2-clause-answers
@@ -1109,11 +1215,15 @@ greatest_at-returns-then-lower-window-2-clause-answers g t c =
     let same : c.look_back.new.children.many ≡ c.args.children.now.many = c.look_back.ensures.same.many in
     let known = rw same at c.look_back.ensures.children.ahead in
     let told : first ≤ℤ int_max (pos all) a = subst (λ (z : ℤ). first ≤ℤ int_max (pos all) z) ea c.greatest_told-lower.ensures.at_most in
-    let found : lower ≤ℤ int_max (pos all) first = subst (λ (z : ℤ). lower ≤ℤ int_max (pos all) z) ef (c.greatest_bound-lower.ensures.at_most states worth known) in
+    let found : lower ≤ℤ int_max (pos all) first = subst (λ (z : ℤ). lower ≤ℤ int_max (pos all) z) ef (c.greatest_bound-lower.ensures.at_most states (λ s d. value rules c.args.asked.role d c.args.asked.at s) c.args.asked.depth known) in
     let most_known : lower ≤ℤ int_max (pos all) a = higher_yet all a first lower told found in
     let least_told : a ≤ℤ first = subst (λ (z : ℤ). z ≤ℤ first) ea c.greatest_told-lower.ensures.at_least in
     let least_known : first ≤ℤ lower = subst (λ (z : ℤ). z ≤ℤ lower) ef c.greatest_bound-lower.ensures.at_least in
-    rw eu (cut_above all a b lower (rw (eb, eu) at (le_z_true (to_z w16 (of_z w16 b)) (to_z w16 (of_z w16 lower)) c.if-lower-window-2.true)) most_known)
+    let cut : b ≤ℤ lower = rw (eb, eu) at (le_z_true (to_z w16 (of_z w16 b)) (to_z w16 (of_z w16 lower)) c.if-lower-window-2.true) in
+    rw eu record {
+      now = cut_above all a b lower cut most_known;
+      later = λ lasts d more. cut_later (greatest (map (λ s. value rules c.args.asked.role d c.args.asked.at s) states)) b lower cut;
+    }
 
 pub greatest_at-returns-then-lower-window-2-clause-kept : goal.greatest_at-returns-then-lower-window-2-clause-kept
 greatest_at-returns-then-lower-window-2-clause-kept g t c = record {
@@ -1128,41 +1238,40 @@ pub greatest_at-look_back-requires-clause-children : goal.greatest_at-look_back-
 greatest_at-look_back-requires-clause-children g t c κs within =
     let rules = g.G.Game.rules c.args.game.now in
     let states = g.G.Game.states c.args.game.now c.args.children.now.many in
-    let worth : List ℕ → ℕ = λ s. value rules c.args.asked.role c.args.asked.depth c.args.asked.at s in
+    let worth : State → ℕ → ℕ = λ s d. value rules c.args.asked.role d c.args.asked.at s in
     let law = g.met.G.Game g.world.𝓛 g.world.𝓜 g.world.𝓡 ((λ _ x. x), (λ x. x), (λ x. x), λ x. x) in
     record {
       many = c.requires.children.many;
       position = c.requires.children.position;
-      ahead = c.new_ahead-children.ensures states worth (sym c.requires.joints.count)
-          (λ s. value_at_most rules c.args.asked.role (λ q r. law.goal_within c.args.game.now q r) c.args.asked.depth c.args.asked.at s);
+      ahead = c.new_ahead-children.ensures states worth c.args.asked.depth (sym c.requires.joints.count)
+          (λ s d. value_at_most rules c.args.asked.role (λ q r. law.goal_within c.args.game.now q r) d c.args.asked.at s);
     }
 
 pub try_child_at-returns-in-Some-clause-answers : goal.try_child_at-returns-in-Some-clause-answers
 try_child_at-returns-in-Some-clause-answers g t c =
-    let worth = value (g.G.Game.rules c.args.game.now) c.args.asked.role c.args.asked.depth c.args.asked.at
+    let worth : ℕ → ℕ = λ d. value (g.G.Game.rules c.args.game.now) c.args.asked.role d c.args.asked.at
     (get_or (g.G.Game.states c.args.game.now c.args.children.now.many) c.args.place []) in
-    let r = c.in-Some.worth in
-    let fits_r : SFits w16 r = search facts in
-    exact worth c.args.window.low c.args.window.high (to_z w16 (of_z w16 r)) (to_z-of_z w16 r fits_r ∙ c.in-Some.ensures)
+    let told = c.in-Some.told in
+    record {
+      now = exact (worth c.args.asked.depth) c.args.window.low c.args.window.high told.worth c.in-Some.ensures.worth;
+      later = λ lasts d more. exact_later (worth d) c.args.window.high told.worth (c.in-Some.ensures.lasts lasts d);
+    }
 
 pub try_child_at-returns-then-left-clause-answers : goal.try_child_at-returns-then-left-clause-answers
 try_child_at-returns-then-left-clause-answers g t c =
     let states = g.G.Game.states c.args.game.now c.args.children.now.many in
-    let worth = value (g.G.Game.rules c.args.game.now) c.args.asked.role c.args.asked.depth c.args.asked.at (get_or states c.args.place []) in
+    let worth : ℕ → ℕ = λ d. value (g.G.Game.rules c.args.game.now) c.args.asked.role d c.args.asked.at (get_or states c.args.place []) in
     let same : c.look_ahead.new.children.many ≡ c.args.children.now.many = c.look_ahead.ensures.same.many in
     let known = c.bounds_of-known.result in
-    let inside = c.bounds_of-known.ensures states (λ s. value (g.G.Game.rules c.args.game.now) c.args.asked.role c.args.asked.depth c.args.asked.at s)
+    let inside = c.bounds_of-known.ensures states (λ s d. value (g.G.Game.rules c.args.game.now) c.args.asked.role d c.args.asked.at s) c.args.asked.depth
     (rw same at c.look_ahead.ensures.children.ahead) c.requires.place in
     let low = c.narrowed-left.result.low in
     let high = c.narrowed-left.result.high in
     let el : to_z w16 (of_z w16 low) ≡ low = to_z-of_z w16 low (search facts) in
     let eh : to_z w16 (of_z w16 high) ≡ high = to_z-of_z w16 high (search facts) in
-    let r = c.settled.result in
-    let fits_r : SFits w16 r = search facts in
-    rw (to_z-of_z w16 r fits_r)
-    (settled_answers worth known c.args.window.low c.args.window.high low high r inside c.requires.window.order
+    settled_answer worth c.args.asked.depth known c.args.window.low c.args.window.high low high c.settled.result inside c.requires.window.order
     c.narrowed-left.ensures.low c.narrowed-left.ensures.high
-    (rw (eh, el) at (le_z_true (to_z w16 (of_z w16 high)) (to_z w16 (of_z w16 low)) c.if-left.true)) (rw eh at c.settled.ensures))
+    (rw (eh, el) at (le_z_true (to_z w16 (of_z w16 high)) (to_z w16 (of_z w16 low)) c.if-left.true)) (rw eh at c.settled.ensures.worth) c.settled.ensures.lasts
 
 pub try_child_at-try_known_at-requires-clause-window : goal.try_child_at-try_known_at-requires-clause-window
 try_child_at-try_known_at-requires-clause-window g t c κs within =
@@ -1176,35 +1285,33 @@ try_child_at-try_known_at-requires-clause-window g t c κs within =
 pub try_child_at-returns-clause-answers : goal.try_child_at-returns-clause-answers
 try_child_at-returns-clause-answers g t c =
     let states = g.G.Game.states c.args.game.now c.args.children.now.many in
-    let worth = value (g.G.Game.rules c.args.game.now) c.args.asked.role c.args.asked.depth c.args.asked.at (get_or states c.args.place []) in
+    let worth : ℕ → ℕ = λ d. value (g.G.Game.rules c.args.game.now) c.args.asked.role d c.args.asked.at (get_or states c.args.place []) in
     let same : c.look_ahead.new.children.many ≡ c.args.children.now.many = c.look_ahead.ensures.same.many in
     let known = c.bounds_of-known.result in
-    let inside = c.bounds_of-known.ensures states (λ s. value (g.G.Game.rules c.args.game.now) c.args.asked.role c.args.asked.depth c.args.asked.at s)
+    let inside = c.bounds_of-known.ensures states (λ s d. value (g.G.Game.rules c.args.game.now) c.args.asked.role d c.args.asked.at s) c.args.asked.depth
     (rw same at c.look_ahead.ensures.children.ahead) c.requires.place in
     let low = c.narrowed-left.result.low in
     let high = c.narrowed-left.result.high in
     let taken : g.G.Game.state c.args.game.now c.take.new.q ≡ get_or states c.args.place [] = c.take.ensures.taken
     ∙ ap (λ m. get_or (g.G.Game.states c.args.game.now m) c.args.place []) same in
-    IfOk-weaker c.try_known_at.result _ _
-    (λ r h. narrow_answers worth known c.args.window.low c.args.window.high low high r inside c.narrowed-left.ensures.low c.narrowed-left.ensures.high h)
-    (rw taken at c.try_known_at.ensures.answers)
+    let eh : to_z w16 (of_z w16 high) ≡ high = to_z-of_z w16 high (search facts) in
+    widened_answer worth c.args.asked.depth known c.args.window.low c.args.window.high low high c.in_ok-answer.answer c.widened.result inside
+    c.narrowed-left.ensures.low c.narrowed-left.ensures.high (rw taken at c.in_ok-answer.ensures.answers) c.widened.ensures.worth
+    (rw eh at c.widened.ensures.lasts)
 
 pub try_child_at-returns-clause-kept : goal.try_child_at-returns-clause-kept
 try_child_at-returns-clause-kept g t c = kept_then c.look_ahead.ensures.kept c.try_known_at.ensures.kept
 
 pub try_known_at-returns-then-left-clause-answers : goal.try_known_at-returns-then-left-clause-answers
 try_known_at-returns-then-left-clause-answers g t c =
-    let worth = value (g.G.Game.rules c.args.game.now) c.args.asked.role c.args.asked.depth c.args.asked.at (g.G.Game.state c.args.game.now c.args.from.now) in
+    let worth : ℕ → ℕ = λ d. value (g.G.Game.rules c.args.game.now) c.args.asked.role d c.args.asked.at (g.G.Game.state c.args.game.now c.args.from.now) in
     let low = c.narrowed-left.result.low in
     let high = c.narrowed-left.result.high in
     let el : to_z w16 (of_z w16 low) ≡ low = to_z-of_z w16 low (search facts) in
     let eh : to_z w16 (of_z w16 high) ≡ high = to_z-of_z w16 high (search facts) in
-    let r = c.settled.result in
-    let fits_r : SFits w16 r = search facts in
-    rw (to_z-of_z w16 r fits_r)
-    (settled_answers worth c.recall-known.result c.args.window.low c.args.window.high low high r c.recall-known.ensures.within c.requires.window.order
-    c.narrowed-left.ensures.low c.narrowed-left.ensures.high
-    (rw (eh, el) at (le_z_true (to_z w16 (of_z w16 high)) (to_z w16 (of_z w16 low)) c.if-left.true)) (rw eh at c.settled.ensures))
+    settled_answer worth c.args.asked.depth c.recall-known.result c.args.window.low c.args.window.high low high c.settled.result
+    c.recall-known.ensures.within c.requires.window.order c.narrowed-left.ensures.low c.narrowed-left.ensures.high
+    (rw (eh, el) at (le_z_true (to_z w16 (of_z w16 high)) (to_z w16 (of_z w16 low)) c.if-left.true)) (rw eh at c.settled.ensures.worth) c.settled.ensures.lasts
 
 pub try_known_at-value_at-requires-clause-window : goal.try_known_at-value_at-requires-clause-window
 try_known_at-value_at-requires-clause-window g t c κs within =
@@ -1217,28 +1324,28 @@ try_known_at-value_at-requires-clause-window g t c κs within =
 
 pub try_known_at-keep-requires-clause-found : goal.try_known_at-keep-requires-clause-found
 try_known_at-keep-requires-clause-found g t c κs within =
-    let worth = value (g.G.Game.rules c.args.game.now) c.args.asked.role c.args.asked.depth c.args.asked.at (g.G.Game.state c.args.game.now c.args.from.now) in
+    let worth : ℕ → ℕ = λ d. value (g.G.Game.rules c.args.game.now) c.args.asked.role d c.args.asked.at (g.G.Game.state c.args.game.now c.args.from.now) in
     let low = c.narrowed-left.result.low in
     let high = c.narrowed-left.result.high in
+    let eh : to_z w16 (of_z w16 high) ≡ high = to_z-of_z w16 high (search facts) in
     let law = g.met.G.Game g.world.𝓛 g.world.𝓜 g.world.𝓡 ((λ _ x. x), (λ x. x), (λ x. x), λ x. x) in
-    let few = value_at_most (g.G.Game.rules c.args.game.now) c.args.asked.role (λ s r. law.goal_within c.args.game.now s r) c.args.asked.depth c.args.asked.at
+    let few : (d : ℕ) → worth d ≤ 100 = λ d.
+    value_at_most (g.G.Game.rules c.args.game.now) c.args.asked.role (λ s r. law.goal_within c.args.game.now s r) d c.args.asked.at
     (g.G.Game.state c.args.game.now c.args.from.now) in
-    let r = c.in_ok-answer.answer in
-    let fits_r : SFits w16 r = search facts in
-    c.bounds_by-found.ensures worth few (rw (to_z-of_z w16 r fits_r)
-    (narrow_answers worth c.recall-known.result c.args.window.low c.args.window.high low high r c.recall-known.ensures.within c.narrowed-left.ensures.low
-    c.narrowed-left.ensures.high c.in_ok-answer.ensures.answers))
+    c.bounds_by-found.ensures worth c.args.asked.depth few
+    (widened_answer worth c.args.asked.depth c.recall-known.result c.args.window.low c.args.window.high low high c.in_ok-answer.answer
+    c.widened-answer.result c.recall-known.ensures.within c.narrowed-left.ensures.low c.narrowed-left.ensures.high c.in_ok-answer.ensures.answers
+    c.widened-answer.ensures.worth (rw eh at c.widened-answer.ensures.lasts))
 
 pub try_known_at-returns-clause-answers : goal.try_known_at-returns-clause-answers
 try_known_at-returns-clause-answers g t c =
-    let worth = value (g.G.Game.rules c.args.game.now) c.args.asked.role c.args.asked.depth c.args.asked.at (g.G.Game.state c.args.game.now c.args.from.now) in
+    let worth : ℕ → ℕ = λ d. value (g.G.Game.rules c.args.game.now) c.args.asked.role d c.args.asked.at (g.G.Game.state c.args.game.now c.args.from.now) in
     let low = c.narrowed-left.result.low in
     let high = c.narrowed-left.result.high in
-    let r = c.in_ok-answer.answer in
-    let fits_r : SFits w16 r = search facts in
-    rw (to_z-of_z w16 r fits_r)
-    (narrow_answers worth c.recall-known.result c.args.window.low c.args.window.high low high r c.recall-known.ensures.within c.narrowed-left.ensures.low
-    c.narrowed-left.ensures.high c.in_ok-answer.ensures.answers)
+    let eh : to_z w16 (of_z w16 high) ≡ high = to_z-of_z w16 high (search facts) in
+    widened_answer worth c.args.asked.depth c.recall-known.result c.args.window.low c.args.window.high low high c.in_ok-answer.answer
+    c.widened-answer.result c.recall-known.ensures.within c.narrowed-left.ensures.low c.narrowed-left.ensures.high c.in_ok-answer.ensures.answers
+    c.widened-answer.ensures.worth (rw eh at c.widened-answer.ensures.lasts)
 
 pub try_known_at-returns-clause-kept : goal.try_known_at-returns-clause-kept
 try_known_at-returns-clause-kept g t c = memory_kept c.args.tools.now c.value_at.new.tools c.recall-known.new.memory c.keep.new.memory c.args.levels.now
@@ -1250,9 +1357,13 @@ value_at-returns-then-asked-eq0-clause-answers g t c =
     let state = g.G.Game.state c.args.game.now c.args.from.now in
     let r = c.bound_at.result in
     let fits_r : SFits w16 r = search facts in
-    exact (value rules c.args.asked.role c.args.asked.depth c.args.asked.at state) c.args.window.low c.args.window.high (to_z w16 (of_z w16 r))
-    (to_z-of_z w16 r fits_r ∙ c.bound_at.ensures
-    ∙ ap pos (sym (value_at_bound rules c.args.asked.role c.args.asked.depth c.args.asked.at state c.if-asked-eq0.true (sym c.ended.ensures ∙ c.if-ended.false))))
+    record {
+      now = exact (value rules c.args.asked.role c.args.asked.depth c.args.asked.at state) c.args.window.low c.args.window.high (to_z w16 (of_z w16 r))
+          (to_z-of_z w16 r fits_r ∙ c.bound_at.ensures
+          ∙ ap pos (sym (value_at_bound rules c.args.asked.role c.args.asked.depth c.args.asked.at state c.if-asked-eq0.true
+          (sym c.ended.ensures ∙ c.if-ended.false))));
+      later = λ lasts. absurd cc;
+    }
 
 pub value_at-loop-own-init : goal.value_at-loop-own-init
 value_at-loop-own-init g t c =
@@ -1267,13 +1378,14 @@ value_at-loop-own-init g t c =
       below = rw ea c.requires.window.order;
       at_most = rw ea (omega (arith, ints, clamps));
       seen = λ k lt. absurd (omega arith);
+      later = λ lasts d more k lt. absurd (omega arith);
     }
 
 pub value_at-returns-then-best-window-clause-kept : goal.value_at-returns-then-best-window-clause-kept
 value_at-returns-then-best-window-clause-kept g t c = kept_then c.loop-own.invariant.kept c.try_worst_at.ensures.kept
 
-pub least_at-returns-then-upper-window-3-clause-kept : goal.least_at-returns-then-upper-window-3-clause-kept
-least_at-returns-then-upper-window-3-clause-kept g t c = kept_then c.loop-place.invariant.kept c.try_child_at.ensures.kept
+pub least_at-returns-then-upper-window-clause-kept : goal.least_at-returns-then-upper-window-clause-kept
+least_at-returns-then-upper-window-clause-kept g t c = kept_then c.loop-place.invariant.kept c.try_child_at.ensures.kept
 
 pub least_at-try_child_at-requires-clause-window : goal.least_at-try_child_at-requires-clause-window
 least_at-try_child_at-requires-clause-window g t c κs within =
@@ -1300,11 +1412,11 @@ least_at-look_back-requires-clause-tools g t c κs within = record { wide = c.re
 pub greatest_at-look_back-requires-clause-tools : goal.greatest_at-look_back-requires-clause-tools
 greatest_at-look_back-requires-clause-tools g t c κs within = record { wide = c.requires.fit.wide; memory = c.requires.fit.memory }
 
-pub least_at-returns-in_err-worth-clause-kept : goal.least_at-returns-in_err-worth-clause-kept
-least_at-returns-in_err-worth-clause-kept g t c = kept_then c.loop-place.invariant.kept c.try_child_at.ensures.kept
+pub least_at-returns-in_err-answer-clause-kept : goal.least_at-returns-in_err-answer-clause-kept
+least_at-returns-in_err-answer-clause-kept g t c = kept_then c.loop-place.invariant.kept c.try_child_at.ensures.kept
 
-pub greatest_at-returns-in_err-worth-clause-kept : goal.greatest_at-returns-in_err-worth-clause-kept
-greatest_at-returns-in_err-worth-clause-kept g t c = kept_then c.loop-place.invariant.kept c.try_child_at.ensures.kept
+pub greatest_at-returns-in_err-answer-clause-kept : goal.greatest_at-returns-in_err-answer-clause-kept
+greatest_at-returns-in_err-answer-clause-kept g t c = kept_then c.loop-place.invariant.kept c.try_child_at.ensures.kept
 
 pub try_worst_at-returns-in_err-least-clause-kept : goal.try_worst_at-returns-in_err-least-clause-kept
 try_worst_at-returns-in_err-least-clause-kept g t c =

@@ -1,4 +1,4 @@
-use Rattle.std.proofs.Common.{◌≡◌, ℕ, ◌+◌, ◌*◌, ◌-◌, ◌<◌, ◌≤◌, length, take, [], ◌∷◌, get_or}
+use Rattle.std.proofs.Common.{◌≡◌, true, ℕ, ◌+◌, ◌*◌, ◌-◌, ◌<◌, ◌≤◌, length, take, List, [], ◌∷◌, get_or}
 use Rattle.std.specs.List.{range_with_len}
 use Rattle.std.specs.List.Sorted.{IsPermutation}
 use Rattle.std.specs.Prelude.{pos, ◌<ℤ◌, ◌≤ℤ◌, map}
@@ -43,6 +43,8 @@ invariant-value_at-loop-own g l =
       at_most : l.best ≤ℤ int_max (pos (value rules l.asked.role l.asked.depth l.asked.at state)) l.window.low;
       seen : (k : ℕ) → k < l.place → int_min (pos
           (worst rules l.asked.role (l.asked.depth - 1) l.asked.at state (get_or (rules.legal state l.asked.role) k 0))) l.window.high ≤ℤ l.best;
+      later : l.lasts ≡ true → (d : ℕ) → l.asked.depth ≤ d → (k : ℕ) → k < l.place → int_min (pos
+          (worst rules l.asked.role (d - 1) l.asked.at state (get_or (rules.legal state l.asked.role) k 0))) l.window.high ≤ℤ l.best;
     }
 
 abbrev pub decreases-value_at-loop-own : goal.decreases-value_at-loop-own
@@ -56,8 +58,8 @@ invariant-try_worst_at-runs g l =
     let rules = g.G.Game.rules l.game in
     let state = g.G.Game.state l.game l.from in
     let lists = choices rules state l.asked.role l.own in
-    let all = worst rules l.asked.role l.asked.depth l.asked.at state l.own in
-    let left = least (map (λ j. value rules l.asked.role l.asked.depth l.asked.at (rules.after state j))
+    let all : ℕ → ℕ = λ d. worst rules l.asked.role d l.asked.at state l.own in
+    let left : ℕ → ℕ = λ d. least (map (λ j. value rules l.asked.role d l.asked.at (rules.after state j))
     (l.level.moves.cursor.joint.items ∷ later lists l.level.moves.cursor.places.items)) in
     record {
       level : IsLevelOf g.G.Game l.game l.level;
@@ -69,9 +71,10 @@ invariant-try_worst_at-runs g l =
       stands : StandsAt lists l.level.moves.cursor.places.items l.level.moves.cursor.joint.items;
       above : l.window.low <ℤ l.upper;
       below : l.upper ≤ℤ l.window.high;
-      at_least : int_min (pos all) l.window.high ≤ℤ l.upper;
-      part : all ≤ left;
-      at_most : int_min l.upper (pos left) ≤ℤ int_max (pos all) l.window.low;
+      at_least : int_min (pos (all l.asked.depth)) l.window.high ≤ℤ l.upper;
+      part : (d : ℕ) → all d ≤ left d;
+      at_most : int_min l.upper (pos (left l.asked.depth)) ≤ℤ int_max (pos (all l.asked.depth)) l.window.low;
+      later : l.lasts ≡ true → (d : ℕ) → l.asked.depth ≤ d → int_min (pos (all d)) l.window.high ≤ℤ l.upper;
     }
 
 abbrev pub decreases-try_worst_at-runs : goal.decreases-try_worst_at-runs
@@ -85,7 +88,7 @@ abbrev pub invariant-least_at-loop-place : goal.invariant-least_at-loop-place
 invariant-least_at-loop-place g l =
     let rules = g.G.Game.rules l.game in
     let states = g.G.Game.states l.game l.fn.children.many in
-    let all = least (map (value rules l.asked.role l.asked.depth l.asked.at) states) in
+    let all : ℕ → ℕ = λ d. least (map (value rules l.asked.role d l.asked.at) states) in
     record {
       kept : AreKept g.G.Game l.game l.fn.tools l.initial.levels l.tools l.levels;
       deep : length l.levels ≡ length l.initial.levels;
@@ -95,7 +98,8 @@ invariant-least_at-loop-place g l =
       order : IsPermutation (range_with_len 0 l.count) (take l.count l.order);
       above : l.window.low <ℤ l.upper;
       below : l.upper ≤ℤ l.window.high;
-      at_least : int_min (pos all) l.window.high ≤ℤ l.upper;
+      at_least : int_min (pos (all l.asked.depth)) l.window.high ≤ℤ l.upper;
+      later : l.lasts ≡ true → (d : ℕ) → l.asked.depth ≤ d → int_min (pos (all d)) l.window.high ≤ℤ l.upper;
       seen : (k : ℕ) → k < l.place
           → l.upper ≤ℤ int_max (pos (value rules l.asked.role l.asked.depth l.asked.at (get_or states (get_or l.order k 0) []))) l.window.low;
     }
@@ -114,7 +118,7 @@ abbrev pub invariant-best_at-runs : goal.invariant-best_at-runs
 invariant-best_at-runs g l =
     let rules = g.G.Game.rules l.game in
     let state = g.G.Game.state l.game l.from in
-    let worths = map (worst rules l.asked.role l.asked.depth l.asked.at state) (rules.legal state l.asked.role) in
+    let worths : ℕ → List ℕ = λ d. map (worst rules l.asked.role d l.asked.at state) (rules.legal state l.asked.role) in
     record {
       level : IsLevelOf g.G.Game l.game l.level;
       capacities : level_capacities g.G.Game l.game l.level ≡ level_capacities g.G.Game l.game l.initial.level;
@@ -126,8 +130,9 @@ invariant-best_at-runs g l =
       in_list : l.place ≤ length (rules.legal state l.asked.role);
       above : l.window.low ≤ℤ l.best;
       below : l.best <ℤ l.window.high;
-      at_most : l.best ≤ℤ int_max (pos (greatest worths)) l.window.low;
-      seen : (k : ℕ) → k < l.place → int_min (pos (get_or worths k 0)) l.window.high ≤ℤ l.best;
+      at_most : l.best ≤ℤ int_max (pos (greatest (worths l.asked.depth))) l.window.low;
+      seen : (k : ℕ) → k < l.place → int_min (pos (get_or (worths l.asked.depth) k 0)) l.window.high ≤ℤ l.best;
+      later : l.lasts ≡ true → (d : ℕ) → l.asked.depth ≤ d → (k : ℕ) → k < l.place → int_min (pos (get_or (worths d) k 0)) l.window.high ≤ℤ l.best;
     }
 
 abbrev pub decreases-best_at-runs : goal.decreases-best_at-runs
@@ -151,4 +156,6 @@ invariant-greatest_at-loop-place g l =
       at_most : l.lower ≤ℤ int_max (pos all) l.window.low;
       seen : (k : ℕ) → k < l.place
           → int_min (pos (value rules l.asked.role l.asked.depth l.asked.at (get_or states (get_or l.order k 0) []))) l.window.high ≤ℤ l.lower;
+      later : l.lasts ≡ true → (d : ℕ) → l.asked.depth ≤ d → (k : ℕ) → k < l.place
+          → int_min (pos (value rules l.asked.role d l.asked.at (get_or states (get_or l.order k 0) []))) l.window.high ≤ℤ l.lower;
     }

@@ -1,6 +1,5 @@
 use Rattle.std.proofs.Common.{◌≡◌, ◌∙◌, ap, w16, rules as facts}
 use Rattle.std.proofs.lemmas.Int.{to_z-of_z}
-use Rattle.std.proofs.lemmas.Result.{IfOk-weaker}
 use mir.Val.{SFits, of_z, to_z}
 use Rattle.std.specs.Prelude.{pos}
 use Rattle.std.specs.Int.{int_min, int_max}
@@ -42,8 +41,10 @@ returns-clause-answers g c =
     to_z-of_z w16 c.max-low.result fits_low ∙ c.max-low.ensures.value ∙ ap (λ z. int_max z (pos 0)) (to_z-of_z w16 c.args.window.low (search facts)) in
     let high_is : high ≡ int_min c.args.window.high (pos 100) =
     to_z-of_z w16 c.min-high.result fits_high ∙ c.min-high.ensures.value ∙ ap (λ z. int_min z (pos 100)) (to_z-of_z w16 c.args.window.high (search facts)) in
-    IfOk-weaker c.try_known_at.result _ _ (λ r h. within_goals worth c.args.window.low c.args.window.high low high r few low_is high_is h)
-    c.try_known_at.ensures.answers
+    let r = c.in_ok-answer.answer.worth in
+    let fits : SFits w16 r = search facts in
+    rw (to_z-of_z w16 r fits)
+    (within_goals worth c.args.window.low c.args.window.high low high r few low_is high_is c.in_ok-answer.ensures.answers.now)
 
 pub try_known_at-requires-clause-window : goal.try_known_at-requires-clause-window
 try_known_at-requires-clause-window g c κs within =
