@@ -153,6 +153,39 @@ def terms_alike(count: int) -> str:
     return f"(role a)(p {' '.join(others)})" + "".join(f"(p {''.join(terms)})" for terms in items)
 
 
+def rows_in_one_bucket(count: int) -> str:
+    """Two relations that have the same rows of six values. Their hash is linear in the numbers of the names, so that all of them can
+    stand in one of as many buckets as there are rows."""
+    names = [name for name in map(chr, range(33, 127)) if name not in '();"|?' and not name.isupper()]
+    numbers = {name: number for number, name in enumerate(names)}
+
+    def parts(length: int, last: int) -> list[tuple[int, str]]:
+        """So many names, and what they add to the hash of a row in which so many names follow the last."""
+        powers = [pow(FACTOR, last + behind, HASHES) for behind in range(length, 0, -1)]
+        return [
+            (sum(numbers[name] * power for name, power in zip(row, powers)) % HASHES, " ".join(row))
+            for row in itertools.product(names, repeat=length)
+        ]
+
+    behind = sorted(parts(3, 0))
+    sums = [total for total, _ in behind]
+    alike: list[str] = []
+    for total, front in parts(3, 3):
+        place = bisect.bisect_left(sums, -total % HASHES)
+        while place < len(sums) and (sums[place] + total) % HASHES < HASHES // (2 * count) and len(alike) < count:
+            alike.append(f"(t {front} {behind[place][1]})")
+            place += 1
+    width = 25
+    rule = "?a ?b ?c ?d ?e ?f"
+    text = f"(role white)(n {' '.join(names)})"
+    text += "".join(f"(r {''.join(alike[start : start + width])})" for start in range(0, count, width))
+    for word, place in itertools.product("pq", range(width)):
+        terms = [f"?{number}" for number in range(width)]
+        terms[place] = f"(t {rule})"
+        text += f"(<=({word} {rule})(r {' '.join(terms)}))"
+    return text + f"(<=(meet ?a)(p {rule})(q {rule}))"
+
+
 FAMILIES = [
     Family("dear in another order", "net", dear_in_another_order, (2, 4, 8)),
     Family("long body", "net", long_body, (1000, 2000, 4000)),
@@ -169,6 +202,7 @@ FAMILIES = [
     Family("pairs that end", "net", pairs_that_end, (500, 1000, 2000)),
     Family("rows that all fail", "net", rows_that_all_fail, (16, 19, 23)),
     Family("terms alike", "net", terms_alike, (18000, 36000, 72000)),
+    Family("rows in one bucket", "net", rows_in_one_bucket, (15000, 30000, 60000)),
     Family("alternatives of one item", "check", alternatives_of_one_item, (130000, 260000, 520000)),
     Family("many names", "check", many_names, (40000, 80000, 160000)),
     Family("bodies of alternatives", "check", bodies_of_alternatives, (1000, 2000, 4000)),
