@@ -129,16 +129,17 @@ def pairs_that_end(count: int) -> str:
     return f"(role a){meet}(r b0 c)(s c d)(<= (w ?x ?y) (p ?x ?h) (q ?h ?y) (r ?y ?z) (s ?z ?u))"
 
 
-def terms_alike(count: int) -> str:
-    """Terms whose hashes begin alike: a hash is linear in the numbers of the names, and these follow the text."""
-    names = [name for name in map(chr, range(33, 127)) if name not in '();"|?' and not name.isupper()]
-    others = [name for name in names if name not in "ap"]
-    numbers = {"a": 1, "p": 2} | {name: number for number, name in enumerate(others, 3)}
+# Names of one byte that are told apart.
+NAMES = [name for name in map(chr, range(33, 127)) if name not in '();"|?' and not name.isupper()]
+
+
+def sixes_alike(numbers: dict[str, int], room: int, count: int) -> list[str]:
+    """So many rows of six names whose hashes lie within this room: a hash is linear in the numbers of the names."""
 
     def halves(last: int) -> list[tuple[int, str]]:
-        """Three names, and what they add to the hash of a term, of which so many names follow the last."""
+        """Three names, and what they add to the hash of a row, of which so many names follow the last."""
         powers = [pow(FACTOR, last + behind, HASHES) for behind in (3, 2, 1)]
-        threes = itertools.product(names, repeat=3)
+        threes = itertools.product(NAMES, repeat=3)
         return [(sum(numbers[name] * power for name, power in zip(three, powers)) % HASHES, " ".join(three)) for three in threes]
 
     behind = sorted(halves(0))
@@ -146,38 +147,28 @@ def terms_alike(count: int) -> str:
     alike: list[str] = []
     for total, three in halves(3):
         place = bisect.bisect_left(sums, -total % HASHES)
-        while place < len(sums) and (sums[place] + total) % HASHES < HASHES >> 19 and len(alike) < count:
-            alike.append(f"({three} {behind[place][1]})")
+        while place < len(sums) and (sums[place] + total) % HASHES < room and len(alike) < count:
+            alike.append(f"{three} {behind[place][1]}")
             place += 1
+    return alike
+
+
+def terms_alike(count: int) -> str:
+    """Terms whose hashes begin alike, as numbers of names follow the text."""
+    others = [name for name in NAMES if name not in "ap"]
+    numbers = {"a": 1, "p": 2} | {name: number for number, name in enumerate(others, 3)}
+    alike = [f"({six})" for six in sixes_alike(numbers, HASHES >> 19, count)]
     items = [alike[start : start + 280] for start in range(0, len(alike), 280)]
     return f"(role a)(p {' '.join(others)})" + "".join(f"(p {''.join(terms)})" for terms in items)
 
 
 def rows_in_one_bucket(count: int) -> str:
-    """Two relations that have the same rows of six values. Their hash is linear in the numbers of the names, so that all of them can
-    stand in one of as many buckets as there are rows."""
-    names = [name for name in map(chr, range(33, 127)) if name not in '();"|?' and not name.isupper()]
-    numbers = {name: number for number, name in enumerate(names)}
-
-    def parts(length: int, last: int) -> list[tuple[int, str]]:
-        """So many names, and what they add to the hash of a row in which so many names follow the last."""
-        powers = [pow(FACTOR, last + behind, HASHES) for behind in range(length, 0, -1)]
-        return [
-            (sum(numbers[name] * power for name, power in zip(row, powers)) % HASHES, " ".join(row))
-            for row in itertools.product(names, repeat=length)
-        ]
-
-    behind = sorted(parts(3, 0))
-    sums = [total for total, _ in behind]
-    alike: list[str] = []
-    for total, front in parts(3, 3):
-        place = bisect.bisect_left(sums, -total % HASHES)
-        while place < len(sums) and (sums[place] + total) % HASHES < HASHES // (2 * count) and len(alike) < count:
-            alike.append(f"(t {front} {behind[place][1]})")
-            place += 1
+    """Two relations that have the same rows of six values, all of which stand in one of as many buckets as there are rows."""
+    numbers = {name: number for number, name in enumerate(NAMES)}
+    alike = [f"(t {six})" for six in sixes_alike(numbers, HASHES // (2 * count), count)]
     width = 25
     rule = "?a ?b ?c ?d ?e ?f"
-    text = f"(role white)(n {' '.join(names)})"
+    text = f"(role white)(n {' '.join(NAMES)})"
     text += "".join(f"(r {''.join(alike[start : start + width])})" for start in range(0, count, width))
     for word, place in itertools.product("pq", range(width)):
         terms = [f"?{number}" for number in range(width)]
