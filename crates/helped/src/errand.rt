@@ -9,6 +9,10 @@ use maximin::{Company, Room, help_choose, help_reply};
 use std::alloc::Global;
 use std::thread::{Threads, map_indices};
 
+/// A search of fewer turns has no help: its workers would not part. Tables are made as for so many turns at least: for fewer they would have
+/// too few entries to be shared.
+pub const FEWEST_TURNS: u32 = 3;
+
 /// A state that is worth so much, of which the first best move is wanted; or one in which a move makes sure of so much, of which the
 /// first best reply to that is wanted.
 #[derive(Drop)]
@@ -59,10 +63,13 @@ fn do_part<G: Game>(errand: &Errand<'_, G>, worker: usize)
     }
 }
 
-/// So many workers search for what is wanted, each in a thread of its own.
+/// So many workers search for what is wanted, each in a thread of its own, unless too few turns are left for them to part.
 pub fn do_together<R: Threads + Sync, G: Game>(rt: &R, errand: &Errand<'_, G>, workers: usize)
     requires { IsErrandOf G.Game errand.now }
 {
+    if errand.asked.depth < FEWEST_TURNS {
+        return;
+    }
     errand.company.begin();
     let part = |worker: usize|
         requires { IsErrandOf G.Game errand.now }

@@ -4,6 +4,7 @@ ghost use Rattle.statement.specs.Value.{value, choice_of};
 ghost use Rattle.maximin.specs.Company.{company_game};
 ghost use Rattle.helped.specs.Found.{IsFound};
 
+use crate::errand::FEWEST_TURNS;
 use crate::helper::{Aid, help_with};
 use crate::line::play_ahead;
 use cut::Cut;
@@ -12,9 +13,6 @@ use maximin::{Company, Room};
 use std::alloc::Global;
 use std::thread::{Threads, map_indices};
 use tasks::{Node, answer_if_short, answer_in};
-
-/// The tables are made as for so many turns at least: for fewer they would have too few entries to be shared.
-const FEWEST_TURNS: u32 = 3;
 
 /// What the workers of a search share, if there are to be several, who are to keep what states are worth, and if it can be had.
 pub fn company_of<G: Game>(
@@ -50,6 +48,21 @@ fn answer_unaided<G: Game>(aid: &Aid<'_, G>) -> Option<(i16, u32)>
     };
     let (value, first) = answer_if_short(node, &mut room)?;
     Some((value, first))
+}
+
+/// The value of a node and the place of its first best move, found over the tables by the calling thread alone, where the memory for it
+/// can be had.
+fn answer_alone<G: Game>(aid: &Aid<'_, G>) -> Option<(i16, u32)>
+    requires fits { G.fits aid.now.node.now.game.now aid.now.node.now.from.now }
+    requires company { company_game aid.now.company.now ≡ aid.now.node.now.game.now }
+    ensures { IfSome result (λ r. IsFound (G.rules aid.now.node.now.game.now) aid.now.node.now.asked.role aid.now.node.now.asked.depth aid.now.node.now.asked.at
+        (G.state aid.now.node.now.game.now aid.now.node.now.from.now) r.0 r.1) }
+{
+    let node = aid.node;
+    let Ok(mut room) = Room::over_tables(aid.alloc, node.game, node.asked.depth, aid.company) else {
+        return None;
+    };
+    Some(answer_in(node, &mut room))
 }
 
 /// The value of a node and the place of its first best move, found over the tables, where the memory for it can be had.
@@ -111,8 +124,8 @@ fn answer_by_parts<R: Threads + Sync, G: Game>(rt: &R, aid: &Aid<'_, G>) -> Opti
     found[0]
 }
 
-/// The value of a node and the place of its first best move, by the calling thread where the search is short, and else by one thread with
-/// so many others who help it, also with the line of best play behind it. There is none where the memory for it is refused.
+/// The value of a node and the place of its first best move, by the calling thread where the search is short or of few turns, and else by one
+/// thread with so many others who help it, also with the line of best play behind it. There is none where the memory for it is refused.
 fn answer_with_help<R: Threads + Sync, G: Game>(
     rt: &R,
     node: &Node<'_, G>,
@@ -131,6 +144,9 @@ fn answer_with_help<R: Threads + Sync, G: Game>(
         company,
         others,
     };
+    if node.asked.depth < FEWEST_TURNS {
+        return answer_alone(&aid);
+    }
     if let Some(found) = answer_unaided(&aid) {
         return Some(found);
     }

@@ -129,7 +129,7 @@ impl<G: Game> Room<G> {
         let levels = new_levels(alloc, game, depth)?;
         let history = history_of(company, depth, worker)?;
         let memory = shared_memory(alloc, game, &company.tables)?;
-        let sight = Sight::among(&company.marks, worker)?;
+        let sight = Sight::among(&company.marks, worker, depth)?;
         let tools = new_tools(game, history, memory, sight)?;
         Ok(Room { tools, levels })
     }

@@ -8,17 +8,25 @@ use std::sync::Arc;
 use std::sync::atomic::{AtomicU64, Ordering};
 use table::hash_of;
 
-/// States with fewer turns left are not marked: they are searched too soon.
+/// States with fewer turns left are not marked in a long search: they are searched too soon.
 const FEWEST_MARKED: u32 = 4;
 
+/// States with fewer turns left are not marked in any search, as they are not looked up.
+const FEWEST_TURNS: u32 = 2;
+
+/// How many turns a state has left at least that is marked, in a search of so many turns. Were the states after the first moves not
+/// marked, its workers would never part.
+fn fewest_marked(depth: u32) -> u32 {
+    depth.saturating_sub(1).clamp(FEWEST_TURNS, FEWEST_MARKED)
+}
+
 /// How many states a short search comes to at most, where the key of a state has so many words. The longer a key, the longer it takes to
-/// step a state: so many take some two milliseconds.
+/// step a state: so many take some two milliseconds, and more with a large network.
 fn most_unaided(words: usize) -> u64 {
     match words {
         0 | 1 => 1_024,
         2 => 256,
-        3 | 4 => 128,
-        _ => 64,
+        _ => 128,
     }
 }
 
@@ -27,6 +35,8 @@ fn most_unaided(words: usize) -> u64 {
 pub struct Sight {
     marks: Option<Arc<Marks>>,
     worker: u8,
+    // States with fewer turns left are not marked.
+    fewest: u32,
     // How many more states a search may come to that ends once it is long.
     states: AtomicU64,
 }
@@ -37,6 +47,7 @@ impl Sight {
         Sight {
             marks: None,
             worker: 0,
+            fewest: FEWEST_MARKED,
             states: AtomicU64::new(0),
         }
     }
@@ -47,11 +58,12 @@ impl Sight {
         self.states.store(most_unaided(words), Ordering::Relaxed);
     }
 
-    /// Of the worker of this number, from 0 to 254.
-    pub fn among(marks: &Arc<Marks>, worker: u8) -> Result<Sight, AllocError> {
+    /// Of the worker of this number, from 0 to 254, in a search of so many turns.
+    pub fn among(marks: &Arc<Marks>, worker: u8, depth: u32) -> Result<Sight, AllocError> {
         Ok(Sight {
             marks: Some(Arc::try_clone(marks)?),
             worker,
+            fewest: fewest_marked(depth),
             states: AtomicU64::new(0),
         })
     }
@@ -100,7 +112,7 @@ impl Sight {
 
     /// Whether states with so many turns left are marked by others.
     pub fn sees(&self, turns: u32) -> bool {
-        turns >= FEWEST_MARKED && self.has_others()
+        turns >= self.fewest && self.has_others()
     }
 
     /// Whether states with so many turns left are put off that others have in hand. The first worker puts off none, so its search is that of
