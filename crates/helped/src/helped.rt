@@ -150,6 +150,7 @@ fn answer_with_help<R: Threads + Sync, G: Game>(
     if let Some(found) = answer_unaided(&aid) {
         return Some(found);
     }
+    company.forget_cuts();
     let (value, first) = answer_by_parts(rt, &aid)?;
     play_ahead(rt, &aid, value, first);
     Some((value, first))

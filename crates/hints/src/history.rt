@@ -30,6 +30,13 @@ impl SharedHistory {
         Ok(SharedHistory { starts, counts })
     }
 
+    /// Forgets what was noted. What is noted meanwhile may be forgotten too.
+    pub fn forget(&self) {
+        for count in &self.counts {
+            count.store(0, Ordering::Relaxed);
+        }
+    }
+
     // The count of a move. There is none of a move that no role has.
     fn count(&self, role: usize, number: u32) -> Option<&AtomicU64> {
         let start = *self.starts.get(role)?;

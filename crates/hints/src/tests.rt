@@ -20,6 +20,19 @@ fn a_note_counts_for_its_move_alone(rt: HostRuntime) -> Result<(), Fail> {
 }
 
 #[test]
+fn what_was_noted_can_be_forgotten(rt: HostRuntime) -> Result<(), Fail> {
+    let history = SharedHistory::new(rt.alloc(), &[2, 3])?;
+    history.note(1, 2, 7);
+    history.note(0, 0, 5);
+    history.forget();
+    assert_eq!(rt; history.score(1, 2), 0);
+    assert_eq!(rt; history.score(0, 0), 0);
+    history.note(1, 2, 3);
+    assert_eq!(rt; history.score(1, 2), 3);
+    Ok(())
+}
+
+#[test]
 fn a_move_that_is_not_known_scores_nothing(rt: HostRuntime) -> Result<(), Fail> {
     let history = SharedHistory::new(rt.alloc(), &[2, 3])?;
     history.note(1, 3, 7);

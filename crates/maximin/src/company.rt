@@ -38,6 +38,12 @@ impl<G: Game> Company<G> {
         })
     }
 
+    /// Forgets how much moves cut off. A search that ended early has counted in one part of the game alone, and the same search begun
+    /// anew takes other ways by these counts than those on which it finds what it had found.
+    pub fn forget_cuts(&self) {
+        self.history.forget();
+    }
+
     /// Says that a search begins, before any worker does: nobody has a state in hand.
     pub fn begin(&self) {
         self.marks.begin();
