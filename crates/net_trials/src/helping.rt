@@ -25,12 +25,14 @@ const STONES: &[u8] = b"(role a) (role b) (s 0 1) (s 1 2) (s 2 3) (s 3 4) (s 4 5
 (<= (goal a 100) (true (heap 0)) (true (control b)))
 (<= (goal a 0) (true (control a)))";
 
-/// A ring of eight fields, on which one role goes one or two on, so that states come again. On the fourth it wins, if the other has
+/// A ring of 32 fields, on which one role goes one or two on, so that states come again. On the fourth it wins, if the other has
 /// said yes as often as it liked. A state has many facts that are never true, so that one worker asks for help after few states.
 const RING: &[u8] =
-    b"(role a) (role b) (on 0 1) (on 1 2) (on 2 3) (on 3 4) (on 4 5) (on 5 6) (on 6 7) (on 7 0)
+    b"(role a) (role b) (on 0 1) (on 1 2) (on 2 3) (on 3 4) (on 4 5) (on 5 6) (on 6 7) (on 7 8) (on 8 9) (on 9 10) (on 10 11)
+(on 11 12) (on 12 13) (on 13 14) (on 14 15) (on 15 16) (on 16 17) (on 17 18) (on 18 19) (on 19 20) (on 20 21) (on 21 22)
+(on 22 23) (on 23 24) (on 24 25) (on 25 26) (on 26 27) (on 27 28) (on 28 29) (on 29 30) (on 30 31) (on 31 0)
 (<= (base (at ?n)) (on ?n ?m)) (base yes)
-(<= (base (never ?k ?l ?m)) (on ?k ?n) (on ?l ?o) (on ?m ?p))
+(<= (base (never ?k ?l)) (on ?k ?n) (on ?l ?o))
 (input a one) (input a two) (input b yes) (input b no)
 (init (at 1))
 (legal a one) (legal a two) (legal b yes) (legal b no)
@@ -41,14 +43,18 @@ const RING: &[u8] =
 (<= (goal a 80) (true (at 4)) (true yes))
 (<= (goal a 10) (not (true yes)))";
 
-/// Whether a game is worth so much to its first role from the start, and the move at a place is its choice, with tables of several sizes
-/// and whoever helps.
+/// Tables of no entry, of some hundred and of as many as the games here need, in bytes.
+const TABLES: &[usize] = &[0, 1 << 12, 1 << 14, 1 << 20];
+
+/// Whether a game is worth so much to its first role from the start, and the move at a place is its choice, with tables of these sizes and
+/// whoever helps.
 fn agree<R: Threads + Abort + Sync + AllocGlobal>(
     rt: &R,
     text: &[u8],
     depth: u32,
     value: i16,
     place: usize,
+    tables: &[usize],
 ) -> Result<(), Fail> {
     let game = game_of(rt, text)?;
     if game.roles() == 0 {
@@ -61,7 +67,7 @@ fn agree<R: Threads + Abort + Sync + AllocGlobal>(
         depth,
         at: AtBound::Zero,
     };
-    for bytes in [0, 1 << 12, 1 << 14, 1 << 20] {
+    for &bytes in tables {
         for cut in ["1", "2", "4", "16x4", "2x2x2"] {
             let Some(cut) = Cut::parse(cut.as_bytes()) else {
                 panic!(rt; "no cut")
@@ -76,9 +82,12 @@ fn agree<R: Threads + Abort + Sync + AllocGlobal>(
 
 #[test]
 fn a_state_is_worth_the_same_whoever_helps(rt: HostRuntime) -> Result<(), Fail> {
-    agree(&rt, STONES, 8, 100, 1)?;
-    agree(&rt, STONES, 12, 100, 1)?;
+    agree(&rt, STONES, 8, 100, 1, TABLES)?;
+    agree(&rt, STONES, 12, 100, 1, TABLES)?;
     // The other never says yes, so nothing ends, and both moves are worth nothing.
-    agree(&rt, RING, 8, 0, 0)?;
-    agree(&rt, RING, 9, 0, 0)
+    agree(&rt, RING, 8, 0, 0, TABLES)?;
+    agree(&rt, RING, 9, 0, 0, TABLES)?;
+    // One worker is not done with these before it asks for help.
+    agree(&rt, RING, 16, 0, 0, &[1 << 16])?;
+    agree(&rt, RING, 17, 0, 0, &[1 << 16])
 }
