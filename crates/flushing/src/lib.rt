@@ -9,7 +9,5 @@
 #![tactic(auto)]
 
 mod flushing;
-#[cfg(test)]
-mod tests;
 
 pub use flushing::Flushing;

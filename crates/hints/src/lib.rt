@@ -7,8 +7,6 @@
 
 mod history;
 mod marks;
-#[cfg(test)]
-mod tests;
 
 pub use history::SharedHistory;
 pub use marks::Marks;

@@ -6,8 +6,6 @@
 
 mod rules_option;
 mod source;
-#[cfg(test)]
-mod tests;
 
 pub use rules_option::{Misuse, Words, without_rules};
 pub use source::{Source, source_of, tell_unread};
