@@ -2,7 +2,7 @@ use Rattle.std.proofs.Common.{rules, ◌≡◌, length, ap, arith}
 use Rattle.board.specs.Values.{moves}
 use Rattle.board.specs.Seats.{setup_on}
 use Rattle.board.specs.declared.book.Setup.{Setup}
-use Rattle.board.proofs.crowd_tests.on_one_thread.Goals as goal
+use Rattle.part_trials.proofs.crowds.on_one_thread.Goals as goal
 
 pub work-seat-requires-clause-long : goal.work-seat-requires-clause-long
 work-seat-requires-clause-long g c =

@@ -4,7 +4,7 @@ use Rattle.board.specs.Books.{seen}
 use Rattle.board.specs.Windows.{BoundsWithin}
 use Rattle.board.specs.Seats.{book, setup_on, task_own}
 use Rattle.board.specs.declared.book.Book.{Book}
-use Rattle.board.proofs.nested_tests.work_behind.Goals as goal
+use Rattle.part_trials.proofs.nested_boards.work_behind.Goals as goal
 
 pub loop-reply-preserved-in-Some-window : goal.loop-reply-preserved-in-Some-window
 loop-reply-preserved-in-Some-window c =

@@ -4,7 +4,7 @@ use Rattle.board.specs.Books.{seen}
 use Rattle.board.specs.Seats.{book}
 use Rattle.board.specs.Windows.{Answers}
 use Rattle.board.proofs.Opened.{task_in}
-use Rattle.board.proofs.crowd_tests.work.Goals as goal
+use Rattle.part_trials.proofs.crowds.work.Goals as goal
 
 pub bounds-values-own : goal.bounds-values-own
 bounds-values-own g c =

@@ -1,5 +1,5 @@
 use Rattle.std.proofs.Common.{◌≡◌, ◌%◌, pos, false, slice_index, length}
-use Rattle.board.proofs.crowd_tests.a_board_of_as_many_tasks_as_there_may_be.Given as goal
+use Rattle.part_trials.proofs.crowds.a_board_of_as_many_tasks_as_there_may_be.Given as goal
 
 -- the values are those of the bytes
 abbrev pub ghosts-on_one_thread : goal.ghosts-on_one_thread

@@ -6,7 +6,7 @@ use Rattle.board.specs.Books.{seen}
 use Rattle.board.specs.Seats.{book, setup_on, task_own}
 use Rattle.board.specs.declared.book.Book.{Book}
 use Rattle.board.specs.declared.book.Setup.{Setup}
-use Rattle.board.proofs.nested_tests.an_inner_board_answers_for_a_task.Goals as goal
+use Rattle.part_trials.proofs.nested_boards.an_inner_board_answers_for_a_task.Goals as goal
 
 pub work_behind-above-requires-clause-ties : goal.work_behind-above-requires-clause-ties
 work_behind-above-requires-clause-ties g c = ap (λ (o : Setup). o.margin) c.in_ok-inner.ensures.board

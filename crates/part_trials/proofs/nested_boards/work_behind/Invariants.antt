@@ -4,7 +4,7 @@ use Rattle.board.specs.Plays.{reach}
 use Rattle.board.specs.Books.{seen}
 use Rattle.board.specs.Windows.{BoundsWithin}
 use Rattle.board.specs.Seats.{book, setup_on, task_own, IsSeatOf}
-use Rattle.board.proofs.nested_tests.work_behind.Given as goal
+use Rattle.part_trials.proofs.nested_boards.work_behind.Given as goal
 
 abbrev pub decreases-loop-reply : goal.decreases-loop-reply
 decreases-loop-reply l = tasks (setup_on l.inner) - reach (book l.seat)

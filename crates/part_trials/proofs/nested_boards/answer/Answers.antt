@@ -4,7 +4,7 @@ use Rattle.board.specs.Books.{seen}
 use Rattle.board.specs.Windows.{Answers, IsNarrower}
 use Rattle.board.specs.Seats.{book, setup_on, task_own}
 use Rattle.board.proofs.Nested.{still_held, inner_serve}
-use Rattle.board.proofs.nested_tests.answer.Goals as goal
+use Rattle.part_trials.proofs.nested_boards.answer.Goals as goal
 
 pub report-requires-clause-task : goal.report-requires-clause-task
 report-requires-clause-task c = (
