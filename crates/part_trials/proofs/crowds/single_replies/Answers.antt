@@ -1,6 +1,6 @@
 use Rattle.std.proofs.Common.{◌≡◌, ℕ, zero, suc, ◌+◌, ◌<◌, List, [], ◌∷◌, ◌++◌, length, slice_index, sym, subst, arith, length-append}
 use Rattle.board.specs.Values.{task_count}
-use Rattle.board.proofs.Sums.{total-append}
+use Rattle.board.proofs.Facts.{total-append}
 use Rattle.part_trials.proofs.crowds.single_replies.Goals as goal
 
 some_next : (xs : List ℕ) → ((i : ℕ) → i < length xs → 0 < slice_index xs i) → (i : ℕ) → i < length (xs ++ 1 ∷ []) → 0 < slice_index (xs ++ 1 ∷ []) i
