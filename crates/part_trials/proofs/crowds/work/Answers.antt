@@ -3,7 +3,7 @@ use Rattle.board.specs.Boards.{kept, table_of}
 use Rattle.board.specs.Books.{seen}
 use Rattle.board.specs.Seats.{book}
 use Rattle.board.specs.Windows.{Answers}
-use Rattle.board.proofs.Opened.{task_in}
+use Rattle.board.proofs.Facts.{task_in}
 use Rattle.part_trials.proofs.crowds.work.Goals as goal
 
 pub bounds-values-own : goal.bounds-values-own

@@ -3,7 +3,7 @@ use Rattle.board.specs.Boards.{kept}
 use Rattle.board.specs.Books.{seen}
 use Rattle.board.specs.Windows.{Answers, IsNarrower}
 use Rattle.board.specs.Seats.{book, setup_on, task_own}
-use Rattle.board.proofs.Nested.{still_held, inner_serve}
+use Rattle.board.proofs.Facts.{still_held, inner_serve}
 use Rattle.part_trials.proofs.nested_boards.answer.Goals as goal
 
 pub report-requires-clause-task : goal.report-requires-clause-task
