@@ -29,7 +29,7 @@ other_name w x other = go (name_eq w x) refl
     go true e = absurd (other (sym (name_eq_yes w x e)))
     go false e = e
 
-or_none : (a b : Bool) → a ≡ false → b ≡ false → (a || b) ≡ false
+pub or_none : (a b : Bool) → a ≡ false → b ≡ false → (a || b) ≡ false
 or_none true b h k = h
 or_none false b h k = k
 

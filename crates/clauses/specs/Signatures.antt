@@ -6,6 +6,10 @@ use Rattle.clauses.specs.declared.signatures.Signature.{Signature}
 abbrev pub signature_eq : Signature → Signature → Bool
 signature_eq s t = (s.word == t.word) && (s.arity == t.arity)
 
+-- the two numbers of a relation
+abbrev pub signature_key : Signature → List ℕ
+signature_key s = s.word ∷ s.arity ∷ []
+
 abbrev pub no_signature : Signature
 no_signature = record { word = 0; arity = 0 }
 

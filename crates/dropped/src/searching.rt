@@ -10,7 +10,7 @@ use outline::{Relation, is_stated};
 use profile::Word;
 use rules::RuleSet;
 use std::alloc::{AllocError, Allocator, Global};
-use terms::{Named, count_dropped};
+use terms::{Named, NumberSet, count_dropped};
 
 /// An instance of an item whose head may be without effect, and how many more different ones of the item may be.
 #[derive(Clone, Copy)]
@@ -25,14 +25,14 @@ pub(crate) struct Candidate {
 /// The terms that are base propositions, roles, and the inputs of each role.
 #[derive(Drop)]
 struct Tables {
-    base: IndexSet<usize>,
-    roles: IndexSet<usize>,
-    inputs: Vec<IndexSet<usize>>,
+    base: NumberSet,
+    roles: NumberSet,
+    inputs: Vec<NumberSet>,
 }
 
 /// The terms that are named.
-fn set_of(alloc: Global, named: &[Named]) -> Result<IndexSet<usize>, AllocError> {
-    let mut set = IndexSet::new(alloc);
+fn set_of(alloc: Global, named: &[Named]) -> Result<NumberSet, AllocError> {
+    let mut set = NumberSet::new(alloc);
     for one in named {
         set.insert(one.term)?;
     }
@@ -97,7 +97,7 @@ fn lacks_goal(looked: &Looked, key: &[u32]) -> bool {
     match key {
         [word, role, value] => {
             *word as usize == looked.rules.keywords().goal
-                && (!looked.tables.roles.contains(&(*role as usize))
+                && (!looked.tables.roles.contains(*role as usize)
                     || !is_goal_number(name_of(looked, *value as usize)))
         }
         _ => false,

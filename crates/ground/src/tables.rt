@@ -5,26 +5,25 @@ ghost use Rattle.terms.specs.Vectors.{items_of};
 ghost use Rattle.listing.specs.Contexts.{terms_named, texts_named};
 ghost use Rattle.terms.specs.Atoms.{with_numbers};
 
-use indexmap::IndexSet;
 use listing::ContextTerms;
 use std::alloc::{AllocError, Global};
-use terms::Named;
+use terms::{Named, NumberSet};
 
 /// The roles, the base propositions and the inputs of each role, as terms that have the place that they stand
 /// in as their number.
 #[derive(Drop)]
 pub struct Tables {
-    pub roles: IndexSet<usize>,
-    pub base: IndexSet<usize>,
+    pub roles: NumberSet,
+    pub base: NumberSet,
     /// Those of each role.
-    pub inputs: Vec<IndexSet<usize>>,
+    pub inputs: Vec<NumberSet>,
 }
 
 /// The terms that are named, each once.
-fn set_of(alloc: Global, named: &[Named]) -> Result<IndexSet<usize>, AllocError>
+fn set_of(alloc: Global, named: &[Named]) -> Result<NumberSet, AllocError>
     ensures { IfOk result (λ set. set.keys ≡ with_numbers [] (terms_named named.now)) }
 {
-    let mut set = IndexSet::new(alloc);
+    let mut set = NumberSet::new(alloc);
     for one in named {
         set.insert(one.term)?;
     }
@@ -32,7 +31,7 @@ fn set_of(alloc: Global, named: &[Named]) -> Result<IndexSet<usize>, AllocError>
 }
 
 /// The terms of each list, each once.
-fn sets_of(alloc: Global, lists: &[Vec<Named>]) -> Result<Vec<IndexSet<usize>>, AllocError>
+fn sets_of(alloc: Global, lists: &[Vec<Named>]) -> Result<Vec<NumberSet>, AllocError>
     ensures { IfOk result (λ sets. map (λ s. s.keys) sets.items ≡ map (λ ns. with_numbers [] (terms_named ns)) (items_of lists.now)) }
 {
     let mut sets = Vec::with_capacity(alloc, lists.len())?;

@@ -1,8 +1,15 @@
 -- The relations of literals, in lists and in sets.
 use Rattle.std.proofs.Common.{ℕ, zero, suc, Bool, true, false, ◌≡◌, ◌<◌, ◌+◌, List, [], ◌∷◌, ◌++◌, map, drop, length, get_or, refl, sym, ap, subst, ◌∙◌, append_assoc, arith, ◌⊎◌, inl, inr}
-use Rattle.std.specs.Prelude.{◌&&◌, ◌||◌, ◌==◌, cond, nat_eq, if◌then◌else◌}
+use Rattle.std.specs.Prelude.{◌&&◌, ◌||◌, ◌==◌, nat_eq}
 use lib.Pointwise.{pointwise}
 use Rattle.std.specs.List.{list_any}
+use Rattle.std.specs.Ordering.{is_eq, match_ordering, nat_cmp, ordering_then}
+use Rattle.std.specs.declared.cmp.Ordering.{Ordering}
+use Rattle.std.specs.declared.cmp.Ordering.TheVariants.{Less, Equal, Greater}
+use Rattle.std.specs.Cmp.{tied_then, unsigned_tied}
+use Rattle.std.specs.Cmp.Lexicographic.{slice_cmp}
+use Rattle.std.specs.BTreeSet.{insert_key}
+use Rattle.std.proofs.lemmas.Map.Text.{is_eq-slice_cmp}
 use Rattle.std.proofs.lemmas.List.{map-append, append-nil}
 use Rattle.std.proofs.lemmas.Bool.{eqb-true, eq-eqb}
 use Rattle.statement.specs.Tree.{Tree, Trees, tree, trees_of, name_eq}
@@ -102,32 +109,48 @@ same_names (x ∷ xs) [] = refl
 same_names (x ∷ xs) (y ∷ ys) = ap (λ (b : Bool). (x == y) && b) (same_names xs ys)
 
 -- keys of a set of relations
-pub any_among : (eq : memory.Relation → memory.Relation → Bool) → ((s t : memory.Relation) → eq s t ≡ relation_eq (relation_in s) (relation_in t))
-    → (ks : List memory.Relation) (s : memory.Relation) → list_any (eq s) ks ≡ is_among (relation_in s) (map relation_in ks)
-any_among eq same [] s = refl
-any_among eq same (k ∷ ks) s = (λ i. same s k i || any_among eq same ks s i)
+module _ (cmp : memory.Relation → memory.Relation → Ordering) (same : (s t : memory.Relation) → is_eq (cmp s t) ≡ relation_eq (relation_in s) (relation_in t)) where
+  pub any_among : (ks : List memory.Relation) (s : memory.Relation) → list_any (λ k. is_eq (cmp s k)) ks ≡ is_among (relation_in s) (map relation_in ks)
+  any_among [] s = refl
+  any_among (k ∷ ks) s = (λ i. same s k i || any_among ks s i)
 
-pub inserted : (eq : memory.Relation → memory.Relation → Bool) → ((s t : memory.Relation) → eq s t ≡ relation_eq (relation_in s) (relation_in t))
-    → (ks : List memory.Relation) (k : memory.Relation) (p : Relation)
-    → is_among p (map relation_in (if list_any (eq k) ks then ks else (ks ++ k ∷ [])))
-    ≡ (is_among p (map relation_in ks) || relation_eq p (relation_in k))
-inserted eq same ks k p = go (list_any (eq k) ks) refl
-  where
-    already : (t : Bool) → relation_eq p (relation_in k) ≡ t → list_any (eq k) ks ≡ true
-        → is_among p (map relation_in ks) ≡ (is_among p (map relation_in ks) || relation_eq p (relation_in k))
-    already true e found =
-        let here : is_among p (map relation_in ks) ≡ true =
-        ap (λ (q : Relation). is_among q (map relation_in ks)) (relation_eq_yes p (relation_in k) e) ∙ sym (any_among eq same ks k) ∙ found in
-        rw here refl
-    already false e found = sym (ap (λ (b : Bool). is_among p (map relation_in ks) || b) e ∙ only (is_among p (map relation_in ks)))
+  pub inserted : (ks : List memory.Relation) (k : memory.Relation) (p : Relation)
+      → is_among p (map relation_in (insert_key cmp ks k)) ≡ (is_among p (map relation_in ks) || relation_eq p (relation_in k))
+  inserted [] k p = only (relation_eq p (relation_in k))
+  inserted (x ∷ xs) k p = go (cmp k x) refl (inserted xs k p)
+    where
+      before : (a b c : Bool) → (a || (b || c)) ≡ ((b || c) || a)
+      before true true c = refl
+      before true false true = refl
+      before true false false = refl
+      before false true c = refl
+      before false false true = refl
+      before false false false = refl
 
-    go : (b : Bool) → list_any (eq k) ks ≡ b
-        → is_among p (map relation_in (if b then ks else (ks ++ k ∷ []))) ≡ (is_among p (map relation_in ks) || relation_eq p (relation_in k))
-    go true e = already (relation_eq p (relation_in k)) refl e
-    go false e =
-        ap (is_among p) (map-append relation_in ks (k ∷ [])) ∙ among_append p (map relation_in ks) (relation_in k ∷ [])
-        ∙ ap (λ (b : Bool). is_among p (map relation_in ks) || b) (only (relation_eq p (relation_in k)))
+      here : (a b c : Bool) → c ≡ a → (a || b) ≡ ((a || b) || c)
+      here true b c e = refl
+      here false true c e = refl
+      here false false c e = sym e
 
--- what `==` says of relations in memory
-pub same_relation : (s t : memory.Relation) → (pointwise nat_eq s.word.now t.word.now && nat_eq s.arity t.arity) ≡ relation_eq (relation_in s) (relation_in t)
-same_relation s t = ap (λ (b : Bool). b && (s.arity == t.arity)) (same_names s.word.now t.word.now)
+      behind : (a b c d : Bool) → d ≡ (b || c) → (a || d) ≡ ((a || b) || c)
+      behind true b c d e = refl
+      behind false b c d e = e
+
+      go : (o : Ordering) → cmp k x ≡ o
+          → is_among p (map relation_in (insert_key cmp xs k)) ≡ (is_among p (map relation_in xs) || relation_eq p (relation_in k))
+          → is_among p (map relation_in (match_ordering o (k ∷ x ∷ xs) (x ∷ xs) (x ∷ insert_key cmp xs k)))
+          ≡ (is_among p (map relation_in (x ∷ xs)) || relation_eq p (relation_in k))
+      go Less e rest = before (relation_eq p (relation_in k)) (relation_eq p (relation_in x)) (is_among p (map relation_in xs))
+      go Equal e rest =
+          here (relation_eq p (relation_in x)) (is_among p (map relation_in xs)) (relation_eq p (relation_in k))
+          (ap (relation_eq p) (relation_eq_yes (relation_in k) (relation_in x) (sym (same k x) ∙ ap is_eq e)))
+      go Greater e rest =
+          behind (relation_eq p (relation_in x)) (is_among p (map relation_in xs)) (relation_eq p (relation_in k))
+          (is_among p (map relation_in (insert_key cmp xs k))) rest
+
+-- what the order of relations in memory says
+pub same_relation : (s t : memory.Relation)
+    → is_eq (ordering_then (slice_cmp nat_cmp s.word.now t.word.now) (nat_cmp s.arity t.arity)) ≡ relation_eq (relation_in s) (relation_in t)
+same_relation s t =
+    sym (tied_then (slice_cmp nat_cmp s.word.now t.word.now) (nat_cmp s.arity t.arity))
+    ∙ (λ i. (is_eq-slice_cmp s.word.now t.word.now ∙ same_names s.word.now t.word.now) i && unsigned_tied s.arity t.arity i)

@@ -11,7 +11,7 @@ use profile::{split_item, split_word};
 use std::alloc::Allocator;
 
 /// A relation: its name, and its number of arguments.
-#[derive(Clone, Copy, Debug, PartialEq, Eq, Hash)]
+#[derive(Clone, Copy, Debug, PartialEq, Eq, PartialOrd, Ord, Hash)]
 pub struct Relation<'a> {
     pub word: &'a [u8],
     pub arity: usize,

@@ -9,15 +9,15 @@ ghost use Rattle.outline.specs.Asking.{heads_it, asks_it, some_item};
 
 use crate::asked::asked_by;
 use crate::relation::{Relation, head_of};
-use indexmap::IndexSet;
 use kif::Expr;
 use std::alloc::{AllocError, Allocator, Global};
+use std::collections::BTreeSet;
 use std::marker::Model;
 
 /// Relations, each once.
 #[derive(Drop)]
 pub struct RelationSet<'a> {
-    known: IndexSet<Relation<'a>>,
+    known: BTreeSet<Relation<'a>>,
 }
 
 impl<'a> Model for RelationSet<'a> {
@@ -36,7 +36,7 @@ impl<'a> RelationSet<'a> {
         ensures { (p : said.Relation) → is_among p result ≡ false }
     {
         RelationSet {
-            known: IndexSet::new(alloc),
+            known: BTreeSet::new(alloc),
         }
     }
 

@@ -67,11 +67,10 @@ pub input_placed : {S : Type 0} (items : S → List ℕ) (iss : List S) (roles :
 input_placed items iss roles r m k s e h here =
     ap (list_any (nat_eq m)) (sym (list_here items iss k s h here)) ∙ ap (λ (j : ℕ). list_any (nat_eq m) (slice_index_or (map items iss) j [])) e
 
-pub no_input : {S : Type 0} (items : S → List ℕ) (iss : List S) (roles : List ℕ) (r m : ℕ) → length roles ≡ first_place (nat_eq r) roles
-    → length iss ≡ length roles
+pub no_input : {S : Type 0} (items : S → List ℕ) (iss : List S) (roles : List ℕ) (r m k : ℕ) → k ≡ first_place (nat_eq r) roles → length iss ≤ k
     → false ≡ is_input_in roles (map items iss) r m
-no_input items iss roles r m e beside =
-    ap (list_any (nat_eq m)) (sym (behind_all items iss (length roles) (omega (arith, beside))))
+no_input items iss roles r m k e past =
+    ap (list_any (nat_eq m)) (sym (behind_all items iss k past))
     ∙ ap (λ (j : ℕ). list_any (nat_eq m) (slice_index_or (map items iss) j [])) e
 
 -- What the tests are of keys that have no such word or number of parts.

@@ -14,7 +14,7 @@ pub use Rattle.terms.proofs.DropLemmas.{dropped_same}
 -- Terms cut back to the first so many.
 pub use Rattle.terms.proofs.Shortened.{again}
 -- What stands at a place of a list, what is left behind it, and the place that a search gives.
-pub use Rattle.terms.proofs.AtPlaces.{at_place, inside, at_end, take_length, some_place, no_place}
+pub use Rattle.terms.proofs.AtPlaces.{at_place, inside, at_end, take_length}
 -- Atoms by the numbers of terms, while terms grow.
 pub use Rattle.terms.proofs.AtomLemmas.{
   front_itself,

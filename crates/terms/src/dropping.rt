@@ -4,32 +4,33 @@ ghost use Rattle.terms.specs.Dropping.{is_input_in, misses_base_in, misses_input
 ghost use Rattle.clauses.specs.Marks.{NumbersBelow};
 
 use crate::arena::Arena;
-use indexmap::IndexSet;
+use crate::number_set::NumberSet;
 use rules::Keywords;
 
 /// Whether a term is an input of a role.
-fn is_input(roles: &IndexSet<usize>, inputs: &[IndexSet<usize>], role: usize, input: usize) -> bool
+fn is_input(roles: &NumberSet, inputs: &[NumberSet], role: usize, input: usize) -> bool
     requires { length inputs.now ≡ length roles.now.keys }
     ensures { result ≡ is_input_in roles.now.keys (map (λ s. s.keys) inputs.now) role input }
 {
-    let Some(place) = roles.get_index_of(&role) else {
-        return false;
-    };
-    inputs[place].contains(&input)
+    let place = roles.place(role);
+    if place < inputs.len() {
+        return inputs[place].contains(input);
+    }
+    false
 }
 
 /// Whether a word and a part are those of an `init` or `next` outside the base propositions.
-fn misses_base(words: Keywords, bases: &IndexSet<usize>, word: usize, part: usize) -> bool
+fn misses_base(words: Keywords, bases: &NumberSet, word: usize, part: usize) -> bool
     ensures { result ≡ misses_base_in words bases.now.keys word part }
 {
-    (word == words.init || word == words.next) && !bases.contains(&part)
+    (word == words.init || word == words.next) && !bases.contains(part)
 }
 
 /// Whether a word and two parts are those of a `legal` of no role or outside its inputs.
 fn misses_input(
     words: Keywords,
-    roles: &IndexSet<usize>,
-    inputs: &[IndexSet<usize>],
+    roles: &NumberSet,
+    inputs: &[NumberSet],
     word: usize,
     role: usize,
     input: usize,
@@ -43,9 +44,9 @@ fn misses_input(
 /// Whether the atom with a key has no effect on play.
 fn is_dropped(
     words: Keywords,
-    bases: &IndexSet<usize>,
-    roles: &IndexSet<usize>,
-    inputs: &[IndexSet<usize>],
+    bases: &NumberSet,
+    roles: &NumberSet,
+    inputs: &[NumberSet],
     key: &[u32],
 ) -> bool
     requires { length inputs.now ≡ length roles.now.keys }
@@ -66,9 +67,9 @@ fn is_dropped(
 pub fn count_dropped(
     arena: &Arena,
     words: Keywords,
-    bases: &IndexSet<usize>,
-    roles: &IndexSet<usize>,
-    inputs: &[IndexSet<usize>],
+    bases: &NumberSet,
+    roles: &NumberSet,
+    inputs: &[NumberSet],
     atoms: &[u32],
 ) -> usize
     requires atoms { NumbersBelow (length arena.now.keys) atoms.now }

@@ -9,7 +9,7 @@ ghost use Rattle.terms.specs.Tables.{AreTables, place_of, input_place, inputs_at
 
 use crate::arena::Arena;
 use crate::decimals::value_up_to;
-use indexmap::IndexSet;
+use crate::number_set::NumberSet;
 use meaning::Kind;
 use rules::{Keywords, RuleSet};
 
@@ -21,9 +21,9 @@ impl Arena {
         rules: &RuleSet,
         number: usize,
         fixed: bool,
-        roles: &IndexSet<usize>,
-        base: &IndexSet<usize>,
-        inputs: &[IndexSet<usize>],
+        roles: &NumberSet,
+        base: &NumberSet,
+        inputs: &[NumberSet],
     ) -> Kind
         requires symbols { length self.now.sizes ≡ length (lists_of_set rules.now).words }
         requires number { number < length self.now.keys }
@@ -72,14 +72,18 @@ impl Arena {
 }
 
 /// The place of a number, if it stands there.
-fn place_of(numbers: &IndexSet<usize>, number: usize) -> Option<usize>
+fn place_of(numbers: &NumberSet, number: usize) -> Option<usize>
     ensures { result ≡ place_of number numbers.now.keys }
 {
-    numbers.get_index_of(&number)
+    let place = numbers.place(number);
+    if place < numbers.len() {
+        return Some(place);
+    }
+    None
 }
 
 /// The place of a number among the inputs of a role.
-fn input_place(inputs: &[IndexSet<usize>], role: Option<usize>, number: usize) -> Option<usize>
+fn input_place(inputs: &[NumberSet], role: Option<usize>, number: usize) -> Option<usize>
     requires { IfSome role (λ k. k < length inputs.now) }
     ensures { result ≡ input_place (map (λ s. s.keys) inputs.now) role number }
 {
