@@ -1,5 +1,5 @@
 -- The relations of literals, in lists and in sets.
-use Rattle.std.proofs.Common.{ℕ, zero, suc, Bool, true, false, ◌≡◌, ◌<◌, ◌+◌, List, [], ◌∷◌, ◌++◌, map, drop, length, get_or, refl, sym, ap, subst, ◌∙◌, append_assoc, arith, ◌⊎◌, inl, inr}
+use Rattle.std.proofs.Common.{ℕ, zero, suc, Bool, true, false, ◌≡◌, ◌<◌, ◌+◌, List, [], ◌∷◌, ◌++◌, map, drop, length, get_or, refl, sym, ap, subst, ◌∙◌, append_assoc, arith}
 use Rattle.std.specs.Prelude.{◌&&◌, ◌||◌, ◌==◌, nat_eq}
 use lib.Pointwise.{pointwise}
 use Rattle.std.specs.List.{list_any}
@@ -10,20 +10,20 @@ use Rattle.std.specs.Cmp.{tied_then, unsigned_tied}
 use Rattle.std.specs.Cmp.Lexicographic.{slice_cmp}
 use Rattle.std.specs.BTreeSet.{insert_key}
 use Rattle.std.proofs.lemmas.Map.Text.{is_eq-slice_cmp}
-use Rattle.std.proofs.lemmas.List.{map-append, append-nil}
+use Rattle.std.proofs.lemmas.List.{map-append}
 use Rattle.std.proofs.lemmas.Bool.{eqb-true, eq-eqb}
-use Rattle.statement.specs.Tree.{Tree, Trees, tree, trees_of, name_eq}
+use Rattle.statement.specs.Tree.{Tree, tree, trees_of, name_eq}
 use Rattle.statement.specs.Clause.{Literal, Relation, relation_of, relation_eq, atom_of}
 use Rattle.statement.specs.Dependence.{is_among}
 use Rattle.kif.specs.View.{tree_of, trees_in}
 use Rattle.kif.specs.declared.expr.Expr.{Expr}
-use Rattle.kif.proofs.Facts.{parts_from, no_parts}
+use Rattle.kif.proofs.Facts.{parts_from}
 use Rattle.profile.specs.Standing.{literals_in, literals_of_all}
 use Rattle.profile.proofs.Facts.{relation_eq_yes}
 use Rattle.outline.specs.declared.relation.Relation as memory
 use Rattle.outline.specs.Relations.{relation_in}
 use Rattle.outline.specs.Probes.{some_of}
-use Rattle.outline.specs.Asking.{relations_of, asked_relations, asks_it, heads_it, body_literals, some_item}
+use Rattle.outline.specs.Asking.{relations_of, some_item}
 
 pub relations_append : (xs ys : List Literal) → relations_of (xs ++ ys) ≡ relations_of xs ++ relations_of ys
 relations_append xs ys = map-append (λ l. relation_of (atom_of l)) xs ys

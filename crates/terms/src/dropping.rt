@@ -13,10 +13,10 @@ fn is_input(roles: &NumberSet, inputs: &[NumberSet], role: usize, input: usize) 
     ensures { result ≡ is_input_in roles.now.keys (map (λ s. s.keys) inputs.now) role input }
 {
     let place = roles.place(role);
-    if place < inputs.len() {
-        return inputs[place].contains(input);
+    if place >= inputs.len() {
+        return false;
     }
-    false
+    inputs[place].contains(input)
 }
 
 /// Whether a word and a part are those of an `init` or `next` outside the base propositions.

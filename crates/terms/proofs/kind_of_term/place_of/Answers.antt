@@ -1,4 +1,4 @@
-use Rattle.std.proofs.Common.{nat_eq, ◌∙◌, arith}
+use Rattle.std.proofs.Common.{nat_eq, arith}
 use Rattle.terms.proofs.AtPlaces.{found_place, missed_place}
 use Rattle.terms.proofs.kind_of_term.place_of.Goals as goal
 
