@@ -1,10 +1,10 @@
 -- The search that marks what is reached from some starts.
-use Rattle.std.proofs.Common.{ℕ, zero, suc, ◌≡◌, ◌+◌, ◌-◌, ◌<◌, ◌≤◌, ◌⊎◌, inl, inr, Bool, true, false, cond, List, [], ◌∷◌, ◌++◌, length, get_or, set}
-use Rattle.std.proofs.Common.{refl, sym, ◌∙◌, ap, subst, arith, length-append, Option, Some, None}
-use Rattle.std.specs.Prelude.{Contains}
+use Rattle.std.proofs.Common.{ℕ, zero, suc, ◌≡◌, ◌+◌, ◌-◌, ◌<◌, ◌≤◌, ◌⊎◌, inl, inr, Bool, true, false, cond, List, [], ◌∷◌, ◌++◌, length, get_or, set, take, replicate}
+use Rattle.std.proofs.Common.{refl, sym, ◌∙◌, ap, subst, arith, rules, length-append, Option, Some, None}
+use Rattle.std.specs.Prelude.{Contains, ◌==◌}
 use Rattle.std.specs.Option.{option_to_list}
 use Rattle.std.specs.List.{sum_by}
-use Rattle.std.proofs.lemmas.List.{get_or-set_same, get_or-set_other, length-set}
+use Rattle.std.proofs.lemmas.List.{get_or-set_same, get_or-set_other, length-set, length-take, length-replicate}
 use Rattle.std.proofs.lemmas.Grind.{get_or_default_zero}
 use Rattle.std.proofs.lemmas.List.Elements.{Contains-get_or}
 use Rattle.std.proofs.lemmas.List.Sums.{sum_by-set}
@@ -251,6 +251,32 @@ weight marked' = cond marked' 0 2
 abbrev pub work : List Bool → List ℕ → List ℕ → ℕ
 work marks ends pending = length pending + sum_by weight marks + sum_by (λ x. x) ends
 
+unmarked : (n p : ℕ) → get_or (replicate n false) p false ≡ false
+unmarked zero p = refl
+unmarked (suc n) zero = refl
+unmarked (suc n) (suc p) = unmarked n p
+
+-- nothing is marked yet
+pub begun : (arrows : List Arrow) (ends0 before : List ℕ) → AreLinked arrows ends0 before → (starts : List ℕ) (marks : List Bool)
+    (ends pending : List ℕ) (n : ℕ) → n ≡ length ends0 → marks ≡ replicate n false → ends ≡ ends0 → pending ≡ []
+    → Searching arrows starts (length ends0) 0 marks ends pending
+begun arrows ends0 before l starts marks ends pending n n_is e f g =
+    subst (λ (x : List ℕ). Searching arrows starts (length ends0) 0 marks ends x) (sym g)
+    (subst (λ (x : List ℕ). Searching arrows starts (length ends0) 0 marks x []) (sym f)
+    (subst (λ (x : List Bool). Searching arrows starts (length ends0) 0 x ends0 []) (sym e) record {
+      marks_are = length-replicate n false ∙ n_is;
+      ends_are = refl;
+      end_in = l.end_in;
+      end_own = l.end_own;
+      open_in = λ i h. absurd (let bad : ⊥ = omega (arith, h) in bad);
+      open_marked = λ i h. absurd (let bad : ⊥ = omega (arith, h) in bad);
+      seen_from = λ k h past. absurd (l.end_gap (arrow_at arrows k).from k (l.from_in k h) past h refl);
+      seen_to = λ k h past. absurd (l.end_gap (arrow_at arrows k).from k (l.from_in k h) past h refl);
+      waiting = λ p h mark more. absurd (let u = unmarked n p in let bad : ⊥ = cc in bad);
+      sound = λ p h mark. absurd (let u = unmarked n p in let bad : ⊥ = cc in bad);
+      started = λ i h. absurd (let bad : ⊥ = omega (arith, h) in bad);
+    }))
+
 -- nothing is pending: the marks are closed under arrows
 pub all_marked : (arrows : List Arrow) (ends0 before : List ℕ) → AreLinked arrows ends0 before → (starts : List ℕ)
     → ((i : ℕ) → i < length starts → get_or starts i 0 < length ends0)
@@ -451,6 +477,25 @@ closed_pop arrows starts n m marks ends pending pending' (Some v) k node end s s
     zero_end : get_or ends v 0 ≡ 0
     zero_end = ap (λ (x : ℕ). get_or ends x 0) same ∙ read_nat ends node end (let g = s.ends_are in omega (arith, g, node_in)) end_read ∙ none
 
+-- the newest pending node is a node
+pub node_inside : (arrows : List Arrow) (starts : List ℕ) (n m : ℕ) (marks : List Bool) (ends pending : List ℕ) (k node : ℕ)
+    → Searching arrows starts n m marks ends pending → 0 < length pending → k ≡ length pending → node ≡ get_or pending (k - 1) node → node < n
+node_inside arrows starts n m marks ends pending k node s some len node_read =
+    let h = s.open_in (length pending - 1) (omega (arith, some)) in
+    let e = (is_top pending k node some len node_read).here in omega (arith, h, e)
+
+pub is_some : (b : Bool) (n : ℕ) → b ≡ false → b ≡ (n == 0) → 0 < n
+is_some b n e f = search rules
+
+pub is_none : (b : Bool) (n : ℕ) → b ≡ true → b ≡ (n == 0) → n ≡ 0
+is_none b n e f = search rules
+
+pub one_shorter : (pending pending' : List ℕ) (n : ℕ) → n ≡ length pending → pending' ≡ take (n - 1) pending → 0 < length pending
+    → length pending' + 1 ≡ length pending
+one_shorter pending pending' n e f some =
+    let g = ap length f in
+    let h = length-take (n - 1) pending in omega (arith, e, g, h, some)
+
 pub before_inside : (arrows : List Arrow) (ends0 before : List ℕ) (starts : List ℕ) (m : ℕ) (marks : List Bool) (ends pending : List ℕ)
     (k node end : ℕ)
     → AreLinked arrows ends0 before → Searching arrows starts (length ends0) m marks ends pending
@@ -461,6 +506,18 @@ before_inside arrows ends0 before starts m marks ends pending k node end l s som
     let node_in : node < length ends0 = (let h = s.open_in (length pending - 1) (omega (arith, some)) in let e = top.here in omega (arith, h, e)) in
     let end_is : get_or ends node 0 ≡ end = read_nat ends node end (let e = s.ends_are in omega (arith, e, node_in)) end_read in
     let h = s.end_in node node_in in let g = l.same_length in omega (arith, h, end_is, positive, g)
+
+-- what the arrow before the end leads to is a node
+pub target_inside : (arrows : List Arrow) (ends0 before : List ℕ) (starts : List ℕ) (m : ℕ) (marks : List Bool) (ends pending : List ℕ)
+    (k node end : ℕ) (a : Arrow)
+    → AreLinked arrows ends0 before → Searching arrows starts (length ends0) m marks ends pending
+    → 0 < length pending → k ≡ length pending → node ≡ get_or pending (k - 1) node → end ≡ get_or ends node end → (end ≡ 0 → ⊥)
+    → a ≡ get_or arrows (end - 1) a → a.to < length ends0
+target_inside arrows ends0 before starts m marks ends pending k node end a l s some len node_read end_read positive arrow_read =
+    let in_before = before_inside arrows ends0 before starts m marks ends pending k node end l s some len node_read end_read positive in
+    let inside : end - 1 < length arrows = (let e = l.same_length in omega (arith, in_before, e)) in
+    let same : (arrow_at arrows (end - 1)).to ≡ a.to = ap (λ (x : Arrow). x.to) (read_arrow arrows (end - 1) a inside arrow_read) in
+    let h = l.to_in (end - 1) inside in omega (arith, h, same)
 
 -- one more start
 pub started_more : (arrows : List Arrow) (starts : List ℕ) (n m : ℕ) (marks : List Bool) (ends pending : List ℕ) → m < length starts
