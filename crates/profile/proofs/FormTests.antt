@@ -152,6 +152,12 @@ two_are_no_atom [] h = absurd (omega arith)
 two_are_no_atom (a ∷ []) h = absurd (omega arith)
 two_are_no_atom (a ∷ b ∷ es) h = refl
 
+pub one_is_atom : {A : Type 0} (es : List (Expr A)) (e : Expr A) → 1 ≤ length es → length es < 2 → e ≡ get_or es 0 e
+    → is_one_atom (trees_of (trees_in es)) ≡ is_atom (tree_of e)
+one_is_atom [] e h k same = absurd (omega arith)
+one_is_atom (a ∷ []) e h k same = ap (λ x. is_atom (tree_of x)) (sym same)
+one_is_atom (a ∷ b ∷ es) e h k same = absurd (omega arith)
+
 pub nothing_there : {A : Type 0} (es : List (Expr A)) → length es ≡ 0 → is_some (trees_of (trees_in es)) ≡ false
 nothing_there [] h = refl
 nothing_there (e ∷ es) h = absurd (omega arith)

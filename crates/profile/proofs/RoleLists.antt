@@ -177,6 +177,13 @@ word_states w terms h =
     ap (λ (n : ℕ). cond (name_eq w w_role && (n == 1)) (first_of (trees_of (trees_in terms))) []) (count_parts terms)
     ∙ ap (λ (b : Bool). cond (b && (length terms == 1)) (first_of (trees_of (trees_in terms))) []) (sym h)
 
+pub other_word_states : {A : Type 0} (w : List ℕ) (terms : List (Expr A)) → false ≡ name_eq w w_role
+    → cond (is_word w_role 1 (relation_of (atom_in (list (tree (name w) (trees_of (trees_in terms))))))) (first_of (trees_of (trees_in terms))) []
+    ≡ []
+other_word_states w terms h =
+    ap (λ (n : ℕ). cond (name_eq w w_role && (n == 1)) (first_of (trees_of (trees_in terms))) []) (count_parts terms)
+    ∙ ap (λ (b : Bool). cond (b && (length terms == 1)) (first_of (trees_of (trees_in terms))) []) (sym h)
+
 -- The walk over the items.
 
 -- after the items before i: what is left decides the rest

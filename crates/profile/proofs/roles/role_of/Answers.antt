@@ -6,7 +6,7 @@ use Rattle.statement.specs.Clause.{relation_of, is_word}
 use Rattle.statement.specs.Items.{atom_in}
 use Rattle.statement.specs.Profile.{first_of}
 use Rattle.profile.proofs.FormTests.{tree_is_slice, tree_is_word}
-use Rattle.profile.proofs.RoleLists.{rule_states_none, fact_states, no_word_states_none, word_states, one_term, other_terms}
+use Rattle.profile.proofs.RoleLists.{rule_states_none, fact_states, no_word_states_none, word_states, other_word_states, one_term, other_terms}
 use Rattle.profile.proofs.roles.role_of.Goals as goal
 
 abbrev stated : Tree → List Tree
@@ -20,6 +20,13 @@ returns-in_default-split_word g c =
     fact_states (tree_of c.args.e.now) (tree_of c.split_item.result.0.now) c.split_item.result.1.now c.split_item.ensures.head
     c.split_item.ensures.body c.if-not-is_empty.ensures
     ∙ ap stated (tree_is_slice _ _ _ c.in-List.is c.deref.ensures.value) ∙ no_word_states_none _ c.in_default-split_word.ensures
+
+pub returns-then-not-is_named : goal.returns-then-not-is_named
+returns-then-not-is_named g c =
+    fact_states (tree_of c.args.e.now) (tree_of c.split_item.result.0.now) c.split_item.result.1.now c.split_item.ensures.head
+    c.split_item.ensures.body c.if-not-is_empty.ensures
+    ∙ ap stated (tree_is_word _ _ _ _ _ c.in-List.is c.deref.ensures.value c.in-Some.ensures)
+    ∙ other_word_states c.in-Some.word.now c.in-Some.terms.now c.if-not-is_named.ensures
 
 pub returns-then-terms-ne1 : goal.returns-then-terms-ne1
 returns-then-terms-ne1 g c =
