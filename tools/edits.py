@@ -17,9 +17,9 @@ from pathlib import Path
 
 PARTS = ["src", "specs", "proofs"]
 FOLDERS = tuple(f"{part}/" for part in PARTS)
-WORDS_BEFORE = r"(?:pub(?:\([^)]*\))? )?(?:default )?(?P<const>const )?(?:unsafe )?(?:extern \"C\" )?"
+WORDS_BEFORE = r"(?P<pub>pub )?(?:pub\([^)]*\) )?(?:default )?(?P<const>const )?(?:unsafe )?(?:extern \"C\" )?"
 HEAD = re.compile(rf"(?P<indent> *){WORDS_BEFORE}fn (?P<name>\w+)")
-BLOCK = re.compile(r"(?P<indent> *)(?:pub(?:\([^)]*\))? )?(?:unsafe )?(?:impl|trait)\b")
+BLOCK = re.compile(r"(?P<indent> *)(?:pub(?:\([^)]*\))? )?(?:unsafe )?(?P<kind>impl|trait)\b")
 COMMENT = re.compile(r"^ *//.*\n?| +//[^\"\n]*$", re.MULTILINE)
 
 
@@ -96,10 +96,11 @@ class Texts:
         """Applies an edit whole, or nothing of it."""
         before = dict(self.changed)
         try:
+            was = {change.path: self.text(change.path) for change in edit.changes()}
             for change in edit.changes():
                 self.place(change)
                 self.changed[change.path] = self.text(change.path).replace(change.old, change.new)
-            if all(text == before.get(path, Texts(self.folder).text(path)) for path, text in self.changed.items()):
+            if all(self.changed[path] == text for path, text in was.items()):
                 raise BadEdit("it changes nothing (an 'old:' and a 'new:' text are one line each, and no other line is read)")
         except BadEdit:
             self.changed = before
@@ -129,11 +130,12 @@ class Function:
 
 @dataclass(frozen=True)
 class Span:
-    """A function with the lines of its text: its head, and its body between both braces."""
+    """A function with the lines of its text: its head, and its body between both braces. A hidden one cannot be named outside its crate."""
 
     owner: str
     trait: str
     name: str
+    is_hidden: bool
     is_const: bool
     head: int
     opens: int
@@ -174,7 +176,7 @@ def body_of(lines: Sequence[str], at: int, indent: str) -> tuple[int, int]:
         own = line.startswith(indent) and not line.startswith(indent + " ")
         if own and line.endswith("{"):
             return number, end_of(lines, number + 1, indent)
-        if own and (line.endswith(("{}", ";")) or number == at and line.endswith("}")) or line.endswith(";"):
+        if line.endswith(";") or own and (line.endswith("{}") or number == at and line.endswith("}")):
             return number, number
     return at, at
 
@@ -182,19 +184,20 @@ def body_of(lines: Sequence[str], at: int, indent: str) -> tuple[int, int]:
 def spans(text: str) -> list[Span]:
     """The functions of a file that `rt fmt` laid out."""
     lines, found, number = text.split("\n"), list[Span](), 0
-    owner, trait, until = "", "", -1
+    owner, trait, until, is_open = "", "", -1, False
     while number < len(lines):
         block, head = BLOCK.match(lines[number]), HEAD.match(lines[number])
         if number > until:
-            owner, trait = "", ""
+            owner, trait, is_open = "", "", False
         if block:
             opens = next((each for each in range(number, len(lines)) if lines[each].endswith(("{", "}"))), number)
             owner, trait = named_by(" ".join(lines[number : opens + 1]))
+            is_open = bool(trait) or block["kind"] == "trait"
             until = opens if lines[opens].endswith("}") else end_of(lines, opens, block["indent"])
             number = opens
         elif head:
             opens, closes = body_of(lines, number, head["indent"])
-            found.append(Span(owner, trait, head["name"], bool(head["const"]), number, opens, closes))
+            found.append(Span(owner, trait, head["name"], not head["pub"] and not is_open, bool(head["const"]), number, opens, closes))
             number = closes
         number += 1
     return found
@@ -223,12 +226,14 @@ def functions_of(edit: Edit, folder: Path) -> frozenset[Function]:
 
 
 def contracts(text: str) -> str:
-    """A file of code without the bodies of its functions and its comments. That of a `const fn` stays: a constant above may be made by it."""
+    """A file of code without comments, bodies and functions that are hidden. A `const fn` stays whole, as a constant may be made by it."""
     lines = text.split("\n")
     for span in reversed(spans(text)):
-        if not span.is_const and span.opens < span.closes:
+        if span.is_hidden and not span.is_const:
+            del lines[span.head : span.closes + 1]
+        elif not span.is_const and span.opens < span.closes:
             del lines[span.opens + 1 : span.closes]
-    return COMMENT.sub("", "\n".join(lines))
+    return "\n".join(line for line in COMMENT.sub("", "\n".join(lines)).split("\n") if line.strip())
 
 
 def files_of(folder: Path, parts: Iterable[str]) -> Iterator[tuple[str, Path]]:
@@ -355,7 +360,10 @@ def unread(line: str, changed: Iterable[str]) -> bool:
 
 
 # The prover's words for a limit of its own, which it meets wherever it checks the same, and the kit's for a library that was made anew.
-LIMITS = re.compile(r"antt ran out of (stack|the (steps|memory) that the check of one declaration may (take|use))|(outgrew the memory limit|stopped at the step limit) \(")
+LIMITS = re.compile(
+    r"antt ran out of (stack|the (steps|memory) that the check of one declaration may (take|use))"
+    r"|(outgrew the memory limit|stopped at the step limit) \("
+)
 STALE = re.compile(r"module .Rattle-(\w+)-.*Run the lower steps again")
 
 

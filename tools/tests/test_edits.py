@@ -68,6 +68,12 @@ pub const fn doubled(count: usize) -> usize {
     count * 2
 }
 
+pub(crate) fn halved(count: usize) -> usize
+    ensures { result ≤ count }
+{
+    count / 2
+}
+
 pub fn law()
     ensures { true ≡ true }
 {}
@@ -133,8 +139,8 @@ class Applying(InACrate):
     def test_one_space_behind_new_is_no_part_of_the_text(self) -> None:
         self.assertIn("\n     both", self.applied("file: src/tally.rt\nold:     both.len()\nnew:      both.len()\n")["src/tally.rt"])
 
-    def test_a_text_that_stands_twice(self) -> None:
-        self.assertIn("2 times", self.refused("file: src/tally.rt\nold: -> usize\nnew: -> u8\n"))
+    def test_a_text_that_stands_several_times(self) -> None:
+        self.assertIn("3 times", self.refused("file: src/tally.rt\nold: -> usize\nnew: -> u8\n"))
 
     def test_a_text_that_is_not_there(self) -> None:
         self.assertIn("0 times", self.refused("file: src/tally.rt\nold: nowhere\nnew: here\n"))
@@ -169,7 +175,7 @@ class Functions(InACrate):
     def test_the_functions_of_a_file(self) -> None:
         found = [(span.owner, span.trait, span.name) for span in spans(CODE)]
         methods = [("Tally", "", "add"), ("Tally", "", "at"), ("Tally", "From", "from"), ("Ending", "", "check")]
-        self.assertEqual(found, [*methods, ("", "", "doubled"), ("", "", "law"), ("", "", "all")])
+        self.assertEqual(found, [*methods, ("", "", "doubled"), ("", "", "halved"), ("", "", "law"), ("", "", "all")])
 
     def test_what_stands_in_a_body(self) -> None:
         self.assertEqual(self.at("self.count += 1;"), TALLY_ADD)
@@ -217,9 +223,9 @@ class Functions(InACrate):
 class Sums(InACrate):
     def test_contracts_have_no_bodies_and_no_comments(self) -> None:
         text = contracts(CODE)
-        for gone in ["self.count += 1", "both.len()", "count: 0", "How many", "never past", "Counts."]:
+        for gone in ["self.count += 1", "both.len()", "count: 0", "How many", "never past", "Counts.", "fn at(", "halved", "result ≤ count"]:
             self.assertNotIn(gone, text)
-        for there in ["MOST: usize = 7", "ensures { self.new.count", "count: usize,", "T: Ending,", "count * 2", "ensures { true"]:
+        for there in ["MOST: usize = 7", "ensures { self.new.count", "count: usize,", "T: Ending,", "count * 2", "ensures { true", "fn from("]:
             self.assertIn(there, text)
 
     def test_a_sum_rests_on_all_that_a_verdict_does(self) -> None:
