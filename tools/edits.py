@@ -109,12 +109,13 @@ class Texts:
 
 @dataclass(frozen=True)
 class Function:
-    """A function by the file that it stands in, the types that its impl names, if any, and its name."""
+    """A function by the file that it stands in, the types that its impl names, if any, its name, and that of its cycle of calls, if any."""
 
     path: str
     owner: str
     trait: str
     name: str
+    cycle: str = ""
 
     def module(self) -> list[str]:
         """The names of its module below the crate."""
@@ -135,11 +136,16 @@ class Span:
     owner: str
     trait: str
     name: str
+    cycle: str
     is_hidden: bool
     is_const: bool
     head: int
     opens: int
     closes: int
+
+    def function(self, path: str) -> Function:
+        """The function, in this file."""
+        return Function(path, self.owner, self.trait, self.name, self.cycle)
 
 
 def last_name(text: str) -> str:
@@ -181,6 +187,16 @@ def body_of(lines: Sequence[str], at: int, indent: str) -> tuple[int, int]:
     return at, at
 
 
+def cycle_above(lines: Sequence[str], at: int) -> str:
+    """The cycle of calls that the attributes above the head of a function name, or nothing."""
+    for line in reversed(lines[:at]):
+        if not line.lstrip().startswith(("#[", "//")):
+            return ""
+        if found := re.match(r" *#\[cycle\((\w+)", line):
+            return found[1]
+    return ""
+
+
 def spans(text: str) -> list[Span]:
     """The functions of a file that `rt fmt` laid out."""
     lines, found, number = text.split("\n"), list[Span](), 0
@@ -197,7 +213,8 @@ def spans(text: str) -> list[Span]:
             number = opens
         elif head:
             opens, closes = body_of(lines, number, head["indent"])
-            found.append(Span(owner, trait, head["name"], not head["pub"] and not is_open, bool(head["const"]), number, opens, closes))
+            is_hidden, cycle = not head["pub"] and not is_open, cycle_above(lines, number)
+            found.append(Span(owner, trait, head["name"], cycle, is_hidden, bool(head["const"]), number, opens, closes))
             number = closes
         number += 1
     return found
@@ -208,7 +225,7 @@ def function_at(text: str, path: str, start: int, end: int) -> Function | None:
     first, last = text.count("\n", 0, start), text.count("\n", 0, end)
     for span in spans(text):
         if span.opens < first and last < span.closes:
-            return Function(path, span.owner, span.trait, span.name)
+            return span.function(path)
     return None
 
 
@@ -223,6 +240,17 @@ def functions_of(edit: Edit, folder: Path) -> frozenset[Function]:
         found.add(function)
         texts.changed[change.path] = text.replace(change.old, change.new)
     return frozenset(found)
+
+
+def companions(functions: Iterable[Function], folder: Path) -> list[Function]:
+    """The functions of the cycles of calls that these are in, which have one proof."""
+    cycles = {(function.path, function.cycle) for function in functions if function.cycle}
+    return [
+        span.function(path)
+        for path in sorted({path for path, _ in cycles})
+        for span in spans((folder / path).read_text(encoding="utf-8"))
+        if (path, span.cycle) in cycles
+    ]
 
 
 def contracts(text: str) -> str:
@@ -335,8 +363,10 @@ class Output:
 
 
 def is_own_failure(words: str) -> bool:
-    """Whether a function is not proved for its own sake, and not only since what it calls or passes on is not proved."""
-    return words.startswith(("not proved", "no proof")) and not re.search(r"\b(it calls|it passes|a call of)\b", words)
+    """Whether a function is not proved for its own sake, and not only since what it calls or passes on, or another of its cycle of calls, is not."""
+    if words.startswith("no proof: expected answers"):
+        return True
+    return words.startswith(("not proved", "no proof")) and not re.search(r"\b(it calls|it passes|a call of|of this cycle of calls)\b", words)
 
 
 def is_of(symbol: str, function: Function) -> bool:

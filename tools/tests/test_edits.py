@@ -16,6 +16,7 @@ from edits import (  # noqa: E402
     Kind,
     Output,
     Texts,
+    companions,
     contracts,
     function_at,
     functions_of,
@@ -191,6 +192,15 @@ class Functions(InACrate):
         self.assertEqual(found, {TALLY_ADD, FREE_ALL})
         self.assertEqual(functions_of(Edit("one", f"{ADD}{MOST}"), self.folder), frozenset())
 
+    def test_companions_are_of_the_same_cycle(self) -> None:
+        marked = CODE.replace("pub const fn doubled", "#[cycle(counts)]\npub const fn doubled")
+        marked = marked.replace("pub fn all<T>", "/// All.\n#[cycle(counts)]\npub fn all<T>")
+        (self.folder / "src" / "tally.rt").write_text(marked)
+        (found,) = functions_of(Edit("all", ALL), self.folder)
+        self.assertEqual(found.cycle, "counts")
+        self.assertEqual([each.name for each in companions([found], self.folder)], ["doubled", "all"])
+        self.assertEqual(companions([TALLY_ADD], self.folder), [])
+
     def test_printed_paths(self) -> None:
         method = Function("src/tally.rt", "Tally", "From", "from")
         root = Function("src/lib.rt", "", "", "all")
@@ -257,7 +267,8 @@ class Judging(unittest.TestCase):
         return Output("count", status, "\n".join(lines) + "\n")
 
     def test_own_failures(self) -> None:
-        for words in ["not proved", "no proof: expected answers in ./proofs/all/Answers.antt; `search` did not prove `returns`"]:
+        lacks = "no proof: expected answers in ./proofs/all/Answers.antt; `search` did not prove `returns`"
+        for words in ["not proved", lacks, f"{lacks}; it calls `count::tally::all`, which is not proved"]:
             self.assertTrue(is_own_failure(words), words)
         for words in [
             "proved",
@@ -266,6 +277,7 @@ class Judging(unittest.TestCase):
             "no proof: it calls `count::tally::all`, which is not proved",
             "not proved; it calls `count::tally::all`, which is not proved",
             "no proof: it passes the block `count::tally::all`, which is not proved",
+            "no proof: in `count::tally::all`, of this cycle of calls: expected answers in ./proofs/all/Answers.antt",
         ]:
             self.assertFalse(is_own_failure(words), words)
 
