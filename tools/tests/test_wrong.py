@@ -120,7 +120,13 @@ class Repository(unittest.TestCase):
         self.assertEqual(self.noted(), sorted(EDITS))
         self.assertEqual(self.run_wrong("--compare"), (0, [], 0))
         self.assertEqual(self.run_wrong()[1][-1], "0 refused, 0 failed")
-        self.assertEqual(self.run_wrong("--all")[1][-1], "5 refused, 0 failed")
+        (self.wrong / "high_is_wrong.edit").unlink()
+        (self.wrong / "is_nowhere.edit").write_text(edit("nowhere", "here"))
+        status, lines, _ = self.run_wrong("--compare")
+        self.assertEqual((status, lines[1:]), (1, ["count/high_is_wrong: there is no such edit"]))
+        self.assertIn("count/is_nowhere: BAD EDIT: an 'old:' text is in src/lib.rt 0 times", lines[0])
+        (self.wrong / "is_nowhere.edit").unlink()
+        self.assertEqual(self.run_wrong("--all")[1][-1], "4 refused, 0 failed")
 
     def test_a_contract_below_that_changed_has_them_tried_anew(self) -> None:
         self.run_wrong()
