@@ -1,0 +1,167 @@
+"""What `tools/budget` counts, prints, reads back and refuses."""
+
+from __future__ import annotations
+
+import importlib.machinery
+import importlib.util
+import subprocess
+import sys
+import tempfile
+import unittest
+from pathlib import Path
+from types import ModuleType
+
+TOOLS = Path(__file__).resolve().parent.parent
+sys.path.insert(0, str(TOOLS))
+sys.dont_write_bytecode = True
+
+import weights
+from weights import Weights
+
+
+def script(name: str) -> ModuleType:
+    """A script of tools/ as a module."""
+    loader = importlib.machinery.SourceFileLoader(name, str(TOOLS / name))
+    spec = importlib.util.spec_from_loader(name, loader)
+    assert spec
+    made = importlib.util.module_from_spec(spec)
+    sys.modules[name] = made
+    loader.exec_module(made)
+    return made
+
+
+budget = script("budget")
+HOUR = 3600.0
+
+
+def of_each_crate(seconds: float) -> Weights:
+    """The same seconds for the proof of each crate that is there."""
+    return Weights({name: {"proof": seconds} for name in weights.crates_named()})
+
+
+class Sorts(unittest.TestCase):
+    def test_commands_have_a_crate_and_a_kind(self) -> None:
+        crate = ["/kit/bin/rattle", "build", "--crate-name", "kif", "src/lib.rt"]
+        for more, folder, kind in [
+            (["--statements", "-o", "out/rlib/kif.rlib"], "/top/crates/kif", "proof"),
+            (["--crate-type", "staticlib"], "/top/crates/kif", "proof"),
+            (["--test", "-o", "out/kif_tests.o"], "/top/crates/kif", "tests"),
+            (["--crate-checked", "/tmp/room"], "/top/crates/kif", "builds"),
+            (["--incremental", "/tmp/seed"], "/tmp/rt-edit-17-abc", "edits"),
+        ]:
+            with self.subTest(kind=kind):
+                self.assertEqual(budget.sort_of([*crate, *more], folder), ("kif", kind))
+
+    def test_links_go_by_what_they_make(self) -> None:
+        for made, sort in [
+            ("out/gdlsolve", ("gdlsolve", "builds")),
+            ("out/gdlsolve.by-rattle", ("gdlsolve", "builds")),
+            ("out/kif_tests", ("kif", "tests")),
+        ]:
+            with self.subTest(made=made):
+                self.assertEqual(budget.sort_of(["/kit/bin/rattle-link", "--target", "it", "-o", made, f"{made}.o"], "/"), sort)
+
+    def test_what_names_no_crate_is_not_counted(self) -> None:
+        self.assertIsNone(budget.sort_of(["/kit/bin/rattle", "fmt", "--check"], "/"))
+
+
+class Tops(unittest.TestCase):
+    def test_copies_and_what_they_start_belong_to_the_first_command(self) -> None:
+        chain = [(1, 0, "budget"), (2, 1, "rt"), (3, 2, "rattle"), (4, 3, "rattle"), (5, 4, "clang"), (6, 0, "rattle")]
+        there = {number: budget.Process(number, parent, "0", name, 1, 1) for number, parent, name in chain}
+        tops = {number: budget.top_of(process, there, 1) for number, process in there.items()}
+        self.assertEqual({number: top and top.number for number, top in tops.items()}, {1: None, 2: None, 3: 3, 4: 3, 5: 3, 6: None})
+
+
+class Tables(unittest.TestCase):
+    def spent(self) -> budget.Spent:  # type: ignore[name-defined]
+        found = budget.Spent()
+        found.add("kif", "proof", 90.0, 800 << 20)
+        found.add("kif", "edits", 30.0, 900 << 20)
+        found.add("keys", "tests", 6.0, 100 << 20)
+        found.add_part("rt ci", 12.0, 600.0)
+        found.kept = ["join", "spread"]
+        return found
+
+    def test_a_table_is_read_back(self) -> None:
+        self.assertEqual(budget.of_tables(f"1 passed, 0 failed\n{budget.table(self.spent())}rt: ok\n"), self.spent())
+
+    def test_tables_are_added_up(self) -> None:
+        games = budget.Spent()
+        games.add_part("games", 3.0, 6.0)
+        found = budget.of_tables("".join(f"12:00:01 {line}\n" for line in (budget.table(self.spent()) + budget.table(games)).splitlines()))
+        self.assertEqual(found.weights.parts, {"rt ci": 12.0, "games": 3.0})
+        self.assertEqual(found.weights.crates, self.spent().weights.crates)
+
+    def test_what_was_measured_replaces_what_is_known(self) -> None:
+        known = Weights({"kif": {"proof": 1, "tests": 2, "edits": 3, "builds": 4}, "join": {"proof": 5, "tests": 6}}, {"pages": 7, "rt ci": 8})
+        found = budget.renewed(known, self.spent().weights)
+        self.assertEqual(found.crates["kif"], {"proof": 90, "tests": 0, "edits": 30, "builds": 4})
+        self.assertEqual(found.crates["join"], {"proof": 5, "tests": 6})
+        self.assertEqual(found.crates["keys"], {"proof": 0, "tests": 6, "edits": 0, "builds": 0})
+        self.assertEqual(found.parts, {"pages": 7, "rt ci": 12})
+
+
+class Judgement(unittest.TestCase):
+    def test_four_hours_are_enough(self) -> None:
+        count = len(weights.crates_named())
+        for hours, is_well in [(0.0, True), (4.0, True), (4.01, False)]:
+            with self.subTest(hours=hours):
+                self.assertEqual(budget.judged(of_each_crate(hours * HOUR / count))[1], is_well)
+
+    def test_other_parts_count(self) -> None:
+        self.assertFalse(budget.judged(Weights(of_each_crate(0).crates, {"games": 4.1 * HOUR}))[1])
+
+    def test_each_crate_is_weighed(self) -> None:
+        known = of_each_crate(1)
+        name = next(iter(known.crates))
+        del known.crates[name]
+        text, is_well = budget.judged(known)
+        self.assertFalse(is_well)
+        self.assertIn(f"lacks {name}:", text)
+
+
+class Runs(unittest.TestCase):
+    def ran(self, *words: str) -> subprocess.CompletedProcess[str]:
+        return subprocess.run([sys.executable, "-B", TOOLS / "budget", "run", *words], capture_output=True, text=True, check=False)
+
+    def test_output_and_status_are_the_command_s(self) -> None:
+        for part in ([], ["--part", "it"]):
+            with self.subTest(part=part):
+                done = self.ran(*part, "sh", "-c", "printf 'rt: kif is kept: so\\nlast'; exit 3")
+                self.assertEqual((done.returncode, done.stdout), (3, "rt: kif is kept: so\nlast"))
+        self.assertEqual(self.ran("sh", "-c", "kill -9 $$").returncode, 128 + 9)
+
+    def test_kept_crates_are_told(self) -> None:
+        said = self.ran("sh", "-c", "echo 'rt: kif is kept: so'; echo 'rt: ok'; echo 'rt: join is kept: so'").stderr
+        self.assertEqual(budget.of_tables(said).kept, ["kif", "join"])
+
+    def test_seconds_of_a_part_are_those_of_all_below_it(self) -> None:
+        with tempfile.TemporaryDirectory() as room:
+            log = Path(room) / "log"
+            burns = f"'{sys.executable}' -c 'import time\nwhile time.process_time() < 0.5: pass'"
+            self.ran("--log", str(log), "--part", "burns", "sh", "-c", f"{burns} & wait; {burns}")
+            self.assertGreater(budget.of_tables(log.read_text()).weights.parts["burns"], 0.7)
+
+    def test_a_command_of_the_prover_is_counted(self) -> None:
+        with tempfile.TemporaryDirectory() as room:
+            prover = Path(room) / "rattle"
+            prover.symlink_to(sys.executable)
+            burns = "import time\nwhile time.process_time() < 1.5: pass"
+            said = self.ran(str(prover), "-c", burns, "--crate-name", "kif", "--test").stderr
+            found = budget.of_tables(said)
+            self.assertGreater(found.weights.of("kif", "tests"), 0.5)
+            self.assertGreater(found.memory["kif"], 0)
+
+
+class Kept(unittest.TestCase):
+    def test_weights_are_read_back(self) -> None:
+        found = Weights({"kif": {"proof": 9, "tests": 8, "edits": 7, "builds": 6}}, {"rt ci": 5})
+        self.assertEqual(weights.parsed(weights.written(found)), found)
+
+    def test_the_file_can_be_read(self) -> None:
+        self.assertTrue(weights.read().crates)
+
+
+if __name__ == "__main__":
+    unittest.main()
