@@ -9,11 +9,12 @@
     --over-gate               proves and builds the library alone, over the crates below it that `rt ci` has proved and left in their out/
     --fresh                   only says by the status whether that has been done for the sources as they stand
     --sum                     only prints the sum of all that NAME is made of
-    --weigh                   writes the processor seconds of each crate that was proved to tools/weights.txt
+    --weigh                   writes the processor seconds of each proof to tools/weights.txt
 
 Each crate is proved once all crates that it stands on are, so those that do not stand on each other go side by side. The crate
-with the longest way above it gets as many jobs as there are cores, and the others, with half as many, fill what it leaves. What is proved stands in
-out/proved as the statements of each crate, beside a sum of all that it was made of; only what this sum does not fit is proved again.
+with the longest way above it gets as many jobs as there are cores, one whose way is nearly as long half as many, and the others, with one job, fill
+what these leave. What is proved stands in out/proved as the statements of each crate, beside a sum of all that it was made of; only what this sum
+does not fit is proved again.
 """
 
 from __future__ import annotations
@@ -33,15 +34,18 @@ from dataclasses import dataclass, field
 from functools import cache
 from pathlib import Path
 
+sys.dont_write_bytecode = True
+
+import weights
+
 TOP = Path(__file__).resolve().parent.parent
 OUT = TOP / "out"
 PROVED = OUT / "proved"
-WEIGHTS = TOP / "tools" / "weights.txt"
 TESTS = OUT / "tests"
 KEPT = OUT / "kept"
 TARGET = "x86_64-unknown-linux-gnu"
-# A crate at four jobs has been seen to take 6.4 GB, and one at a single job 3.1.
-GIGABYTES_A_CRATE = 4
+# A crate is of the chain where the way above it is so large a part of the longest one.
+NEAR = 0.8
 SECONDS_BETWEEN_LINES = 15
 UNPROVED, CALLED_WRONGLY, STOPPED = 1, 2, 130
 WITH_LLVM = ["--backend", "llvm"]
@@ -89,6 +93,11 @@ class Crate:
         return (self.folder / "src" / "main.rt").is_file()
 
     @property
+    def is_built(self) -> bool:
+        """It is compiled, and not only proved."""
+        return self.is_program or self.is_static
+
+    @property
     def product(self) -> Path:
         if self.is_program:
             return OUT / self.name
@@ -125,11 +134,9 @@ def crates() -> dict[str, Crate]:
             found[name] = Crate(name, "staticlib" in words, uses.split())
     for crate in found.values():
         crate.below = [found[name] for name in crate.uses if name in found]
-    if WEIGHTS.is_file():
-        for line in WEIGHTS.read_text().splitlines():
-            name, seconds = line.split()
-            if name in found:
-                found[name].seconds = float(seconds)
+    known = weights.read()
+    for name in known.crates.keys() & found.keys():
+        found[name].seconds = known.of(name, "proof") + known.of(name, "builds") * found[name].is_built
     return found
 
 
@@ -176,7 +183,7 @@ def words_of(crate: Crate, jobs: int, product: Path) -> list[str]:
     words = [str(kit() / "bin" / "rattle"), "build", *words_over(crate, jobs), "-o", str(product)]
     if crate.is_static:
         words += ["--crate-type", "staticlib"]
-    if crate.is_static or crate.is_program:
+    if crate.is_built:
         return [*words, *WITH_LLVM, "--toolchain", f"{kit()}/toolchain"]
     return [*words, "--statements"]
 
@@ -242,10 +249,15 @@ def ended(run: Run) -> bool:
     return True
 
 
-def most_at_once() -> int:
-    """How many crates are proved side by side: by the cores, and by the memory that is free."""
+def free_memory() -> float:
+    """The gigabytes that are free."""
     free = next(line for line in Path("/proc/meminfo").read_text().splitlines() if line.startswith("MemAvailable"))
-    return max(1, min(cores(), int(free.split()[1]) // (GIGABYTES_A_CRATE << 20)))
+    return int(free.split()[1]) / (1 << 20)
+
+
+def memory_of(jobs: int) -> float:
+    """The gigabytes that a crate may take: at four jobs one has been seen to take 6.4, and at a single job 3.1."""
+    return 2.0 + 1.1 * jobs
 
 
 def cores() -> int:
@@ -264,6 +276,7 @@ class Proving:
         self.runs: list[Run] = []
         self.spent: dict[str, float] = {}
         self.failed: list[str] = []
+        self.memory = free_memory()
         self.begun = time.monotonic()
         for crate in reversed(self.left):
             above = [each.way_up for each in self.left if crate in each.below]
@@ -275,15 +288,29 @@ class Proving:
         ready = [each for each in self.left if not any(below.name in waiting for below in each.all_below())]
         return sorted(ready, key=lambda each: -each.way_up)
 
+    def manner(self, crate: Crate) -> tuple[int, int]:
+        """How many jobs a crate gets, and how nice it is. Each job costs some seconds more of the processor, so one whose way up is short
+        has one job, and takes what the chain leaves."""
+        longest = max(each.way_up for each in [*self.left, *(run.crate for run in self.runs)])
+        if crate.way_up < NEAR * longest:
+            return 1, 10
+        return (cores() if crate.way_up >= longest else max(cores() // 2, 1)), 0
+
+    def jobs_that_fit(self, jobs: int) -> int:
+        """So many jobs, or as many as the memory has room for beside what is being proved; one is always given room where nothing else is."""
+        left = self.memory - sum(memory_of(run.jobs) for run in self.runs)
+        fitting = [count for count in range(1, jobs + 1) if memory_of(count) <= left]
+        return max(fitting, default=0 if self.runs else 1)
+
     def begin(self) -> None:
+        """Begins what can be begun, as far as there are cores and memory."""
         for crate in self.ready():
-            longest = max((run.crate.way_up for run in self.runs), default=0.0)
-            # One more than there are cores, so that none is idle while a crate reads what it stands on.
-            if len(self.runs) > most_at_once():
+            wanted, nice = self.manner(crate)
+            jobs = self.jobs_that_fit(wanted)
+            if len(self.runs) >= cores() or jobs == 0:
                 return
-            leads = crate.way_up > longest
             self.left.remove(crate)
-            self.runs.append(started(crate, cores() if leads else max(cores() // 2, 1), 0 if leads else 10))
+            self.runs.append(started(crate, jobs, nice))
 
     def wait(self) -> None:
         time.sleep(0.2)
@@ -330,9 +357,11 @@ class Proving:
 
 
 def weigh(spent: dict[str, float]) -> None:
-    """Writes the processor seconds of what was proved, beside those that are known."""
-    known = {name: crate.seconds for name, crate in crates().items()} | spent
-    WEIGHTS.write_text("".join(f"{name} {round(known[name])}\n" for name in crates()))
+    """Writes the processor seconds of what was proved, beside those that are known. What was built besides is told by runs of the gate."""
+    known = weights.read()
+    for name, seconds in spent.items():
+        known.put(name, "proof", max(seconds - known.of(name, "builds") * crates()[name].is_built, 0.0))
+    weights.keep(known)
 
 
 def prove(wanted: list[Crate], is_weighed: bool) -> None:

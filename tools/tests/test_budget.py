@@ -126,7 +126,8 @@ class Runs(unittest.TestCase):
         return subprocess.run([sys.executable, "-B", TOOLS / "budget", "run", *words], capture_output=True, text=True, check=False)
 
     def test_output_and_status_are_the_command_s(self) -> None:
-        for part in ([], ["--part", "it"]):
+        manners: list[list[str]] = [[], ["--part", "it"]]
+        for part in manners:
             with self.subTest(part=part):
                 done = self.ran(*part, "sh", "-c", "printf 'rt: kif is kept: so\\nlast'; exit 3")
                 self.assertEqual((done.returncode, done.stdout), (3, "rt: kif is kept: so\nlast"))
