@@ -2,7 +2,7 @@
 
 They run over whatever is there. The library is tested where c/build has built it; a program is the one that `GDLSOLVE_PROGRAM` names,
 else the one that `rt ci` or `./gdlsolve --prove` has left. Where there is no library the program answers all, and what needs the library
-is left out, which is told. `GDLSOLVE_LONG_TESTS=1` asks for more of some tests.
+is left out, which is told. `GDLSOLVE_LONG_TESTS=1` asks for more of some tests, and with `GDLSOLVE_NOTHING=1` neither has to be there.
 """
 import os
 import runpy
@@ -48,7 +48,7 @@ needs_library = unittest.skipIf(NO_LIBRARY, f"the library is not tested: {NO_LIB
 needs_program = unittest.skipUnless(PROGRAM, "there is no program beside the library")
 if PROGRAM and (NO_LIBRARY or program.named()):
     os.environ[program.VARIABLE] = " ".join(PROGRAM)
-if NO_LIBRARY and not PROGRAM:
+if NO_LIBRARY and not PROGRAM and os.environ.get("GDLSOLVE_NOTHING") != "1":
     raise RuntimeError(f"there is nothing to test: no program, and {NO_LIBRARY}")
 
 
