@@ -9,8 +9,6 @@ mod handle;
 mod handle_calls;
 mod opening;
 mod parts;
-#[cfg(test)]
-mod tests;
 mod told;
 
 pub use call::gdlsolve_reply;
