@@ -1,7 +1,7 @@
 //! Searches by one thread with windows, over games of rules, and how many steps they make.
 ghost use Rattle.std.specs.Prelude.{◌<ℤ◌, ◌≤ℤ◌, pos, negsuc, IfOk};
 
-use crate::plays::{FOUR, LIVE, game_of};
+use crate::plays::game_of;
 use game::{AtBound, Game, Joint, Question, replay};
 use kif::read;
 use maximin::{Room, value_in};
@@ -9,6 +9,7 @@ use std::alloc::{AllocError, AllocGlobal, Global};
 use std::process::Abort;
 use std::sync::atomic::{AtomicUsize, Ordering};
 use std::test::Fail;
+use trial_games::texts::{FOUR, LIVE};
 use trial_games::watched::{Watch, Watched};
 
 /// The state after a history. Any fault is told as want of memory.

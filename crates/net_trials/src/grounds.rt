@@ -7,38 +7,7 @@ use std::alloc::{AllocError, AllocGlobal, Global};
 use std::io::Write;
 use std::test::Fail;
 use std::thread::Threads;
-
-const MATCH: &[u8] =
-    b"(role a)(role b)(base done)(base same)(input a h)(input a t)(input b h)(input b t)
-    (<= (legal ?r ?m) (input ?r ?m) (not (true done)))(<= (next done) (does a ?m))
-    (<= (next same) (does a ?m) (does b ?m))(<= terminal (true done))(<= (goal a 100) (true same))
-    (<= (goal a 0) (not (true same)))(<= (goal b 0) (true same))(<= (goal b 100) (not (true same)))";
-
-const TTT: &[u8] = b"(role xplayer)(role oplayer)(index 1)(index 2)(index 3)
-    (<= (base (cell ?x ?y b)) (index ?x) (index ?y))(<= (base (cell ?x ?y x)) (index ?x) (index ?y))
-    (<= (base (cell ?x ?y o)) (index ?x) (index ?y))(<= (base (control ?p)) (role ?p))
-    (<= (input ?p (mark ?x ?y)) (role ?p) (index ?x) (index ?y))(<= (input ?p noop) (role ?p))
-    (init (cell 1 1 b))(init (cell 1 2 b))(init (cell 1 3 b))(init (cell 2 1 b))(init (cell 2 2 b))
-    (init (cell 2 3 b))(init (cell 3 1 b))(init (cell 3 2 b))(init (cell 3 3 b))(init (control xplayer))
-    (<= (next (cell ?x ?y x)) (does xplayer (mark ?x ?y)) (true (cell ?x ?y b)))
-    (<= (next (cell ?x ?y o)) (does oplayer (mark ?x ?y)) (true (cell ?x ?y b)))
-    (<= (next (cell ?x ?y ?w)) (true (cell ?x ?y ?w)) (distinct ?w b))
-    (<= (next (cell ?x ?y b)) (does ?w (mark ?m ?n)) (true (cell ?x ?y b))
-        (or (distinct ?x ?m) (distinct ?y ?n)))
-    (<= (next (control xplayer)) (true (control oplayer)))
-    (<= (next (control oplayer)) (true (control xplayer)))
-    (<= (row ?x ?w) (true (cell ?x 1 ?w)) (true (cell ?x 2 ?w)) (true (cell ?x 3 ?w)))
-    (<= (column ?y ?w) (true (cell 1 ?y ?w)) (true (cell 2 ?y ?w)) (true (cell 3 ?y ?w)))
-    (<= (diagonal ?w) (true (cell 1 1 ?w)) (true (cell 2 2 ?w)) (true (cell 3 3 ?w)))
-    (<= (diagonal ?w) (true (cell 1 3 ?w)) (true (cell 2 2 ?w)) (true (cell 3 1 ?w)))
-    (<= (line ?w) (row ?x ?w))(<= (line ?w) (column ?y ?w))(<= (line ?w) (diagonal ?w))
-    (<= open (true (cell ?x ?y b)))
-    (<= (legal ?w (mark ?x ?y)) (true (cell ?x ?y b)) (true (control ?w)))
-    (<= (legal xplayer noop) (true (control oplayer)))(<= (legal oplayer noop) (true (control xplayer)))
-    (<= (goal xplayer 100) (line x))(<= (goal xplayer 50) (not (line x)) (not (line o)) (not open))
-    (<= (goal xplayer 0) (line o))(<= (goal oplayer 100) (line o))
-    (<= (goal oplayer 50) (not (line x)) (not (line o)) (not open))(<= (goal oplayer 0) (line x))
-    (<= terminal (line x))(<= terminal (line o))(<= terminal (not open))";
+use trial_games::texts::{MARKS, MATCH};
 
 /// What a description instantiates to.
 fn ground_of<R: Threads + Sync + AllocGlobal>(
@@ -90,7 +59,7 @@ fn told<R: Threads + Sync + AllocGlobal>(rt: &R, text: &[u8]) -> Result<Vec<u8>,
 /// Descriptions with their base propositions, inputs, instances and dropped heads.
 const COUNTED: [(&[u8], &[u8]); 13] = [
     (MATCH, b"2 4 21 0"),
-    (TTT, b"29 20 401 0"),
+    (MARKS, b"29 20 401 0"),
     (
         b"(role a)(base p)(input a go)(legal a go)(init r)(<= (next p) (not (true q)))(<= (next s) (true p))
             (<= terminal (true p))(<= (goal a 90) (true p))",
@@ -409,7 +378,7 @@ const RELATIONS: [(u32, u32, usize); 14] = [
 
 #[test]
 fn each_relation_has_its_instances(rt: HostRuntime) -> Result<(), Fail> {
-    let ground = ground_of(&rt, TTT)??;
+    let ground = ground_of(&rt, MARKS)??;
     for (from, to, want) in RELATIONS {
         let many = ground
             .kept()

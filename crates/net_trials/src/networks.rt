@@ -16,38 +16,7 @@ use statement::Width;
 use std::alloc::{AllocGlobal, Global};
 use std::io::Write;
 use std::test::Fail;
-
-const MATCH: &[u8] =
-    b"(role a)(role b)(base done)(base same)(input a h)(input a t)(input b h)(input b t)
-    (<= (legal ?r ?m) (input ?r ?m) (not (true done)))(<= (next done) (does a ?m))
-    (<= (next same) (does a ?m) (does b ?m))(<= terminal (true done))(<= (goal a 100) (true same))
-    (<= (goal a 0) (not (true same)))(<= (goal b 0) (true same))(<= (goal b 100) (not (true same)))";
-
-const TTT: &[u8] = b"(role xplayer)(role oplayer)(index 1)(index 2)(index 3)
-    (<= (base (cell ?x ?y b)) (index ?x) (index ?y))(<= (base (cell ?x ?y x)) (index ?x) (index ?y))
-    (<= (base (cell ?x ?y o)) (index ?x) (index ?y))(<= (base (control ?p)) (role ?p))
-    (<= (input ?p (mark ?x ?y)) (role ?p) (index ?x) (index ?y))(<= (input ?p noop) (role ?p))
-    (init (cell 1 1 b))(init (cell 1 2 b))(init (cell 1 3 b))(init (cell 2 1 b))(init (cell 2 2 b))
-    (init (cell 2 3 b))(init (cell 3 1 b))(init (cell 3 2 b))(init (cell 3 3 b))(init (control xplayer))
-    (<= (next (cell ?x ?y x)) (does xplayer (mark ?x ?y)) (true (cell ?x ?y b)))
-    (<= (next (cell ?x ?y o)) (does oplayer (mark ?x ?y)) (true (cell ?x ?y b)))
-    (<= (next (cell ?x ?y ?w)) (true (cell ?x ?y ?w)) (distinct ?w b))
-    (<= (next (cell ?x ?y b)) (does ?w (mark ?m ?n)) (true (cell ?x ?y b))
-        (or (distinct ?x ?m) (distinct ?y ?n)))
-    (<= (next (control xplayer)) (true (control oplayer)))
-    (<= (next (control oplayer)) (true (control xplayer)))
-    (<= (row ?x ?w) (true (cell ?x 1 ?w)) (true (cell ?x 2 ?w)) (true (cell ?x 3 ?w)))
-    (<= (column ?y ?w) (true (cell 1 ?y ?w)) (true (cell 2 ?y ?w)) (true (cell 3 ?y ?w)))
-    (<= (diagonal ?w) (true (cell 1 1 ?w)) (true (cell 2 2 ?w)) (true (cell 3 3 ?w)))
-    (<= (diagonal ?w) (true (cell 1 3 ?w)) (true (cell 2 2 ?w)) (true (cell 3 1 ?w)))
-    (<= (line ?w) (row ?x ?w))(<= (line ?w) (column ?y ?w))(<= (line ?w) (diagonal ?w))
-    (<= open (true (cell ?x ?y b)))
-    (<= (legal ?w (mark ?x ?y)) (true (cell ?x ?y b)) (true (control ?w)))
-    (<= (legal xplayer noop) (true (control oplayer)))(<= (legal oplayer noop) (true (control xplayer)))
-    (<= (goal xplayer 100) (line x))(<= (goal xplayer 50) (not (line x)) (not (line o)) (not open))
-    (<= (goal xplayer 0) (line o))(<= (goal oplayer 100) (line o))
-    (<= (goal oplayer 50) (not (line x)) (not (line o)) (not open))(<= (goal oplayer 0) (line x))
-    (<= terminal (line x))(<= terminal (line o))(<= terminal (not open))";
+use trial_games::texts::{MARKS, MATCH};
 
 /// Two moves, and no base proposition: the one state never ends.
 const TIMELESS: &[u8] = b"(role a)(input a x)(input a y)(legal a y)(goal a 30)";
@@ -190,7 +159,7 @@ fn net_course(rt: &HostRuntime, text: &[u8], many: bool) -> Result<Vec<u8>, Fail
 
 #[test]
 fn networks_play_as_rules_do(rt: HostRuntime) -> Result<(), Fail> {
-    for text in [MATCH, TTT, TIMELESS, SILENT] {
+    for text in [MATCH, MARKS, TIMELESS, SILENT] {
         let want = rule_course(&rt, text, false)?;
         assert_eq!(rt; rule_course(&rt, text, true)?, want);
         assert_eq!(rt; net_course(&rt, text, false)?, want);

@@ -15,33 +15,8 @@ use std::process::Abort;
 use std::sync::atomic::{AtomicBool, AtomicUsize, Ordering};
 use std::test::Fail;
 use std::thread::Threads;
+use trial_games::texts::{FOUR, LIVE};
 use trial_games::watched::{Watch, Watched};
-
-/// One role and four moves, of which the second and the third are worth the same.
-pub(crate) const FOUR: &[u8] = b"(role a) (val x 40) (val y 70) (val z 70) (val zz 10)
-(<= (input a ?m) (val ?m ?v))
-(<= (base (did ?m)) (val ?m ?v))
-(<= (legal a ?m) (val ?m ?v))
-(<= (next (did ?m)) (does a ?m))
-(<= (goal a ?v) (true (did ?m)) (val ?m ?v))
-(<= terminal (true (did ?m)))";
-
-/// The first move is worth 90 at once, and the second at most 10, by ten replies.
-pub(crate) const LIVE: &[u8] = b"(role a) (role b) (first x) (first y) (first z)
-(reply r0) (reply r1) (reply r2) (reply r3) (reply r4)
-(reply r5) (reply r6) (reply r7) (reply r8) (reply r9)
-(base start) (base wx) (base wz) (base mid) (base low) (init start)
-(input a go) (input b noop)
-(<= (input a ?m) (first ?m))
-(<= (input b ?m) (reply ?m))
-(<= (legal a ?m) (true start) (first ?m))
-(<= (legal b noop) (true start))
-(<= (legal a go) (true mid))
-(<= (legal b ?m) (true mid) (reply ?m))
-(<= (next wx) (does a x)) (<= (next mid) (does a y))
-(<= (next wz) (does a z)) (<= (next low) (does a go))
-(<= terminal (true wx)) (<= terminal (true wz)) (<= terminal (true low))
-(<= (goal a 90) (true wx)) (<= (goal a 10) (true low))";
 
 /// Two roles choose at once. Whatever b chooses, y is worth 90 to a and z 20, and x is worth 10 or 60.
 const PAIRS: &[u8] = b"(role a) (role b) (own x) (own y) (own z) (reply l) (reply r)

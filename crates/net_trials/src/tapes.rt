@@ -9,12 +9,7 @@ use std::process::Abort;
 use std::test::Fail;
 use std::thread::Threads;
 use tape::Tape;
-
-const MATCH: &[u8] =
-    b"(role a)(role b)(base done)(base same)(input a h)(input a t)(input b h)(input b t)
-    (<= (legal ?r ?m) (input ?r ?m) (not (true done)))(<= (next done) (does a ?m))
-    (<= (next same) (does a ?m) (does b ?m))(<= terminal (true done))(<= (goal a 100) (true same))
-    (<= (goal a 0) (not (true same)))(<= (goal b 0) (true same))(<= (goal b 100) (not (true same)))";
+use trial_games::texts::MATCH;
 
 /// The network of a description.
 fn net_of<R: Threads + Sync + AllocGlobal>(rt: &R, text: &[u8]) -> Result<Net, Fail> {

@@ -1,10 +1,10 @@
 //! Boards that are searched to their end by two workers, and by one.
-ghost use Rattle.std.specs.Prelude.{◌≡◌, ℕ, ◌%◌, ◌<◌, ◌≤◌, pos, [], true, false, length, slice_index, IfOk};
+ghost use Rattle.std.specs.Prelude.{◌≡◌, ℕ, ◌%◌, ◌<◌, ◌≤◌, pos, negsuc, ◌≤ℤ◌, [], true, false, length, slice_index, IfOk};
 ghost use Rattle.board.specs.Values.{moves, task_count};
+ghost use Rattle.board.specs.Boards.{kept};
 ghost use Rattle.board.specs.Seats.{book, setup_on, IsSeatOf};
 
-use crate::bounds::bound_of;
-use crate::{Board, Seat, Values};
+use board::{Board, Seat, Values};
 use std::alloc::{AllocError, Global};
 use std::hint::spin_loop;
 use std::marker::Brand;
@@ -82,6 +82,14 @@ fn two_threads_are_handed_each_task_once(rt: HostRuntime) -> Result<(), Fail> {
         assert!(rt; board.finish(seat) == (6, 6), "the answer at seed {seed}");
     }
     Ok(())
+}
+
+/// A bound as it is given, of one as it is kept.
+fn bound_of(word: u64) -> i16
+    requires { word ≤ 103 }
+    ensures { (kept result ≡ word) × (negsuc 1 ≤ℤ result) × (result ≤ℤ pos 101) }
+{
+    word as i16 - 2
 }
 
 // Searches tasks until all are handed out, and answers how many it was handed.

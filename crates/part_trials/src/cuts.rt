@@ -2,10 +2,8 @@
 use cut::Cut;
 use game::{AtBound, Game, Question};
 use share::{Gate, solve};
-use std::alloc::AllocGlobal;
-use std::process::Abort;
+use std::alloc::{AllocError, AllocGlobal};
 use std::sync::atomic::{AtomicUsize, Ordering};
-use std::test::Fail;
 use std::thread::Threads;
 use trial_games::table::Table;
 
@@ -24,112 +22,135 @@ impl Gate for Tally {
     }
 }
 
-fn answers<R: Threads + Abort + Sync + AllocGlobal>(
-    rt: &R,
-    table: &Table,
-    at: AtBound,
-    value: i16,
-    choice: u32,
-) -> Result<(), Fail> {
-    let start = table.fresh()?;
-    let cuts: [&[u8]; 7] = [
-        &[1],
-        &[4],
-        &[2, 2],
-        &[1, 3],
-        &[1, 1, 1],
-        &[2, 2, 2],
-        &[16, 2, 2],
-    ];
-    for levels in cuts {
-        let tally = Tally {
-            passed: AtomicUsize::new(0),
-        };
-        let Some(cut) = Cut::new(levels) else {
-            panic!(rt; "no cut")
-        };
-        let asked = Question {
+/// The row chooses the first or the second four of the cells, the others choose among the four.
+const TABLE: Table = Table {
+    worth: [10, 70, 60, 80, 90, 25, 30, 40],
+    ends: [true; 8],
+};
+
+/// What is asked, the value and the choice, what the gate counts, and the cuts by which it is so.
+type Row<'a> = (Question, i16, Option<u32>, usize, &'a [&'a [u8]]);
+
+/// Tasks 0 to 7, each once; and no task, as no turn is to come.
+const ROWS: [Row; 3] = [
+    (
+        Question {
             role: 0,
             depth: 1,
-            at,
-        };
-        let answer = solve(rt, table, &start, asked, &cut, &tally)?;
-        assert_eq!(rt; answer.value, value);
-        assert_eq!(rt; answer.choice, Some(choice));
-        // Tasks 0 to 7, each once.
-        assert_eq!(rt; tally.passed.load(Ordering::SeqCst), 288);
+            at: AtBound::Zero,
+        },
+        25,
+        Some(1),
+        288,
+        CUTS,
+    ),
+    (
+        Question {
+            role: 0,
+            depth: 1,
+            at: AtBound::Goal,
+        },
+        25,
+        Some(1),
+        288,
+        CUTS,
+    ),
+    (
+        Question {
+            role: 1,
+            depth: 0,
+            at: AtBound::Zero,
+        },
+        0,
+        None,
+        0,
+        &[&[4, 2]],
+    ),
+];
+
+const CUTS: &[&[u8]] = &[
+    &[1],
+    &[4],
+    &[2, 2],
+    &[1, 3],
+    &[1, 1, 1],
+    &[2, 2, 2],
+    &[16, 2, 2],
+];
+
+/// Whether the table is searched with a cut as the row says.
+fn answers<R: Threads + Sync + AllocGlobal>(
+    rt: &R,
+    row: Row,
+    levels: &[u8],
+) -> Result<bool, AllocError> {
+    let (asked, value, choice, passed, _) = row;
+    let Some(cut) = Cut::new(levels) else {
+        return Ok(false);
+    };
+    if asked.role >= 3 {
+        return Ok(false);
     }
-    Ok(())
-}
-
-// The row chooses the first or the second four of the cells, the others choose among the four.
-const WORTH: [u8; 8] = [10, 70, 60, 80, 90, 25, 30, 40];
-
-#[test]
-fn each_cut_has_the_same_answer(rt: HostRuntime) -> Result<(), Fail> {
-    let table = Table {
-        worth: WORTH,
-        ends: [true; 8],
-    };
-    answers(&rt, &table, AtBound::Zero, 25, 1)?;
-    answers(&rt, &table, AtBound::Goal, 25, 1)
-}
-
-#[test]
-fn no_turn_to_come(rt: HostRuntime) -> Result<(), Fail> {
-    let table = Table {
-        worth: WORTH,
-        ends: [true; 8],
-    };
-    let start = table.fresh()?;
     let tally = Tally {
         passed: AtomicUsize::new(0),
     };
-    let Some(cut) = Cut::parse(b"4x2") else {
-        panic!(rt; "no cut")
-    };
-    let asked = Question {
-        role: 1,
-        depth: 0,
-        at: AtBound::Zero,
-    };
-    let answer = solve(&rt, &table, &start, asked, &cut, &tally)?;
-    assert_eq!(rt; answer.value, 0);
-    assert_eq!(rt; answer.choice, None);
-    assert_eq!(rt; tally.passed.load(Ordering::SeqCst), 0);
-    Ok(())
+    let start = TABLE.fresh()?;
+    let answer = solve(rt, &TABLE, &start, asked, &cut, &tally)?;
+    Ok(
+        answer.value == value
+            && answer.choice == choice
+            && tally.passed.load(Ordering::SeqCst) == passed,
+    )
 }
 
-const CUTS: [(&[u8], &[u8]); 7] = [
-    (b"1", &[1]),
-    (b"9", &[9]),
-    (b"10", &[10]),
-    (b"16", &[16]),
-    (b"16x4", &[16, 4]),
-    (b"1x1x1", &[1, 1, 1]),
-    (b"2x2x16", &[2, 2, 16]),
-];
-
 #[test]
-fn lawful_cuts_are_read(rt: HostRuntime) -> Result<(), Fail> {
-    for (text, levels) in CUTS {
-        let Some(cut) = Cut::parse(text) else {
-            panic!(rt; "refused")
-        };
-        assert!(rt; Cut::new(levels) == Some(cut));
+fn each_cut_has_the_same_answer(rt: HostRuntime) -> Result<(), AllocError> {
+    for row in ROWS {
+        for levels in row.4 {
+            assert!(rt; answers(&rt, row, levels)?, "{row:?} by {levels:?}");
+        }
     }
     Ok(())
 }
 
-const REFUSED: [&[u8]; 14] = [
-    b"", b"x", b"4x", b"x4", b"4X2", b"04", b"0", b"17", b"20", b"100", b"16x4x2", b"5x4x4",
-    b"1x1x1x1", b"4 x2",
+/// Texts, and the levels of the cuts that they name, none where a text is refused.
+const TEXTS: [(&[u8], Option<&[u8]>); 22] = [
+    (b"1", Some(&[1])),
+    (b"9", Some(&[9])),
+    (b"10", Some(&[10])),
+    (b"16", Some(&[16])),
+    (b"4x2", Some(&[4, 2])),
+    (b"16x4", Some(&[16, 4])),
+    (b"1x1x1", Some(&[1, 1, 1])),
+    (b"2x2x16", Some(&[2, 2, 16])),
+    (b"", None),
+    (b"x", None),
+    (b"4x", None),
+    (b"x4", None),
+    (b"4X2", None),
+    (b"04", None),
+    (b"0", None),
+    (b"17", None),
+    (b"20", None),
+    (b"100", None),
+    (b"16x4x2", None),
+    (b"5x4x4", None),
+    (b"1x1x1x1", None),
+    (b"4 x2", None),
 ];
 
-#[test]
-fn other_texts_are_refused(rt: HostRuntime) -> Result<(), Fail> {
-    for text in REFUSED {
-        assert!(rt; Cut::parse(text).is_none());
+/// Whether a text names the cut of these levels, or none.
+fn names(text: &[u8], levels: Option<&[u8]>) -> bool {
+    match (Cut::parse(text), levels) {
+        (Some(cut), Some(levels)) => Cut::new(levels) == Some(cut),
+        (None, None) => true,
+        _ => false,
     }
-    Ok(())
+}
+
+#[test]
+fn lawful_cuts_are_read(rt: HostRuntime) {
+    for (text, levels) in TEXTS {
+        assert!(rt; names(text, levels), "{text:?}");
+    }
 }

@@ -43,81 +43,107 @@ fn told<G: Game>(alloc: Global, game: &G, before: &[u8], history: &[u8]) -> Resu
     Ok(text)
 }
 
-const PLAYED: [(&[u8], &[u8]); 5] = [
-    (b"", b"open\n"),
-    (b"(one one one)", b"ended 10\n"),
-    (b"(one two one)", b"ended 30\n"),
-    (b"(TWO one ; the column\n Two)", b"ended 60\n"),
-    (b"(two two two)", b"stuck 80\n"),
-];
+/// A history that comes before, a history, and what is told of it.
+type Row<'a> = (&'a [u8], &'a [u8], &'a [u8]);
 
-#[test]
-fn history_is_played(rt: HostRuntime) -> Result<(), Fail> {
-    for (history, want) in PLAYED {
-        let got = told(rt.alloc(), &TABLE, b"", history)?;
-        assert_eq!(rt; got.as_slice(), want);
-    }
-    Ok(())
-}
-
-const REFUSED: [(&[u8], &[u8]); 13] = [
-    (b"one", b"refused H1 BadForm 1\nended 60\n"),
-    (b"(one one)", b"refused H1 BadForm 1\nended 60\n"),
+const ROWS: [Row; 18] = [
+    (b"", b"", b"open\n"),
+    (b"", b"(one one one)", b"ended 10\n"),
+    (b"", b"(one two one)", b"ended 30\n"),
+    (b"", b"(TWO one ; the column\n Two)", b"ended 60\n"),
+    (b"", b"(two two two)", b"stuck 80\n"),
+    // A refusal leaves the position.
     (
+        b"(two one two)",
+        b"one",
+        b"refused H1 BadForm 1\nended 60\n",
+    ),
+    (
+        b"(two one two)",
+        b"(one one)",
+        b"refused H1 BadForm 1\nended 60\n",
+    ),
+    (
+        b"(two one two)",
         b"(one one one) (one one one one)",
         b"refused H1 BadForm 2\nended 60\n",
     ),
     (
+        b"(two one two)",
         b"(one three one) (one one one) ()",
         b"refused H1 BadForm 3\nended 60\n",
     ),
     (
+        b"(two one two)",
         b"(one one one) (one one one)",
         b"refused H3 Over 2\nended 60\n",
     ),
     (
+        b"(two one two)",
         b"(one one one) (three one one)",
         b"refused H3 Over 2\nended 60\n",
     ),
     (
+        b"(two one two)",
         b"(two two two) (one one one)",
         b"refused H4 Stuck 2\nended 60\n",
     ),
     (
+        b"(two one two)",
         b"(two two two) (three one one)",
         b"refused H4 Stuck 2\nended 60\n",
     ),
-    (b"(three one one)", b"refused H2 NotLegal 1 row\nended 60\n"),
     (
+        b"(two one two)",
+        b"(three one one)",
+        b"refused H2 NotLegal 1 row\nended 60\n",
+    ),
+    (
+        b"(two one two)",
         b"(one three four)",
         b"refused H2 NotLegal 1 column\nended 60\n",
     ),
     (
+        b"(two one two)",
         b"(one one (two))",
         b"refused H2 NotLegal 1 layer\nended 60\n",
     ),
-    (b"(one one on)", b"refused H2 NotLegal 1 layer\nended 60\n"),
     (
+        b"(two one two)",
+        b"(one one on)",
+        b"refused H2 NotLegal 1 layer\nended 60\n",
+    ),
+    (
+        b"(two one two)",
         b"(one one twoo)",
         b"refused H2 NotLegal 1 layer\nended 60\n",
     ),
 ];
 
 #[test]
-fn refusal_leaves_the_position(rt: HostRuntime) -> Result<(), Fail> {
-    for (history, want) in REFUSED {
-        let got = told(rt.alloc(), &TABLE, b"(two one two)", history)?;
-        assert_eq!(rt; got.as_slice(), want);
+fn history_is_played(rt: HostRuntime) -> Result<(), Fail> {
+    for (place, (before, history, want)) in ROWS.into_iter().enumerate() {
+        let got = told(rt.alloc(), &TABLE, before, history)?;
+        assert_eq!(rt; got.as_slice(), want, "row {place}");
     }
     Ok(())
 }
 
+const BOUNDS: [(&[u8], Option<AtBound>); 9] = [
+    (b"zero", Some(AtBound::Zero)),
+    (b"goal", Some(AtBound::Goal)),
+    (b"", None),
+    (b"Zero", None),
+    (b"GOAL", None),
+    (b"goa", None),
+    (b"goals", None),
+    (b"zero ", None),
+    (b"0", None),
+];
+
 #[test]
 fn bound_is_read_by_its_word(rt: HostRuntime) {
-    assert!(rt; AtBound::parse(b"zero") == Some(AtBound::Zero));
-    assert!(rt; AtBound::parse(b"goal") == Some(AtBound::Goal));
-    let others: [&[u8]; 7] = [b"", b"Zero", b"GOAL", b"goa", b"goals", b"zero ", b"0"];
-    for text in others {
-        assert!(rt; AtBound::parse(text).is_none());
+    for (text, bound) in BOUNDS {
+        assert!(rt; AtBound::parse(text) == bound, "{text:?}");
     }
 }

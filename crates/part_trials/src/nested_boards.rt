@@ -7,7 +7,7 @@ ghost use Rattle.board.specs.Looks.{IsLastSeat};
 ghost use Rattle.board.specs.Windows.{BoundsWithin};
 ghost use Rattle.board.specs.Seats.{book, setup_on, task_own, task_reply, IsSeatOf, IsTaskOf, IsInHand};
 
-use crate::{Board, Seat, Task, Values};
+use board::{Board, Seat, Task, Values};
 use std::test::Fail;
 
 // A task that is worth 40.

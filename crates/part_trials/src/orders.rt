@@ -46,13 +46,14 @@ fn rows_in(
     reordered_rows(alloc, &written, variables, most)
 }
 
-/// A level of 70 rows.
-fn level(columns_from: usize, columns_to: usize, cells_from: usize, bound: usize) -> Level {
+/// A level whose columns and cells begin at these places.
+fn level(columns: (usize, usize), cells_from: usize, rows: usize, bound: usize) -> Level {
+    let (columns_from, columns_to) = columns;
     Level {
         columns_from,
         columns_to,
         cells_from,
-        rows: 70,
+        rows,
         bound,
     }
 }
@@ -69,7 +70,11 @@ fn rows(alloc: Global, most: usize) -> Result<Option<Vec<u32>>, AllocError> {
         Column::Same(4),
         Column::Same(1),
     ];
-    let levels = [level(0, 2, 0, 0), level(2, 5, 140, 2), level(5, 8, 350, 5)];
+    let levels = [
+        level((0, 2), 0, 70, 0),
+        level((2, 5), 140, 70, 2),
+        level((5, 8), 350, 70, 5),
+    ];
     let cells = cells(alloc)?;
     rows_in(alloc, &columns, &cells, &levels, 6, most)
 }
@@ -116,26 +121,13 @@ fn a_level_of_one_row_comes_first(rt: HostRuntime) -> Result<(), Fail> {
     let columns = [
         first, first, first, first, first, y, first, x, first, first, x, first, first, x, first,
     ];
-    let pairs = |columns_from: usize, bound: usize| Level {
-        columns_from,
-        columns_to: columns_from + 3,
-        cells_from: 282,
-        rows: 4_900,
-        bound,
-    };
     let levels = [
-        level(0, 2, 0, 0),
-        level(2, 4, 140, 2),
-        Level {
-            columns_from: 4,
-            columns_to: 6,
-            cells_from: 280,
-            rows: 1,
-            bound: 4,
-        },
-        pairs(6, 5),
-        pairs(9, 7),
-        pairs(12, 9),
+        level((0, 2), 0, 70, 0),
+        level((2, 4), 140, 70, 2),
+        level((4, 6), 280, 1, 4),
+        level((6, 9), 282, 4_900, 5),
+        level((9, 12), 282, 4_900, 7),
+        level((12, 15), 282, 4_900, 9),
     ];
     let cells = cells_of_a_trap(rt.alloc())?;
     let values = rows_in(rt.alloc(), &columns, &cells, &levels, 11, 70)?.ok_or("not found")?;

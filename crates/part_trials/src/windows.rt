@@ -1,5 +1,5 @@
 //! Values, choices and replies over the table.
-ghost use Rattle.std.specs.Prelude.{◌≡◌, ◌<◌, ◌<ℤ◌, ◌≤ℤ◌, pos, negsuc};
+ghost use Rattle.std.specs.Prelude.{◌≡◌, ◌<◌, ◌≤◌};
 
 use game::AtBound::{Goal, Zero};
 use game::{AtBound, Game, Joint, Question};
@@ -17,16 +17,23 @@ fn ask(role: usize, depth: u32, at: AtBound) -> Question
     Question { role, depth, at }
 }
 
-/// The value of the start state within a window, found through the bound alone, as in every caller.
-fn value_of<G: Game>(game: &G, alloc: Global, window: (i16, i16)) -> Result<i16, AllocError>
-    requires roles { 0 < (G.rules game.now).roles }
-    requires low { negsuc 1 ≤ℤ window.0 }
-    requires order { window.0 <ℤ window.1 }
-    requires high { window.1 ≤ℤ pos 101 }
+/// Whether the value of the start state within a window lies in a range. It is found through the bound alone, as in every caller.
+fn lies_in<G: Game>(
+    game: &G,
+    alloc: Global,
+    window: (i16, i16),
+    range: (i16, i16),
+) -> Result<bool, AllocError>
+    requires { 0 < (G.rules game.now).roles }
 {
+    let (low, high) = window;
+    if low < -2 || low >= high || high > 101 {
+        return Ok(false);
+    }
     let mut room = Room::new(alloc, game, 1)?;
     let start = game.fresh()?;
-    Ok(value_in(game, &start, ask(0, 1, Zero), window.0, window.1, &mut room))
+    let value = value_in(game, &start, ask(0, 1, Zero), low, high, &mut room);
+    Ok(range.0 <= value && value <= range.1)
 }
 
 /// The row can be sure of 10 by its first side, and of 30 by its second.
@@ -35,55 +42,138 @@ const LEVEL: Table = Table {
     ends: [true; 8],
 };
 
+/// The row can be sure of 40 by both sides.
+const EQUAL: Table = Table {
+    worth: [70, 40, 90, 80, 60, 40, 50, 45],
+    ends: [true; 8],
+};
+
+/// By its second side the row comes to a cell where the layer has no move, whatever is written there.
+const STUCK: Table = Table {
+    worth: [20, 20, 20, 20, 90, 90, 90, 90],
+    ends: [true, true, true, true, false, false, false, false],
+};
+
+/// The same, where the row has the goal 70 while nothing is chosen yet.
+const HOPEFUL: Table = Table {
+    worth: [70, 20, 20, 20, 90, 90, 90, 90],
+    ends: [true, true, true, true, false, false, false, false],
+};
+
+/// How many turns the room is for, a state, which is 0 at the start or the number of a cell, what is asked of it, and its value and choice.
+type Row = (u32, u8, (usize, u32, AtBound), i16, Option<u32>);
+
+const OF_LEVEL: [Row; 7] = [
+    (1, 0, (0, 1, Zero), 30, Some(1)),
+    (1, 0, (1, 1, Zero), 50, Some(0)),
+    (1, 0, (2, 1, Zero), 10, Some(0)),
+    // A state without a turn is worth nothing.
+    (1, 0, (0, 0, Zero), 0, None),
+    // A deep search of a short game.
+    (64, 0, (0, 64, Zero), 30, Some(1)),
+    (64, 8, (0, 64, Zero), 95, None),
+    (64, 8, (0, 0, Zero), 95, None),
+];
+
+const OF_STUCK: [Row; 2] = [
+    (3, 0, (0, 3, Zero), 20, Some(0)),
+    (3, 5, (0, 3, Zero), 0, None),
+];
+
+const OF_HOPEFUL: [Row; 6] = [
+    (1, 0, (0, 0, Goal), 70, None),
+    (1, 0, (1, 0, Goal), 30, None),
+    (1, 0, (0, 0, Zero), 0, None),
+    // A state without moves for some role is worth nothing at the bound either, and one that has ended its goal.
+    (1, 5, (0, 0, Goal), 0, None),
+    (1, 1, (0, 0, Zero), 70, None),
+    // A turn later the game has ended, or is stuck.
+    (1, 0, (0, 1, Goal), 20, Some(0)),
+];
+
+/// The value and the choice of a state, by a room for so many turns.
+fn told_of<G: Game>(
+    game: &G,
+    alloc: Global,
+    p: &G::Pos,
+    turns: u32,
+    asked: Question,
+) -> Result<(i16, Option<u32>), AllocError>
+    requires fits { G.fits game.now p.now }
+    requires role { asked.role < (G.rules game.now).roles }
+    requires deep { asked.depth ≤ turns }
+{
+    let mut room = Room::new(alloc, game, turns)?;
+    let value = value_in(game, p, asked, -1, 101, &mut room);
+    Ok((value, choice(game, p, asked, &mut room)))
+}
+
+/// Whether a state of a table has the value and the choice of a row.
+fn is_told(table: &Table, alloc: Global, row: Row) -> Result<bool, AllocError> {
+    let (turns, cell, (role, depth, at), value, choice) = row;
+    if cell > 8 || role > 2 || depth > turns {
+        return Ok(false);
+    }
+    let told = told_of(table, alloc, &Chosen { cell }, turns, ask(role, depth, at))?;
+    Ok(told == (value, choice))
+}
+
+/// The place of the first row that is not told of a table.
+fn first_untold(table: &Table, alloc: Global, rows: &[Row]) -> Result<Option<usize>, AllocError> {
+    for place in 0..rows.len() {
+        if !is_told(table, alloc, rows[place])? {
+            return Ok(Some(place));
+        }
+    }
+    Ok(None)
+}
+
 #[test]
 fn each_role_has_its_value_and_choice(rt: HostRuntime) -> Result<(), AllocError> {
-    let table = LEVEL;
-    let mut room = Room::new(rt.alloc(), &table, 1)?;
-    let start = table.fresh()?;
-    assert_eq!(rt;
-        value_in(&table, &start, ask(0, 1, Zero), -1, 101, &mut room),
-        30
-    );
-    assert_eq!(rt; choice(&table, &start, ask(0, 1, Zero), &mut room), Some(1));
-    assert_eq!(rt;
-        value_in(&table, &start, ask(1, 1, Zero), -1, 101, &mut room),
-        50
-    );
-    assert_eq!(rt; choice(&table, &start, ask(1, 1, Zero), &mut room), Some(0));
-    assert_eq!(rt;
-        value_in(&table, &start, ask(2, 1, Zero), -1, 101, &mut room),
-        10
-    );
-    assert_eq!(rt; choice(&table, &start, ask(2, 1, Zero), &mut room), Some(0));
+    assert_eq!(rt; first_untold(&LEVEL, rt.alloc(), &OF_LEVEL)?, None);
+    // The first of equal moves is chosen.
+    let equal = [(1, 0, (0, 1, Zero), 40, Some(0))];
+    assert_eq!(rt; first_untold(&EQUAL, rt.alloc(), &equal)?, None);
+    assert_eq!(rt; first_untold(&STUCK, rt.alloc(), &OF_STUCK)?, None);
+    assert_eq!(rt; STUCK.goal(&Chosen { cell: 5 }, 0), 90);
+    assert_eq!(rt; first_untold(&HOPEFUL, rt.alloc(), &OF_HOPEFUL)?, None);
     Ok(())
 }
 
+/// Windows, and the ranges in which the answers lie.
+const WINDOWS: [((i16, i16), (i16, i16)); 3] = [
+    ((40, 60), (30, 40)),
+    ((10, 20), (20, 30)),
+    ((29, 31), (30, 30)),
+];
+
 #[test]
-fn state_without_a_turn_is_worth_nothing(rt: HostRuntime) -> Result<(), AllocError> {
-    let table = LEVEL;
-    let mut room = Room::new(rt.alloc(), &table, 1)?;
-    let start = table.fresh()?;
-    assert_eq!(rt;
-        value_in(&table, &start, ask(0, 0, Zero), -1, 101, &mut room),
-        0
-    );
-    assert_eq!(rt; choice(&table, &start, ask(0, 0, Zero), &mut room), None);
+fn answer_in_a_window(rt: HostRuntime) -> Result<(), AllocError> {
+    for (window, range) in WINDOWS {
+        assert!(rt; lies_in(&LEVEL, rt.alloc(), window, range)?, "{window:?}");
+    }
     Ok(())
 }
 
+/// Windows, the ranges in which the answers lie, and how many states are stepped to.
+const NARROWED: [((i16, i16), (i16, i16), usize); 3] = [
+    ((-1, 101), (30, 30), 8),
+    // The first reply to each side is worth no more than 60 already.
+    ((60, 101), (30, 60), 2),
+    // The first side is worth 10, so the second is not looked at.
+    ((0, 10), (10, 30), 4),
+];
+
 #[test]
-fn first_of_equal_moves_is_chosen(rt: HostRuntime) -> Result<(), AllocError> {
-    let table = Table {
-        worth: [70, 40, 90, 80, 60, 40, 50, 45],
-        ends: [true; 8],
+fn narrow_window_steps_less(rt: HostRuntime) -> Result<(), AllocError> {
+    let game = Watched {
+        inner: LEVEL,
+        watch: AtomicUsize::new(0),
     };
-    let mut room = Room::new(rt.alloc(), &table, 1)?;
-    let start = table.fresh()?;
-    assert_eq!(rt;
-        value_in(&table, &start, ask(0, 1, Zero), -1, 101, &mut room),
-        40
-    );
-    assert_eq!(rt; choice(&table, &start, ask(0, 1, Zero), &mut room), Some(0));
+    for (window, range, steps) in NARROWED {
+        assert!(rt; lies_in(&game, rt.alloc(), window, range)?, "{window:?}");
+        assert_eq!(rt; game.watch.swap(0, Ordering::SeqCst), steps);
+    }
     Ok(())
 }
 
@@ -105,147 +195,8 @@ fn first_of_equal_replies_is_told(rt: HostRuntime) -> Result<(), AllocError> {
     Ok(())
 }
 
-// By its second side the row comes to a cell where the layer has no move, whatever is written there.
 #[test]
-fn stuck_state_is_worth_nothing(rt: HostRuntime) -> Result<(), AllocError> {
-    let table = Table {
-        worth: [20, 20, 20, 20, 90, 90, 90, 90],
-        ends: [true, true, true, true, false, false, false, false],
-    };
-    let mut room = Room::new(rt.alloc(), &table, 3)?;
-    let start = table.fresh()?;
-    assert_eq!(rt;
-        value_in(&table, &start, ask(0, 3, Zero), -1, 101, &mut room),
-        20
-    );
-    assert_eq!(rt; choice(&table, &start, ask(0, 3, Zero), &mut room), Some(0));
-    let stuck = Chosen { cell: 5 };
-    assert_eq!(rt; table.goal(&stuck, 0), 90);
-    assert_eq!(rt;
-        value_in(&table, &stuck, ask(0, 3, Zero), -1, 101, &mut room),
-        0
-    );
-    assert_eq!(rt; choice(&table, &stuck, ask(0, 3, Zero), &mut room), None);
-    Ok(())
-}
-
-// Nothing is chosen yet, and the row has the goal 70.
-#[test]
-fn goal_counts_at_the_bound_where_it_is_asked(rt: HostRuntime) -> Result<(), AllocError> {
-    let table = Table {
-        worth: [70, 20, 20, 20, 90, 90, 90, 90],
-        ends: [true, true, true, true, false, false, false, false],
-    };
-    let mut room = Room::new(rt.alloc(), &table, 1)?;
-    let start = table.fresh()?;
-    assert_eq!(rt;
-        value_in(&table, &start, ask(0, 0, Goal), -1, 101, &mut room),
-        70
-    );
-    assert_eq!(rt;
-        value_in(&table, &start, ask(1, 0, Goal), -1, 101, &mut room),
-        30
-    );
-    assert_eq!(rt;
-        value_in(&table, &start, ask(0, 0, Zero), -1, 101, &mut room),
-        0
-    );
-    assert_eq!(rt; choice(&table, &start, ask(0, 0, Goal), &mut room), None);
-    // A state without moves for some role is worth nothing at the bound either, and one that has ended its goal.
-    let stuck = Chosen { cell: 5 };
-    assert_eq!(rt;
-        value_in(&table, &stuck, ask(0, 0, Goal), -1, 101, &mut room),
-        0
-    );
-    let over = Chosen { cell: 1 };
-    assert_eq!(rt;
-        value_in(&table, &over, ask(0, 0, Zero), -1, 101, &mut room),
-        70
-    );
-    // A turn later the game has ended, or is stuck.
-    assert_eq!(rt;
-        value_in(&table, &start, ask(0, 1, Goal), -1, 101, &mut room),
-        20
-    );
-    assert_eq!(rt; choice(&table, &start, ask(0, 1, Goal), &mut room), Some(0));
-    Ok(())
-}
-
-#[test]
-fn deep_search_of_a_short_game(rt: HostRuntime) -> Result<(), AllocError> {
-    let table = LEVEL;
-    let mut room = Room::new(rt.alloc(), &table, 64)?;
-    let start = table.fresh()?;
-    assert_eq!(rt;
-        value_in(&table, &start, ask(0, 64, Zero), -1, 101, &mut room),
-        30
-    );
-    assert_eq!(rt;
-        choice(&table, &start, ask(0, 64, Zero), &mut room),
-        Some(1)
-    );
-    let over = Chosen { cell: 8 };
-    assert_eq!(rt;
-        value_in(&table, &over, ask(0, 64, Zero), -1, 101, &mut room),
-        95
-    );
-    assert_eq!(rt;
-        value_in(&table, &over, ask(0, 0, Zero), -1, 101, &mut room),
-        95
-    );
-    assert_eq!(rt; choice(&table, &over, ask(0, 64, Zero), &mut room), None);
-    Ok(())
-}
-
-#[test]
-fn answer_in_a_window(rt: HostRuntime) -> Result<(), AllocError> {
-    let above = value_of(&LEVEL, rt.alloc(), (40, 60))?;
-    assert!(rt; 30 <= above && above <= 40);
-    let below = value_of(&LEVEL, rt.alloc(), (10, 20))?;
-    assert!(rt; 20 <= below && below <= 30);
-    assert_eq!(rt; value_of(&LEVEL, rt.alloc(), (29, 31))?, 30);
-    Ok(())
-}
-
-#[test]
-fn narrow_window_steps_less(rt: HostRuntime) -> Result<(), AllocError> {
-    let game = Watched {
-        inner: LEVEL,
-        watch: AtomicUsize::new(0),
-    };
-    assert_eq!(rt; value_of(&game, rt.alloc(), (-1, 101))?, 30);
-    assert_eq!(rt; game.watch.swap(0, Ordering::SeqCst), 8);
-    // The first reply to each side is worth no more than 60 already.
-    let low = value_of(&game, rt.alloc(), (60, 101))?;
-    assert!(rt; 30 <= low && low <= 60);
-    assert_eq!(rt; game.watch.swap(0, Ordering::SeqCst), 2);
-    // The first side is worth 10, so the second is not looked at.
-    let high = value_of(&game, rt.alloc(), (0, 10))?;
-    assert!(rt; 10 <= high && high <= 30);
-    assert_eq!(rt; game.watch.load(Ordering::SeqCst), 4);
-    Ok(())
-}
-
-// The row's second side is worth 30. Nothing is behind it, so it is not looked at.
-#[test]
-fn choice_by_a_known_value_steps_less(rt: HostRuntime) -> Result<(), AllocError> {
-    let game = Watched {
-        inner: LEVEL,
-        watch: AtomicUsize::new(0),
-    };
-    let mut room = Room::new(rt.alloc(), &game, 1)?;
-    let start = game.fresh()?;
-    assert_eq!(rt;
-        choice_by_value(&game, &start, ask(0, 1, Zero), 30, &mut room),
-        Some(1)
-    );
-    assert_eq!(rt; game.watch.load(Ordering::SeqCst), 2);
-    Ok(())
-}
-
-// Of the row's first side cell 1 is the first that is worth 10.
-#[test]
-fn reply_by_a_known_value_steps_less(rt: HostRuntime) -> Result<(), AllocError> {
+fn known_values_step_less(rt: HostRuntime) -> Result<(), AllocError> {
     let game = Watched {
         inner: LEVEL,
         watch: AtomicUsize::new(0),
@@ -253,19 +204,22 @@ fn reply_by_a_known_value_steps_less(rt: HostRuntime) -> Result<(), AllocError> 
     let mut room = Room::new(rt.alloc(), &game, 1)?;
     let start = game.fresh()?;
     let mut reply = SmallVec::new(rt.alloc());
+    // The row's second side is worth 30. Nothing is behind it, so it is not looked at.
+    assert_eq!(rt;
+        choice_by_value(&game, &start, ask(0, 1, Zero), 30, &mut room),
+        Some(1)
+    );
+    assert_eq!(rt; game.watch.swap(0, Ordering::SeqCst), 2);
+    // Of the row's first side cell 1 is the first that is worth 10.
     reply_by_value(&game, &start, ask(0, 1, Zero), 0, 10, &mut room, &mut reply);
     assert_eq!(rt; reply.as_slice(), [0, 0, 1].as_slice());
     assert_eq!(rt; game.watch.load(Ordering::SeqCst), 2);
     Ok(())
 }
 
-// The row can be sure of 40 by both sides.
 #[test]
 fn first_of_equals_by_a_known_value(rt: HostRuntime) -> Result<(), AllocError> {
-    let table = Table {
-        worth: [70, 40, 90, 80, 60, 40, 50, 45],
-        ends: [true; 8],
-    };
+    let table = EQUAL;
     let mut room = Room::new(rt.alloc(), &table, 1)?;
     let start = table.fresh()?;
     let mut reply = SmallVec::new(rt.alloc());
@@ -332,18 +286,18 @@ fn value_for<G: Game>(game: &G, alloc: Global, role: usize, at: AtBound) -> Resu
     Ok(value_in(game, &start, ask(role, 1, at), -1, 101, &mut room))
 }
 
-/// The values of the start state for three roles, each by either bound.
-fn values_of<G: Game>(game: &G, alloc: Global) -> Result<[i16; 6], AllocError>
+/// Whether the start state has these values for three roles, each by either bound.
+fn has_values<G: Game>(game: &G, alloc: Global, values: [i16; 3]) -> Result<bool, AllocError>
     requires { 2 < (G.rules game.now).roles }
 {
-    Ok([
-        value_for(game, alloc, 0, Zero)?,
-        value_for(game, alloc, 0, Goal)?,
-        value_for(game, alloc, 1, Zero)?,
-        value_for(game, alloc, 1, Goal)?,
-        value_for(game, alloc, 2, Zero)?,
-        value_for(game, alloc, 2, Goal)?,
-    ])
+    for role in 0..3usize {
+        if value_for(game, alloc, role, Zero)? != values[role]
+            || value_for(game, alloc, role, Goal)? != values[role]
+        {
+            return Ok(false);
+        }
+    }
+    Ok(true)
 }
 
 // In the second cell the game goes on, and the layer has no move. The table judges the last turn, and the watched game steps it.
@@ -353,12 +307,12 @@ fn judged_turn_has_the_values_of_a_stepped_one(rt: HostRuntime) -> Result<(), Al
         worth: [30, 95, 40, 90, 60, 50, 70, 80],
         ends: [true, false, true, true, true, true, true, true],
     };
-    assert_eq!(rt; values_of(&table, rt.alloc())?, [50, 50, 10, 10, 30, 30]);
+    assert!(rt; has_values(&table, rt.alloc(), [50, 10, 30])?);
     let game = Watched {
         inner: table,
         watch: AtomicUsize::new(0),
     };
-    assert_eq!(rt; values_of(&game, rt.alloc())?, [50, 50, 10, 10, 30, 30]);
+    assert!(rt; has_values(&game, rt.alloc(), [50, 10, 30])?);
     assert!(rt; game.watch.load(Ordering::SeqCst) > 0);
     Ok(())
 }

@@ -10,7 +10,6 @@ mod cubes;
 mod cuts;
 mod deepenings;
 mod devices;
-mod games;
 mod helps;
 mod lines;
 mod misuses;

@@ -8,8 +8,8 @@ use linked_list_allocator::LocalHeap;
 use rules::RuleSet;
 use std::alloc::{Allocator, Global};
 use std::io::Write;
-use std::process::Abort;
 use std::test::Fail;
+use trial_games::texts::{MARKS, MATCH};
 
 /// `accepted`, or the words of the fault of trees.
 fn answer_to<A: Allocator>(alloc: Global, trees: &[Expr<A>]) -> Result<Vec<u8>, Fail> {
@@ -51,39 +51,35 @@ const ROWS: [(&[u8], &[u8]); 14] = [
     (b"(p a)", b"G6 NoRole"),
 ];
 
-fn row_holds<A: Allocator>(
-    rt: &impl Abort,
+/// Whether a text whose trees stand in a place is answered so.
+fn is_answered<A: Allocator + Clone>(
     alloc: Global,
-    trees: &[Expr<A>],
+    place: A,
+    text: &[u8],
     want: &[u8],
-) -> Result<(), Fail> {
-    let got = answer_to(alloc, trees)?;
-    assert_eq!(rt; got.as_slice(), want);
-    Ok(())
+) -> Result<bool, Fail> {
+    let trees = read(place, text)?;
+    let got = answer_to(alloc, &trees)?;
+    Ok(got.as_slice() == want)
 }
 
 #[test]
 fn each_fault_is_answered(rt: HostRuntime) -> Result<(), Fail> {
-    for (text, want) in ROWS {
-        row_holds(&rt, rt.alloc(), &read(rt.alloc(), text)?, want)?;
-    }
-    Ok(())
-}
-
-#[test]
-fn trees_in_an_arena_are_answered(rt: HostRuntime) -> Result<(), Fail> {
-    for (text, want) in ROWS {
-        let bump = Bump::new(rt.alloc());
-        row_holds(&rt, rt.alloc(), &read(&bump, text)?, want)?;
-    }
-    Ok(())
-}
-
-#[test]
-fn trees_in_a_heap_are_answered(rt: HostRuntime) -> Result<(), Fail> {
     let heap = LocalHeap::new(rt.alloc(), 65536)?;
-    for (text, want) in ROWS {
-        row_holds(&rt, rt.alloc(), &read(&heap, text)?, want)?;
+    for (row, (text, want)) in ROWS.into_iter().enumerate() {
+        let bump = Bump::new(rt.alloc());
+        assert!(rt;
+            is_answered(rt.alloc(), rt.alloc(), text, want)?,
+            "row {row}"
+        );
+        assert!(rt;
+            is_answered(rt.alloc(), &bump, text, want)?,
+            "row {row} in an arena"
+        );
+        assert!(rt;
+            is_answered(rt.alloc(), &heap, text, want)?,
+            "row {row} in a heap"
+        );
     }
     assert_eq!(rt; heap.used(), 0);
     Ok(())
@@ -137,38 +133,6 @@ fn a_description_is_numbered(rt: HostRuntime) -> Result<(), Fail> {
     Ok(())
 }
 
-const MATCH: &[u8] =
-    b"(role a)(role b)(base done)(base same)(input a h)(input a t)(input b h)(input b t)
-    (<= (legal ?r ?m) (input ?r ?m) (not (true done)))(<= (next done) (does a ?m))
-    (<= (next same) (does a ?m) (does b ?m))(<= terminal (true done))(<= (goal a 100) (true same))
-    (<= (goal a 0) (not (true same)))(<= (goal b 0) (true same))(<= (goal b 100) (not (true same)))";
-
-const TTT: &[u8] = b"(role xplayer)(role oplayer)(index 1)(index 2)(index 3)
-    (<= (base (cell ?x ?y b)) (index ?x) (index ?y))(<= (base (cell ?x ?y x)) (index ?x) (index ?y))
-    (<= (base (cell ?x ?y o)) (index ?x) (index ?y))(<= (base (control ?p)) (role ?p))
-    (<= (input ?p (mark ?x ?y)) (role ?p) (index ?x) (index ?y))(<= (input ?p noop) (role ?p))
-    (init (cell 1 1 b))(init (cell 1 2 b))(init (cell 1 3 b))(init (cell 2 1 b))(init (cell 2 2 b))
-    (init (cell 2 3 b))(init (cell 3 1 b))(init (cell 3 2 b))(init (cell 3 3 b))(init (control xplayer))
-    (<= (next (cell ?x ?y x)) (does xplayer (mark ?x ?y)) (true (cell ?x ?y b)))
-    (<= (next (cell ?x ?y o)) (does oplayer (mark ?x ?y)) (true (cell ?x ?y b)))
-    (<= (next (cell ?x ?y ?w)) (true (cell ?x ?y ?w)) (distinct ?w b))
-    (<= (next (cell ?x ?y b)) (does ?w (mark ?m ?n)) (true (cell ?x ?y b))
-        (or (distinct ?x ?m) (distinct ?y ?n)))
-    (<= (next (control xplayer)) (true (control oplayer)))
-    (<= (next (control oplayer)) (true (control xplayer)))
-    (<= (row ?x ?w) (true (cell ?x 1 ?w)) (true (cell ?x 2 ?w)) (true (cell ?x 3 ?w)))
-    (<= (column ?y ?w) (true (cell 1 ?y ?w)) (true (cell 2 ?y ?w)) (true (cell 3 ?y ?w)))
-    (<= (diagonal ?w) (true (cell 1 1 ?w)) (true (cell 2 2 ?w)) (true (cell 3 3 ?w)))
-    (<= (diagonal ?w) (true (cell 1 3 ?w)) (true (cell 2 2 ?w)) (true (cell 3 1 ?w)))
-    (<= (line ?w) (row ?x ?w))(<= (line ?w) (column ?y ?w))(<= (line ?w) (diagonal ?w))
-    (<= open (true (cell ?x ?y b)))
-    (<= (legal ?w (mark ?x ?y)) (true (cell ?x ?y b)) (true (control ?w)))
-    (<= (legal xplayer noop) (true (control oplayer)))(<= (legal oplayer noop) (true (control xplayer)))
-    (<= (goal xplayer 100) (line x))(<= (goal xplayer 50) (not (line x)) (not (line o)) (not open))
-    (<= (goal xplayer 0) (line o))(<= (goal oplayer 100) (line o))
-    (<= (goal oplayer 50) (not (line x)) (not (line o)) (not open))(<= (goal oplayer 0) (line x))
-    (<= terminal (line x))(<= terminal (line o))(<= terminal (not open))";
-
 /// How many items, alternatives and relations there are, and the roles.
 fn told_of<A: Allocator>(alloc: Global, items: &[Expr<A>]) -> Result<Vec<u8>, Fail> {
     let set = RuleSet::check(alloc, items)?;
@@ -185,7 +149,7 @@ fn games_have_their_counts(rt: HostRuntime) -> Result<(), Fail> {
     let matching = told_of(rt.alloc(), &read(rt.alloc(), MATCH)?)?;
     assert_eq!(rt; matching.as_slice(), b"16 16 7 a b ".as_slice());
     let bump = Bump::new(rt.alloc());
-    let rows = told_of(rt.alloc(), &read(&bump, TTT)?)?;
+    let rows = told_of(rt.alloc(), &read(&bump, MARKS)?)?;
     assert_eq!(rt; rows.as_slice(), b"47 48 14 xplayer oplayer ".as_slice());
     Ok(())
 }

@@ -2,9 +2,8 @@
 ghost use Rattle.std.specs.Prelude.{OnOk};
 ghost use Rattle.std.specs.Io.KnownBytes.{Appends};
 
-use crate::Flushing;
+use flushing::Flushing;
 use std::io::{self, Error, ErrorKind, Write};
-use std::test::Fail;
 
 /// A writer that counts the bytes and the flushes, and may fail at either.
 #[derive(Drop)]
@@ -58,39 +57,31 @@ fn write_to<W: Write>(out: &mut W, bytes: &[u8]) -> io::Result<()>
     write_flushed(out, bytes)
 }
 
+/// Whether writes and flushes of a tray fail, whether three bytes are written and flushed, how many bytes and flushes it has counted then,
+/// and whether it is flushed once more.
+const TRAYS: [((bool, bool), bool, (usize, usize), bool); 3] = [
+    ((false, false), true, (3, 1), true),
+    // A flush that fails is told.
+    ((false, true), false, (3, 1), false),
+    // Nothing is flushed behind a write that fails.
+    ((true, false), false, (0, 0), true),
+];
+
 #[test]
-fn a_flush_reaches_the_writer(rt: HostRuntime) -> Result<(), Fail> {
-    let mut out = empty_tray(false, false);
-    assert!(rt; write_to(&mut out, b"one").is_ok());
-    assert_eq!(rt; out.taken, 3);
-    assert_eq!(rt; out.flushes, 1);
-    assert!(rt; out.flush_all().is_ok());
-    assert_eq!(rt; out.flushes, 2);
-    Ok(())
+fn a_flush_reaches_the_writer(rt: HostRuntime) {
+    for ((writes_fail, flushes_fail), written, (taken, flushes), again) in TRAYS {
+        let mut out = empty_tray(writes_fail, flushes_fail);
+        assert_eq!(rt; write_to(&mut out, b"one").is_ok(), written);
+        assert_eq!(rt; (out.taken, out.flushes), (taken, flushes));
+        assert_eq!(rt; out.flush_all().is_ok(), again);
+        assert_eq!(rt; out.flushes, flushes.saturating_add(1));
+    }
 }
 
 #[test]
-fn a_flush_that_fails_is_told(rt: HostRuntime) -> Result<(), Fail> {
-    let mut out = empty_tray(false, true);
-    assert!(rt; write_to(&mut out, b"one").is_err());
-    assert_eq!(rt; out.taken, 3);
-    assert_eq!(rt; out.flushes, 1);
-    Ok(())
-}
-
-#[test]
-fn nothing_is_flushed_behind_a_write_that_fails(rt: HostRuntime) -> Result<(), Fail> {
-    let mut out = empty_tray(true, false);
-    assert!(rt; write_to(&mut out, b"one").is_err());
-    assert_eq!(rt; out.flushes, 0);
-    Ok(())
-}
-
-#[test]
-fn a_list_keeps_its_bytes(rt: HostRuntime) -> Result<(), Fail> {
+fn a_list_keeps_its_bytes(rt: HostRuntime) {
     let mut out = Vec::new(rt.alloc());
     assert!(rt; write_to(&mut out, b"one").is_ok());
     assert!(rt; out.flush_all().is_ok());
     assert!(rt; out.as_slice() == b"one".as_slice());
-    Ok(())
 }

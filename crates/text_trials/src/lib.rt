@@ -1,11 +1,13 @@
 //! Worked texts: trees and their order, over each allocator, lines and places, what descriptions say as rules, and what people are told of
-//! them.
+//! them; what writers are flushed; and the word that names a file of rules.
 #![tactic(auto)]
 
 #[cfg(test)]
 mod descriptions;
 #[cfg(test)]
 mod findings;
+#[cfg(test)]
+mod flushes;
 #[cfg(test)]
 mod lines;
 #[cfg(test)]
@@ -14,5 +16,7 @@ mod links;
 mod notices;
 #[cfg(test)]
 mod orders;
+#[cfg(test)]
+mod sources;
 #[cfg(test)]
 mod texts;

@@ -23,21 +23,34 @@ const PLACES: [(&[u8], usize, usize, usize); 15] = [
     (b"a\n\xc3\xa9\xc3", 4, 2, 2),
 ];
 
+/// A text whose lines end with and without a carriage return, one of them empty.
+const LINES: &[u8] = b"(a)\n(b) c\r\n\nd";
+
+/// Offsets in it, with the start and the end of the line around them.
+const AROUND: [(usize, usize, usize); 5] = [
+    (0, 0, 3),
+    (3, 0, 3),
+    (4, 4, 10),
+    (11, 11, 11),
+    (99, 12, 13),
+];
+
 #[test]
 fn places_are_lines_and_columns(rt: HostRuntime) {
     for (text, offset, line, column) in PLACES {
-        assert_eq!(rt; place_of(text, offset), Place { line, column });
+        assert_eq!(rt;
+            place_of(text, offset),
+            Place { line, column },
+            "{offset} of {text:?}"
+        );
     }
-}
-
-#[test]
-fn lines_end_before_their_line_feed(rt: HostRuntime) {
-    let text = b"(a)\n(b) c\r\n\nd";
-    assert_eq!(rt; line_around(text, 0), Line { start: 0, end: 3 });
-    assert_eq!(rt; line_around(text, 3), Line { start: 0, end: 3 });
-    assert_eq!(rt; line_around(text, 4), Line { start: 4, end: 10 });
-    assert_eq!(rt; line_around(text, 11), Line { start: 11, end: 11 });
-    assert_eq!(rt; line_around(text, 99), Line { start: 12, end: 13 });
+    for (offset, start, end) in AROUND {
+        assert_eq!(rt;
+            line_around(LINES, offset),
+            Line { start, end },
+            "around {offset}"
+        );
+    }
 }
 
 #[test]
@@ -62,28 +75,34 @@ fn tokens_come_in_order(rt: HostRuntime) {
 /// Five trees in three lines.
 const TEXT: &[u8] = b"; (a)\n(p ?X (q x)) a\n (<= (r ?x)\n\t(p ?x Ax)) () end";
 
-#[test]
-fn trees_begin_where_they_are_read(rt: HostRuntime) -> Result<(), Fail> {
-    let items = read(rt.alloc(), TEXT)?;
-    assert_eq!(rt; items.len(), 5);
-    let starts = [6, 19, 22, 45, 48];
-    for (index, start) in starts.iter().enumerate() {
-        assert_eq!(rt; item_start(TEXT, &items, index), Some(*start));
-    }
-    assert_eq!(rt; item_start(TEXT, &items, 5), None);
-    Ok(())
-}
+/// Where its trees begin; there is no sixth.
+const STARTS: [Option<usize>; 6] = [Some(6), Some(19), Some(22), Some(45), Some(48), None];
+
+/// Names, where they first stand from a tree on.
+const NAMES: [(usize, &[u8], Option<usize>); 8] = [
+    (0, b"?x", Some(9)),
+    (0, b"x", Some(15)),
+    (0, b"a", Some(19)),
+    (2, b"?x", Some(29)),
+    (1, b"ax", Some(40)),
+    (2, b"?y", None),
+    (4, b"end", Some(48)),
+    (5, b"end", None),
+];
 
 #[test]
-fn names_are_found_in_their_tree(rt: HostRuntime) -> Result<(), Fail> {
+fn trees_and_names_begin_where_they_are_read(rt: HostRuntime) -> Result<(), Fail> {
     let items = read(rt.alloc(), TEXT)?;
-    assert_eq!(rt; word_start(TEXT, &items, 0, b"?x"), Some(9));
-    assert_eq!(rt; word_start(TEXT, &items, 0, b"x"), Some(15));
-    assert_eq!(rt; word_start(TEXT, &items, 0, b"a"), Some(19));
-    assert_eq!(rt; word_start(TEXT, &items, 2, b"?x"), Some(29));
-    assert_eq!(rt; word_start(TEXT, &items, 1, b"ax"), Some(40));
-    assert_eq!(rt; word_start(TEXT, &items, 2, b"?y"), None);
-    assert_eq!(rt; word_start(TEXT, &items, 4, b"end"), Some(48));
-    assert_eq!(rt; word_start(TEXT, &items, 5, b"end"), None);
+    assert_eq!(rt; items.len(), 5);
+    for (index, start) in STARTS.into_iter().enumerate() {
+        assert_eq!(rt; item_start(TEXT, &items, index), start, "tree {index}");
+    }
+    for (index, name, start) in NAMES {
+        assert_eq!(rt;
+            word_start(TEXT, &items, index, name),
+            start,
+            "{name:?} from {index}"
+        );
+    }
     Ok(())
 }

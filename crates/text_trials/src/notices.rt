@@ -71,15 +71,6 @@ const TEXTS: [(&[u8], KifFault, &str); 6] = [
     ),
 ];
 
-#[test]
-fn faults_of_texts_are_told(rt: HostRuntime) -> Result<(), Fail> {
-    for (text, fault, wanted) in TEXTS {
-        let told = told_text(rt.alloc(), text, fault)?;
-        assert_eq!(rt; from_utf8(&told)?, wanted);
-    }
-    Ok(())
-}
-
 /// Rules with a fault, and what is told of it.
 const RULES: [(&[u8], RuleFault, &str); 14] = [
     (
@@ -154,15 +145,6 @@ const RULES: [(&[u8], RuleFault, &str); 14] = [
     ),
 ];
 
-#[test]
-fn faults_of_rules_are_told(rt: HostRuntime) -> Result<(), Fail> {
-    for (text, fault, wanted) in RULES {
-        let told = told_rules(rt.alloc(), text, fault)?;
-        assert_eq!(rt; from_utf8(&told)?, wanted);
-    }
-    Ok(())
-}
-
 /// What is told of the fault of a history that a line names.
 fn told_history(
     alloc: Global,
@@ -219,7 +201,15 @@ const HISTORIES: [(&[u8], &[u8], &str); 5] = [
 ];
 
 #[test]
-fn faults_of_histories_are_told(rt: HostRuntime) -> Result<(), Fail> {
+fn faults_are_told(rt: HostRuntime) -> Result<(), Fail> {
+    for (text, fault, wanted) in TEXTS {
+        let told = told_text(rt.alloc(), text, fault)?;
+        assert_eq!(rt; from_utf8(&told)?, wanted);
+    }
+    for (text, fault, wanted) in RULES {
+        let told = told_rules(rt.alloc(), text, fault)?;
+        assert_eq!(rt; from_utf8(&told)?, wanted);
+    }
     for (after, line, wanted) in HISTORIES {
         let told = told_history(rt.alloc(), after, line, LINES)?;
         assert_eq!(rt; from_utf8(&told)?, wanted);
@@ -227,43 +217,31 @@ fn faults_of_histories_are_told(rt: HostRuntime) -> Result<(), Fail> {
     Ok(())
 }
 
+/// Limits that are passed, by the item that passes them, if one does, and by their width.
+const LIMITS: [(Option<usize>, Width, &[u8]); 4] = [
+    (None, Width::Plain, b"refused N1 TooMany base\n"),
+    (None, Width::Plain, b"refused N1 TooMany inputs\n"),
+    (None, Width::Wide, b"refused N1 TooMany inputs\n"),
+    (Some(2), Width::Plain, b"refused N1 TooMany instances\n"),
+];
+
+/// What is told of a role that is none, and of the limits.
+const LIMITS_TOLD: &str =
+    "--role: refused S1 NoSuchRole: the roles are x (o 2)\n<input>: refused N1 TooMany: more than 65536 base propositions\n<input>: refused N1 TooMany: more than 4096 moves of all roles together\n<input>: refused N1 TooMany: more than 65536 moves of all roles together\n<input>:2:1: refused N1 TooMany: more than 262144 instances of rules\n(q)\n^\n  with this item the limit is passed; the items that are instantiated before it pass none\n";
+
 #[test]
 fn roles_and_limits_are_told(rt: HostRuntime) -> Result<(), Fail> {
     let mut output = Vec::new(rt.alloc());
     explain_role(b" x (o 2)", &mut output)?;
-    let Ok(items) = read(rt.alloc(), b"(p)\n(q)") else {
-        return Err(AllocError.into());
-    };
+    let items = read(rt.alloc(), b"(p)\n(q)")?;
     let source = Source {
         name: "<input>",
         text: b"(p)\n(q)",
         items: &items,
     };
-    explain_limit(
-        &source,
-        None,
-        Width::Plain,
-        b"refused N1 TooMany base\n",
-        &mut output,
-    )?;
-    for width in [Width::Plain, Width::Wide] {
-        explain_limit(
-            &source,
-            None,
-            width,
-            b"refused N1 TooMany inputs\n",
-            &mut output,
-        )?;
+    for (item, width, line) in LIMITS {
+        explain_limit(&source, item, width, line, &mut output)?;
     }
-    explain_limit(
-        &source,
-        Some(2),
-        Width::Plain,
-        b"refused N1 TooMany instances\n",
-        &mut output,
-    )?;
-    let wanted =
-        "--role: refused S1 NoSuchRole: the roles are x (o 2)\n<input>: refused N1 TooMany: more than 65536 base propositions\n<input>: refused N1 TooMany: more than 4096 moves of all roles together\n<input>: refused N1 TooMany: more than 65536 moves of all roles together\n<input>:2:1: refused N1 TooMany: more than 262144 instances of rules\n(q)\n^\n  with this item the limit is passed; the items that are instantiated before it pass none\n";
-    assert_eq!(rt; from_utf8(&output)?, wanted);
+    assert_eq!(rt; from_utf8(&output)?, LIMITS_TOLD);
     Ok(())
 }

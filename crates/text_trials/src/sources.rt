@@ -1,65 +1,57 @@
 //! The option for a file of rules, among all other words.
-use crate::{Misuse, without_rules};
+use source::{Misuse, without_rules};
 use std::alloc::{AllocError, Global};
 
-/// Words with blanks between them, and what is left of them, with the file that they name.
-type Row<'a> = (&'a str, &'a str, Option<&'a str>);
+/// Words with a blank between each two, and what is left of them, with the file that they name, or why they name no one file.
+type Row<'a> = (&'a str, Result<(&'a str, Option<&'a str>), Misuse>);
 
-const TAKEN: [Row; 12] = [
-    ("check", "check", None),
-    ("check --rules a.kif", "check", Some("a.kif")),
+const ROWS: [Row; 22] = [
+    ("check", Ok(("check", None))),
+    ("check --rules a.kif", Ok(("check", Some("a.kif")))),
     (
         "--rules a.kif check --whole",
-        "check --whole",
-        Some("a.kif"),
+        Ok(("check --whole", Some("a.kif"))),
     ),
     (
         "check --rules=a.kif --whole",
-        "check --whole",
-        Some("a.kif"),
+        Ok(("check --whole", Some("a.kif"))),
     ),
-    ("check --rules=-", "check", Some("-")),
-    ("check --rules=--whole", "check", Some("--whole")),
-    ("check --rules a=b", "check", Some("a=b")),
+    ("check --rules=-", Ok(("check", Some("-")))),
+    ("check --rules=--whole", Ok(("check", Some("--whole")))),
+    ("check --rules a=b", Ok(("check", Some("a=b")))),
     // The value of another option is none of this one.
     (
         "solve --role --rules --depth 1",
-        "solve --role --rules --depth 1",
-        None,
+        Ok(("solve --role --rules --depth 1", None)),
     ),
     (
         "moves --after --rules=a.kif",
-        "moves --after --rules=a.kif",
-        None,
+        Ok(("moves --after --rules=a.kif", None)),
     ),
     (
         "moves --after --after --rules a.kif",
-        "moves --after --after",
-        Some("a.kif"),
+        Ok(("moves --after --after", Some("a.kif"))),
     ),
     (
         "moves --after=--role --rules a.kif",
-        "moves --after=--role",
-        Some("a.kif"),
+        Ok(("moves --after=--role", Some("a.kif"))),
     ),
     // Nor is what stands behind the end of options, or another word.
     (
         "check --rule a.kif -- --rules",
-        "check --rule a.kif -- --rules",
-        None,
+        Ok(("check --rule a.kif -- --rules", None)),
     ),
-];
-
-const MISUSES: [(&str, Misuse); 9] = [
-    ("check --rules", Misuse::Nameless),
-    ("check --rules=", Misuse::Nameless),
-    ("check --rules --whole", Misuse::Nameless),
-    ("check --rules -- a.kif", Misuse::Nameless),
-    ("--rules a.kif check --rules a.kif", Misuse::Twice),
-    ("check --rules=a.kif --rules=", Misuse::Nameless),
-    ("check --rules=a.kif --rules=b.kif", Misuse::Twice),
-    ("serve --rules a.kif", Misuse::OfSession),
-    ("--rules=a.kif serve --whole", Misuse::OfSession),
+    ("check --rules", Err(Misuse::Nameless)),
+    ("check --rules=", Err(Misuse::Nameless)),
+    ("check --rules --whole", Err(Misuse::Nameless)),
+    ("check --rules -- a.kif", Err(Misuse::Nameless)),
+    ("--rules a.kif check --rules a.kif", Err(Misuse::Twice)),
+    ("check --rules=a.kif --rules=", Err(Misuse::Nameless)),
+    ("check --rules=a.kif --rules=b.kif", Err(Misuse::Twice)),
+    ("serve --rules a.kif", Err(Misuse::OfSession)),
+    ("--rules=a.kif serve --whole", Err(Misuse::OfSession)),
+    // An empty name is none.
+    ("check --rules ", Err(Misuse::Nameless)),
 ];
 
 /// The words of a line.
@@ -67,49 +59,23 @@ fn words_in<'a>(alloc: Global, line: &'a str) -> Result<Vec<&'a str>, AllocError
     line.split(' ').collect(alloc)
 }
 
-/// The first row whose words are not taken so.
-fn first_other<'a>(alloc: Global, rows: &'a [Row]) -> Result<Option<&'a str>, AllocError> {
-    for (line, left, file) in rows {
-        let given = words_in(alloc, line)?;
-        let wanted = words_in(alloc, left)?;
-        match without_rules(alloc, &given)? {
-            Ok(words) if words.left == wanted && words.file == *file => {}
-            _ => return Ok(Some(line)),
+/// Whether the words of a row are taken so.
+fn is_taken(alloc: Global, row: &Row) -> Result<bool, AllocError> {
+    let (line, want) = row;
+    let given = words_in(alloc, line)?;
+    match (without_rules(alloc, &given)?, want) {
+        (Ok(words), Ok((left, file))) => {
+            Ok(words.left == words_in(alloc, left)? && words.file == *file)
         }
+        (Err(misuse), Err(wanted)) => Ok(misuse == *wanted),
+        _ => Ok(false),
     }
-    Ok(None)
-}
-
-/// The first row whose words are no such misuse.
-fn first_lawful<'a>(
-    alloc: Global,
-    rows: &'a [(&str, Misuse)],
-) -> Result<Option<&'a str>, AllocError> {
-    for (line, want) in rows {
-        let given = words_in(alloc, line)?;
-        match without_rules(alloc, &given)? {
-            Err(misuse) if misuse == *want => {}
-            _ => return Ok(Some(line)),
-        }
-    }
-    Ok(None)
 }
 
 #[test]
 fn the_file_of_the_rules_is_taken_out_of_the_words(rt: HostRuntime) -> Result<(), AllocError> {
-    assert_eq!(rt; first_other(rt.alloc(), &TAKEN)?, None);
-    Ok(())
-}
-
-#[test]
-fn words_that_name_no_one_file_are_told(rt: HostRuntime) -> Result<(), AllocError> {
-    assert_eq!(rt; first_lawful(rt.alloc(), &MISUSES)?, None);
-    Ok(())
-}
-
-#[test]
-fn an_empty_name_is_none(rt: HostRuntime) -> Result<(), AllocError> {
-    let named = without_rules(rt.alloc(), &["check", "--rules", ""])?;
-    assert!(rt; named.is_err_and(|misuse| misuse == Misuse::Nameless));
+    for row in &ROWS {
+        assert!(rt; is_taken(rt.alloc(), row)?, "{}", row.0);
+    }
     Ok(())
 }

@@ -2,11 +2,12 @@
 ghost use Rattle.std.specs.Prelude.{◌≡◌, ◌<◌, ◌≤◌, All, length, IfOk};
 ghost use Rattle.statement.specs.Rules.{IsTurn};
 
-use super::{MATCH, PICK, TIMELESS, TTT, net_game, rule_game, turn_at, turns_of};
+use super::{PICK, TIMELESS, net_game, rule_game, turn_at, turns_of};
 use game::{Game, Joint, is_stuck};
 use std::alloc::Global;
 use std::io::Write;
 use std::test::Fail;
+use trial_games::texts::{MARKS, MATCH};
 
 /// Adds a goal, or that the game goes on.
 fn add_worth(worth: Option<u8>, text: &mut Vec<u8>) -> Result<(), Fail> {
@@ -112,7 +113,7 @@ fn net_worths(rt: &HostRuntime, text: &[u8], count: usize) -> Result<Vec<u8>, Fa
 
 #[test]
 fn networks_judge_as_rules_tell(rt: HostRuntime) -> Result<(), Fail> {
-    for (text, count) in [(MATCH, 3), (TTT, 9), (TIMELESS, 2), (PICK, 64)] {
+    for (text, count) in [(MATCH, 3), (MARKS, 9), (TIMELESS, 2), (PICK, 64)] {
         let want = rule_worths(&rt, text, count)?;
         assert_eq!(rt; net_worths(&rt, text, count)?, want);
     }

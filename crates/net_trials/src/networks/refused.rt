@@ -1,5 +1,5 @@
 //! Calls whose growths are refused: where all memory is taken, and one by one by bench/refuse, which counts those between two marks.
-use super::{MATCH, add_state, net_game, rule_game, rules_of};
+use super::{add_state, net_game, rule_game, rules_of};
 use game::{Game, HistoryFault, replay};
 use ground::instantiate;
 use kif::{Expr, read};
@@ -9,6 +9,7 @@ use rulegame::RuleGame;
 use std::alloc::{AllocError, AllocGlobal, Global};
 use std::process::Abort;
 use std::test::Fail;
+use trial_games::texts::MATCH;
 
 /// How many bytes are left beside the blocks that take all the rest.
 const ROOM: usize = 1 << 20;

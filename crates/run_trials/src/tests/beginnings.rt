@@ -1,10 +1,10 @@
 //! Games cut after each byte. Each beginning is answered, through a run and through the command line.
-use super::games::{FOUR, MARKS, MATCH};
 use super::{status_of, told, words_of};
 use running::run;
 use std::alloc::{AllocError, Global};
 use std::io::Write;
 use std::thread::Threads;
+use trial_games::texts::{FOUR, MARKS, MATCH};
 use words::{Command, Request, request_of};
 
 /// What a beginning of a text without comments ends in, and how many whole trees it has.

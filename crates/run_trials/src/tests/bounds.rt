@@ -1,7 +1,7 @@
 //! What `solve` answers where the turns to look ahead are over and play goes on.
-use super::games::MATCH;
 use super::lines::OPEN;
 use super::{Played, first_untold};
+use trial_games::texts::MATCH;
 
 /// The second role never has a move, and the first has a goal value.
 const STUCK: &[u8] = b"(role a)(role b)(input a go)(legal a go)(goal a 40)";

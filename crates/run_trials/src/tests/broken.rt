@@ -1,10 +1,10 @@
 //! Each command over readers and writers that fail, or go on slowly.
 use super::devices::{Full, Silent, Slow, Torn};
-use super::games::MATCH;
 use super::told;
 use running::main_with;
 use std::io::{Read, Write};
 use std::thread::Threads;
+use trial_games::texts::MATCH;
 
 /// The words of each command.
 const COMMANDS: [&[&str]; 8] = [

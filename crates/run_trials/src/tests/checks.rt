@@ -1,7 +1,7 @@
 //! Descriptions and what `check` answers, through runs and through the command line.
-use super::games::{MARKS, MATCH};
 use super::{Built, Pieces, Text, first_unbuilt, first_unlike};
 use std::alloc::AllocError;
+use trial_games::texts::{MARKS, MATCH};
 
 /// Descriptions, and what `check` tells of them.
 const CHECKED: [Text; 34] = [

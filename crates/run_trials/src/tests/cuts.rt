@@ -1,8 +1,8 @@
 //! What `solve` answers with several threads, through runs and through the command line: the bytes of one thread.
-use super::games::{FOUR, LIVE, MARKS, SIXTEEN};
 use super::lines::{OPEN, WHOLE};
 use super::{Built, Played, first_unbuilt, first_untold};
 use std::alloc::AllocError;
+use trial_games::texts::{FOUR, LIVE, MARKS, SIXTEEN};
 
 /// Games, and what `solve` tells of them by a cut.
 const CUT: [Played; 4] = [

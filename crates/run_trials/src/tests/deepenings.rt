@@ -1,7 +1,6 @@
 //! What `solve --deepen` answers depth by depth, and what `values --lines` does.
 use super::broken::is_written_to_all;
 use super::devices::Tides;
-use super::games::{FOUR, LIVE, MARKS, MATCH};
 use super::lines::OPEN;
 use super::windows::{PICK, SIDES, STUCK};
 use super::{Played, first_untold, told};
@@ -9,6 +8,7 @@ use running::main_with;
 use std::alloc::AllocError;
 use std::io::Write;
 use std::thread::Threads;
+use trial_games::texts::{FOUR, LIVE, MARKS, MATCH};
 
 /// The only role plays two turns, and then has 70.
 const TWO: &[u8] =

@@ -1,6 +1,6 @@
 //! Games and what `solve` answers, through runs and through the command line.
-use super::games::{FOUR, LIVE, MARKS, MATCH, SIXTEEN};
 use super::{Played, first_untold};
+use trial_games::texts::{FOUR, LIVE, MARKS, MATCH, SIXTEEN};
 
 /// The first role wins less where the other two choose differently.
 const THREE: &[u8] =

@@ -1,8 +1,8 @@
 //! Words that make no command, and what is said of them.
-use super::games::MATCH;
 use super::{told, words_of};
 use std::alloc::AllocError;
 use std::thread::Threads;
+use trial_games::texts::MATCH;
 
 /// Words with a bar between each two, and what is written to the errors, where it is a line of the program's own.
 type Misuse<'a> = (&'a str, &'a [u8]);

@@ -1,12 +1,8 @@
 //! Histories and what `moves` answers, through runs and through the command line.
-use super::games::{MARKS, MATCH, SIXTEEN};
 use super::{Played, first_untold, is_answered};
 use std::alloc::{AllocError, Global};
 use std::thread::Threads;
-
-/// A negated proposition outside `Base` never holds, and `init` and `next` of others have no effect.
-pub(crate) const UNBASED: &[u8] =
-    b"(role a)(base p)(input a go)(legal a go)(init r)(<= (next p) (not (true q)))(<= (next s) (true p))(<= terminal (true p))(<= (goal a 90) (true p))";
+use trial_games::texts::{MARKS, MATCH, SIXTEEN, UNBASED};
 
 /// The second role never has a move.
 const IDLE: &[u8] = b"(role a)(role b)(input a go)(legal a go)";

@@ -1,8 +1,7 @@
 //! Descriptions and what `net` answers, through runs and through the command line.
-use super::games::{MARKS, MATCH, SIXTEEN};
-use super::moves::UNBASED;
 use super::{Built, Text, first_unbuilt, first_unlike};
 use std::alloc::AllocError;
+use trial_games::texts::{MARKS, MATCH, SIXTEEN, UNBASED};
 
 /// Descriptions, and what `net` tells of them.
 const COUNTED: [Text; 7] = [

@@ -1,10 +1,10 @@
 //! Each command where all memory is taken, and with more and more of it to take.
-use super::games::{MATCH, SIXTEEN};
 use super::told;
 use running::main_with;
 use std::alloc::{AllocError, Global};
 use std::test::Fail;
 use std::thread::Threads;
+use trial_games::texts::{MATCH, SIXTEEN};
 
 /// How many bytes are left beside the blocks that take all the rest.
 const ROOM: usize = 1 << 22;

@@ -1,7 +1,6 @@
 //! What `state` answers, through runs and through the command line.
-use super::games::{MARKS, MATCH};
-use super::moves::UNBASED;
 use super::{Played, first_untold};
+use trial_games::texts::{MARKS, MATCH, UNBASED};
 
 /// The second role never has a move.
 const IDLE: &[u8] = b"(role a)(role b)(base p)(init p)(input a go)(legal a go)";

@@ -1,9 +1,9 @@
 //! No reply depends on the size of the table of positions.
-use super::games::MARKS;
 use super::lines::WHOLE;
 use super::{is_by_words, words_of};
 use std::alloc::AllocError;
 use std::thread::Threads;
+use trial_games::texts::MARKS;
 
 /// Whether words alone, with a table of this size, tell the whole game of marks.
 fn is_solved<T: Threads + Sync + AllocGlobal>(rt: &T, line: &str) -> Result<bool, AllocError> {

@@ -1,7 +1,7 @@
 //! What `solve` answers within a window, and what `values` does.
-use super::games::MATCH;
 use super::lines::OPEN;
 use super::{Played, first_untold};
+use trial_games::texts::MATCH;
 
 /// One role picks one of four goals, of which the second and the last are greatest.
 pub(crate) const PICK: &[u8] =

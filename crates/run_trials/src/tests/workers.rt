@@ -1,5 +1,4 @@
 //! The cut that words name, on its way to the workers of a search.
-use super::games::FOUR;
 use game::{Game, Joint};
 use ground::instantiate_flat_alone;
 use oracle::RuleGame;
@@ -10,6 +9,7 @@ use std::alloc::AllocError;
 use std::hint::spin_loop;
 use std::sync::atomic::{AtomicBool, AtomicUsize, Ordering};
 use std::thread::Threads;
+use trial_games::texts::FOUR;
 use trial_games::watched::{Watch, Watched};
 use words::{Command, Request, request_of};
 

@@ -1,7 +1,7 @@
-//! Games of the tests.
+//! Descriptions that trials of several crates play.
 
 /// Two roles choose at once. The first wins where they choose the same, and the second where they do not.
-pub(crate) const MATCH: &[u8] = b"(role a)
+pub const MATCH: &[u8] = b"(role a)
 (role b)
 (base done)
 (base same)
@@ -19,7 +19,7 @@ pub(crate) const MATCH: &[u8] = b"(role a)
 (<= (goal b 100) (not (true same)))";
 
 /// Two roles mark cells of a square in turn, each to get three in a line.
-pub(crate) const MARKS: &[u8] = b"(role xplayer)
+pub const MARKS: &[u8] = b"(role xplayer)
 (role oplayer)
 (index 1) (index 2) (index 3)
 (<= (base (cell ?x ?y b)) (index ?x) (index ?y))
@@ -61,7 +61,7 @@ pub(crate) const MARKS: &[u8] = b"(role xplayer)
 (<= terminal (not open))";
 
 /// One role with four moves, of which two are worth the most.
-pub(crate) const FOUR: &[u8] = b"(role a)
+pub const FOUR: &[u8] = b"(role a)
 (val x 40)
 (val y 70)
 (val z 70)
@@ -75,7 +75,7 @@ pub(crate) const FOUR: &[u8] = b"(role a)
 
 /// The first role ends the game by `x` with 90, and by `z` with no goal value. After `y` it can only go on, whatever the second role
 /// replies, and gets 10.
-pub(crate) const LIVE: &[u8] = b"(role a) (role b) (first x) (first y) (first z)
+pub const LIVE: &[u8] = b"(role a) (role b) (first x) (first y) (first z)
 (reply r0) (reply r1) (reply r2) (reply r3) (reply r4)
 (reply r5) (reply r6) (reply r7) (reply r8) (reply r9)
 (base start) (base wx) (base wz) (base mid) (base low) (init start)
@@ -92,5 +92,9 @@ pub(crate) const LIVE: &[u8] = b"(role a) (role b) (first x) (first y) (first z)
 (<= (goal a 90) (true wx)) (<= (goal a 10) (true low))";
 
 /// Sixteen roles with one move each, of which that of the first ends the game.
-pub(crate) const SIXTEEN: &[u8] =
+pub const SIXTEEN: &[u8] =
     b"(role r1)(role r2)(role r3)(role r4)(role r5)(role r6)(role r7)(role r8)(role r9)(role r10)(role r11)(role r12)(role r13)(role r14)(role r15)(role r16)(base on)(<= (input ?r go) (role ?r))(<= (legal ?r go) (role ?r))(<= (next on) (does r1 go))(<= terminal (true on))(<= (goal ?r 55) (role ?r) (true on))";
+
+/// A negated proposition outside `Base` never holds, and `init` and `next` of others have no effect.
+pub const UNBASED: &[u8] =
+    b"(role a)(base p)(input a go)(legal a go)(init r)(<= (next p) (not (true q)))(<= (next s) (true p))(<= terminal (true p))(<= (goal a 90) (true p))";
