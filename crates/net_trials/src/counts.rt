@@ -1,12 +1,11 @@
 //! Searches by one thread with windows, over games of rules, and how many steps they make.
-ghost use Rattle.std.specs.Prelude.{◌<ℤ◌, ◌≤ℤ◌, pos, negsuc, IfOk};
+ghost use Rattle.std.specs.Prelude.{IfOk};
 
-use crate::plays::game_of;
+use crate::made::rule_game;
 use game::{AtBound, Game, Joint, Question, replay};
 use kif::read;
 use maximin::{Room, value_in};
-use std::alloc::{AllocError, AllocGlobal, Global};
-use std::process::Abort;
+use std::alloc::{AllocError, Global};
 use std::sync::atomic::{AtomicUsize, Ordering};
 use std::test::Fail;
 use trial_games::texts::{FOUR, LIVE};
@@ -26,29 +25,26 @@ fn state_after<G: Game>(alloc: Global, game: &G, history: &[u8]) -> Result<G::Po
     Ok(p)
 }
 
-/// The value of a state for the first role within one turn, found in a window. A game without roles is told as want of memory.
-fn value_of<G: Game>(
-    alloc: Global,
-    game: &G,
-    p: &G::Pos,
-    window: (i16, i16),
-) -> Result<i16, AllocError>
-    requires fits { G.fits game.now p.now }
-    requires low { negsuc 1 ≤ℤ window.0 }
-    requires order { window.0 <ℤ window.1 }
-    requires high { window.1 ≤ℤ pos 101 }
-{
-    if game.roles() == 0 {
+/// Whether the value of the state after a history, for the first role within one turn, found in a window, lies in a range. A fault of the
+/// row is told as want of memory.
+fn lies_in<G: Game>(alloc: Global, game: &G, history: &[u8], row: Row) -> Result<bool, AllocError> {
+    let ((low, high), (least, most), _) = row;
+    if game.roles() == 0 || low < -2 || low >= high || high > 101 {
         return Err(AllocError);
     }
+    let here = state_after(alloc, game, history)?;
     let mut room = Room::new(alloc, game, 1)?;
     let asked = Question {
         role: 0,
         depth: 1,
         at: AtBound::Zero,
     };
-    Ok(value_in(game, p, asked, window.0, window.1, &mut room))
+    let value = value_in(game, &here, asked, low, high, &mut room);
+    Ok(least <= value && value <= most)
 }
+
+/// A window, the range in which the answer lies, and how many steps are counted.
+type Row = ((i16, i16), (i16, i16), usize);
 
 /// How many steps were made.
 #[derive(Drop)]
@@ -64,21 +60,26 @@ impl Watch for &Steps {
     fn gave(&self) {}
 }
 
-/// Searches after a turn, once for the value and once below a window, and asserts how many steps each made.
-fn counts_steps<R: Abort + AllocGlobal, G: Game>(
-    rt: &R,
+/// The place of the first row whose answer, in the state after a history, lies elsewhere, or is found in another number of steps.
+fn first_other<G: Game>(
+    alloc: Global,
     game: &G,
     steps: &Steps,
-) -> Result<(), AllocError> {
-    let here = state_after(rt.alloc(), game, b"(y noop)")?;
-    steps.made.store(0, Ordering::SeqCst);
-    assert_eq!(rt; value_of(rt.alloc(), game, &here, (-1, 101))?, 10);
-    assert_eq!(rt; steps.made.swap(0, Ordering::SeqCst), 10);
-    let low = value_of(rt.alloc(), game, &here, (89, 101))?;
-    assert!(rt; 10 <= low && low <= 89);
-    assert_eq!(rt; steps.made.load(Ordering::SeqCst), 1);
-    Ok(())
+    history: &[u8],
+    rows: &[Row],
+) -> Result<Option<usize>, AllocError> {
+    for place in 0..rows.len() {
+        steps.made.store(0, Ordering::SeqCst);
+        let lies = lies_in(alloc, game, history, rows[place])?;
+        if !lies || steps.made.load(Ordering::SeqCst) != rows[place].2 {
+            return Ok(Some(place));
+        }
+    }
+    Ok(None)
 }
+
+/// Below a window one reply of ten is enough. The history has a turn itself.
+const NARROWED: [Row; 2] = [((-1, 101), (10, 10), 11), ((89, 101), (10, 89), 2)];
 
 #[test]
 fn one_reply_of_ten_is_enough_below_the_window(rt: HostRuntime) -> Result<(), Fail> {
@@ -86,25 +87,28 @@ fn one_reply_of_ten_is_enough_below_the_window(rt: HostRuntime) -> Result<(), Fa
         made: AtomicUsize::new(0),
     };
     let game = Watched {
-        inner: game_of(&rt, LIVE)?,
+        inner: rule_game(&rt, LIVE)?,
         watch: &steps,
     };
-    Ok(counts_steps(&rt, &game, &steps)?)
-}
-
-/// Searches the start in windows below, above and around its value, and asserts on which side the answers stand.
-fn stands_on_the_side<R: Abort + AllocGlobal, G: Game>(rt: &R, game: &G) -> Result<(), AllocError> {
-    let start = state_after(rt.alloc(), game, b"")?;
-    let high = value_of(rt.alloc(), game, &start, (10, 60))?;
-    assert!(rt; 60 <= high && high <= 70);
-    let low = value_of(rt.alloc(), game, &start, (80, 90))?;
-    assert!(rt; 70 <= low && low <= 80);
-    assert_eq!(rt; value_of(rt.alloc(), game, &start, (-1, 101))?, 70);
+    let other = first_other(rt.alloc(), &game, &steps, b"(y noop)", &NARROWED)?;
+    assert_eq!(rt; other, None);
     Ok(())
 }
 
+/// Windows below, above and around the value 70, of a game whose steps are not counted.
+const WINDOWS: [Row; 3] = [
+    ((10, 60), (60, 70), 0),
+    ((80, 90), (70, 80), 0),
+    ((-1, 101), (70, 70), 0),
+];
+
 #[test]
 fn answer_stands_on_the_side_of_the_value(rt: HostRuntime) -> Result<(), Fail> {
-    let game = game_of(&rt, FOUR)?;
-    Ok(stands_on_the_side(&rt, &game)?)
+    let steps = Steps {
+        made: AtomicUsize::new(0),
+    };
+    let game = rule_game(&rt, FOUR)?;
+    let other = first_other(rt.alloc(), &game, &steps, b"", &WINDOWS)?;
+    assert_eq!(rt; other, None);
+    Ok(())
 }

@@ -1,5 +1,6 @@
 //! Searches by workers who all have to search at once: so each level of a cut has as many as it names.
-use crate::plays::{finds, game_of, gives_up, new_tally};
+use crate::made::rule_game;
+use crate::plays::{finds, gives_up, new_tally};
 use game::Joint;
 use std::alloc::{AllocError, AllocGlobal, Global};
 use std::process::Abort;
@@ -61,7 +62,7 @@ fn all_meet<R: Threads + Abort + Sync + AllocGlobal>(rt: &R, row: Row) -> Result
         gave_up: AtomicBool::new(false),
     };
     let game = Watched {
-        inner: game_of(rt, &text)?,
+        inner: rule_game(rt, &text)?,
         watch: &crowd,
     };
     finds(rt, &game, 3, cut.as_bytes(), &new_tally(), 50, 0)?;

@@ -1,7 +1,6 @@
 //! What descriptions instantiate to: counts, limits, the order of instances, and kinds of atoms.
+use crate::made::rules_of;
 use ground::{Excess, Ground, GroundFault, Kind, instantiate, instantiate_flat_alone};
-use kif::read;
-use rules::RuleSet;
 use statement::Width;
 use std::alloc::{AllocError, AllocGlobal, Global};
 use std::io::Write;
@@ -14,8 +13,7 @@ fn ground_of<R: Threads + Sync + AllocGlobal>(
     rt: &R,
     text: &[u8],
 ) -> Result<Result<Ground, GroundFault>, Fail> {
-    let items = read(rt.alloc(), text)?;
-    let rules = RuleSet::check(rt.alloc(), &items)?;
+    let rules = rules_of(rt.alloc(), text)?;
     Ok(instantiate(rt, &rules))
 }
 
@@ -111,15 +109,6 @@ const COUNTED: [(&[u8], &[u8]); 13] = [
     (b"(role a)(role a)(d 1)(d 1)", b"0 0 4 0"),
 ];
 
-#[test]
-fn descriptions_have_their_counts(rt: HostRuntime) -> Result<(), Fail> {
-    for (text, want) in COUNTED {
-        let got = told(&rt, text)?;
-        assert_eq!(rt; got.as_slice(), want);
-    }
-    Ok(())
-}
-
 /// Bodies of one rule or more, with their base propositions, inputs, instances and dropped heads.
 const JOINED: [(&[u8], &[u8]); 10] = [
     // Literals that share no variable.
@@ -185,12 +174,23 @@ const JOINED: [(&[u8], &[u8]); 10] = [
     ),
 ];
 
-#[test]
-fn bodies_are_joined(rt: HostRuntime) -> Result<(), Fail> {
-    for (text, want) in JOINED {
-        let got = told(&rt, text)?;
-        assert_eq!(rt; got.as_slice(), want);
+/// The place of the first description that has other counts.
+fn first_other<R: Threads + Sync + AllocGlobal>(
+    rt: &R,
+    rows: &[(&[u8], &[u8])],
+) -> Result<Option<usize>, Fail> {
+    for (place, (text, want)) in rows.iter().enumerate() {
+        if told(rt, text)?.as_slice() != *want {
+            return Ok(Some(place));
+        }
     }
+    Ok(None)
+}
+
+#[test]
+fn descriptions_have_their_counts(rt: HostRuntime) -> Result<(), Fail> {
+    assert_eq!(rt; first_other(&rt, &COUNTED)?, None);
+    assert_eq!(rt; first_other(&rt, &JOINED)?, None);
     Ok(())
 }
 
@@ -201,8 +201,7 @@ const SHARED: &[u8] = b"(role a)(base t)(<= u (true t))(n 1)(n 2)(n 3)
 
 #[test]
 fn instances_share_a_body(rt: HostRuntime) -> Result<(), Fail> {
-    let items = read(rt.alloc(), SHARED)?;
-    let rules = RuleSet::check(rt.alloc(), &items)?;
+    let rules = rules_of(rt.alloc(), SHARED)?;
     let ground = instantiate_flat_alone(&rt, &rules, Width::Plain)?;
     assert_eq!(rt; ground.many_kept(), 18);
     assert_eq!(rt; ground.many_bodies(), 13);
@@ -244,28 +243,9 @@ const LONGER: &[u8] =
     (<= (p4 (f ?x ?x)) (p3 ?x))(<= (p5 (f ?x ?x)) (p4 ?x))(<= (p6 (f ?x ?x)) (p5 ?x))(<= (p7 (f ?x ?x)) (p6 ?x))
     (<= (p8 (f ?x ?x)) (p7 ?x))(<= (p9 (f ?x ?x)) (p8 ?x))(<= (p10 (f ?x ?x)) (p9 ?x))";
 
-#[test]
-fn one_base_proposition_more_is_too_many(rt: HostRuntime) -> Result<(), Fail> {
-    let wider = told(&rt, ONE_MORE)?;
-    assert_eq!(rt; wider.as_slice(), b"N1 TooMany base".as_slice());
-    let widest = told(&rt, SEVENTEEN)?;
-    assert_eq!(rt; widest.as_slice(), b"N1 TooMany base".as_slice());
-    Ok(())
-}
-
 /// Eight terms, six of which make an atom.
 const MANY: &[u8] = b"(role a)(d 0)(d 1)(d 2)(d 3)(d 4)(d 5)(d 6)(d 7)
     (<= (q ?a ?b ?c ?d ?e ?f) (d ?a) (d ?b) (d ?c) (d ?d) (d ?e) (d ?f))";
-
-#[test]
-fn inputs_are_counted_in_all(rt: HostRuntime) -> Result<(), Fail> {
-    assert_eq!(rt; told(&rt, BROAD)?.as_slice(), b"0 4096 4105 0".as_slice());
-    assert_eq!(rt;
-        told(&rt, BROADER)?.as_slice(),
-        b"N1 TooMany inputs".as_slice()
-    );
-    Ok(())
-}
 
 /// Sixteen terms, four of which make an input.
 const WIDE: &[u8] = b"(role a)(d 0)(d 1)(d 2)(d 3)(d 4)(d 5)(d 6)(d 7)
@@ -278,8 +258,7 @@ const WIDER: &[u8] = b"(role a)(d 0)(d 1)(d 2)(d 3)(d 4)(d 5)(d 6)(d 7)
 
 /// How many inputs all roles have by the limits of a width; none where they are too many.
 fn inputs_by<R: AllocGlobal>(rt: &R, text: &[u8], width: Width) -> Result<Option<usize>, Fail> {
-    let items = read(rt.alloc(), text)?;
-    let rules = RuleSet::check(rt.alloc(), &items)?;
+    let rules = rules_of(rt.alloc(), text)?;
     match instantiate_flat_alone(rt, &rules, width) {
         Ok(ground) => {
             let mut inputs = 0usize;
@@ -293,22 +272,20 @@ fn inputs_by<R: AllocGlobal>(rt: &R, text: &[u8], width: Width) -> Result<Option
     }
 }
 
-#[test]
-fn more_inputs_may_be_by_the_wide_limits(rt: HostRuntime) -> Result<(), Fail> {
-    assert_eq!(rt; inputs_by(&rt, BROAD, Width::Plain)?, Some(4096));
-    assert_eq!(rt; inputs_by(&rt, BROADER, Width::Plain)?, None);
-    assert_eq!(rt; inputs_by(&rt, BROADER, Width::Wide)?, Some(6561));
-    assert_eq!(rt; inputs_by(&rt, WIDE, Width::Wide)?, Some(65536));
-    assert_eq!(rt; inputs_by(&rt, WIDER, Width::Wide)?, None);
-    Ok(())
-}
+/// Descriptions, and how many inputs there are by the limits of a width.
+const INPUTS: [(&[u8], Width, Option<usize>); 5] = [
+    (BROAD, Width::Plain, Some(4096)),
+    (BROADER, Width::Plain, None),
+    (BROADER, Width::Wide, Some(6561)),
+    (WIDE, Width::Wide, Some(65536)),
+    (WIDER, Width::Wide, None),
+];
 
 #[test]
-fn the_limit_that_is_passed_is_named(rt: HostRuntime) -> Result<(), Fail> {
-    assert_eq!(rt;
-        told(&rt, LONGER)?.as_slice(),
-        b"N1 TooMany text".as_slice()
-    );
+fn more_inputs_may_be_by_the_wide_limits(rt: HostRuntime) -> Result<(), Fail> {
+    for (place, (text, width, inputs)) in INPUTS.into_iter().enumerate() {
+        assert_eq!(rt; inputs_by(&rt, text, width)?, inputs, "row {place}");
+    }
     Ok(())
 }
 
@@ -326,15 +303,42 @@ fn with_long_head(alloc: Global, terms: usize, parts: usize) -> Result<Vec<u8>, 
     Ok(text)
 }
 
+/// Base propositions at their limit and past it, with their counts or the limit.
+const BASES: [(&[u8], &[u8]); 4] = [
+    (NINE, b"6561 0 6571 0"),
+    (SIXTEEN, b"65536 0 65553 0"),
+    (ONE_MORE, b"N1 TooMany base"),
+    (SEVENTEEN, b"N1 TooMany base"),
+];
+
 #[test]
-fn rows_whose_heads_are_too_long_are_counted(rt: HostRuntime) -> Result<(), Fail> {
-    let few = with_long_head(rt.alloc(), 32, 150_000)?;
-    assert_eq!(rt; told(&rt, &few)?.as_slice(), b"N1 TooMany text".as_slice());
-    let many = with_long_head(rt.alloc(), 65, 150_000)?;
-    assert_eq!(rt;
-        told(&rt, &many)?.as_slice(),
-        b"N1 TooMany instances".as_slice()
-    );
+fn base_propositions_reach_their_limit(rt: HostRuntime) -> Result<(), Fail> {
+    assert_eq!(rt; first_other(&rt, &BASES)?, None);
+    Ok(())
+}
+
+/// Inputs, instances and texts at their limits and past them.
+const LIMITS: [(&[u8], &[u8]); 5] = [
+    (LONG, b"0 0 11 0"),
+    (LONGER, b"N1 TooMany text"),
+    (MANY, b"N1 TooMany instances"),
+    (BROAD, b"0 4096 4105 0"),
+    (BROADER, b"N1 TooMany inputs"),
+];
+
+/// So many terms and further parts of a head, and what is told of them: the heads of all rows are counted, also where they are too long.
+const HEADS: [(usize, usize, &[u8]); 2] = [
+    (32, 150_000, b"N1 TooMany text"),
+    (65, 150_000, b"N1 TooMany instances"),
+];
+
+#[test]
+fn limits_are_reached_and_not_passed(rt: HostRuntime) -> Result<(), Fail> {
+    assert_eq!(rt; first_other(&rt, &LIMITS)?, None);
+    for (terms, parts, want) in HEADS {
+        let text = with_long_head(rt.alloc(), terms, parts)?;
+        assert_eq!(rt; told(&rt, &text)?.as_slice(), want);
+    }
     Ok(())
 }
 
@@ -438,16 +442,5 @@ fn atoms_are_numbered_by_first_appearance(rt: HostRuntime) -> Result<(), Fail> {
     for (atom, kind) in KINDS.iter().enumerate() {
         assert!(rt; ground.atom_kind(atom as u32) == *kind);
     }
-    Ok(())
-}
-
-#[test]
-fn limits_are_reached_and_not_passed(rt: HostRuntime) -> Result<(), Fail> {
-    assert_eq!(rt; told(&rt, NINE)?.as_slice(), b"6561 0 6571 0".as_slice());
-    assert_eq!(rt; told(&rt, LONG)?.as_slice(), b"0 0 11 0".as_slice());
-    let wide = told(&rt, SIXTEEN)?;
-    assert_eq!(rt; wide.as_slice(), b"65536 0 65553 0".as_slice());
-    let many = told(&rt, MANY)?;
-    assert_eq!(rt; many.as_slice(), b"N1 TooMany instances".as_slice());
     Ok(())
 }

@@ -1,10 +1,10 @@
 //! Whole games, by one worker and by several who help it.
-use crate::plays::{game_of, new_tally};
+use crate::made::rule_game;
+use crate::plays::new_tally;
 use cut::Cut;
 use game::{AtBound, Game, Question};
 use share::solve_with;
-use std::alloc::AllocGlobal;
-use std::process::Abort;
+use std::alloc::{AllocError, AllocGlobal};
 use std::test::Fail;
 use std::thread::Threads;
 
@@ -46,19 +46,35 @@ const RING: &[u8] =
 /// Tables of no entry, of some hundred and of as many as the games here need, in bytes.
 const TABLES: &[usize] = &[0, 1 << 12, 1 << 14, 1 << 20];
 
-/// Whether a game is worth so much to its first role from the start, and the move at a place is its choice, with tables of these sizes and
-/// whoever helps.
-fn agree<R: Threads + Abort + Sync + AllocGlobal>(
+/// A game, how many turns are looked ahead, its worth to the first role from the start, the place of the choice among the legal moves, and
+/// the sizes of tables with which it is so.
+type Row<'a> = (&'a [u8], u32, i16, usize, &'a [usize]);
+
+const ROWS: [Row; 6] = [
+    (STONES, 8, 100, 1, TABLES),
+    (STONES, 12, 100, 1, TABLES),
+    // The other never says yes, so nothing ends, and both moves are worth nothing.
+    (RING, 8, 0, 0, TABLES),
+    (RING, 9, 0, 0, TABLES),
+    // One worker is not done with these before it asks for help.
+    (RING, 16, 0, 0, &[1 << 16]),
+    (RING, 17, 0, 0, &[1 << 16]),
+];
+
+/// Whether a game has the answer of a row, by a cut and with a table of this size.
+fn is_answered<R: Threads + Sync + AllocGlobal, G: Game>(
     rt: &R,
-    text: &[u8],
-    depth: u32,
-    value: i16,
-    place: usize,
-    tables: &[usize],
-) -> Result<(), Fail> {
-    let game = game_of(rt, text)?;
+    game: &G,
+    row: Row,
+    cut: &str,
+    bytes: usize,
+) -> Result<bool, AllocError> {
+    let (_, depth, value, place, _) = row;
+    let Some(cut) = Cut::parse(cut.as_bytes()) else {
+        return Ok(false);
+    };
     if game.roles() == 0 {
-        panic!(rt; "no role");
+        return Ok(false);
     }
     let start = game.fresh()?;
     let choice = game.legal(&start, 0, place);
@@ -67,27 +83,22 @@ fn agree<R: Threads + Abort + Sync + AllocGlobal>(
         depth,
         at: AtBound::Zero,
     };
-    for &bytes in tables {
-        for cut in ["1", "2", "4", "16x4", "2x2x2"] {
-            let Some(cut) = Cut::parse(cut.as_bytes()) else {
-                panic!(rt; "no cut")
-            };
-            let answer = solve_with(rt, &game, &start, asked, &cut, &new_tally(), bytes)?;
-            assert_eq!(rt; answer.value, value);
-            assert_eq!(rt; answer.choice, choice);
-        }
-    }
-    Ok(())
+    let answer = solve_with(rt, game, &start, asked, &cut, &new_tally(), bytes)?;
+    Ok(answer.value == value && answer.choice == choice)
 }
 
 #[test]
 fn a_state_is_worth_the_same_whoever_helps(rt: HostRuntime) -> Result<(), Fail> {
-    agree(&rt, STONES, 8, 100, 1, TABLES)?;
-    agree(&rt, STONES, 12, 100, 1, TABLES)?;
-    // The other never says yes, so nothing ends, and both moves are worth nothing.
-    agree(&rt, RING, 8, 0, 0, TABLES)?;
-    agree(&rt, RING, 9, 0, 0, TABLES)?;
-    // One worker is not done with these before it asks for help.
-    agree(&rt, RING, 16, 0, 0, &[1 << 16])?;
-    agree(&rt, RING, 17, 0, 0, &[1 << 16])
+    for (number, row) in ROWS.into_iter().enumerate() {
+        let game = rule_game(&rt, row.0)?;
+        for bytes in row.4 {
+            for cut in ["1", "2", "4", "16x4", "2x2x2"] {
+                assert!(rt;
+                    is_answered(&rt, &game, row, cut, *bytes)?,
+                    "row {number} by {cut} with {bytes} bytes"
+                );
+            }
+        }
+    }
+    Ok(())
 }

@@ -11,6 +11,8 @@ mod grounds;
 #[cfg(test)]
 mod helping;
 #[cfg(test)]
+mod made;
+#[cfg(test)]
 mod networks;
 #[cfg(test)]
 mod nodes;

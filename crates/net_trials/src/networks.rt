@@ -5,14 +5,9 @@ ghost use Rattle.statement.specs.Rules.{IsTurn};
 mod judged;
 mod refused;
 
+use crate::made::{net_game, rule_game};
 use game::{Game, Joint, is_stuck, new_joint, put_move};
-use ground::{FlatGround, instantiate_flat_alone};
-use kif::read;
-use position::NetGame;
-use propnet::Net;
-use rulegame::RuleGame;
-use rules::RuleSet;
-use statement::Width;
+use judged::{second_worths, worths};
 use std::alloc::{AllocGlobal, Global};
 use std::io::Write;
 use std::test::Fail;
@@ -32,31 +27,6 @@ const PICK: &[u8] = b"(role a)(role b)(t 0)(t 1)(t 2)(t 3)(t 4)(t 5)(t 6)(t 7)
     (<= (input b (m ?x ?y)) (t ?x) (t ?y))(<= (legal b (m ?x ?y)) (t ?x) (t ?y))
     (<= (base (at ?x ?y)) (t ?x) (t ?y))(<= (next (at ?x ?y)) (does b (m ?x ?y)))
     (<= terminal (true (at ?x 7)))(<= (goal a ?v) (true (at ?x ?y)) (v ?x ?v))";
-
-/// The rules of a description.
-fn rules_of(alloc: Global, text: &[u8]) -> Result<RuleSet, Fail> {
-    let items = read(alloc, text)?;
-    Ok(RuleSet::check(alloc, &items)?)
-}
-
-/// The kept instances of a description.
-fn ground_of<R: AllocGlobal>(rt: &R, text: &[u8]) -> Result<FlatGround, Fail> {
-    let rules = rules_of(rt.alloc(), text)?;
-    Ok(instantiate_flat_alone(rt, &rules, Width::Plain)?)
-}
-
-/// The game of a description, over its kept instances.
-fn rule_game<R: AllocGlobal>(rt: &R, text: &[u8]) -> Result<RuleGame, Fail> {
-    let ground = ground_of(rt, text)?;
-    Ok(RuleGame::of_flat(rt.alloc(), ground)?)
-}
-
-/// The game of a description, over its network.
-fn net_game<R: AllocGlobal>(rt: &R, text: &[u8]) -> Result<NetGame, Fail> {
-    let ground = ground_of(rt, text)?;
-    let net = Net::of_flat(rt.alloc(), &ground)?;
-    Ok(NetGame::of_flat(rt.alloc(), ground, net)?)
-}
 
 /// Adds what is told of a state: whether the game has ended, and the goal and the legal moves of each role.
 fn add_state<G: Game>(game: &G, p: &G::Pos, text: &mut Vec<u8>) -> Result<(), Fail>
@@ -145,49 +115,6 @@ fn course<G: Game>(alloc: Global, game: &G, many: bool) -> Result<Vec<u8>, Fail>
     Ok(text)
 }
 
-/// What is told of a play over the kept instances of a description.
-fn rule_course(rt: &HostRuntime, text: &[u8], many: bool) -> Result<Vec<u8>, Fail> {
-    let game = rule_game(rt, text)?;
-    course(rt.alloc(), &game, many)
-}
-
-/// What is told of a play over the network of a description.
-fn net_course(rt: &HostRuntime, text: &[u8], many: bool) -> Result<Vec<u8>, Fail> {
-    let game = net_game(rt, text)?;
-    course(rt.alloc(), &game, many)
-}
-
-#[test]
-fn networks_play_as_rules_do(rt: HostRuntime) -> Result<(), Fail> {
-    for text in [MATCH, MARKS, TIMELESS, SILENT] {
-        let want = rule_course(&rt, text, false)?;
-        assert_eq!(rt; rule_course(&rt, text, true)?, want);
-        assert_eq!(rt; net_course(&rt, text, false)?, want);
-        assert_eq!(rt; net_course(&rt, text, true)?, want);
-    }
-    Ok(())
-}
-
-/// Games, and what is told of their first states.
-const TOLD: [(&[u8], &[u8]); 3] = [
-    (MATCH, b"false 0: 0 1 100: 0 1\ntrue 100: 0:\n"),
-    (SILENT, b"false 40:\n"),
-    (
-        TIMELESS,
-        b"false 30: 1\nfalse 30: 1\nfalse 30: 1\nfalse 30: 1\nfalse 30: 1\n\
-        false 30: 1\nfalse 30: 1\nfalse 30: 1\nfalse 30: 1\nfalse 30: 1\n",
-    ),
-];
-
-#[test]
-fn networks_tell_of_states(rt: HostRuntime) -> Result<(), Fail> {
-    for (text, want) in TOLD {
-        let got = net_course(&rt, text, true)?;
-        assert_eq!(rt; got.as_slice(), want);
-    }
-    Ok(())
-}
-
 /// The first joint moves of a state, as the second role's moves go on.
 fn turns_of<G: Game>(alloc: Global, game: &G, p: &G::Pos, count: usize) -> Result<Vec<Joint>, Fail>
     requires { G.fits game.now p.now }
@@ -229,24 +156,141 @@ fn cells(alloc: Global, count: usize) -> Result<Vec<u8>, Fail> {
     Ok(text)
 }
 
-/// What is told of the cells, over the kept instances.
-fn rule_cells(rt: &HostRuntime, count: usize) -> Result<Vec<u8>, Fail> {
-    let game = rule_game(rt, PICK)?;
-    told_after(rt.alloc(), &game, count)
+/// What is told of a game.
+#[derive(Clone, Copy)]
+enum Asked {
+    /// The states of a play.
+    Course,
+    /// The end and the goals after so many joint moves.
+    After(usize),
+    /// The goals after so many joint moves of each state of a play.
+    Worths(usize),
+    /// The goals two turns after the start, by so many joint moves.
+    SecondWorths(usize),
 }
 
-/// What is told of the cells, over the network.
-fn net_cells(rt: &HostRuntime, count: usize) -> Result<Vec<u8>, Fail> {
-    let game = net_game(rt, PICK)?;
-    told_after(rt.alloc(), &game, count)
+use Asked::{After, Course, SecondWorths, Worths};
+
+/// What is told, by states that are taken out of many, or judged, or neither.
+fn answer<G: Game>(alloc: Global, game: &G, asked: Asked, many: bool) -> Result<Vec<u8>, Fail> {
+    match asked {
+        Course => course(alloc, game, many),
+        After(count) => told_after(alloc, game, count),
+        Worths(count) => worths(alloc, game, count, many),
+        SecondWorths(count) => second_worths(alloc, game, count, many),
+    }
 }
+
+/// What is told over the kept instances of a description.
+fn by_rules<R: AllocGlobal>(
+    rt: &R,
+    text: &[u8],
+    asked: Asked,
+    many: bool,
+) -> Result<Vec<u8>, Fail> {
+    let game = rule_game(rt, text)?;
+    answer(rt.alloc(), &game, asked, many)
+}
+
+/// What is told over the network of a description.
+fn by_network<R: AllocGlobal>(
+    rt: &R,
+    text: &[u8],
+    asked: Asked,
+    many: bool,
+) -> Result<Vec<u8>, Fail> {
+    let game = net_game(rt, text)?;
+    answer(rt.alloc(), &game, asked, many)
+}
+
+/// What is asked, and whether many states are looked at over rules and over networks. Rules judge nothing.
+type Pair = (Asked, bool, bool);
+
+/// Plays, by states that are stepped to and by such as are taken out of many.
+const COURSES: &[Pair] = &[
+    (Course, false, false),
+    (Course, false, true),
+    (Course, true, true),
+];
+
+/// Games, and what is asked of them.
+const ALIKE: [(&[u8], &[Pair]); 8] = [
+    (MATCH, COURSES),
+    (MARKS, COURSES),
+    (TIMELESS, COURSES),
+    (SILENT, COURSES),
+    (
+        MATCH,
+        &[(Worths(3), false, true), (SecondWorths(3), false, true)],
+    ),
+    (MARKS, &[(Worths(9), false, true)]),
+    (TIMELESS, &[(Worths(2), false, true)]),
+    (
+        PICK,
+        &[
+            (After(1), false, true),
+            (After(63), false, true),
+            (After(64), false, true),
+            (Worths(64), false, true),
+            (SecondWorths(64), false, true),
+        ],
+    ),
+];
 
 #[test]
-fn as_many_states_as_joint_moves_are_told_of(rt: HostRuntime) -> Result<(), Fail> {
+fn networks_tell_as_rules_do(rt: HostRuntime) -> Result<(), Fail> {
+    for (row, (text, pairs)) in ALIKE.into_iter().enumerate() {
+        for (place, (asked, taken, judged)) in pairs.iter().enumerate() {
+            let want = by_rules(&rt, text, *asked, *taken)?;
+            assert!(rt;
+                by_network(&rt, text, *asked, *judged)? == want,
+                "game {row}, at {place}"
+            );
+        }
+    }
+    Ok(())
+}
+
+/// Games, and what is told of their first states.
+const TOLD: [(&[u8], &[u8]); 3] = [
+    (MATCH, b"false 0: 0 1 100: 0 1\ntrue 100: 0:\n"),
+    (SILENT, b"false 40:\n"),
+    (
+        TIMELESS,
+        b"false 30: 1\nfalse 30: 1\nfalse 30: 1\nfalse 30: 1\nfalse 30: 1\n\
+        false 30: 1\nfalse 30: 1\nfalse 30: 1\nfalse 30: 1\nfalse 30: 1\n",
+    ),
+];
+
+#[test]
+fn networks_tell_of_states(rt: HostRuntime) -> Result<(), Fail> {
+    for (text, want) in TOLD {
+        let got = by_network(&rt, text, Course, true)?;
+        assert_eq!(rt; got.as_slice(), want);
+    }
+    Ok(())
+}
+
+/// Games, how many joint moves are looked at, and the goals after those of each state of a play.
+const JUDGED: [(&[u8], usize, &[u8]); 3] = [
+    (MATCH, 3, b" 100 0 100 0 100 0"),
+    (TIMELESS, 1, b" - - - - - - - - -"),
+    (
+        PICK,
+        17,
+        b" - - - - - - - - - - - - - - 0 0 - - - - - - - - - - - - - - 10 0 - -",
+    ),
+];
+
+#[test]
+fn networks_judge_known_states(rt: HostRuntime) -> Result<(), Fail> {
+    for (text, count, want) in JUDGED {
+        let got = by_network(&rt, text, Worths(count), true)?;
+        assert!(rt; got.starts_with(want), "{count}");
+    }
     for count in [1, 63, 64] {
         let want = cells(rt.alloc(), count)?;
-        assert_eq!(rt; rule_cells(&rt, count)?, want);
-        assert_eq!(rt; net_cells(&rt, count)?, want);
+        assert_eq!(rt; by_network(&rt, PICK, After(count), true)?, want);
     }
     Ok(())
 }

@@ -1,20 +1,17 @@
 //! Answers over games of rules, whose workers meet.
 ghost use Rattle.std.specs.Prelude.{◌<◌};
 
+use crate::made::rule_game;
 use cut::Cut;
 use game::{AtBound, Game, Joint, Question};
-use ground::instantiate_flat_alone;
-use kif::read;
-use rulegame::RuleGame;
-use rules::RuleSet;
 use share::{Answer, Gate, solve};
-use statement::Width;
-use std::alloc::{AllocError, AllocGlobal, Global};
+use std::alloc::AllocGlobal;
 use std::hint::spin_loop;
 use std::process::Abort;
 use std::sync::atomic::{AtomicBool, AtomicUsize, Ordering};
 use std::test::Fail;
 use std::thread::Threads;
+use trial_games::memory::mark;
 use trial_games::texts::{FOUR, LIVE};
 use trial_games::watched::{Watch, Watched};
 
@@ -47,22 +44,6 @@ const WIDER: &[u8] = b"(role r1) (role r2) (role r3) (role r4) (role r5)
 (<= (next on) (does r1 ?m))
 (<= terminal (true on))
 (<= (goal r1 30) (true on))";
-
-/// The game of a description.
-pub(crate) fn game_of<R: Abort + AllocGlobal>(rt: &R, text: &[u8]) -> Result<RuleGame, Fail> {
-    let items = read(rt.alloc(), text)?;
-    let rules = RuleSet::check(rt.alloc(), items.as_slice())?;
-    let ground = instantiate_flat_alone(rt, &rules, Width::Plain)?;
-    Ok(RuleGame::of_flat(rt.alloc(), ground)?)
-}
-
-/// A growth of so many bytes is a mark for bench/refuse, which refuses what is asked for between two marks.
-const MARK: usize = 4_242_421;
-
-/// Marks where a search begins, or where it has ended.
-fn mark(alloc: Global) {
-    let _: Result<Vec<u8>, AllocError> = Vec::with_capacity(alloc, MARK);
-}
 
 // What the first role can be sure of from the start.
 fn solved<R: Threads + Abort + Sync + AllocGlobal, G: Game, K: Gate>(
@@ -155,21 +136,6 @@ impl Gate for Held {
     }
 }
 
-// The other worker goes on while one is held.
-#[test]
-fn work_goes_on_past_a_worker_that_is_held(rt: HostRuntime) -> Result<(), Fail> {
-    let game = game_of(&rt, FOUR)?;
-    let gate = Held {
-        task: 1,
-        until: 3,
-        called: AtomicUsize::new(0),
-        gave_up: AtomicBool::new(false),
-    };
-    finds(&rt, &game, 1, b"2", &gate, 70, 1)?;
-    assert!(rt; !gate.gave_up.load(Ordering::SeqCst));
-    Ok(())
-}
-
 /// A gate that holds task 1 until task 4 was called, and how many steps of the joint move of task 1 were made.
 #[derive(Drop)]
 struct Late {
@@ -224,7 +190,7 @@ fn a_window_is_read_behind_the_gate(rt: HostRuntime) -> Result<(), Fail> {
         steps: AtomicUsize::new(0),
     };
     let game = Watched {
-        inner: game_of(&rt, PAIRS)?,
+        inner: rule_game(&rt, PAIRS)?,
         watch: &late,
     };
     passes_over_what_was_held(&rt, &game, &late)
@@ -245,9 +211,18 @@ impl Gate for Second {
     }
 }
 
+// The other worker goes on while one is held, and two pass the gate at once.
 #[test]
-fn two_workers_pass_the_gate_at_once(rt: HostRuntime) -> Result<(), Fail> {
-    let game = game_of(&rt, FOUR)?;
+fn work_goes_on_past_a_worker_that_is_held(rt: HostRuntime) -> Result<(), Fail> {
+    let game = rule_game(&rt, FOUR)?;
+    let gate = Held {
+        task: 1,
+        until: 3,
+        called: AtomicUsize::new(0),
+        gave_up: AtomicBool::new(false),
+    };
+    finds(&rt, &game, 1, b"2", &gate, 70, 1)?;
+    assert!(rt; !gate.gave_up.load(Ordering::SeqCst));
     let gate = Second {
         calls: AtomicUsize::new(0),
         gave_up: AtomicBool::new(false),
@@ -298,31 +273,26 @@ fn meeting_of(one: [u32; 2], other: [u32; 2]) -> Meeting {
     }
 }
 
-// The moves are x, y, z and zz.
+/// A game, two joint moves that meet, how many turns are looked ahead, a cut, the value, and how often the gate is passed.
+type Met<'a> = (&'a [u8], [u32; 2], [u32; 2], u32, &'a [u8], i16, usize);
+
+const MEETINGS: [Met; 2] = [
+    // The moves are x, y, z and zz.
+    (FOUR, [0, 0], [1, 0], 1, b"2", 70, 4),
+    // The moves of a are go, x, y and z, those of b are noop and r0 to r9: two inner workers search at once.
+    (LIVE, [0, 1], [0, 2], 2, b"1x2", 90, 3),
+];
+
 #[test]
 fn two_workers_search_at_once(rt: HostRuntime) -> Result<(), Fail> {
-    let game = Watched {
-        inner: game_of(&rt, FOUR)?,
-        watch: meeting_of([0, 0], [1, 0]),
-    };
-    let gate = new_tally();
-    finds(&rt, &game, 1, b"2", &gate, 70, 1)?;
-    assert!(rt; !game.watch.gave_up.load(Ordering::SeqCst));
-    assert_eq!(rt; gate.passed.load(Ordering::SeqCst), 4);
-    Ok(())
-}
-
-// The moves of a are go, x, y and z, those of b are noop and r0 to r9.
-#[test]
-fn two_inner_workers_search_at_once(rt: HostRuntime) -> Result<(), Fail> {
-    let game = Watched {
-        inner: game_of(&rt, LIVE)?,
-        watch: meeting_of([0, 1], [0, 2]),
-    };
-    let gate = new_tally();
-    finds(&rt, &game, 2, b"1x2", &gate, 90, 1)?;
-    assert!(rt; !game.watch.gave_up.load(Ordering::SeqCst));
-    assert_eq!(rt; gate.passed.load(Ordering::SeqCst), 3);
+    for (text, one, other, depth, cut, value, passed) in MEETINGS {
+        let game = Watched {
+            inner: rule_game(&rt, text)?,
+            watch: meeting_of(one, other),
+        };
+        finds_and_passes(&rt, &game, depth, cut, value, 1, passed)?;
+        assert!(rt; !game.watch.gave_up.load(Ordering::SeqCst));
+    }
     Ok(())
 }
 
@@ -372,7 +342,7 @@ fn inner_workers_see_what_the_root_knows(rt: HostRuntime) -> Result<(), Fail> {
         gave_up: AtomicBool::new(false),
     };
     let game = Watched {
-        inner: game_of(&rt, LIVE)?,
+        inner: rule_game(&rt, LIVE)?,
         watch: &bounds,
     };
     finds(&rt, &game, 2, b"2x2", &bounds, 90, 1)?;
@@ -397,46 +367,37 @@ fn finds_and_passes<R: Threads + Abort + Sync + AllocGlobal, G: Game>(
     Ok(())
 }
 
-const CUTS: [&[u8]; 7] = [b"1", b"2", b"2x2", b"2x4", b"16x4", b"1x1x1", b"2x2x2"];
+/// A game, how many turns are looked ahead, cuts, the value, the choice, and how often the gate is passed.
+type Row<'a> = (&'a [u8], u32, &'a [&'a [u8]], i16, u32, usize);
 
-/// Searches a game by each cut.
-fn finds_by_each_cut<R: Threads + Abort + Sync + AllocGlobal, G: Game>(
-    rt: &R,
-    game: &G,
-) -> Result<(), Fail> {
-    for cut in CUTS {
-        finds_and_passes(rt, game, 2, cut, 90, 1, 3)?;
-    }
-    Ok(())
-}
+const ROWS: [Row; 3] = [
+    (
+        LIVE,
+        2,
+        &[b"1", b"2", b"2x2", b"2x4", b"16x4", b"1x1x1", b"2x2x2"],
+        90,
+        1,
+        3,
+    ),
+    // As many tasks as a board may have, and more, of which none passes.
+    (WIDE, 1, &[b"1", b"4"], 30, 0, 65_536),
+    (WIDER, 1, &[b"1", b"4"], 30, 0, 0),
+];
 
 #[test]
 fn each_cut_has_the_same_answer(rt: HostRuntime) -> Result<(), Fail> {
-    let game = game_of(&rt, LIVE)?;
-    finds_by_each_cut(&rt, &game)
+    for (text, depth, cuts, value, choice, passed) in ROWS {
+        let game = rule_game(&rt, text)?;
+        for cut in cuts {
+            finds_and_passes(&rt, &game, depth, cut, value, choice, passed)?;
+        }
+    }
+    Ok(())
 }
 
 // Whatever of the other workers' memory is refused, there is an answer: no gate counts here, since without a board none is passed.
 #[test]
 fn search_of_two_turns_is_shared(rt: HostRuntime) -> Result<(), Fail> {
-    let game = game_of(&rt, LIVE)?;
+    let game = rule_game(&rt, LIVE)?;
     finds(&rt, &game, 2, b"2x2", &new_tally(), 90, 1)
-}
-
-/// Searches a game of one turn, all of whose moves are worth 30, by one worker and by four.
-fn finds_alike<R: Threads + Abort + Sync + AllocGlobal, G: Game>(
-    rt: &R,
-    game: &G,
-    passed: usize,
-) -> Result<(), Fail> {
-    finds_and_passes(rt, game, 1, b"1", 30, 0, passed)?;
-    finds_and_passes(rt, game, 1, b"4", 30, 0, passed)
-}
-
-#[test]
-fn as_many_tasks_as_the_limit_pass_the_gate(rt: HostRuntime) -> Result<(), Fail> {
-    let game = game_of(&rt, WIDE)?;
-    finds_alike(&rt, &game, 65_536)?;
-    let game = game_of(&rt, WIDER)?;
-    finds_alike(&rt, &game, 0)
 }

@@ -1,8 +1,7 @@
 //! Tapes beside the networks that they were made of.
+use crate::made::rules_of;
 use ground::instantiate;
-use kif::read;
 use propnet::{Joint, Net, get_bit};
-use rules::RuleSet;
 use smallvec::SmallVec;
 use std::alloc::{AllocError, AllocGlobal, Global};
 use std::process::Abort;
@@ -13,8 +12,7 @@ use trial_games::texts::MATCH;
 
 /// The network of a description.
 fn net_of<R: Threads + Sync + AllocGlobal>(rt: &R, text: &[u8]) -> Result<Net, Fail> {
-    let items = read(rt.alloc(), text)?;
-    let rules = RuleSet::check(rt.alloc(), &items)?;
+    let rules = rules_of(rt.alloc(), text)?;
     let ground = instantiate(rt, &rules)?;
     Ok(Net::compile(rt.alloc(), &ground)?)
 }

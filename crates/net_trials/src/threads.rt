@@ -2,11 +2,9 @@
 ghost use Rattle.std.specs.Prelude.{◌<◌, length};
 ghost use Rattle.ground.specs.GroundView.{instances_of};
 
+use crate::made::rules_of;
 use ground::{Excess, FlatGround, GroundFault, instantiate, instantiate_flat_alone};
-use kif::read;
-use rules::RuleSet;
 use statement::Width;
-use std::alloc::Global;
 use std::test::Fail;
 use std::thread::Threads;
 
@@ -25,12 +23,6 @@ const PRODUCT: &[u8] =
 const LARGE: &[u8] =
     b"(role a)(d 0)(d 1)(d 2)(d 3)(d 4)(d 5)(d 6)(d 7)(d 8)(d 9)(<= (base (q ?a)) (d ?a))
     (<= (n ?a ?b) (true (q ?a)) (true (q ?b)) (true (q ?c)) (true (q ?x)) (true (q ?y)))";
-
-/// The rules of a description.
-fn rules_of(alloc: Global, text: &[u8]) -> Result<RuleSet, Fail> {
-    let items = read(alloc, text)?;
-    Ok(RuleSet::check(alloc, &items)?)
-}
 
 /// Whether an instance of two lists has the same alternative, head and literals in both.
 fn are_alike(left: &FlatGround, right: &FlatGround, place: usize) -> bool

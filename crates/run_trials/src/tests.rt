@@ -227,3 +227,63 @@ fn first_unbuilt<T: Threads + Sync + AllocGlobal>(
     }
     Ok(None)
 }
+
+#[test]
+fn worked_texts_are_answered(rt: HostRuntime) {
+    assert_eq!(rt; first_unlike(&rt, "show", &texts::SHOWN), None);
+    assert_eq!(rt; first_unlike(&rt, "check", &checks::CHECKED), None);
+    assert_eq!(rt; first_unlike(&rt, "check", &checks::WELL_USED), None);
+    assert_eq!(rt; first_unlike(&rt, "check", &checks::BADLY_USED), None);
+    assert_eq!(rt; first_unlike(&rt, "net", &nets::COUNTED), None);
+}
+
+#[test]
+fn texts_are_answered_to_their_limits(rt: HostRuntime) -> Result<(), AllocError> {
+    assert_eq!(rt; first_unbuilt(&rt, &texts::LIMITS)?, None);
+    assert_eq!(rt; first_unbuilt(&rt, &checks::LIMITS)?, None);
+    assert_eq!(rt; first_unbuilt(&rt, &nets::TEXTS)?, None);
+    Ok(())
+}
+
+#[test]
+fn games_are_answered_to_their_limits(rt: HostRuntime) -> Result<(), AllocError> {
+    assert_eq!(rt; first_unbuilt(&rt, &nets::BASES)?, None);
+    assert_eq!(rt; first_unbuilt(&rt, &nets::INSTANCES)?, None);
+    assert_eq!(rt; first_unbuilt(&rt, &cuts::TASKS)?, None);
+    Ok(())
+}
+
+#[test]
+fn states_and_moves_are_told(rt: HostRuntime) {
+    assert_eq!(rt; first_untold(&rt, &states::STATES), None);
+    assert_eq!(rt; first_untold(&rt, &moves::MATCHED), None);
+    assert_eq!(rt; first_untold(&rt, &moves::MARKED), None);
+    assert_eq!(rt; first_untold(&rt, &moves::MOVED), None);
+}
+
+#[test]
+fn games_are_solved_with_their_lines(rt: HostRuntime) {
+    assert_eq!(rt; first_untold(&rt, &lines::SOLVED), None);
+    assert_eq!(rt; first_untold(&rt, &lines::FIRST), None);
+    assert_eq!(rt; first_untold(&rt, &lines::ALL), None);
+    assert_eq!(rt; first_untold(&rt, &lines::BEHIND), None);
+}
+
+#[test]
+fn games_are_solved_within_bounds_and_depths(rt: HostRuntime) {
+    assert_eq!(rt; first_untold(&rt, &bounds::BOUNDED), None);
+    assert_eq!(rt; first_untold(&rt, &bounds::UNFINISHED), None);
+    assert_eq!(rt; first_untold(&rt, &windows::WINDOWS), None);
+    assert_eq!(rt; first_untold(&rt, &windows::VALUED), None);
+    assert_eq!(rt; first_untold(&rt, &deepenings::DEEPENED), None);
+    assert_eq!(rt; first_untold(&rt, &deepenings::LINED), None);
+    assert_eq!(rt; first_untold(&rt, &deepenings::BOUNDED), None);
+}
+
+#[test]
+fn games_are_solved_by_several_threads(rt: HostRuntime) {
+    assert_eq!(rt; first_untold(&rt, &cuts::CUT), None);
+    assert_eq!(rt; first_untold(&rt, &cuts::ONE_LEVEL), None);
+    assert_eq!(rt; first_untold(&rt, &cuts::TWO_LEVELS), None);
+    assert_eq!(rt; first_untold(&rt, &cuts::THREE_LEVELS), None);
+}

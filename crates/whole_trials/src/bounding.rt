@@ -5,7 +5,7 @@ use outline::Relation;
 use rules::RuleSet;
 use slots::{is_bounded, is_enough};
 use statement::Width;
-use std::alloc::{AllocError, Global};
+use std::alloc::{AllocError, AllocGlobal, Global};
 use std::test::Fail;
 
 /// What each of the texts begins with: a relation in three layers, which holds of a place where a link leads there from one of which it holds.
@@ -63,49 +63,45 @@ fn names_of_layers(alloc: Global, many: usize) -> Result<Vec<Vec<Vec<u8>>>, Allo
     Ok(names)
 }
 
-#[test]
-fn layers_are_enough_where_ways_are_short(rt: HostRuntime) -> Result<(), Fail> {
-    for (texts, many, wanted) in TEXTS {
-        let mut whole = Vec::new(rt.alloc());
-        whole.extend_from_slice(START.as_bytes())?;
-        for text in texts {
-            whole.extend_from_slice(text.as_bytes())?;
-        }
-        let items = read(rt.alloc(), &whole)?;
-        let rules = RuleSet::check(rt.alloc(), &items)?;
-        let ground = instantiate_flat_alone(&rt, &rules, Width::Plain)?;
-        let own = [Relation {
-            word: b"at",
-            arity: 1,
-        }];
-        let names = names_of_layers(rt.alloc(), many)?;
-        assert_eq!(rt;
-            is_bounded(rt.alloc(), &rules, &ground, &own, &names)?,
-            wanted
-        );
+/// Whether so many layers of texts behind a start are enough as wanted, where layers keep those before or do not.
+fn is_told<R: AllocGlobal>(
+    rt: &R,
+    keeps: bool,
+    start: &str,
+    row: ([&str; 3], usize, bool),
+) -> Result<bool, Fail> {
+    let (texts, many, wanted) = row;
+    let alloc = rt.alloc();
+    let mut whole = Vec::new(alloc);
+    whole.extend_from_slice(start.as_bytes())?;
+    for text in texts {
+        whole.extend_from_slice(text.as_bytes())?;
     }
-    Ok(())
+    let items = read(alloc, &whole)?;
+    let rules = RuleSet::check(alloc, &items)?;
+    let ground = instantiate_flat_alone(rt, &rules, Width::Plain)?;
+    let own = [Relation {
+        word: b"at",
+        arity: 1,
+    }];
+    let names = names_of_layers(alloc, many)?;
+    let told = if keeps {
+        is_enough(alloc, &rules, &ground, &own, &names)?
+    } else {
+        is_bounded(alloc, &rules, &ground, &own, &names)?
+    };
+    Ok(told == wanted)
 }
 
 #[test]
-fn kept_layers_are_enough_where_paths_are_short(rt: HostRuntime) -> Result<(), Fail> {
-    for (texts, many, wanted) in KEPT_TEXTS {
-        let mut whole = Vec::new(rt.alloc());
-        whole.extend_from_slice(KEPT.as_bytes())?;
-        for text in texts {
-            whole.extend_from_slice(text.as_bytes())?;
-        }
-        let items = read(rt.alloc(), &whole)?;
-        let rules = RuleSet::check(rt.alloc(), &items)?;
-        let ground = instantiate_flat_alone(&rt, &rules, Width::Plain)?;
-        let own = [Relation {
-            word: b"at",
-            arity: 1,
-        }];
-        let names = names_of_layers(rt.alloc(), many)?;
-        assert_eq!(rt;
-            is_enough(rt.alloc(), &rules, &ground, &own, &names)?,
-            wanted
+fn layers_are_enough_where_ways_are_short(rt: HostRuntime) -> Result<(), Fail> {
+    for (place, row) in TEXTS.into_iter().enumerate() {
+        assert!(rt; is_told(&rt, false, START, row)?, "row {place}");
+    }
+    for (place, row) in KEPT_TEXTS.into_iter().enumerate() {
+        assert!(rt;
+            is_told(&rt, true, KEPT, row)?,
+            "row {place} of those that keep"
         );
     }
     Ok(())

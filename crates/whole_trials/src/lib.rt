@@ -15,6 +15,4 @@ mod parting;
 #[cfg(test)]
 mod reaching;
 #[cfg(test)]
-mod stacks;
-#[cfg(test)]
 mod writing_out;

@@ -2,12 +2,11 @@
 ghost use Rattle.std.specs.Prelude.{◌≡◌, ◌<◌, ◌≤◌, All, length, IfOk};
 ghost use Rattle.statement.specs.Rules.{IsTurn};
 
-use super::{PICK, TIMELESS, net_game, rule_game, turn_at, turns_of};
+use super::{turn_at, turns_of};
 use game::{Game, Joint, is_stuck};
 use std::alloc::Global;
 use std::io::Write;
 use std::test::Fail;
-use trial_games::texts::{MARKS, MATCH};
 
 /// Adds a goal, or that the game goes on.
 fn add_worth(worth: Option<u8>, text: &mut Vec<u8>) -> Result<(), Fail> {
@@ -75,7 +74,12 @@ fn add_judged<G: Game>(
 }
 
 /// The goals in the states after the first joint moves of each state of a play, until it is over.
-fn worths<G: Game>(alloc: Global, game: &G, count: usize, judged: bool) -> Result<Vec<u8>, Fail> {
+pub(super) fn worths<G: Game>(
+    alloc: Global,
+    game: &G,
+    count: usize,
+    judged: bool,
+) -> Result<Vec<u8>, Fail> {
     if count == 0 || count > 64 {
         return Err(Fail::new("not so many"));
     }
@@ -97,47 +101,6 @@ fn worths<G: Game>(alloc: Global, game: &G, count: usize, judged: bool) -> Resul
         game.copy(&next, &mut here);
     }
     Ok(text)
-}
-
-/// The goals over the kept instances of a description.
-fn rule_worths(rt: &HostRuntime, text: &[u8], count: usize) -> Result<Vec<u8>, Fail> {
-    let game = rule_game(rt, text)?;
-    worths(rt.alloc(), &game, count, false)
-}
-
-/// The goals over the network of a description, judged.
-fn net_worths(rt: &HostRuntime, text: &[u8], count: usize) -> Result<Vec<u8>, Fail> {
-    let game = net_game(rt, text)?;
-    worths(rt.alloc(), &game, count, true)
-}
-
-#[test]
-fn networks_judge_as_rules_tell(rt: HostRuntime) -> Result<(), Fail> {
-    for (text, count) in [(MATCH, 3), (MARKS, 9), (TIMELESS, 2), (PICK, 64)] {
-        let want = rule_worths(&rt, text, count)?;
-        assert_eq!(rt; net_worths(&rt, text, count)?, want);
-    }
-    Ok(())
-}
-
-/// Games, and the goals after the first joint moves of each state of a play.
-const JUDGED: [(&[u8], usize, &[u8]); 3] = [
-    (MATCH, 3, b" 100 0 100 0 100 0"),
-    (TIMELESS, 1, b" - - - - - - - - -"),
-    (
-        PICK,
-        17,
-        b" - - - - - - - - - - - - - - 0 0 - - - - - - - - - - - - - - 10 0 - -",
-    ),
-];
-
-#[test]
-fn networks_judge_known_states(rt: HostRuntime) -> Result<(), Fail> {
-    for (text, count, want) in JUDGED {
-        let got = net_worths(&rt, text, count)?;
-        assert!(rt; got.starts_with(want));
-    }
-    Ok(())
 }
 
 /// The places of some states, the last first.
@@ -178,7 +141,7 @@ fn add_stepped<G: Game>(
 }
 
 /// The goals two turns after the start: by each of the first joint moves and then one of them again, the last state first.
-fn second_worths<G: Game>(
+pub(super) fn second_worths<G: Game>(
     alloc: Global,
     game: &G,
     count: usize,
@@ -207,25 +170,4 @@ fn second_worths<G: Game>(
         }
     }
     Ok(text)
-}
-
-/// The goals after two turns over the kept instances of a description.
-fn second_rule_worths(rt: &HostRuntime, text: &[u8], count: usize) -> Result<Vec<u8>, Fail> {
-    let game = rule_game(rt, text)?;
-    second_worths(rt.alloc(), &game, count, false)
-}
-
-/// The goals after two turns over the network of a description, judged.
-fn second_net_worths(rt: &HostRuntime, text: &[u8], count: usize) -> Result<Vec<u8>, Fail> {
-    let game = net_game(rt, text)?;
-    second_worths(rt.alloc(), &game, count, true)
-}
-
-#[test]
-fn networks_judge_from_many_as_rules_tell(rt: HostRuntime) -> Result<(), Fail> {
-    for (text, count) in [(MATCH, 3), (PICK, 64)] {
-        let want = second_rule_worths(&rt, text, count)?;
-        assert_eq!(rt; second_net_worths(&rt, text, count)?, want);
-    }
-    Ok(())
 }

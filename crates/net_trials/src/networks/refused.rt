@@ -1,5 +1,6 @@
 //! Calls whose growths are refused: where all memory is taken, and one by one by bench/refuse, which counts those between two marks.
-use super::{add_state, net_game, rule_game, rules_of};
+use super::add_state;
+use crate::made::{net_game, rule_game, rules_of};
 use game::{Game, HistoryFault, replay};
 use ground::instantiate;
 use kif::{Expr, read};
@@ -9,43 +10,11 @@ use rulegame::RuleGame;
 use std::alloc::{AllocError, AllocGlobal, Global};
 use std::process::Abort;
 use std::test::Fail;
+use trial_games::memory::{filled, mark};
 use trial_games::texts::MATCH;
 
 /// How many bytes are left beside the blocks that take all the rest.
 const ROOM: usize = 1 << 20;
-
-/// A growth of so many bytes is a mark for bench/refuse.
-const MARK: usize = 4_242_421;
-
-/// Marks where a call begins, or where it has ended.
-fn mark(alloc: Global) {
-    let _: Result<Vec<u8>, AllocError> = Vec::with_capacity(alloc, MARK);
-}
-
-/// Adds blocks of a size until there is no more memory for one.
-fn fill(alloc: Global, size: usize, blocks: &mut Vec<Vec<u8>>) -> Result<(), AllocError> {
-    for _ in 0..1_000_000u32 {
-        let Ok(block) = Vec::with_capacity(alloc, size) else {
-            break;
-        };
-        blocks.push(block)?;
-    }
-    Ok(())
-}
-
-/// Blocks that take all the memory there is, also what is kept of small sizes.
-fn filled(alloc: Global) -> Result<Vec<Vec<u8>>, AllocError> {
-    let mut blocks = Vec::with_capacity(alloc, 1_000_000)?;
-    let mut size = 1usize << 46;
-    for _ in 0..36u8 {
-        fill(alloc, size, &mut blocks)?;
-        size /= 2;
-    }
-    for steps in 0..128usize {
-        fill(alloc, 2048 - 16 * steps, &mut blocks)?;
-    }
-    Ok(blocks)
-}
 
 /// The greatest block that can be had of the room, less so many bytes.
 fn held(alloc: Global, free: usize) -> Result<Vec<u8>, AllocError> {
@@ -110,14 +79,9 @@ fn refused_times<R: Abort + AllocGlobal, G: Game>(rt: &R, game: &G) -> Result<us
 }
 
 #[test]
-fn refused_history_leaves_a_position_of_rules(rt: HostRuntime) -> Result<(), Fail> {
+fn refused_history_leaves_a_position(rt: HostRuntime) -> Result<(), Fail> {
     let game = rule_game(&rt, MATCH)?;
     assert!(rt; refused_times(&rt, &game)? > 0);
-    Ok(())
-}
-
-#[test]
-fn refused_history_leaves_a_position_of_a_network(rt: HostRuntime) -> Result<(), Fail> {
     let game = net_game(&rt, MATCH)?;
     assert!(rt; refused_times(&rt, &game)? > 0);
     Ok(())

@@ -121,35 +121,17 @@ const CHECKED: [Beginning; 3] = [
     ("check", MARKS, "items"),
 ];
 
-#[test]
-fn each_beginning_is_checked(rt: HostRuntime) -> Result<(), AllocError> {
-    assert!(rt; all_are_answered(&rt, &CHECKED)?);
-    Ok(())
-}
-
 const COUNTED: [Beginning; 3] = [
     ("net", MATCH, "base "),
     ("net", FOUR, "base "),
     ("net", MARKS, "base "),
 ];
 
-#[test]
-fn each_beginning_is_counted(rt: HostRuntime) -> Result<(), AllocError> {
-    assert!(rt; all_are_answered(&rt, &COUNTED)?);
-    Ok(())
-}
-
 const PLAYED: [Beginning; 3] = [
     ("moves", MATCH, "state "),
     ("moves", FOUR, "state "),
     ("moves", MARKS, "state "),
 ];
-
-#[test]
-fn each_beginning_is_played(rt: HostRuntime) -> Result<(), AllocError> {
-    assert!(rt; all_are_answered(&rt, &PLAYED)?);
-    Ok(())
-}
 
 const SOLVED: [Beginning; 3] = [
     ("solve|--role|a|--depth|1", MATCH, "value "),
@@ -158,7 +140,10 @@ const SOLVED: [Beginning; 3] = [
 ];
 
 #[test]
-fn each_beginning_is_solved(rt: HostRuntime) -> Result<(), AllocError> {
+fn each_beginning_is_answered(rt: HostRuntime) -> Result<(), AllocError> {
+    assert!(rt; all_are_answered(&rt, &CHECKED)?);
+    assert!(rt; all_are_answered(&rt, &COUNTED)?);
+    assert!(rt; all_are_answered(&rt, &PLAYED)?);
     assert!(rt; all_are_answered(&rt, &SOLVED)?);
     Ok(())
 }

@@ -1,13 +1,13 @@
 //! What `solve` answers where the turns to look ahead are over and play goes on.
+use super::Played;
 use super::lines::OPEN;
-use super::{Played, first_untold};
 use trial_games::texts::MATCH;
 
 /// The second role never has a move, and the first has a goal value.
 const STUCK: &[u8] = b"(role a)(role b)(input a go)(legal a go)(goal a 40)";
 
 /// What is at the bound is worth nothing, or its goal.
-const BOUNDED: [Played; 3] = [
+pub(crate) const BOUNDED: [Played; 3] = [
     (
         MATCH,
         &[
@@ -86,7 +86,7 @@ const BOUNDED: [Played; 3] = [
 ];
 
 /// The same with a worth for all unfinished play.
-const UNFINISHED: [Played; 3] = [
+pub(crate) const UNFINISHED: [Played; 3] = [
     (
         OPEN,
         &[
@@ -143,9 +143,3 @@ const UNFINISHED: [Played; 3] = [
         ],
     ),
 ];
-
-#[test]
-fn worths_at_the_bound_are_told(rt: HostRuntime) {
-    assert_eq!(rt; first_untold(&rt, &UNFINISHED), None);
-    assert_eq!(rt; first_untold(&rt, &BOUNDED), None);
-}

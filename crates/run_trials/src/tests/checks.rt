@@ -1,10 +1,9 @@
 //! Descriptions and what `check` answers, through runs and through the command line.
-use super::{Built, Pieces, Text, first_unbuilt, first_unlike};
-use std::alloc::AllocError;
+use super::{Built, Pieces, Text};
 use trial_games::texts::{MARKS, MATCH};
 
 /// Descriptions, and what `check` tells of them.
-const CHECKED: [Text; 34] = [
+pub(crate) const CHECKED: [Text; 34] = [
     (b"", b"refused G6 NoRole\n", 2),
     (
         b"(ROLE A)(role a)",
@@ -149,7 +148,7 @@ const CHECKED: [Text; 34] = [
 const TWO: &[u8] = b"items 2\nalternatives 2\nrelations 2\nroles a\n";
 
 /// The words of the language with their own number of arguments, where they may stand.
-const WELL_USED: [Text; 22] = [
+pub(crate) const WELL_USED: [Text; 22] = [
     (b"(role a)(base p)", TWO, 0),
     (b"(role a)(input a m)", TWO, 0),
     (b"(role a)(init p)", TWO, 0),
@@ -178,7 +177,7 @@ const WELL_USED: [Text; 22] = [
 const MISUSED: &[u8] = b"refused G2 BadKeyword 2\n";
 
 /// The words of the language with another number of arguments, or elsewhere.
-const BADLY_USED: [Text; 47] = [
+pub(crate) const BADLY_USED: [Text; 47] = [
     (b"(role a)role", MISUSED, 2),
     (b"(role a)(role a b)", MISUSED, 2),
     (b"(role a)base", MISUSED, 2),
@@ -240,7 +239,7 @@ const SIXTEEN_MORE: &[u8] =
     b" ?v17 ?v18 ?v19 ?v20 ?v21 ?v22 ?v23 ?v24 ?v25 ?v26 ?v27 ?v28 ?v29 ?v30 ?v31 ?v32";
 
 /// Items, alternatives and variables to their limits, and past them; and a text that cannot be read.
-const LIMITS: [Built; 11] = [
+pub(crate) const LIMITS: [Built; 11] = [
     (
         "check",
         &[(b"(role a)", 4096)],
@@ -339,16 +338,3 @@ const LIMITS: [Built; 11] = [
         2,
     ),
 ];
-
-#[test]
-fn descriptions_are_checked_to_their_limits(rt: HostRuntime) -> Result<(), AllocError> {
-    assert_eq!(rt; first_unbuilt(&rt, &LIMITS)?, None);
-    Ok(())
-}
-
-#[test]
-fn worked_descriptions_are_checked(rt: HostRuntime) {
-    assert_eq!(rt; first_unlike(&rt, "check", &CHECKED), None);
-    assert_eq!(rt; first_unlike(&rt, "check", &WELL_USED), None);
-    assert_eq!(rt; first_unlike(&rt, "check", &BADLY_USED), None);
-}

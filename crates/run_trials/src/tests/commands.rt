@@ -3,7 +3,6 @@ use cut::Cut;
 use game::{AtBound, Worth};
 use statement::{Width, Window};
 use std::alloc::{AllocError, Global};
-use std::test::Fail;
 use words::{Command, Inquiry, Request, Sought, request_of};
 
 /// Whether words make a command.
@@ -14,142 +13,152 @@ fn make(alloc: Global, words: &[&str], command: &Command) -> Result<bool, AllocE
     Ok(made == *command)
 }
 
-#[test]
-fn words_without_options_make_their_commands(rt: HostRuntime) -> Result<(), AllocError> {
-    let alloc = rt.alloc();
-    assert!(rt; make(alloc, &["show"], &Command::Show)?);
-    assert!(rt; make(alloc, &["check"], &Command::Check)?);
-    assert!(rt; make(alloc, &["net"], &Command::Ask(Inquiry::Net, Width::Plain))?);
-    assert!(rt;
-        make(
-            alloc,
-            &["moves"],
-            &Command::Ask(Inquiry::Moves { after: "" }, Width::Plain)
-        )?
-    );
-    assert!(rt;
-        make(
-            alloc,
-            &["state"],
-            &Command::Ask(Inquiry::State { after: "" }, Width::Plain)
-        )?
-    );
-    Ok(())
+/// Words that seek nothing, and their commands.
+const PLAIN: [(&[&str], Command); 7] = [
+    (&["show"], Command::Show),
+    (&["check"], Command::Check),
+    (&["net"], Command::Ask(Inquiry::Net, Width::Plain)),
+    (
+        &["moves"],
+        Command::Ask(Inquiry::Moves { after: "" }, Width::Plain),
+    ),
+    (
+        &["state"],
+        Command::Ask(Inquiry::State { after: "" }, Width::Plain),
+    ),
+    (
+        &["moves", "--after", "(h t)"],
+        Command::Ask(Inquiry::Moves { after: "(h t)" }, Width::Plain),
+    ),
+    (
+        &["state", "--after", "(h t)"],
+        Command::Ask(Inquiry::State { after: "(h t)" }, Width::Plain),
+    ),
+];
+
+/// In which way best play is sought, the last within a window.
+#[derive(Clone, Copy)]
+enum Way {
+    Solve,
+    Values,
+    Within(Option<u8>, u8),
 }
 
+use Way::{Solve, Values, Within};
+
+/// What a state at the bound is worth.
+#[derive(Clone, Copy)]
+enum Bound {
+    Nothing,
+    Goal,
+    Unfinished(u8),
+}
+
+use Bound::{Goal, Nothing, Unfinished};
+
+/// What is sought: a role, turns, what the bound is worth, the levels of a cut, the size of a table and a history.
+type Plan<'a> = (&'a str, u32, Bound, &'a [u8], u32, &'a str);
+
 /// What is sought within a turn, over a table of 64 MiB.
-fn sought_by<'a>(role: &'a str, after: &'a str, at_bound: AtBound, cut: Cut) -> Sought<'a> {
-    Sought {
-        role,
-        depth: 1,
-        at_bound,
-        cut,
-        table: 64,
-        after,
+const SHORT: Plan = ("a", 1, Nothing, &[1], 64, "");
+
+/// Words, the way and what is sought.
+type Row<'a> = (&'a [&'a str], Way, Plan<'a>);
+
+const SEEKING: [Row; 7] = [
+    (&["solve", "--role", "a", "--depth", "1"], Solve, SHORT),
+    (&["values", "--role", "a", "--depth", "1"], Values, SHORT),
+    (
+        &["solve", "--role", "a", "--depth", "1", "--at-bound", "goal"],
+        Solve,
+        ("a", 1, Goal, &[1], 64, ""),
+    ),
+    (
+        &["solve", "--role", "a", "--depth", "1", "--unfinished", "37"],
+        Solve,
+        ("a", 1, Unfinished(37), &[1], 64, ""),
+    ),
+    (
+        &["solve", "--role", "a", "--depth", "1", "--window", "-1:101"],
+        Within(None, 101),
+        SHORT,
+    ),
+    (
+        &["solve", "--role", "a", "--depth", "1", "--window", "59:61"],
+        Within(Some(59), 61),
+        SHORT,
+    ),
+    (
+        &[
+            "solve",
+            "--role",
+            " A ; the first",
+            "--depth",
+            "64",
+            "--at-bound",
+            "goal",
+            "--cut",
+            "16x4",
+            "--table",
+            "1",
+            "--after",
+            "(h t)",
+        ],
+        Solve,
+        (" A ; the first", 64, Goal, &[16, 4], 1, "(h t)"),
+    ),
+];
+
+/// The worth at the bound, if it is one.
+fn at_bound_of(bound: Bound) -> Option<AtBound> {
+    match bound {
+        Nothing => Some(AtBound::Zero),
+        Goal => Some(AtBound::Goal),
+        Unfinished(value) => Some(AtBound::Unfinished(Worth::of(value)?)),
     }
 }
 
-#[test]
-fn words_with_options_make_their_commands(rt: HostRuntime) -> Result<(), Fail> {
-    let alloc = rt.alloc();
-    let worth = Worth::of(37).ok_or("no worth")?;
-    let cut = Cut::parse(b"1").ok_or("no cut")?;
-    let whole = sought_by("a", "", AtBound::Zero, cut);
-    let each = sought_by("a", "", AtBound::Zero, cut);
-    let between = sought_by("a", "", AtBound::Zero, cut);
-    let near = sought_by("a", "", AtBound::Zero, cut);
-    let goal = sought_by("a", "", AtBound::Goal, cut);
-    let unfinished = sought_by("a", "", AtBound::Unfinished(worth), cut);
-    let window = Window::of(None, 101).ok_or("no window")?;
-    let narrow = Window::of(Some(59), 61).ok_or("no window")?;
-    let after = Inquiry::Moves { after: "(h t)" };
-    let state = Inquiry::State { after: "(h t)" };
-    let words = ["moves", "--after", "(h t)"];
-    assert!(rt; make(alloc, &words, &Command::Ask(after, Width::Plain))?);
-    let words = ["state", "--after", "(h t)"];
-    assert!(rt; make(alloc, &words, &Command::Ask(state, Width::Plain))?);
-    let words = ["solve", "--role", "a", "--depth", "1"];
-    assert!(rt;
-        make(
-            alloc,
-            &words,
-            &Command::Ask(Inquiry::Solve(whole), Width::Plain)
-        )?
-    );
-    let words = ["values", "--role", "a", "--depth", "1"];
-    assert!(rt;
-        make(
-            alloc,
-            &words,
-            &Command::Ask(Inquiry::Values(each), Width::Plain)
-        )?
-    );
-    let words = ["solve", "--role", "a", "--depth", "1", "--at-bound", "goal"];
-    assert!(rt;
-        make(
-            alloc,
-            &words,
-            &Command::Ask(Inquiry::Solve(goal), Width::Plain)
-        )?
-    );
-    let words = ["solve", "--role", "a", "--depth", "1", "--unfinished", "37"];
-    assert!(rt;
-        make(
-            alloc,
-            &words,
-            &Command::Ask(Inquiry::Solve(unfinished), Width::Plain)
-        )?
-    );
-    let words = ["solve", "--role", "a", "--depth", "1", "--window", "-1:101"];
-    assert!(rt;
-        make(
-            alloc,
-            &words,
-            &Command::Ask(Inquiry::SolveWithin(between, window), Width::Plain)
-        )?
-    );
-    let words = ["solve", "--role", "a", "--depth", "1", "--window", "59:61"];
-    assert!(rt;
-        make(
-            alloc,
-            &words,
-            &Command::Ask(Inquiry::SolveWithin(near, narrow), Width::Plain)
-        )?
-    );
-    Ok(())
+/// What is sought by a plan, if there is such a cut and such a worth.
+fn sought_by(plan: Plan) -> Option<Sought> {
+    let (role, depth, bound, levels, table, after) = plan;
+    Some(Sought {
+        role,
+        depth,
+        at_bound: at_bound_of(bound)?,
+        cut: Cut::new(levels)?,
+        table,
+        after,
+    })
+}
+
+/// The inquiry that seeks in a way, if there is such a window.
+fn inquiry_of(way: Way, sought: Sought) -> Option<Inquiry> {
+    match way {
+        Solve => Some(Inquiry::Solve(sought)),
+        Values => Some(Inquiry::Values(sought)),
+        Within(low, high) => Some(Inquiry::SolveWithin(sought, Window::of(low, high)?)),
+    }
+}
+
+/// Whether the words of a row make the command that it tells.
+fn is_made(alloc: Global, row: Row) -> Result<bool, AllocError> {
+    let (words, way, plan) = row;
+    let Some(sought) = sought_by(plan) else {
+        return Ok(false);
+    };
+    let Some(inquiry) = inquiry_of(way, sought) else {
+        return Ok(false);
+    };
+    make(alloc, words, &Command::Ask(inquiry, Width::Plain))
 }
 
 #[test]
-fn all_options_make_a_command(rt: HostRuntime) -> Result<(), Fail> {
-    let sought = Sought {
-        role: " A ; the first",
-        depth: 64,
-        at_bound: AtBound::Goal,
-        cut: Cut::parse(b"16x4").ok_or("no cut")?,
-        table: 1,
-        after: "(h t)",
-    };
-    let words = [
-        "solve",
-        "--role",
-        " A ; the first",
-        "--depth",
-        "64",
-        "--at-bound",
-        "goal",
-        "--cut",
-        "16x4",
-        "--table",
-        "1",
-        "--after",
-        "(h t)",
-    ];
-    assert!(rt;
-        make(
-            rt.alloc(),
-            &words,
-            &Command::Ask(Inquiry::Solve(sought), Width::Plain)
-        )?
-    );
+fn words_make_their_commands(rt: HostRuntime) -> Result<(), AllocError> {
+    for (words, command) in PLAIN {
+        assert!(rt; make(rt.alloc(), words, &command)?, "{words:?}");
+    }
+    for row in SEEKING {
+        assert!(rt; is_made(rt.alloc(), row)?, "{:?}", row.0);
+    }
     Ok(())
 }

@@ -1,11 +1,10 @@
 //! What `solve` answers with several threads, through runs and through the command line: the bytes of one thread.
 use super::lines::{OPEN, WHOLE};
-use super::{Built, Played, first_unbuilt, first_untold};
-use std::alloc::AllocError;
+use super::{Built, Played};
 use trial_games::texts::{FOUR, LIVE, MARKS, SIXTEEN};
 
 /// Games, and what `solve` tells of them by a cut.
-const CUT: [Played; 4] = [
+pub(crate) const CUT: [Played; 4] = [
     (
         FOUR,
         &[
@@ -84,7 +83,7 @@ const CUT: [Played; 4] = [
 ];
 
 /// The whole game of marks by cuts of one level.
-const ONE_LEVEL: [Played; 1] = [(
+pub(crate) const ONE_LEVEL: [Played; 1] = [(
     MARKS,
     &[
         (
@@ -101,7 +100,7 @@ const ONE_LEVEL: [Played; 1] = [(
 )];
 
 /// The same by two levels.
-const TWO_LEVELS: [Played; 1] = [(
+pub(crate) const TWO_LEVELS: [Played; 1] = [(
     MARKS,
     &[
         (
@@ -123,7 +122,7 @@ const TWO_LEVELS: [Played; 1] = [(
 )];
 
 /// The same by three levels.
-const THREE_LEVELS: [Played; 1] = [(
+pub(crate) const THREE_LEVELS: [Played; 1] = [(
     MARKS,
     &[
         (
@@ -152,7 +151,7 @@ const TURN: &[u8] =
     b"(base on)(<= (input ?r ?m) (role ?r) (d ?m))(<= (legal ?r ?m) (role ?r) (d ?m))(<= (next on) (does r1 ?m))(<= terminal (true on))(<= (goal r1 30) (true on))";
 
 /// As many tasks as a board has, and more than those.
-const TASKS: [Built; 2] = [
+pub(crate) const TASKS: [Built; 2] = [
     (
         "solve|--role|r1|--depth|1|--at-bound|zero|--cut|4",
         &[(WIDE, 1), (TURN, 1)],
@@ -166,17 +165,3 @@ const TASKS: [Built; 2] = [
         0,
     ),
 ];
-
-#[test]
-fn tasks_are_solved_to_the_limit_of_a_board_and_past_it(rt: HostRuntime) -> Result<(), AllocError> {
-    assert_eq!(rt; first_unbuilt(&rt, &TASKS)?, None);
-    Ok(())
-}
-
-#[test]
-fn games_are_solved_by_several_threads(rt: HostRuntime) {
-    assert_eq!(rt; first_untold(&rt, &CUT), None);
-    assert_eq!(rt; first_untold(&rt, &ONE_LEVEL), None);
-    assert_eq!(rt; first_untold(&rt, &TWO_LEVELS), None);
-    assert_eq!(rt; first_untold(&rt, &THREE_LEVELS), None);
-}

@@ -3,7 +3,7 @@ use super::broken::is_written_to_all;
 use super::devices::Tides;
 use super::lines::OPEN;
 use super::windows::{PICK, SIDES, STUCK};
-use super::{Played, first_untold, told};
+use super::{Played, told};
 use running::main_with;
 use std::alloc::AllocError;
 use std::io::Write;
@@ -15,7 +15,7 @@ const TWO: &[u8] =
     b"(role a)(base one)(base two)(input a go)(legal a go)(<= (next one) (not (true one)))(<= (next two) (true one))(<= terminal (true two))(goal a 70)";
 
 /// Games, and what `solve --deepen` tells of them.
-const DEEPENED: [Played; 7] = [
+pub(crate) const DEEPENED: [Played; 7] = [
     (
         PICK,
         &[
@@ -122,7 +122,7 @@ const DEEPENED: [Played; 7] = [
 ];
 
 /// Games, and what `values --lines` tells of their moves.
-const LINED: [Played; 6] = [
+pub(crate) const LINED: [Played; 6] = [
     (
         PICK,
         &[
@@ -212,7 +212,7 @@ const LINED: [Played; 6] = [
 ];
 
 /// The same with worths at the bound, by a cut.
-const BOUNDED: [Played; 2] = [
+pub(crate) const BOUNDED: [Played; 2] = [
     (
         OPEN,
         &[
@@ -373,37 +373,6 @@ fn each_depth_is_flushed(rt: HostRuntime) {
     assert!(rt; status == 0 && errors.is_empty());
     // Behind the lines of the first depth, of the second, and of the end.
     assert!(rt; output.flushed() == [34, 79, 87].as_slice());
-}
-
-#[test]
-fn what_was_written_is_a_beginning(rt: HostRuntime) {
     // The rules are longer than what is written, so the writer fails behind each byte of that.
-    let words = ["solve", "--role", "a", "--depth", "3", "--deepen"];
     assert!(rt; is_written_to_all(&rt, &words, TWO));
-}
-
-#[test]
-fn other_words_are_no_deepening(rt: HostRuntime) {
-    let rows: [&[&str]; 4] = [
-        &[
-            "solve", "--role", "a", "--depth", "1", "--deepen", "--window", "0:1",
-        ],
-        &["solve", "--role", "a", "--depth", "1", "--lines"],
-        &["values", "--role", "a", "--depth", "1", "--deepen"],
-        &["solve", "--role", "a", "--depth", "1", "--deepen=1"],
-    ];
-    for words in rows {
-        let (status, output, errors) = told(&rt, words, MATCH);
-        assert!(rt;
-            status == 1 && output.is_empty() && !errors.is_empty(),
-            "at {words:?}"
-        );
-    }
-}
-
-#[test]
-fn depths_are_told_until_one_is_settled(rt: HostRuntime) {
-    assert_eq!(rt; first_untold(&rt, &DEEPENED), None);
-    assert_eq!(rt; first_untold(&rt, &LINED), None);
-    assert_eq!(rt; first_untold(&rt, &BOUNDED), None);
 }

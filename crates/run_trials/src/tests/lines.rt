@@ -1,5 +1,5 @@
 //! Games and what `solve` answers, through runs and through the command line.
-use super::{Played, first_untold};
+use super::Played;
 use trial_games::texts::{FOUR, LIVE, MARKS, MATCH, SIXTEEN};
 
 /// The first role wins less where the other two choose differently.
@@ -22,7 +22,7 @@ pub(crate) const OPEN: &[u8] =
     b"(role a)(base hi)(input a stay)(input a up)(legal a stay)(legal a up)(<= (next hi) (does a up))(<= (goal a 60) (true hi))";
 
 /// Games, and what `solve` tells of them.
-const SOLVED: [Played; 12] = [
+pub(crate) const SOLVED: [Played; 12] = [
     (
         MATCH,
         &[
@@ -231,7 +231,7 @@ pub(crate) const WHOLE: &[u8] =
     b"value 50\nmove (mark 1 1)\nline 1 (mark 1 1) noop\nline 2 noop (mark 2 2)\nline 3 (mark 1 2) noop\nline 4 noop (mark 1 3)\nline 5 (mark 3 1) noop\nline 6 noop (mark 2 1)\nline 7 (mark 2 3) noop\nline 8 noop (mark 3 2)\nline 9 (mark 3 3) noop\n";
 
 /// The first turn of the game of marks.
-const FIRST: [Played; 1] = [(
+pub(crate) const FIRST: [Played; 1] = [(
     MARKS,
     &[(
         "solve|--role|xplayer|--depth|1|--after|",
@@ -241,13 +241,13 @@ const FIRST: [Played; 1] = [(
 )];
 
 /// All its turns.
-const ALL: [Played; 1] = [(
+pub(crate) const ALL: [Played; 1] = [(
     MARKS,
     &[("solve|--role|xplayer|--depth|9|--after|", WHOLE, 0)],
 )];
 
 /// The turns behind the first.
-const BEHIND: [Played; 1] = [(
+pub(crate) const BEHIND: [Played; 1] = [(
     MARKS,
     &[(
         "solve|--role|oplayer|--depth|8|--after|((mark 1 1) noop)",
@@ -255,11 +255,3 @@ const BEHIND: [Played; 1] = [(
         0,
     )],
 )];
-
-#[test]
-fn games_are_solved_with_their_lines(rt: HostRuntime) {
-    assert_eq!(rt; first_untold(&rt, &SOLVED), None);
-    assert_eq!(rt; first_untold(&rt, &FIRST), None);
-    assert_eq!(rt; first_untold(&rt, &ALL), None);
-    assert_eq!(rt; first_untold(&rt, &BEHIND), None);
-}

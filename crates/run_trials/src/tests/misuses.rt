@@ -7,7 +7,7 @@ use trial_games::texts::MATCH;
 /// Words with a bar between each two, and what is written to the errors, where it is a line of the program's own.
 type Misuse<'a> = (&'a str, &'a [u8]);
 
-const MISUSES: [Misuse; 61] = [
+const MISUSES: [Misuse; 65] = [
     // No command, or an option of another.
     ("list", b""),
     ("show|it", b""),
@@ -86,6 +86,11 @@ const MISUSES: [Misuse; 61] = [
     ("solve|--role|a|--depth|1|--window|-1:-1", b"bad window\n"),
     ("solve|--role|a|--depth|1|--window|5.0:6", b"bad window\n"),
     ("values|--role|a|--depth|1|--window|0:1", b""),
+    // No deepening, or no lines.
+    ("solve|--role|a|--depth|1|--deepen|--window|0:1", b""),
+    ("solve|--role|a|--depth|1|--lines", b""),
+    ("values|--role|a|--depth|1|--deepen", b""),
+    ("solve|--role|a|--depth|1|--deepen=1", b""),
 ];
 
 /// Whether words have the status of a misuse, nothing is written, and these errors are told, or any where none are named.
@@ -118,12 +123,8 @@ fn first_command<T: Threads + Sync + AllocGlobal>(
 fn words_that_are_no_command_are_told(rt: HostRuntime) -> Result<(), AllocError> {
     assert_eq!(rt; first_command(&rt, &MISUSES)?, None);
     assert!(rt; is_misuse(&rt, &[], b""), "no words");
-    Ok(())
-}
-
-#[test]
-fn a_bad_bound_is_told_behind_missing_words(rt: HostRuntime) {
+    // A bad bound is told behind missing words.
     let words = ["solve", "--role", "a", "--at-bound", "Goal"];
-    let (status, output, errors) = told(&rt, &words, MATCH);
-    assert!(rt; status == 1 && output.is_empty() && errors.as_slice() != b"bad bound\n".as_slice());
+    assert!(rt; is_misuse(&rt, &words, b"") && !is_misuse(&rt, &words, b"bad bound\n"));
+    Ok(())
 }

@@ -1,5 +1,5 @@
 //! Histories and what `moves` answers, through runs and through the command line.
-use super::{Played, first_untold, is_answered};
+use super::{Played, is_answered};
 use std::alloc::{AllocError, Global};
 use std::thread::Threads;
 use trial_games::texts::{MARKS, MATCH, SIXTEEN, UNBASED};
@@ -35,7 +35,7 @@ const MANY: &[u8] =
     b"(role a)(d 0)(d 1)(d 2)(d 3)(d 4)(d 5)(d 6)(d 7)(d 8)(d 9)(d 10)(d 11)(d 12)(d 13)(d 14)(d 15)(d 16)(<= (base (n ?a ?b ?c ?d)) (d ?a) (d ?b) (d ?c) (d ?d))";
 
 /// Histories of a matching game, and what `moves` tells after them.
-const MATCHED: [Played; 1] = [(
+pub(crate) const MATCHED: [Played; 1] = [(
     MATCH,
     &[
         (
@@ -85,7 +85,7 @@ const MATCHED: [Played; 1] = [(
 )];
 
 /// Histories of a game of marks, and what `moves` tells after them.
-const MARKED: [Played; 1] = [(
+pub(crate) const MARKED: [Played; 1] = [(
     MARKS,
     &[
         (
@@ -112,7 +112,7 @@ const MARKED: [Played; 1] = [(
 )];
 
 /// Histories of small games, and what `moves` tells after them.
-const MOVED: [Played; 13] = [
+pub(crate) const MOVED: [Played; 13] = [
     (
         UNBASED,
         &[
@@ -281,11 +281,4 @@ fn a_history_has_at_most_1048576_bytes(rt: HostRuntime) -> Result<(), AllocError
     assert!(rt; is_played_after(&rt, 1_048_576, stuck, 0)?);
     assert!(rt; is_played_after(&rt, 1_048_577, b"refused H1 BadForm 0\n", 2)?);
     Ok(())
-}
-
-#[test]
-fn worked_games_are_played(rt: HostRuntime) {
-    assert_eq!(rt; first_untold(&rt, &MATCHED), None);
-    assert_eq!(rt; first_untold(&rt, &MARKED), None);
-    assert_eq!(rt; first_untold(&rt, &MOVED), None);
 }

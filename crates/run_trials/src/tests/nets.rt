@@ -1,10 +1,9 @@
 //! Descriptions and what `net` answers, through runs and through the command line.
-use super::{Built, Text, first_unbuilt, first_unlike};
-use std::alloc::AllocError;
+use super::{Built, Text};
 use trial_games::texts::{MARKS, MATCH, SIXTEEN, UNBASED};
 
 /// Descriptions, and what `net` tells of them.
-const COUNTED: [Text; 7] = [
+pub(crate) const COUNTED: [Text; 7] = [
     (
         UNBASED,
         b"base 1\ninputs 1\ninstances 9\ndropped 2\nnodes 13\n",
@@ -30,11 +29,6 @@ const COUNTED: [Text; 7] = [
     (b"(role a) (legal a)", b"refused G2 BadKeyword 2\n", 2),
 ];
 
-#[test]
-fn worked_descriptions_are_counted(rt: HostRuntime) {
-    assert_eq!(rt; first_unlike(&rt, "net", &COUNTED), None);
-}
-
 /// A role, and facts of the first eight numbers.
 const EIGHT: &[u8] = b"(role a)(d 0)(d 1)(d 2)(d 3)(d 4)(d 5)(d 6)(d 7)";
 
@@ -45,7 +39,7 @@ const SEVEN_MORE: &[u8] = b"(d 9)(d 10)(d 11)(d 12)(d 13)(d 14)(d 15)";
 const FOURFOLD: &[u8] = b"(<= (base (n ?a ?b ?c ?d)) (d ?a) (d ?b) (d ?c) (d ?d))";
 
 /// Base propositions to their limit, and past it.
-const BASES: [Built; 4] = [
+pub(crate) const BASES: [Built; 4] = [
     (
         "net",
         &[(EIGHT, 1), (FOURFOLD, 1)],
@@ -87,12 +81,6 @@ const BASES: [Built; 4] = [
     ),
 ];
 
-#[test]
-fn base_propositions_are_counted_to_their_limit(rt: HostRuntime) -> Result<(), AllocError> {
-    assert_eq!(rt; first_unbuilt(&rt, &BASES)?, None);
-    Ok(())
-}
-
 /// An input for each four of the numbers.
 const INPUTS: &[u8] = b"(<= (input a (n ?a ?b ?c ?d)) (d ?a) (d ?b) (d ?c) (d ?d))";
 
@@ -105,7 +93,7 @@ const RULES: &[u8] =
     b"(<= (q ?a ?b ?c) (d ?a) (d ?b) (d ?c))(<= (s1 ?a ?b) (d ?a) (d ?b))(<= (s2 ?a ?b) (d ?a) (d ?b))(<= (s3 ?a ?b) (d ?a) (d ?b))(<= (t1 ?a) (d ?a))(<= (t2 ?a) (d ?a))";
 
 /// Inputs and instances to their limits, and past them.
-const INSTANCES: [Built; 5] = [
+pub(crate) const INSTANCES: [Built; 5] = [
     (
         "net",
         &[(EIGHT, 1), (INPUTS, 1)],
@@ -150,12 +138,6 @@ const INSTANCES: [Built; 5] = [
     ),
 ];
 
-#[test]
-fn inputs_and_instances_are_counted_to_their_limits(rt: HostRuntime) -> Result<(), AllocError> {
-    assert_eq!(rt; first_unbuilt(&rt, &INSTANCES)?, None);
-    Ok(())
-}
-
 /// Rules that double a term nine times, from one relation to the next.
 const DOUBLED: &[u8] =
     b"(role a)(p0 a)(<= (p1 (f ?x ?x)) (p0 ?x))(<= (p2 (f ?x ?x)) (p1 ?x))(<= (p3 (f ?x ?x)) (p2 ?x))(<= (p4 (f ?x ?x)) (p3 ?x))(<= (p5 (f ?x ?x)) (p4 ?x))(<= (p6 (f ?x ?x)) (p5 ?x))(<= (p7 (f ?x ?x)) (p6 ?x))(<= (p8 (f ?x ?x)) (p7 ?x))(<= (p9 (f ?x ?x)) (p8 ?x))";
@@ -165,7 +147,7 @@ const NAME: &[u8] =
     b" aaaaaaaaaaaaaaaaaaaaaaaaaaaaaaaaaaaaaaaaaaaaaaaaaaaaaaaaaaaaaaaaaaaaaaaaaaaaaaaaaaaaaaaaaaaaaaaaaaaaaaaaaaaaaaaaaaaaaaaaaaaaaaaaaaaaaaaaaaaaaaaaaaaaaaaaaaaaaaaaaaaaaaaaaaaaaaaaaaaaaaaaaaaaaaaaaaaaaaaaaaaaaaaaaaaaaaaaaaaaaaaaaaaaaaaaaaaaaaaaaaaaaaaaaaaaaaa";
 
 /// Doubled terms, and heads of fifteen names of 255 letters and a shorter one: texts to their limit, and past it.
-const TEXTS: [Built; 4] = [
+pub(crate) const TEXTS: [Built; 4] = [
     (
         "net",
         &[(DOUBLED, 1)],
@@ -203,9 +185,3 @@ const TEXTS: [Built; 4] = [
         2,
     ),
 ];
-
-#[test]
-fn texts_of_heads_have_a_limit(rt: HostRuntime) -> Result<(), AllocError> {
-    assert_eq!(rt; first_unbuilt(&rt, &TEXTS)?, None);
-    Ok(())
-}

@@ -4,6 +4,7 @@ use running::main_with;
 use std::alloc::{AllocError, Global};
 use std::test::Fail;
 use std::thread::Threads;
+use trial_games::memory::filled;
 use trial_games::texts::{MATCH, SIXTEEN};
 
 /// How many bytes are left beside the blocks that take all the rest.
@@ -14,31 +15,6 @@ const LEAST: usize = 1 << 15;
 
 /// How many bytes are set aside for what is written, and to spare.
 const SPARE: usize = 1 << 14;
-
-/// Adds blocks of a size until there is no more memory for one.
-fn fill(alloc: Global, size: usize, blocks: &mut Vec<Vec<u8>>) -> Result<(), AllocError> {
-    for _ in 0..1_000_000u32 {
-        let Ok(block) = Vec::with_capacity(alloc, size) else {
-            break;
-        };
-        blocks.push(block)?;
-    }
-    Ok(())
-}
-
-/// Blocks that take all the memory there is, also what is kept of small sizes.
-fn filled(alloc: Global) -> Result<Vec<Vec<u8>>, AllocError> {
-    let mut blocks = Vec::with_capacity(alloc, 1_000_000)?;
-    let mut size = 1usize << 46;
-    for _ in 0..36u8 {
-        fill(alloc, size, &mut blocks)?;
-        size /= 2;
-    }
-    for steps in 0..128usize {
-        fill(alloc, 2048 - 16 * steps, &mut blocks)?;
-    }
-    Ok(blocks)
-}
 
 /// The size of the greatest block that can be had of the room, in steps of 1,024 bytes.
 fn greatest(alloc: Global) -> usize {

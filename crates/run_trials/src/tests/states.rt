@@ -1,5 +1,5 @@
 //! What `state` answers, through runs and through the command line.
-use super::{Played, first_untold};
+use super::Played;
 use trial_games::texts::{MARKS, MATCH, UNBASED};
 
 /// The second role never has a move.
@@ -10,7 +10,7 @@ const COUNTED: &[u8] =
     b"(role a)(base (c 2))(base (c 10))(base on)(init (c 2))(init (c 10))(input a go)(legal a go)(<= (next on) (does a go))(<= (next (c 2)) (true (c 2)))(<= terminal (true on))";
 
 /// Histories, and what `state` tells after them. Without one the start is told.
-const STATES: [Played; 6] = [
+pub(crate) const STATES: [Played; 6] = [
     (
         UNBASED,
         &[
@@ -63,8 +63,3 @@ const STATES: [Played; 6] = [
         &[("state|--after|", b"refused K4 Unclosed 9\n", 2)],
     ),
 ];
-
-#[test]
-fn states_are_told(rt: HostRuntime) {
-    assert_eq!(rt; first_untold(&rt, &STATES), None);
-}

@@ -1,6 +1,6 @@
 //! Texts and what `show` answers, over readers and writers that go on, go on slowly, or fail.
 use super::devices::{Full, Silent, Slow, Torn};
-use super::{Built, Text, first_unbuilt, first_unlike, joined, told};
+use super::{Built, Text, joined};
 use running::{RunFault, main_with, run};
 use statement::Status;
 use std::alloc::AllocError;
@@ -10,7 +10,7 @@ use std::thread::Threads;
 use words::Command;
 
 /// Texts, and what `show` tells of them.
-const SHOWN: [Text; 12] = [
+pub(crate) const SHOWN: [Text; 12] = [
     (b"", b"", 0),
     (b"(ROLE A)(role a)", b"(role a)\n(role a)\n", 0),
     (b"(role a", b"refused K4 Unclosed 0\n", 2),
@@ -25,13 +25,8 @@ const SHOWN: [Text; 12] = [
     (b"a|b", b"refused K2 BadByte 1\n", 2),
 ];
 
-#[test]
-fn worked_texts_are_shown(rt: HostRuntime) {
-    assert_eq!(rt; first_unlike(&rt, "show", &SHOWN), None);
-}
-
 /// Texts at the limits of open lists, of names and of texts.
-const LIMITS: [Built; 6] = [
+pub(crate) const LIMITS: [Built; 6] = [
     (
         "show",
         &[(b"(", 100), (b")", 100)],
@@ -60,12 +55,6 @@ const LIMITS: [Built; 6] = [
     ),
 ];
 
-#[test]
-fn texts_are_shown_to_their_limits(rt: HostRuntime) -> Result<(), AllocError> {
-    assert_eq!(rt; first_unbuilt(&rt, &LIMITS)?, None);
-    Ok(())
-}
-
 /// Runs `show`.
 fn show<T: Threads + Sync + AllocGlobal, R: Read, W: Write>(
     rt: &T,
@@ -88,12 +77,6 @@ fn is_left_behind<T: Threads + Sync + AllocGlobal>(rt: &T) -> Result<bool, Alloc
     )
 }
 
-#[test]
-fn what_is_behind_the_limit_stays_unread(rt: HostRuntime) -> Result<(), AllocError> {
-    assert!(rt; is_left_behind(&rt)?);
-    Ok(())
-}
-
 /// Whether a reader that fails after so many reads is told, by a run and by words.
 fn is_torn<T: Threads + Sync + AllocGlobal>(rt: &T, reads: usize) -> bool {
     let mut output = Vec::new(rt.alloc());
@@ -112,13 +95,6 @@ fn is_torn<T: Threads + Sync + AllocGlobal>(rt: &T, reads: usize) -> bool {
         && errors.as_slice() == b"read fault\n".as_slice()
 }
 
-#[test]
-fn a_reader_that_fails_is_told(rt: HostRuntime) {
-    for reads in 0..3 {
-        assert!(rt; is_torn(&rt, reads), "after {reads}");
-    }
-}
-
 /// Whether a reader of single bytes gives what the row says.
 fn is_slow<T: Threads + Sync + AllocGlobal>(rt: &T, row: Text) -> bool {
     let (text, want, exit) = row;
@@ -129,10 +105,15 @@ fn is_slow<T: Threads + Sync + AllocGlobal>(rt: &T, row: Text) -> bool {
 }
 
 #[test]
-fn a_reader_of_single_bytes_gives_the_same(rt: HostRuntime) {
+fn readers_that_fail_or_go_on_slowly_are_read(rt: HostRuntime) -> Result<(), AllocError> {
+    for reads in 0..3 {
+        assert!(rt; is_torn(&rt, reads), "after {reads}");
+    }
     for place in 0..SHOWN.len() {
         assert!(rt; is_slow(&rt, SHOWN[place]), "at {place}");
     }
+    assert!(rt; is_left_behind(&rt)?);
+    Ok(())
 }
 
 /// What `show` writes for two trees.
@@ -158,21 +139,21 @@ fn is_all_taken<T: Threads + Sync + AllocGlobal>(rt: &T) -> bool {
     ended == Ok(Status::Answer) && output.taken() == LINES
 }
 
+/// Whether a flush that fails is told, by a run and by words.
+fn is_unflushed<T: Threads + Sync + AllocGlobal>(rt: &T) -> bool {
+    let mut input = b"(a)".as_slice();
+    let ended = show(rt, &mut input, &mut Silent);
+    let mut input = b"(a)".as_slice();
+    let mut errors = Vec::new(rt.alloc());
+    let status = main_with(rt, &["--help"], &mut input, &mut Silent, &mut errors);
+    ended == Err(RunFault::Write) && status == 4 && errors.as_slice() == b"write fault\n".as_slice()
+}
+
 #[test]
 fn a_writer_that_fails_is_told(rt: HostRuntime) {
     for room in 0..10 {
         assert!(rt; is_full(&rt, room), "at {room}");
     }
     assert!(rt; is_all_taken(&rt));
-}
-
-#[test]
-fn a_flush_that_fails_is_told(rt: HostRuntime) {
-    let mut input = b"(a)".as_slice();
-    let ended = show(&rt, &mut input, &mut Silent);
-    assert!(rt; ended == Err(RunFault::Write));
-    let mut input = b"(a)".as_slice();
-    let mut errors = Vec::new(rt.alloc());
-    let status = main_with(&rt, &["--help"], &mut input, &mut Silent, &mut errors);
-    assert!(rt; status == 4 && errors.as_slice() == b"write fault\n".as_slice());
+    assert!(rt; is_unflushed(&rt));
 }

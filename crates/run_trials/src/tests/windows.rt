@@ -1,6 +1,6 @@
 //! What `solve` answers within a window, and what `values` does.
+use super::Played;
 use super::lines::OPEN;
-use super::{Played, first_untold};
 use trial_games::texts::MATCH;
 
 /// One role picks one of four goals, of which the second and the last are greatest.
@@ -15,7 +15,7 @@ pub(crate) const SIDES: &[u8] =
 pub(crate) const STUCK: &[u8] = b"(role a)(role b)(input a go)(legal a go)(goal a 40)";
 
 /// Games, and what `solve` tells of them within a window.
-const WINDOWS: [Played; 5] = [
+pub(crate) const WINDOWS: [Played; 5] = [
     (
         PICK,
         &[
@@ -187,7 +187,7 @@ const WINDOWS: [Played; 5] = [
 ];
 
 /// Games, and what `values` tells of their moves.
-const VALUED: [Played; 5] = [
+pub(crate) const VALUED: [Played; 5] = [
     (
         PICK,
         &[
@@ -294,9 +294,3 @@ const VALUED: [Played; 5] = [
         ],
     ),
 ];
-
-#[test]
-fn values_and_moves_are_told_within_windows(rt: HostRuntime) {
-    assert_eq!(rt; first_untold(&rt, &WINDOWS), None);
-    assert_eq!(rt; first_untold(&rt, &VALUED), None);
-}

@@ -3,4 +3,4 @@ use Rattle.part_trials.proofs.boards.boards_of_one_reply_to_each_move.Given as g
 
 -- the values are those of the bytes
 abbrev pub ghosts-play : goal.ghosts-play
-ghosts-play a = record { value = λ i j. pos (slice_index a.values.now (2 * i + j)); narrows = false }
+ghosts-play g a = record { value = λ i j. pos (slice_index a.values.now (2 * i + j)); narrows = false }
