@@ -102,6 +102,12 @@ class Tables(unittest.TestCase):
         self.assertEqual(found.parts, {"pages": 7, "rt ci": 12})
 
 
+    def test_parts_are_those_of_the_gate(self) -> None:
+        known = Weights({}, {"rt ci": 8})
+        self.assertEqual(budget.renewed(known, Weights({}, {"rt ci --anew kif": 1})).parts, known.parts)
+        self.assertEqual(budget.renewed(known, Weights({}, {"rt ci": 9, "games/": 2})).parts, {"rt ci": 9, "games/": 2})
+
+
 class Judgement(unittest.TestCase):
     def test_four_hours_are_enough(self) -> None:
         count = len(weights.crates_named())
