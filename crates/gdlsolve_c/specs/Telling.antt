@@ -9,7 +9,7 @@ use Rattle.words.specs.declared.grammar.Request.{Request}
 use Rattle.words.specs.declared.grammar.Request.TheVariants.{Run, Help, Misuse}
 use Rattle.words.specs.Asked.{query_of}
 use Rattle.words.specs.Widths.{IsCommandIn}
-use Rattle.replies.specs.Replies.{reply_of}
+use Rattle.replies_moves.specs.Replies.{reply_of}
 use Rattle.statement.specs.Replies.{IsReply}
 use Rattle.gdlsolve_c.specs.declared.told.Outcome.{Outcome}
 use Rattle.gdlsolve_c.specs.declared.told.Outcome.TheVariants.{Reply, Words}

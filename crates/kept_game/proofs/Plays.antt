@@ -14,8 +14,8 @@ use Rattle.ground.specs.GroundView.{IsGround}
 use Rattle.rules.specs.declared.rule_set.RuleSet.{RuleSet}
 use Rattle.rules.specs.RuleSetView.{rules_in}
 use Rattle.rulebook.specs.RuleState.{IsGameOver}
-use Rattle.replies.specs.declared.reply.Reply as made
-use Rattle.replies.specs.Replies.{reply_of}
+use Rattle.replies_moves.specs.declared.reply.Reply as made
+use Rattle.replies_moves.specs.Replies.{reply_of}
 use Rattle.replies.specs.declared.reading.Reading.TheVariants as readings
 use Rattle.replies.specs.Readings.{IsReadingOf, IsReplyOver}
 use Rattle.replies.proofs.Facts.{asked_so}

@@ -4,8 +4,8 @@ ghost use Rattle.statement.specs.declared.width.Width.TheVariants.{Plain};
 ghost use Rattle.statement.specs.Queries.{asked_in};
 ghost use Rattle.statement.specs.Replies.{IsReply};
 ghost use Rattle.words.specs.Asked.{query_about, query_of};
-ghost use Rattle.replies.specs.Kept.{IsKeptSearch};
-ghost use Rattle.replies.specs.Replies.{reply_of};
+ghost use Rattle.replies_search.specs.Kept.{IsKeptSearch};
+ghost use Rattle.replies_moves.specs.Replies.{reply_of};
 ghost use Rattle.kept_game.specs.Playing.{PlaysText};
 
 use crate::making::game_alone;

@@ -9,8 +9,9 @@ use explain::{
     Before, PlayFault, Source, explain_history, explain_limit, explain_role, explain_rules,
     explain_text, explain_unread_history, item_spot, rule_fault_in,
 };
+use ground::{GroundFault, instantiate_flat_alone};
 use kif::{Expr, KifFault, read};
-use replies::reply_alone;
+use replies_moves::moves_reply;
 use rulebook::GroundGame;
 use rules::{RuleFault, RuleSet};
 use statement::Width;
@@ -47,22 +48,28 @@ fn history_of<'a>(inquiry: &Inquiry<'a>) -> &'a str {
 /// What `moves` tells after the beginning of a history.
 fn lines_after<G: GroundGame, T: AllocGlobal>(
     rt: &T,
-    bytes: &[u8],
+    rules: &RuleSet,
     width: Width,
     front: &[u8],
 ) -> Result<Vec<u8>, AllocError> {
+    let alloc = rt.alloc();
     let Ok(after) = from_utf8(front) else {
-        return Ok(Vec::new(rt.alloc()));
+        return Ok(Vec::new(alloc));
     };
-    let moves = Command::Ask(Inquiry::Moves { after }, width);
-    let reply = reply_alone::<G, G, T>(rt, &moves, bytes)?;
+    let ground = match instantiate_flat_alone(rt, rules, width) {
+        Ok(ground) => ground,
+        Err(GroundFault::NoMemory) => return Err(AllocError),
+        Err(GroundFault::TooMany(_)) => return Ok(Vec::new(alloc)),
+    };
+    let game = G::over(alloc, ground)?;
+    let reply = moves_reply(alloc, &game, after)?;
     Ok(reply.output)
 }
 
 /// What `moves` tells before the turn that has a fault, where a move of it is not legal.
 fn lines_before<G: GroundGame, T: AllocGlobal, A: Allocator>(
     rt: &T,
-    bytes: &[u8],
+    rules: &RuleSet,
     width: Width,
     after: &[u8],
     turns: &[Expr<A>],
@@ -70,7 +77,7 @@ fn lines_before<G: GroundGame, T: AllocGlobal, A: Allocator>(
 ) -> Result<Vec<u8>, AllocError> {
     if let PlayFault::NotLegal(turn, _) = fault {
         if let Some(spot) = item_spot(after, turns, *turn) {
-            return lines_after::<G, T>(rt, bytes, width, after.get(..spot.offset).unwrap_or(b""));
+            return lines_after::<G, T>(rt, rules, width, after.get(..spot.offset).unwrap_or(b""));
         }
     }
     Ok(Vec::new(rt.alloc()))
@@ -79,7 +86,7 @@ fn lines_before<G: GroundGame, T: AllocGlobal, A: Allocator>(
 /// Adds what explains the fault of a history.
 fn explain_turns<G: GroundGame, T: AllocGlobal>(
     rt: &T,
-    bytes: &[u8],
+    rules: &RuleSet,
     width: Width,
     after: &[u8],
     fault: &PlayFault,
@@ -89,7 +96,7 @@ fn explain_turns<G: GroundGame, T: AllocGlobal>(
     let arena = Bump::new(rt.alloc());
     match read(&arena, after) {
         Ok(turns) => {
-            let lines = lines_before::<G, T, _>(rt, bytes, width, after, &turns, fault)?;
+            let lines = lines_before::<G, T, _>(rt, rules, width, after, &turns, fault)?;
             let before = Before {
                 roles,
                 lines: &lines,
@@ -114,7 +121,7 @@ fn explain_inquiry<G: GroundGame, T: AllocGlobal, A: Allocator>(
     let roles = role_names(rt.alloc(), rules)?;
     if let Some(fault) = PlayFault::named_by(refusal) {
         let after = history_of(inquiry).as_bytes();
-        return explain_turns::<G, T>(rt, source.text, width, after, &fault, &roles, output);
+        return explain_turns::<G, T>(rt, rules, width, after, &fault, &roles, output);
     }
     if refusal.get(8..10) == Some(b"S1".as_slice()) {
         return explain_role(&roles, output);

@@ -25,10 +25,10 @@ use Rattle.rulebook.proofs.Facts.{game_of_ground}
 use Rattle.words.specs.declared.command.Inquiry.{Inquiry}
 use Rattle.words.specs.declared.command.Inquiry.TheVariants.{Net, Moves, State, Solve, SolveWithin, Values, ValuesWithLines, Deepen}
 use Rattle.words.specs.Asked.{query_about}
-use Rattle.replies.specs.declared.reply.Reply as made
+use Rattle.replies_moves.specs.declared.reply.Reply as made
 use Rattle.replies.specs.Games.{IsItsGround}
 use Rattle.replies.specs.Readings.{IsInstantiationOf, IsReplyOver}
-use Rattle.replies.specs.Replies.{reply_of}
+use Rattle.replies_moves.specs.Replies.{reply_of}
 
 -- the game of the ground of the items is the game of the items
 its_game : (width : Width) (items : List Tree) (g : FlatGround) → IsItsGround width items g → IsItsGame width items (named_rules_of g)

@@ -11,7 +11,7 @@ use Rattle.statement.specs.Rules.{State}
 use Rattle.game.specs.SamePlay.{SamePlay}
 use Rattle.statement.specs.declared.history_fault.HistoryFault.{HistoryFault}
 use Rattle.statement.specs.declared.history_fault.HistoryFault.TheVariants.{BadForm, NotLegal, Over, Stuck, NoMemory}
-use Rattle.replies.proofs.OneText.{fault_or_trees, not_fault_and_trees}
+use Rattle.replies_moves.proofs.Facts.{fault_or_trees, not_fault_and_trees}
 use Rattle.statement.specs.Answers.{answer, refusal}
 use Rattle.statement.specs.Histories.{IsHistoryOf}
 use Rattle.statement.specs.Moving.{history_reply}

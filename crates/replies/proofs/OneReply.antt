@@ -15,7 +15,7 @@ use Rattle.replies.proofs.OneValues.{values_alike}
 use Rattle.replies.proofs.OneLines.{RepliesAlike, with_lines_alike}
 use Rattle.replies.proofs.OneDeepening.{deepen_alike}
 use Rattle.replies.proofs.OneState.{some_state, one_state}
-use Rattle.replies.proofs.OneText.{fault_or_trees, one_text_fault, not_fault_and_trees}
+use Rattle.replies_moves.proofs.Facts.{fault_or_trees, one_text_fault, not_fault_and_trees}
 use Rattle.statement.specs.Queries.{Query, show, check, net, moves, state, solve, solve_within, values, values_with_lines, deepen, widely}
 use Rattle.statement.specs.Answers.{Reply, answer, refusal}
 use Rattle.statement.specs.declared.width.Width.{Width}

@@ -13,7 +13,7 @@ use Rattle.statement.specs.Rules.{State, Turn, IsTurn, all_roles}
 use Rattle.game.specs.SamePlay.{SamePlay}
 use Rattle.statement.specs.Value.{value, choice_of, line_of}
 use Rattle.replies.proofs.OneHistory.{some_history, one_history_reply}
-use Rattle.replies.proofs.OneText.{fault_or_trees, not_fault_and_trees}
+use Rattle.replies_moves.proofs.Facts.{fault_or_trees, not_fault_and_trees}
 use Rattle.statement.specs.Answers.{Reply, refusal}
 use Rattle.statement.specs.Checking.{count_line, spaced}
 use Rattle.statement.specs.Moving.{history_reply}

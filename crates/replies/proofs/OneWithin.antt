@@ -1,5 +1,5 @@
 -- Games that tell the same are told the same of within a window.
-use Rattle.std.proofs.Common.{ℕ, zero, suc, ◌-◌, ◌<◌, ◌≡◌, ◌++◌, Bool, true, false, cond, List, Option, Some, None, codes, refl, ◌∙◌, ap}
+use Rattle.std.proofs.Common.{ℕ, zero, suc, ◌-◌, ◌<◌, ◌≡◌, ◌++◌, Bool, cond, List, Option, Some, None, codes, refl, ◌∙◌, ap}
 use Rattle.std.specs.Prelude.{IfSome, find, nat_le, nat_lt, ◌||◌}
 use Rattle.statement.specs.declared.at_bound.AtBound.{AtBound}
 use Rattle.statement.specs.declared.window.Window.{Window}
@@ -9,19 +9,10 @@ use Rattle.statement.specs.Value.{value, worst}
 use Rattle.statement.specs.Checking.{count_line}
 use Rattle.statement.specs.Solving.{move_line, solve_lines}
 use Rattle.statement.specs.Within.{first_at_least, own_line, at_least_lines, window_lines}
-use Rattle.game.specs.SamePlay.{SamePlay, AreLegalMoves}
-use Rattle.game.proofs.Facts.{finds_alike, found_within, stuck_alike, value_alike, worst_alike}
+use Rattle.game.specs.SamePlay.{SamePlay}
+use Rattle.game.proofs.Facts.{finds_alike, stuck_alike, value_alike, worst_alike}
+use Rattle.replies_search.proofs.Facts.{first_within}
 use Rattle.replies.proofs.OneSolve.{lines_alike}
-
--- a first move is a move of the role
-pub first_within : (g : Rules) → AreLegalMoves g → (role depth : ℕ) (at : AtBound) (bound : ℕ) (s : State) → role < g.roles
-    → IfSome (first_at_least g role depth at bound s) (λ m. m < g.moves role)
-first_within g known role zero at bound s lt = tt
-first_within g known role (suc depth) at bound s lt = go (g.ended s || is_stuck g s)
-  where
-    go : (b : Bool) → IfSome (cond b None (find (λ m. nat_le bound (worst g role depth at s m)) (g.legal s role))) (λ m. m < g.moves role)
-    go true = tt
-    go false = found_within (λ m. m < g.moves role) _ (g.legal s role) (known s role lt)
 
 -- what is told of a value in a window, where that is told of a value between the bounds, and this of one above
 abbrev lines_by : Window → ℕ → List ℕ → List ℕ → List ℕ

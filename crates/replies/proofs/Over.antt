@@ -13,10 +13,10 @@ use Rattle.statement.specs.Replies.{IsReplyIn}
 use Rattle.ground.specs.declared.flat_ground.FlatGround.{FlatGround}
 use Rattle.ground.specs.GroundView.{IsGround}
 use Rattle.rulebook.specs.RuleState.{named_rules_of}
-use Rattle.replies.specs.declared.reply.Reply as made
+use Rattle.replies_moves.specs.declared.reply.Reply as made
 use Rattle.replies.specs.Games.{IsItsGround}
 use Rattle.replies.specs.Readings.{IsReplyOver}
-use Rattle.replies.specs.Replies.{reply_of}
+use Rattle.replies_moves.specs.Replies.{reply_of}
 use Rattle.replies.proofs.Describing.{over_ground, tells_game, tells_rules}
 
 pub if_over : {E : Type 0} (query : Query) (g : FlatGround) (told : Width → List Tree → Reply → Type 0) (r : Result made.Reply E)

@@ -25,12 +25,12 @@ use Rattle.words.specs.Asked.{query_about}
 use Rattle.replies.specs.declared.reading.Reading.{Reading}
 use Rattle.replies.specs.declared.reading.Reading.TheVariants.{Rules, Refused}
 use Rattle.replies.specs.declared.asking.Asked.{Asked}
-use Rattle.replies.specs.declared.reply.Reply as made
+use Rattle.replies_moves.specs.declared.reply.Reply as made
 use Rattle.replies.specs.Readings.{AreRulesOf, RefusesBytes, IsReadingOf, IsReadingOfItems, IsInstantiationOf, IsReplyOver}
-use Rattle.replies.specs.Replies.{reply_of}
+use Rattle.replies_moves.specs.Replies.{reply_of}
 use Rattle.replies.specs.Asking.{IsAsked}
 use Rattle.replies.proofs.Describing.{no_game}
-use Rattle.replies.proofs.Searches.{lift_asked}
+use Rattle.replies.proofs.Askings.{lift_asked}
 
 -- the rules of items that were read are those of the bytes, and so is their fault
 pub bytes_read : {E : Type 0} (bytes : List ℕ) (items : List Tree) (r : Result Reading E) → Reads bytes (trees_of items)

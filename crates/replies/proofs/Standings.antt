@@ -24,8 +24,8 @@ use Rattle.game.proofs.Facts.{all_below, get_or_any}
 use Rattle.ground.specs.declared.flat_ground.FlatGround.{FlatGround}
 use Rattle.ground.specs.Grounds.{text_at}
 use Rattle.ground.specs.GroundView.{base_of, IsGround}
-use Rattle.replies.specs.declared.reply.Reply as made
-use Rattle.replies.specs.Replies.{reply_of}
+use Rattle.replies_moves.specs.declared.reply.Reply as made
+use Rattle.replies_moves.specs.Replies.{reply_of}
 use Rattle.replies.specs.Standing.{standing_line, numbered_line, numbered_lines}
 
 text_there : (ts : List Tree) (k : ℕ) → k < length ts → text_at (map text ts) k ≡ text (nth_tree ts k)

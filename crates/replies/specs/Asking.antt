@@ -1,38 +1,13 @@
 -- This crate's own: what `run` promises does not rest on it.
 -- What asking comes to: a reply, or a search after which there is one.
-use Rattle.std.specs.Prelude.{ℕ, ◌<◌, List, Result, Ok, Err}
-use Rattle.statement.specs.NamedRules.{NamedRules}
-use Rattle.statement.specs.Answers.{Reply, answer}
-use Rattle.statement.specs.declared.at_bound.AtBound.{AtBound}
-use Rattle.statement.specs.Rules.{State}
+use Rattle.statement.specs.Answers.{Reply}
 use Rattle.statement.specs.Solving.{solve_lines}
 use Rattle.statement.specs.Deepening.{deepen_lines}
 use Rattle.game.specs.declared.game.Game.{Ghosts}
 use Rattle.replies.specs.declared.asking.Asked.{Asked}
 use Rattle.replies.specs.declared.asking.Asked.TheVariants.{Told, ToSearch, ToDeepen}
-use Rattle.replies.specs.declared.reply.Reply as made
-use Rattle.replies.specs.declared.search.Search.{Search}
-use Rattle.replies.specs.Histories.{named}
-use Rattle.replies.specs.Replies.{reply_of}
-
--- which game it is
-abbrev pub named_by : {G P W M : Type 0} → Ghosts G P W M → G → NamedRules
-named_by of game = named (of.rules game) (of.role_name game) (of.move_name game)
-
--- what is told of a state of a game for a role, by how many turns are looked ahead and what a state is worth behind them
-abbrev pub LinesOf : Type 0
-LinesOf = NamedRules → ℕ → ℕ → AtBound → State → List ℕ
-
--- A search of a state that was made for its game, for one of the game's roles. What tells such lines of it is the reply.
-pub record IsSearchFor {G P W M : Type 0} (of : Ghosts G P W M) (lines : LinesOf) (is : Reply → Type 0) (s : Search G P W M) : Type 0 where
-  pub fits : of.fits s.game s.here
-  pub role : s.asked.role < (of.rules s.game).roles
-  pub reply : is (answer (lines (named_by of s.game) s.asked.role s.asked.depth s.asked.at (of.state s.game s.here)))
-
--- the search after which there is the reply, or the reply
-abbrev pub IsSearchOrReply : {G P W M : Type 0} → Ghosts G P W M → LinesOf → (Reply → Type 0) → Result (Search G P W M) made.Reply → Type 0
-IsSearchOrReply of lines is (Ok s) = IsSearchFor of lines is s
-IsSearchOrReply of lines is (Err reply) = is (reply_of reply)
+use Rattle.replies_search.specs.Searching.{IsSearchFor}
+use Rattle.replies_moves.specs.Replies.{reply_of}
 
 -- a reply, or a search after which there is one: what tells its value, its first best move and its line, at once or turn by turn further
 abbrev pub IsAsked : {G P W M : Type 0} → Ghosts G P W M → (Reply → Type 0) → Asked G P W M → Type 0

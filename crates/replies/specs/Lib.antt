@@ -1,11 +1,4 @@
-pub mod Histories
-pub mod Play
 pub mod Games
-pub mod Replies
 pub mod Asking
 pub mod Readings
-pub mod Windows
 pub mod Standing
-pub mod Settling
-pub mod Ready
-pub mod Kept

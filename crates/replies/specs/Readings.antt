@@ -19,7 +19,7 @@ use Rattle.ground.specs.declared.flat_ground.FlatGround.{FlatGround}
 use Rattle.ground.specs.GroundView.{IsGround}
 use Rattle.replies.specs.declared.reading.Reading.{Reading}
 use Rattle.replies.specs.declared.reading.Reading.TheVariants.{Rules, Refused}
-use Rattle.replies.specs.Replies.{reply_of}
+use Rattle.replies_moves.specs.Replies.{reply_of}
 
 -- the items have no fault, and these are their rules
 pub record AreRulesOf (items : List Tree) (rules : List Alternative) : Type 0 where

@@ -4,13 +4,12 @@ ghost use Rattle.replies.specs.Asking.{IsAsked};
 ghost use Rattle.replies.specs.Readings.{IsReplyOver};
 ghost use Rattle.words.specs.Asked.{query_about};
 
-use crate::asked_alone::Wanted;
 use crate::games::{ask_deepen, ask_solve, reply_for_role, reply_to_moves, reply_to_state};
-use crate::reply::{Reply, refused};
-use crate::search::Search;
 use crate::sizes::reply_to_net;
 use game::Game;
 use ground::{FlatGround, GroundFault};
+use replies_moves::{Reply, refused};
+use replies_search::{Search, Wanted};
 use rulebook::GroundGame;
 use std::alloc::{AllocError, Global};
 use words::Inquiry;

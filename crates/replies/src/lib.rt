@@ -4,35 +4,18 @@
 #![tactic(auto)]
 
 mod alone;
-mod asked_alone;
 mod asking;
-mod best_play;
-mod deepening;
 mod games;
-mod history;
-mod kept_search;
 mod laws;
-mod moving;
 mod over_game;
-mod play;
 mod reading;
-mod reply;
-mod roles;
-mod search;
-mod settling;
 mod sizes;
-mod solving;
 mod standing;
-mod windowed;
-mod worths;
-mod writing;
 
-pub use alone::{reply_alone, told_alone};
+pub use alone::reply_alone;
 pub use asking::{Asked, ask};
-pub use deepening::Deepening;
-pub use kept_search::KeptSearch;
 pub use laws::each_input_has_one_reply;
 pub use over_game::{reply_over, reply_over_keeping};
 pub use reading::{Reading, check, read, show};
-pub use reply::Reply;
-pub use search::Search;
+pub use replies_moves::Reply;
+pub use replies_search::{Deepening, Found, KeptSearch, Search, told_alone};

@@ -2,16 +2,14 @@
 ghost use Rattle.std.specs.Prelude.{IfOk, IfSome, Ok};
 ghost use Rattle.rulebook.specs.RuleState.{IsGameOver};
 ghost use Rattle.words.specs.Asked.{query_about};
-ghost use Rattle.replies.specs.Kept.{IsKeptSearch};
+ghost use Rattle.replies_search.specs.Kept.{IsKeptSearch};
 ghost use Rattle.replies.specs.Readings.{IsReplyOver};
-ghost use Rattle.replies.specs.Replies.{reply_of};
+ghost use Rattle.replies_moves.specs.Replies.{reply_of};
 
-use crate::asked_alone::{Wanted, role_reply};
-use crate::kept_search::KeptSearch;
-use crate::moving::moves_reply;
-use crate::reply::Reply;
 use crate::sizes::reply_to_net;
 use crate::standing::state_reply;
+use replies_moves::{Reply, moves_reply};
+use replies_search::{KeptSearch, Wanted, role_reply};
 use rulebook::GroundGame;
 use std::alloc::{AllocError, Global};
 use words::Inquiry;

@@ -4,13 +4,13 @@ ghost use Rattle.kif.specs.View.{trees_in};
 ghost use Rattle.rules.specs.RuleSets.{texts_of};
 ghost use Rattle.statement.specs.Checking.{spaced, check_lines, IsCheckReply};
 ghost use Rattle.replies.specs.Readings.{IsReadingOf, IsReadingOfItems};
-ghost use Rattle.replies.specs.Replies.{reply_of};
+ghost use Rattle.replies_moves.specs.Replies.{reply_of};
 ghost use Rattle.statement.specs.Replies.{IsReply};
 ghost use Rattle.statement.specs.Queries as query;
 
-use crate::reply::{Reply, add_count, answered, refused};
 use bumpalo::Bump;
 use kif::{Expr, KifFault, canonical_lines};
+use replies_moves::{Reply, add_count, answered, refused};
 use rules::{Counts, RuleFault, RuleSet, count_rules};
 use std::alloc::{AllocError, Allocator, Global};
 

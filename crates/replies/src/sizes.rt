@@ -4,14 +4,14 @@ ghost use Rattle.ground.specs.Fits.{count_all};
 ghost use Rattle.ground.specs.GroundView.{base_of, inputs_of, instances_of};
 ghost use Rattle.propnet.specs.Nets.{gates_of};
 ghost use Rattle.replies.specs.Games.{IsItsGround};
-ghost use Rattle.replies.specs.Replies.{reply_of};
+ghost use Rattle.replies_moves.specs.Replies.{reply_of};
 ghost use Rattle.statement.specs.Networks.{IsNetReply, net_lines};
 ghost use Rattle.statement.specs.Tree.{Tree};
 ghost use Rattle.statement.specs.declared.width.Width.{Width};
 
-use crate::reply::{Reply, add_count, answered};
 use ground::FlatGround;
 use propnet::Net;
+use replies_moves::{Reply, add_count, answered};
 use std::alloc::{AllocError, Global};
 
 /// How many inputs there are, all roles together.

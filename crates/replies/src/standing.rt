@@ -5,14 +5,13 @@ ghost use Rattle.game.specs.Keys.{has_bit, state_of_bits};
 ghost use Rattle.ground.specs.GroundView.{base_of, IsGround};
 ghost use Rattle.statement.specs.Clause.{Alternative};
 ghost use Rattle.statement.specs.Holding.{state_lines, IsStateReply};
-ghost use Rattle.replies.specs.Histories.{named};
-ghost use Rattle.replies.specs.Replies.{reply_of};
+ghost use Rattle.replies_moves.specs.Histories.{named};
+ghost use Rattle.replies_moves.specs.Replies.{reply_of};
 ghost use Rattle.replies.specs.Standing.{standing_line, numbered_line, numbered_lines};
 
-use crate::history::{position_after, refused_history};
-use crate::reply::{Reply, answered};
 use game::{Game, HistoryFault, is_stuck};
 use ground::FlatGround;
+use replies_moves::{Reply, answered, position_after, refused_history};
 use rulebook::GroundGame;
 use std::alloc::{AllocError, Global};
 

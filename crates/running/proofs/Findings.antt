@@ -12,7 +12,7 @@ use Rattle.statement.specs.Checking.{check_lines}
 use Rattle.statement.specs.Answers.{Reply, answer}
 use Rattle.statement.specs.declared.status.Status.{Status}
 use Rattle.statement.specs.declared.status.Status.TheVariants.{Answer, Refused}
-use Rattle.replies.specs.Replies.{reply_of}
+use Rattle.replies_moves.specs.Replies.{reply_of}
 use Rattle.running.specs.declared.fault.RunFault.{RunFault}
 use Rattle.running.specs.declared.fault.RunFault.TheVariants.{Memory, Read, Write}
 use Rattle.running.specs.declared.runs.Ran.{Ran}

@@ -11,7 +11,7 @@ use Rattle.statement.specs.Input.{read_limit, RepliesTo}
 use Rattle.running.specs.Input.{IsReadFrom}
 use Rattle.statement.specs.Answers.{Reply, refusal}
 use Rattle.statement.specs.Replies.{IsReply}
-use Rattle.replies.proofs.Facts.{one_text_fault}
+use Rattle.replies_moves.proofs.Facts.{one_text_fault}
 
 below_is_true : (m n : ℕ) → m < n → nat_lt m n ≡ true
 below_is_true m n h = search (rules, h)

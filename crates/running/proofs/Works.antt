@@ -4,12 +4,12 @@ use Rattle.std.specs.Prelude.{Result, Ok, Err, IfOk}
 use Rattle.game.specs.declared.game.Game.{Ghosts}
 use Rattle.statement.specs.Answers.{Reply, answer}
 use Rattle.statement.specs.Deepening.{deepen_lines}
-use Rattle.replies.specs.declared.deepening.Deepening.{Deepening}
-use Rattle.replies.specs.declared.reply.Reply as made
-use Rattle.replies.specs.declared.search.Search.{Search}
-use Rattle.replies.specs.Asking.{IsSearchFor, named_by}
-use Rattle.replies.specs.Ready.{IsReady, lines_to_write}
-use Rattle.replies.specs.Replies.{reply_of}
+use Rattle.replies_search.specs.declared.deepening.Deepening.{Deepening}
+use Rattle.replies_moves.specs.declared.reply.Reply as made
+use Rattle.replies_search.specs.declared.search.Search.{Search}
+use Rattle.replies_search.specs.Searching.{IsSearchFor, named_by}
+use Rattle.replies_search.specs.Ready.{IsReady, lines_to_write}
+use Rattle.replies_moves.specs.Replies.{reply_of}
 use Rattle.running.specs.declared.working.Work.{Work}
 use Rattle.running.specs.declared.working.Work.TheVariants.{Told, ToWrite}
 use Rattle.running.specs.Work.{IsWork}

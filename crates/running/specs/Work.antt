@@ -3,8 +3,8 @@
 use Rattle.std.specs.Prelude.{⊤}
 use Rattle.game.specs.declared.game.Game.{Ghosts}
 use Rattle.statement.specs.Answers.{Reply, answer}
-use Rattle.replies.specs.Replies.{reply_of}
-use Rattle.replies.specs.Ready.{IsReady, lines_to_write}
+use Rattle.replies_moves.specs.Replies.{reply_of}
+use Rattle.replies_search.specs.Ready.{IsReady, lines_to_write}
 use Rattle.running.specs.declared.working.Work.{Work}
 use Rattle.running.specs.declared.working.Work.TheVariants.{Told, ToWrite}
 

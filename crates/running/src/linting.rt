@@ -6,7 +6,7 @@ ghost use Rattle.statement.specs.Tree.{trees_of};
 ghost use Rattle.statement.specs.Reading.{Reads};
 ghost use Rattle.statement.specs.Answers.{Reply};
 ghost use Rattle.kif.specs.View.{trees_in};
-ghost use Rattle.replies.specs.Replies.{reply_of};
+ghost use Rattle.replies_moves.specs.Replies.{reply_of};
 ghost use Rattle.running.specs.Input.{IsReadFrom};
 ghost use Rattle.running.specs.Ran.{ended_of};
 ghost use Rattle.running.specs.Explained.{TellsMore};

@@ -1,8 +1,8 @@
 //! What a command comes to: its reply, with its search shared by workers, or a search turn by turn that writes it.
 ghost use Rattle.std.specs.Prelude.{◌≡◌, ◌<◌, IfOk};
 ghost use Rattle.statement.specs.Answers.{answer};
-ghost use Rattle.replies.specs.Histories.{named};
-ghost use Rattle.replies.specs.Replies.{reply_of};
+ghost use Rattle.replies_moves.specs.Histories.{named};
+ghost use Rattle.replies_moves.specs.Replies.{reply_of};
 ghost use Rattle.statement.specs.Queries.{asked_in};
 ghost use Rattle.statement.specs.Replies.{IsReply};
 ghost use Rattle.words.specs.Asked.{query_about, query_of};

@@ -2,7 +2,7 @@
 use Rattle.std.proofs.Common.{ℕ, ◌≡◌, List, subst, sym}
 use Rattle.std.specs.Prelude.{Option, None, Ok}
 use Rattle.statement.specs.declared.width.Width.{Width}
-use Rattle.replies.specs.declared.reply.Reply as made
+use Rattle.replies_moves.specs.declared.reply.Reply as made
 use Rattle.requests.specs.declared.desk.Desk.{Desk}
 use Rattle.requests.specs.declared.desk.Taken.{Taken}
 use Rattle.requests.specs.declared.desk.Taken.TheVariants.{Line, Rules as Stated, Starved, LastLine, Cut, Nothing}

@@ -6,11 +6,11 @@ use Rattle.statement.specs.declared.width.Width.TheVariants.{Plain, Wide}
 use Rattle.ground.specs.declared.flat_ground.FlatGround.{FlatGround}
 use Rattle.game.specs.declared.game.Game.{Ghosts}
 use Rattle.kept_game.specs.Playing.{PlaysText}
-use Rattle.replies.specs.Kept.{IsKeptSearch}
+use Rattle.replies_search.specs.Kept.{IsKeptSearch}
 use Rattle.words.specs.declared.command.Language.{Language}
 use Rattle.words.specs.declared.command.Language.TheVariants.{Profile, Whole, Tightened}
-use Rattle.replies.specs.declared.reply.Reply.{Reply}
-use Rattle.replies.specs.Replies.{reply_of}
+use Rattle.replies_moves.specs.declared.reply.Reply.{Reply}
+use Rattle.replies_moves.specs.Replies.{reply_of}
 use Rattle.writing.specs.declared.written.Bounds.{Bounds}
 use Rattle.writing.specs.declared.written.Bounds.TheVariants as bounds
 use Rattle.unrolling.specs.Unrolled.{IsUnrollReply}

@@ -1,6 +1,6 @@
 //! Rules as they are found: what is written for them stands in their place.
 ghost use Rattle.std.specs.Prelude.{◌≡◌, ℕ, List, None, IfOk, IfSome};
-ghost use Rattle.replies.specs.Replies.{reply_of};
+ghost use Rattle.replies_moves.specs.Replies.{reply_of};
 ghost use Rattle.statement.specs.declared.width.Width.TheVariants.{Wide};
 ghost use Rattle.words.specs.declared.command.Language.TheVariants.{Whole};
 ghost use Rattle.unrolling.specs.Unrolled.{IsUnrollReply};

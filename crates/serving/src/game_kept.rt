@@ -3,7 +3,7 @@ ghost use Rattle.std.specs.Prelude.{IfOk, IfSome};
 ghost use Rattle.statement.specs.Queries.{asked_in};
 ghost use Rattle.statement.specs.Replies.{IsReply};
 ghost use Rattle.words.specs.Asked.{query_about, query_of};
-ghost use Rattle.replies.specs.Replies.{reply_of};
+ghost use Rattle.replies_moves.specs.Replies.{reply_of};
 ghost use Rattle.kept_game.specs.Playing.{PlaysText};
 ghost use Rattle.serving.specs.Kept.{IsKeptGame};
 

@@ -15,7 +15,7 @@ use Rattle.lawful.specs.declared.fault.UnrollFault.{UnrollFault}
 use Rattle.lawful.specs.declared.fault.UnrollFault.TheVariants as faults
 use Rattle.writing.specs.declared.written.Bounds.{Bounds}
 use Rattle.unroll.specs.Written.{IsUnrollFault, IsWrittenFor}
-use Rattle.replies.proofs.Facts.{one_text_fault}
+use Rattle.replies_moves.proofs.Facts.{one_text_fault}
 use Rattle.unrolling.specs.Unrolled.{RefusesToUnroll}
 
 few : (limit : ℕ) (whole : List ℕ) → length (take limit whole) ≤ limit

@@ -1,6 +1,6 @@
 //! What is told of a text: what is written for it, or why nothing is.
 ghost use Rattle.std.specs.Prelude.{◌≢◌, IfOk};
-ghost use Rattle.replies.specs.Replies.{reply_of};
+ghost use Rattle.replies_moves.specs.Replies.{reply_of};
 ghost use Rattle.unroll.specs.Written.{IsUnrollFault};
 ghost use Rattle.unrolling.specs.Unrolled.{IsUnrollReply};
 

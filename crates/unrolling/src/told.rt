@@ -2,7 +2,7 @@
 ghost use Rattle.std.specs.Prelude.{◌≡◌, ◌≢◌, ◌≤◌, Ok, IfOk, IfErr};
 ghost use Rattle.std.specs.Io.KnownBytes.{Appends};
 ghost use Rattle.statement.specs.Output.{AppendsFront};
-ghost use Rattle.replies.specs.Replies.{reply_of};
+ghost use Rattle.replies_moves.specs.Replies.{reply_of};
 ghost use Rattle.running.specs.Explained.{TellsMore};
 ghost use Rattle.running.specs.Input.{IsReadFrom};
 ghost use Rattle.unrolling.specs.Unrolled.{IsUnrollReply, IsReplyTold};

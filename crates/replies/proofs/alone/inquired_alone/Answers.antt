@@ -4,7 +4,8 @@ use Rattle.words.specs.Asked.{query_about}
 use Rattle.replies.proofs.ReadAndAsked.{read_and_asked, refused_so}
 use Rattle.statement.specs.Solving.{solve_lines}
 use Rattle.statement.specs.Deepening.{deepen_lines}
-use Rattle.replies.proofs.Searches.{asked_reply, asked_search, asked_deepen, told_after}
+use Rattle.replies.proofs.Askings.{asked_reply, asked_search, asked_deepen}
+use Rattle.replies_search.proofs.Facts.{told_after}
 use Rattle.replies.proofs.alone.inquired_alone.Goals as goal
 
 pub returns-in-Told : goal.returns-in-Told

@@ -8,12 +8,12 @@ use Rattle.statement.specs.ForRole.{IsRoleReply}
 use Rattle.statement.specs.Deepening.{IsDeepenReply}
 use Rattle.statement.specs.Holding.{IsStateReply}
 use Rattle.words.specs.Asked.{query_about}
-use Rattle.replies.specs.declared.asked_alone.Wanted.TheVariants.{Within, OfEachMove, LineOfEachMove}
-use Rattle.replies.specs.Replies.{reply_of}
-use Rattle.replies.specs.Windows.{wanted_lines}
+use Rattle.replies_search.specs.declared.asked_alone.Wanted.TheVariants.{Within, OfEachMove, LineOfEachMove}
+use Rattle.replies_moves.specs.Replies.{reply_of}
+use Rattle.replies_search.specs.Windows.{wanted_lines}
 use Rattle.replies.specs.Readings.{IsReplyOver}
 use Rattle.replies.proofs.Describing.{over_ground}
-use Rattle.replies.proofs.Searches.{lift_asking}
+use Rattle.replies.proofs.Askings.{lift_asking}
 use Rattle.replies.proofs.asking.ask_ground.Goals as goal
 
 pub returns-in_ok-reply_to_net-in-Net : goal.returns-in_ok-reply_to_net-in-Net

@@ -2,8 +2,8 @@ use Rattle.statement.specs.NamedRules.{NamedRules}
 use Rattle.statement.specs.Answers.{Reply}
 use Rattle.statement.specs.Deepening.{deepen_lines}
 use Rattle.statement.specs.ForRole.{IsRoleReply}
-use Rattle.replies.specs.Asking.{named_by}
-use Rattle.replies.proofs.Searches.{still_search, still_reply}
+use Rattle.replies_search.specs.Searching.{named_by}
+use Rattle.replies_search.proofs.Facts.{still_search, still_reply}
 use Rattle.replies.proofs.Describing.{tells}
 use Rattle.replies.proofs.games.ask_deepen.Goals as goal
 

@@ -1,6 +1,6 @@
 use Rattle.statement.specs.ForRole.{IsRoleReply}
-use Rattle.replies.specs.Histories.{named}
-use Rattle.replies.specs.Windows.{wanted_lines}
+use Rattle.replies_moves.specs.Histories.{named}
+use Rattle.replies_search.specs.Windows.{wanted_lines}
 use Rattle.replies.proofs.Describing.{tells_game}
 use Rattle.replies.proofs.games.reply_for_role.Goals as goal
 

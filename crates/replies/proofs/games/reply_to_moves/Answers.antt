@@ -1,5 +1,5 @@
 use Rattle.statement.specs.Moving.{IsMovesReply}
-use Rattle.replies.specs.Histories.{named}
+use Rattle.replies_moves.specs.Histories.{named}
 use Rattle.replies.proofs.Describing.{tells_game}
 use Rattle.replies.proofs.games.reply_to_moves.Goals as goal
 

@@ -1,5 +1,5 @@
 use Rattle.statement.specs.Holding.{IsStateReply}
-use Rattle.replies.specs.Histories.{named}
+use Rattle.replies_moves.specs.Histories.{named}
 use Rattle.replies.proofs.Describing.{tells_rules}
 use Rattle.replies.proofs.games.reply_to_state.Goals as goal
 

@@ -3,9 +3,9 @@ use Rattle.statement.specs.Moving.{IsMovesReply}
 use Rattle.statement.specs.Holding.{IsStateReply}
 use Rattle.statement.specs.ForRole.{IsRoleReply}
 use Rattle.words.specs.Asked.{query_about}
-use Rattle.replies.specs.declared.asked_alone.Wanted.TheVariants.{Whole, Within, OfEachMove, LineOfEachMove, OfEachDepth}
-use Rattle.replies.specs.Histories.{named}
-use Rattle.replies.specs.Windows.{wanted_lines}
+use Rattle.replies_search.specs.declared.asked_alone.Wanted.TheVariants.{Whole, Within, OfEachMove, LineOfEachMove, OfEachDepth}
+use Rattle.replies_moves.specs.Histories.{named}
+use Rattle.replies_search.specs.Windows.{wanted_lines}
 use Rattle.replies.proofs.Over.{if_over, game_over, rules_over}
 use Rattle.replies.proofs.over_game.reply_over_keeping.Goals as goal
 

@@ -4,7 +4,7 @@ use Rattle.std.specs.List.{flat_map, range_with_len}
 use Rattle.game.specs.Keys.{has_bit}
 use Rattle.ground.specs.GroundView.{base_of}
 use Rattle.replies.specs.Standing.{numbered_line}
-use Rattle.replies.proofs.Lines.{one_number_more}
+use Rattle.replies_moves.proofs.Facts.{one_number_more}
 use Rattle.replies.proofs.Standings.{passing_lines}
 use Rattle.replies.proofs.standing.add_holding.Goals as goal
 

@@ -1,7 +1,7 @@
 use Rattle.std.proofs.Common.{◌≡◌, ◌∙◌, rules as facts}
 use Rattle.std.specs.Prelude.{Ok}
 use Rattle.statement.specs.Holding.{state_lines}
-use Rattle.replies.specs.Histories.{named}
+use Rattle.replies_moves.specs.Histories.{named}
 use Rattle.replies.proofs.Standings.{fault_told}
 use Rattle.replies.proofs.standing.state_reply.Goals as goal
 

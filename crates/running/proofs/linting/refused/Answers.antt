@@ -1,5 +1,5 @@
 use Rattle.std.proofs.Common.{ap, inl, inr, refl, sym}
-use Rattle.replies.specs.Replies.{reply_of}
+use Rattle.replies_moves.specs.Replies.{reply_of}
 use Rattle.running.specs.Linted.{status_of_lines}
 use Rattle.running.proofs.linting.refused.Goals as goal
 

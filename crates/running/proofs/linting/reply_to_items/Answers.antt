@@ -1,7 +1,7 @@
 use Rattle.std.proofs.Common.{◌≡◌}
 use Rattle.kif.specs.View.{trees_in}
 use Rattle.profile.proofs.Facts.{if_ok}
-use Rattle.replies.specs.Replies.{reply_of}
+use Rattle.replies_moves.specs.Replies.{reply_of}
 use Rattle.running.specs.Linted.{IsLintReply, status_of_lines}
 use Rattle.running.proofs.Findings.{linted_items}
 use Rattle.running.proofs.linting.reply_to_items.Goals as goal

@@ -4,7 +4,8 @@ use Rattle.statement.specs.Replies.{IsReply}
 use Rattle.statement.specs.Solving.{solve_lines}
 use Rattle.statement.specs.Queries.{asked_in}
 use Rattle.words.specs.Asked.{query_about}
-use Rattle.replies.proofs.Facts.{read_and_asked, refused_so, asked_reply, asked_search, asked_deepen, told_after}
+use Rattle.replies.proofs.Facts.{read_and_asked, refused_so, asked_reply, asked_search, asked_deepen}
+use Rattle.replies_search.proofs.Facts.{told_after}
 use Rattle.running.proofs.Works.{told, to_write}
 use Rattle.running.proofs.working.work_about.Goals as goal
 

@@ -1,4 +1,4 @@
-use Rattle.replies.specs.Replies.{reply_of}
+use Rattle.replies_moves.specs.Replies.{reply_of}
 use Rattle.serving.proofs.FoundTexts.{told_written, told_refused}
 use Rattle.serving.proofs.found_rules.told_of_written.Goals as goal
 

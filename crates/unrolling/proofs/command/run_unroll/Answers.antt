@@ -1,4 +1,4 @@
-use Rattle.replies.specs.Replies.{reply_of}
+use Rattle.replies_moves.specs.Replies.{reply_of}
 use Rattle.unrolling.specs.Unrolled.{IsUnrollReply}
 use Rattle.unrolling.proofs.Parting.{broken_run, told_run}
 use Rattle.unrolling.proofs.command.run_unroll.Goals as goal

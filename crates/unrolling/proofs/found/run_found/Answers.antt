@@ -1,5 +1,5 @@
 use Rattle.std.proofs.Common.{inl, inr, List, ℕ, subst, sym}
-use Rattle.replies.specs.Replies.{reply_of}
+use Rattle.replies_moves.specs.Replies.{reply_of}
 use Rattle.unroll.specs.Written.{IsWrittenFor}
 use Rattle.unrolling.specs.Unrolled.{RefusesToUnroll}
 use Rattle.unrolling.proofs.Parting.{written_by, refused_by, broken_run, told_run}

@@ -1,5 +1,5 @@
 use Rattle.std.proofs.Common.{List, ℕ, refl, subst}
-use Rattle.replies.specs.Replies.{reply_of}
+use Rattle.replies_moves.specs.Replies.{reply_of}
 use Rattle.unrolling.specs.Unrolled.{IsUnrollReply}
 use Rattle.unrolling.proofs.told.told_of.Goals as goal
 

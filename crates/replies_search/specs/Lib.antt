@@ -1,0 +1,6 @@
+pub mod Play
+pub mod Searching
+pub mod Windows
+pub mod Settling
+pub mod Ready
+pub mod Kept
