@@ -1,24 +1,18 @@
 -- What is known of the streams where the program ends.
-use Rattle.std.proofs.Common.{ℕ, ◌≡◌, ◌≤◌, inl, inr, List, [], arith, append-nil}
-use Rattle.std.specs.Prelude.{Option, Result, Ok, Err, OnOk, OnErr, ◌⊎◌}
-use Rattle.std.specs.Io.KnownBytes.{Appends, Keeps}
-use Rattle.statement.specs.Output.{AppendsFront}
+use Rattle.std.proofs.Common.{ℕ, ◌≡◌, ◌≤◌, inl, inr, arith}
+use Rattle.std.specs.Prelude.{Result, Ok, Err, ◌⊎◌}
+use Rattle.std.specs.Io.KnownBytes.{Keeps}
 use Rattle.statement.specs.Queries.{Query}
 use Rattle.words.specs.Asked.{query_of}
 use Rattle.words.specs.declared.grammar.Request.{Request}
 use Rattle.words.specs.declared.grammar.Request.TheVariants.{Run, Help, Misuse}
 use Rattle.statement.specs.declared.status.Status.{Status}
 use Rattle.statement.specs.declared.status.Status.TheVariants.{Answer, Refused}
-use Rattle.running.specs.declared.fault.RunFault.{RunFault}
-use Rattle.running.specs.declared.fault.RunFault.TheVariants.{Memory, Read, Write}
-use Rattle.running.specs.Exits.{exit_status, HasWritten, Replied}
-use Rattle.running.specs.Fulfilling.{AreDone, IsFulfilled, Streams}
-
--- what was written whole, or a beginning of it
-pub front_written : {X E : Type 0} (r : Result X E) (before after : Option (List ℕ)) (bs : List ℕ)
-    → OnOk r (Appends before after bs) → OnErr r (AppendsFront before after bs) → AppendsFront before after bs
-front_written (Ok x) before after bs whole front = record { front = bs; behind = []; split = append-nil bs; appended = whole }
-front_written (Err e) before after bs whole front = front
+use Rattle.running_streams.specs.declared.fault.RunFault.{RunFault}
+use Rattle.running_streams.specs.declared.fault.RunFault.TheVariants.{Memory, Read, Write}
+use Rattle.running_streams.specs.Exits.{exit_status, HasWritten, Replied}
+use Rattle.running_streams.specs.Streams.{Streams}
+use Rattle.running.specs.Fulfilling.{AreDone, IsFulfilled}
 
 -- what each status says
 pub record IsKnown (status : ℕ) (old new : Streams) : Type 0 where

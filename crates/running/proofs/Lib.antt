@@ -1,7 +1,3 @@
 mod Ending
-pub mod Facts
-mod Filling
-mod Findings
+mod LintRuns
 mod Telling
-mod WholeInput
-mod Works

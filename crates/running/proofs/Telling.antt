@@ -9,12 +9,13 @@ use Rattle.statement.specs.Queries.{Query}
 use Rattle.statement.specs.Input.{RepliesTo}
 use Rattle.statement.specs.declared.status.Status.{Status}
 use Rattle.statement.specs.declared.status.Status.TheVariants.{Refused}
-use Rattle.running.specs.declared.fault.RunFault.{RunFault}
-use Rattle.running.specs.declared.fault.RunFault.TheVariants.{Memory, Read, Write}
+use Rattle.running_streams.specs.declared.fault.RunFault.{RunFault}
+use Rattle.running_streams.specs.declared.fault.RunFault.TheVariants.{Memory, Read, Write}
 use Rattle.running.specs.declared.runs.Ran.{Ran}
 use Rattle.running.specs.Ran.{ended_of}
-use Rattle.running.specs.Exits.{exit_status, HasWritten, RepliedTo}
-use Rattle.running.specs.Explained.{TellsMore, IsReplied, IsAnswered}
+use Rattle.running_streams.specs.Exits.{exit_status, HasWritten, RepliedTo}
+use Rattle.running_streams.specs.MoreTold.{TellsMore}
+use Rattle.running.specs.Explained.{IsReplied, IsAnswered}
 
 -- what a run wrote that keeps its reply
 pub written : (query : Query) (r : Result Ran RunFault) (input left before after : Option (List ℕ))

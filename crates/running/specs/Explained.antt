@@ -1,8 +1,6 @@
 -- This crate's own: what `run` promises does not rest on it.
 -- What is told to the errors behind what the program tells them without explanations.
 use Rattle.std.specs.Prelude.{ℕ, List, Option, Result, Ok, ◌≡◌, ◌⊎◌}
-use Rattle.std.specs.Io.KnownBytes.{Keeps}
-use Rattle.statement.specs.Output.{AppendsFront}
 use Rattle.words.specs.Widths.{IsRequestIn}
 use Rattle.words.specs.declared.command.Command.{Command}
 use Rattle.words.specs.declared.grammar.Request.{Request}
@@ -10,12 +8,10 @@ use Rattle.words.specs.declared.grammar.Request.TheVariants.{Run, Help, Misuse}
 use Rattle.statement.specs.declared.status.Status.{Status}
 use Rattle.statement.specs.declared.status.Status.TheVariants.{Answer, Refused}
 use Rattle.statement.specs.declared.width.Width.TheVariants.{Plain}
-use Rattle.running.specs.declared.fault.RunFault.{RunFault}
-use Rattle.running.specs.Fulfilling.{Streams, streams, IsCommandRun, IsFulfilled, IsUnread}
-
--- nothing more was told; or, where that may be, a beginning of some text
-abbrev pub TellsMore : Type 0 → Option (List ℕ) → Option (List ℕ) → Type 0
-TellsMore may before after = Keeps before after ⊎ (may × (text : List ℕ) × AppendsFront before after text)
+use Rattle.running_streams.specs.declared.fault.RunFault.{RunFault}
+use Rattle.running_streams.specs.Streams.{Streams}
+use Rattle.running_streams.specs.MoreTold.{TellsMore, before_more}
+use Rattle.running.specs.Fulfilling.{IsCommandRun, IsFulfilled, IsUnread}
 
 -- more may be told in any case
 abbrev pub Always : Type 0
@@ -34,10 +30,6 @@ abbrev pub MayTell : Request → ℕ → Type 0
 MayTell (Run command) status = IsAnswered status
 MayTell (Help text) status = ⊥
 MayTell (Misuse text) status = status ≡ 1
-
--- the streams before more was told to the errors
-abbrev pub before_more : Streams → Option (List ℕ) → Streams
-before_more new told = streams new.input new.output told
 
 -- the command was run, and then more was told, if it was refused or answered
 abbrev pub IsRunExplained : Command → ℕ → Streams → Streams → Type 0

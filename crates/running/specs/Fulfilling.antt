@@ -10,19 +10,11 @@ use Rattle.words.specs.declared.grammar.Request.{Request}
 use Rattle.words.specs.declared.grammar.Request.TheVariants.{Run, Help, Misuse}
 use Rattle.statement.specs.declared.status.Status.{Status}
 use Rattle.statement.specs.declared.width.Width.TheVariants.{Plain}
-use Rattle.running.specs.declared.fault.RunFault.{RunFault}
-use Rattle.running.specs.declared.fault.RunFault.TheVariants.{Memory, Write}
-use Rattle.running.specs.Exits.{exit_status, HasWritten, AreErrorsTold}
-use Rattle.running.specs.Faults.{fault_line}
-
--- the three streams of the program: what is left of the input, and what the output and the errors hold, each where it is known
-pub record Streams : Type 0 where
-  pub input : Option (List ℕ)
-  pub output : Option (List ℕ)
-  pub errors : Option (List ℕ)
-
-abbrev pub streams : Option (List ℕ) → Option (List ℕ) → Option (List ℕ) → Streams
-streams input output errors = record { input = input; output = output; errors = errors }
+use Rattle.running_streams.specs.declared.fault.RunFault.{RunFault}
+use Rattle.running_streams.specs.declared.fault.RunFault.TheVariants.{Memory, Write}
+use Rattle.running_streams.specs.Exits.{exit_status, HasWritten, AreErrorsTold}
+use Rattle.running_streams.specs.Faults.{fault_line}
+use Rattle.running_streams.specs.Streams.{Streams}
 
 -- the command was run, and the status says how that ended
 abbrev pub IsCommandRun : Command → ℕ → Streams → Streams → Type 0

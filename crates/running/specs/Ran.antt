@@ -2,7 +2,7 @@
 -- How a run ended that keeps what it read and wrote.
 use Rattle.std.specs.Prelude.{Result, Ok, Err}
 use Rattle.statement.specs.declared.status.Status.{Status}
-use Rattle.running.specs.declared.fault.RunFault.{RunFault}
+use Rattle.running_streams.specs.declared.fault.RunFault.{RunFault}
 use Rattle.running.specs.declared.runs.Ran.{Ran}
 
 -- the status of the reply that it keeps, or its fault

@@ -1,14 +1,12 @@
 //! The command line: from words to a request, and from a request to its exit status.
 ghost use Rattle.std.specs.Prelude.{◌≡◌, ◌≤◌, ◌⊎◌, None};
 ghost use Rattle.std.specs.Io.KnownBytes.{Keeps};
-ghost use Rattle.statement.specs.Output.{AppendsFront};
-ghost use Rattle.running.specs.Exits.{exit_status, AreErrorsTold, Replied};
-ghost use Rattle.running.specs.Fulfilling.{AreDone, IsCommandRun, HasShown, IsFulfilled, streams};
+ghost use Rattle.running_streams.specs.Exits.{Replied};
+ghost use Rattle.running.specs.Fulfilling.{AreDone, IsCommandRun, HasShown, IsFulfilled};
+ghost use Rattle.running_streams.specs.Streams.{streams};
 
-use crate::fault::RunFault;
-use crate::runs::{run, write_out};
-use kif::write_bytes;
-use statement::Status;
+use crate::runs::run;
+use running_streams::{RunFault, status_of, tell, write_out};
 use std::io::{Read, Write};
 use std::thread::Threads;
 use words::{Command, Request, request_of};
@@ -18,41 +16,6 @@ const ANSWERED: u8 = 0;
 
 /// The exit status of a command line that is no command.
 const MISUSED: u8 = 1;
-
-/// The exit status of a refusal.
-const REFUSED: u8 = 2;
-
-/// The exit status of want of memory.
-const STARVED: u8 = 3;
-
-/// The exit status of a reader or a writer that failed.
-const BROKEN: u8 = 4;
-
-/// Writes a text to the errors. A fault in writing it is passed over.
-pub(crate) fn tell<E: Write>(errors: &mut E, text: &[u8])
-    ensures { AppendsFront (E.contents errors.old) (E.contents errors.new) text.now }
-{
-    let _ = write_bytes(errors, text);
-}
-
-/// The exit status of a run, whose fault is told to the errors: 0 for an answer, 2 for a refusal, 3 for want of memory, 4 where the input or the
-/// output failed. A fault in writing to the errors is passed over.
-pub fn status_of<E: Write>(ended: Result<Status, RunFault>, errors: &mut E) -> u8
-    ensures status { result ≡ exit_status ended }
-    ensures told { AreErrorsTold ended (E.contents errors.old) (E.contents errors.new) }
-{
-    match ended {
-        Ok(Status::Answer) => ANSWERED,
-        Ok(Status::Refused) => REFUSED,
-        Err(fault) => {
-            tell(errors, fault.line());
-            match fault {
-                RunFault::Memory => STARVED,
-                RunFault::Read | RunFault::Write => BROKEN,
-            }
-        }
-    }
-}
 
 /// Runs a command.
 fn run_told<T: Threads + Sync + AllocGlobal, R: Read, W: Write, E: Write>(

@@ -2,19 +2,20 @@
 //! answer to rules that are most likely not meant so has a warning.
 ghost use Rattle.std.specs.Prelude.{◌≡◌, ◌≤◌, ◌⊎◌, Ok};
 ghost use Rattle.std.specs.Io.KnownBytes.{Keeps};
-ghost use Rattle.running.specs.Exits.{Replied};
-ghost use Rattle.running.specs.Fulfilling.{streams};
+ghost use Rattle.running_streams.specs.Exits.{Replied};
+ghost use Rattle.running_streams.specs.Streams.{streams};
 ghost use Rattle.running.specs.Ran.{ended_of};
-ghost use Rattle.running.specs.Explained.{IsExplained, IsFulfilledExplained, IsRunExplained, IsReplied, Always, TellsMore};
+ghost use Rattle.running.specs.Explained.{IsExplained, IsFulfilledExplained, IsRunExplained, IsReplied, Always};
+ghost use Rattle.running_streams.specs.MoreTold.{TellsMore};
 
 use crate::advice::advice;
-use crate::commands::{fulfil, status_of, tell};
-use crate::fault::RunFault;
+use crate::commands::fulfil;
 use crate::runs::{Ran, ended, run_keeping};
 use crate::warning::warnings;
 use netgame::NetGame;
 use reasons::explanation;
 use rulegame::RuleGame;
+use running_streams::{RunFault, status_of, tell};
 use statement::Status;
 use std::alloc::Global;
 use std::io::{Read, Write};

@@ -6,20 +6,14 @@
 mod advice;
 mod commands;
 mod explained;
-mod fault;
-mod input;
 mod linting;
 mod program;
 mod runs;
-mod sizes;
 mod warning;
-mod working;
 
-pub use commands::{fulfil, main_with, status_of};
+pub use commands::{fulfil, main_with};
 pub use explained::{main_explained, run_explained};
-pub use fault::RunFault;
-pub use input::read_input;
-pub use linting::lint_reply;
 pub use program::main_program;
-pub use runs::{run, run_with, write_out};
-pub use working::{reply_by_workers, told_by_workers};
+pub use running_streams::RunFault;
+pub use running_work::told_by_workers;
+pub use runs::{run, run_with};

@@ -1,8 +1,8 @@
 //! The program: the command `lint`, or what the words ask for otherwise, with explanations.
 ghost use Rattle.std.specs.Prelude.{◌≤◌, ◌⊎◌};
-ghost use Rattle.running.specs.Fulfilling.{streams};
+ghost use Rattle.running_streams.specs.Streams.{streams};
 ghost use Rattle.running.specs.Explained.{IsExplained};
-ghost use Rattle.running.specs.Linted.{IsLintRun};
+ghost use Rattle.running_lint.specs.Linted.{IsLintRun};
 
 use crate::explained::main_explained;
 use crate::linting::run_lint;

@@ -7,49 +7,23 @@ ghost use Rattle.statement.specs.declared.status.Status.TheVariants.{Refused};
 ghost use Rattle.replies_moves.specs.Replies.{reply_of};
 ghost use Rattle.replies_search.specs.Ready.{IsReady, lines_to_write};
 ghost use Rattle.running.specs.Ran.{ended_of};
-ghost use Rattle.running.specs.Exits.{RepliedTo};
-ghost use Rattle.running.specs.Work.{CanBeWritten, reply_by};
+ghost use Rattle.running_streams.specs.Exits.{RepliedTo};
+ghost use Rattle.running_work.specs.Work.{CanBeWritten, reply_by};
 ghost use Rattle.statement.specs.Input.{RepliesTo};
 ghost use Rattle.words.specs.Asked.{query_of};
 
-use crate::fault::RunFault;
-use crate::input::read_input;
-use crate::sizes::Sizes;
-use crate::working::{Work, work_of};
-use flushing::Flushing;
 use game::Game;
-use kif::write_bytes;
 use netgame::NetGame;
-use replies::Deepening;
+use replies_search::Deepening;
 use rulebook::GroundGame;
 use rulegame::RuleGame;
+use running_streams::{RunFault, read_input, write_out};
+use running_work::{Sizes, Work, work_of};
 use statement::Status;
 use std::alloc::Global;
 use std::io::{Read, Write};
 use std::thread::Threads;
 use words::Command;
-
-/// Writes all the bytes and flushes the writer. Where the writer fails it holds a beginning of them.
-pub fn write_out<W: Write>(output: &mut W, bytes: &[u8]) -> Result<(), RunFault>
-    ensures whole { OnOk result (Appends (W.contents output.old) (W.contents output.new) bytes.now) }
-    ensures front { OnErr result (AppendsFront (W.contents output.old) (W.contents output.new) bytes.now) }
-    ensures fault { IfErr result (λ fault. fault ≡ RunFault.Write) }
-{
-    write_and_flush(output, bytes)
-}
-
-/// Writes all the bytes, and flushes the writer behind them.
-fn write_and_flush<W: Flushing>(output: &mut W, bytes: &[u8]) -> Result<(), RunFault>
-    ensures whole { OnOk result (Appends (W.contents output.old) (W.contents output.new) bytes.now) }
-    ensures front { OnErr result (AppendsFront (W.contents output.old) (W.contents output.new) bytes.now) }
-    ensures fault { IfErr result (λ fault. fault ≡ RunFault.Write) }
-    ensures flushed { OnOk result (W.is_flushed output.new) }
-{
-    if write_bytes(output, bytes).is_err() || output.flush_all().is_err() {
-        return Err(RunFault::Write);
-    }
-    Ok(())
-}
 
 /// A run that ended with its reply.
 #[derive(Drop)]
@@ -57,7 +31,7 @@ pub(crate) struct Ran {
     /// The bytes that were read.
     pub(crate) bytes: Vec<u8>,
     /// The reply that was written. Of an answer that was written as it was found the status alone is kept.
-    pub(crate) reply: replies::Reply,
+    pub(crate) reply: replies_moves::Reply,
     /// The sizes of the instantiation, if there was one.
     pub(crate) sizes: Option<Sizes>,
 }
@@ -67,7 +41,7 @@ fn write_work<G: Game + Drop, W: Write>(
     alloc: Global,
     work: Work<G>,
     output: &mut W,
-) -> Result<replies::Reply, RunFault>
+) -> Result<replies_moves::Reply, RunFault>
     requires { CanBeWritten G.Game work }
     ensures whole { IfOk result (λ kept. (kept.status ≡ (reply_by G.Game work).status)
         × Appends (W.contents output.old) (W.contents output.new) (reply_by G.Game work).output) }
@@ -82,7 +56,7 @@ fn write_work<G: Game + Drop, W: Write>(
         }
         Work::ToWrite(deepening) => {
             write_as_found(deepening, output)?;
-            Ok(replies::Reply {
+            Ok(replies_moves::Reply {
                 output: Vec::new(alloc),
                 status: Status::Answer,
             })

@@ -1,9 +1,9 @@
 //! What warns of an answer that is lawful and most likely not meant.
-use crate::sizes::Sizes;
 use bumpalo::Bump;
 use dropped::{add_dropped, dropped_heads};
 use kif::{Expr, read};
 use rules::RuleSet;
+use running_work::Sizes;
 use std::alloc::{AllocError, Allocator, Global};
 use std::io::Write;
 

@@ -5,13 +5,13 @@ use Rattle.statement.specs.declared.width.Width.TheVariants.{Wide}
 use Rattle.words.specs.Widths.{IsCommandIn}
 use Rattle.words.specs.declared.command.Command.{Command}
 use Rattle.words.specs.declared.command.Language.{Language}
-use Rattle.running.specs.Fulfilling.{Streams}
+use Rattle.running_streams.specs.Streams.{Streams}
 use Rattle.running.specs.Explained.{IsExplained}
-use Rattle.running.specs.Linted.{IsLintRun}
+use Rattle.running_lint.specs.Linted.{IsLintRun}
 use Rattle.writing.specs.declared.written.Bounds.{Bounds}
 use Rattle.unrolling.specs.Unrolled.{IsUnrollRun}
-use Rattle.unrolling.specs.Found.{IsFoundRun}
-use Rattle.serving.specs.Serving.{IsServed}
+use Rattle.serving.specs.Found.{IsFoundRun}
+use Rattle.sessions.specs.Serving.{IsServed}
 
 -- a command was run over rules as they are found, which may have more inputs, or it was `lint`, or some request was fulfilled over rules in the profile
 abbrev pub IsAskedRun : ℕ → Streams → Streams → Type 0

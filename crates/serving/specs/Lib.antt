@@ -1,5 +1,2 @@
-pub mod Telling
-pub mod Kept
-pub mod Turns
-pub mod Serving
 pub mod Doing
+pub mod Found

@@ -1,14 +1,10 @@
-//! Sessions: many requests in one process, each answered by a frame of the bytes that a process of its own would have written. The rules
-//! stand from one request to the next.
+//! All that the program does: a session, a description that is written out, a command over a description as it is found, or what the words
+//! ask for otherwise.
 #![tactic(auto)]
 
-mod answering;
-mod found_rules;
-mod framing;
-mod game_kept;
+mod found;
 mod program;
-mod session;
-mod splitting;
 
+pub use found::run_found;
 pub use program::main_program;
-pub use session::serve;
+pub use sessions::serve;

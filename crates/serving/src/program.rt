@@ -3,15 +3,17 @@
 ghost use Rattle.std.specs.Prelude.{◌≡◌, ◌≤◌, IfSome};
 ghost use Rattle.statement.specs.declared.width.Width.TheVariants.{Plain, Wide};
 ghost use Rattle.words.specs.Widths.{width_of};
-ghost use Rattle.running.specs.Fulfilling.{streams};
+ghost use Rattle.running_streams.specs.Streams.{streams};
 ghost use Rattle.serving.specs.Doing.{IsAskedRun, IsProgramRun};
 
-use crate::session::serve;
-use running::{RunFault, main_program as run_program, status_of};
+use crate::found::run_found;
+use running::main_program as run_program;
+use running_streams::{RunFault, status_of};
+use sessions::serve;
 use std::io::{Read, Write};
 use std::thread::Threads;
 use unroll::Bounds;
-use unrolling::{run_found, run_unroll};
+use unrolling::run_unroll;
 use words::{Language, Request, asked_of};
 
 /// The option for rules in the whole language.

@@ -7,12 +7,12 @@ use Rattle.statement.specs.Output.{AppendsFront}
 use Rattle.statement.specs.Answers.{Reply}
 use Rattle.statement.specs.declared.status.Status.{Status}
 use Rattle.statement.specs.declared.status.Status.TheVariants.{Answer, Refused}
-use Rattle.running.specs.declared.fault.RunFault.{RunFault}
-use Rattle.running.specs.declared.fault.RunFault.TheVariants.{Memory, Read, Write}
-use Rattle.running.specs.Input.{IsReadFrom}
-use Rattle.running.specs.Exits.{exit_status, AreErrorsTold}
-use Rattle.running.specs.Fulfilling.{streams}
-use Rattle.running.specs.Explained.{TellsMore}
+use Rattle.running_streams.specs.declared.fault.RunFault.{RunFault}
+use Rattle.running_streams.specs.declared.fault.RunFault.TheVariants.{Memory, Read, Write}
+use Rattle.running_streams.specs.Input.{IsReadFrom}
+use Rattle.running_streams.specs.Exits.{exit_status, AreErrorsTold}
+use Rattle.running_streams.specs.Streams.{streams}
+use Rattle.running_streams.specs.MoreTold.{TellsMore}
 use Rattle.writing.specs.declared.written.Bounds.{Bounds}
 use Rattle.unroll.specs.Written.{IsWrittenFor}
 use Rattle.unrolling.specs.Unrolled.{IsUnrollReply, RefusesToUnroll, HasTold, IsExplainedRunOf, IsReplyTold}

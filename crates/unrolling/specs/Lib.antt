@@ -1,3 +1,2 @@
 pub mod Unrolled
-pub mod Found
 pub mod Crossing

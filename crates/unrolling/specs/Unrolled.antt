@@ -5,12 +5,12 @@ use Rattle.std.specs.Io.KnownBytes.{Appends, Keeps}
 use Rattle.statement.specs.Output.{AppendsFront}
 use Rattle.statement.specs.Answers.{Reply, answer, refusal}
 use Rattle.statement.specs.declared.status.Status.{Status}
-use Rattle.running.specs.declared.fault.RunFault.{RunFault}
-use Rattle.running.specs.declared.fault.RunFault.TheVariants.{Memory, Read, Write}
-use Rattle.running.specs.Input.{IsReadFrom}
-use Rattle.running.specs.Exits.{exit_status, AreErrorsTold}
-use Rattle.running.specs.Fulfilling.{Streams}
-use Rattle.running.specs.Explained.{TellsMore, before_more}
+use Rattle.running_streams.specs.declared.fault.RunFault.{RunFault}
+use Rattle.running_streams.specs.declared.fault.RunFault.TheVariants.{Memory, Read, Write}
+use Rattle.running_streams.specs.Input.{IsReadFrom}
+use Rattle.running_streams.specs.Exits.{exit_status, AreErrorsTold}
+use Rattle.running_streams.specs.Streams.{Streams}
+use Rattle.running_streams.specs.MoreTold.{TellsMore, before_more}
 use Rattle.lawful.specs.FaultTexts.{unroll_fault_words}
 use Rattle.lawful.specs.declared.fault.UnrollFault.{UnrollFault}
 use Rattle.lawful.specs.declared.fault.UnrollFault.TheVariants as faults

@@ -1,10 +1,10 @@
 //! The run of the command, from the bytes of the input to those of the output.
 ghost use Rattle.std.specs.Prelude.{◌≤◌};
-ghost use Rattle.running.specs.Fulfilling.{streams};
+ghost use Rattle.running_streams.specs.Streams.{streams};
 ghost use Rattle.unrolling.specs.Unrolled.{IsUnrollRun};
 
 use crate::told::{unroll_read, write_told};
-use running::status_of;
+use running_streams::status_of;
 use std::alloc::AllocGlobal;
 use std::io::{Read, Write};
 use unroll::Bounds;

@@ -5,7 +5,7 @@ ghost use Rattle.unroll.specs.Written.{IsUnrollFault};
 ghost use Rattle.unrolling.specs.Unrolled.{IsUnrollReply};
 
 use kif::add_refusal;
-use replies::Reply;
+use replies_moves::Reply;
 use statement::Status;
 use std::alloc::{AllocError, AllocGlobal, Global};
 use unroll::{Bounds, UnrollFault, unrolled};

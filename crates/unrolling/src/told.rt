@@ -3,15 +3,15 @@ ghost use Rattle.std.specs.Prelude.{◌≡◌, ◌≢◌, ◌≤◌, Ok, IfOk, I
 ghost use Rattle.std.specs.Io.KnownBytes.{Appends};
 ghost use Rattle.statement.specs.Output.{AppendsFront};
 ghost use Rattle.replies_moves.specs.Replies.{reply_of};
-ghost use Rattle.running.specs.Explained.{TellsMore};
-ghost use Rattle.running.specs.Input.{IsReadFrom};
+ghost use Rattle.running_streams.specs.MoreTold.{TellsMore};
+ghost use Rattle.running_streams.specs.Input.{IsReadFrom};
 ghost use Rattle.unrolling.specs.Unrolled.{IsUnrollReply, IsReplyTold};
 
 use crate::explaining::unroll_explanation;
 use crate::replying::refused;
 use kif::write_bytes;
-use replies::Reply;
-use running::{RunFault, read_input, status_of, write_out};
+use replies_moves::Reply;
+use running_streams::{RunFault, read_input, status_of, write_out};
 use statement::Status;
 use std::alloc::{AllocGlobal, Global};
 use std::io::{Read, Write};
@@ -19,13 +19,13 @@ use unroll::{Bounds, UnrollFault, unrolled};
 
 /// What is told of a text that was read.
 #[derive(Drop)]
-pub(crate) struct Told {
+pub struct Told {
     /// The bytes that were read.
-    pub(crate) bytes: Vec<u8>,
+    pub bytes: Vec<u8>,
     /// What is written for them, or the line that names why nothing is.
-    pub(crate) reply: Reply,
+    pub reply: Reply,
     /// Why nothing is written, where it is so. What explains it rests on this alone, and no clause says anything of it.
-    pub(crate) fault: Option<UnrollFault>,
+    pub fault: Option<UnrollFault>,
 }
 
 /// What is told of bytes.
@@ -57,7 +57,7 @@ fn told_of<T: AllocGlobal>(rt: &T, bytes: Vec<u8>, bounds: Bounds) -> Result<Tol
 }
 
 /// Reads a text, and answers what is written for it, or the line that names why nothing is.
-pub(crate) fn unroll_read<T: AllocGlobal, R: Read>(
+pub fn unroll_read<T: AllocGlobal, R: Read>(
     rt: &T,
     input: &mut R,
     bounds: Bounds,
@@ -111,7 +111,7 @@ fn explain_told<E: Write>(
 }
 
 /// Writes what is told of a text, and then tells the errors what explains it, if it is a refusal. It answers the exit status.
-pub(crate) fn write_told<W: Write, E: Write>(
+pub fn write_told<W: Write, E: Write>(
     alloc: Global,
     told: &Told,
     bounds: Bounds,

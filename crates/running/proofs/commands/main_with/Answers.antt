@@ -1,7 +1,7 @@
 use Rattle.std.proofs.Common.{inl}
 use Rattle.std.proofs.KnownBytes.{Keeps-refl}
 use Rattle.running.proofs.Ending.{done_known, starved_known}
-use Rattle.running.specs.Fulfilling.{streams}
+use Rattle.running_streams.specs.Streams.{streams}
 use Rattle.running.proofs.commands.main_with.Goals as goal
 
 pub returns-clause-refused : goal.returns-clause-refused

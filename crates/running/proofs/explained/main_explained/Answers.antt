@@ -1,7 +1,7 @@
 use Rattle.std.proofs.Common.{inl, inr}
 use Rattle.std.proofs.KnownBytes.{Keeps-refl}
 use Rattle.running.proofs.Ending.{done_known, starved_known}
-use Rattle.running.specs.Fulfilling.{streams}
+use Rattle.running_streams.specs.Streams.{streams}
 use Rattle.running.proofs.explained.main_explained.Goals as goal
 
 pub returns-clause-explained : goal.returns-clause-explained

@@ -1,5 +1,5 @@
 use Rattle.std.proofs.Common.{◌∙◌}
-use Rattle.running.proofs.Findings.{linted}
+use Rattle.running.proofs.LintRuns.{linted}
 use Rattle.running.proofs.Telling.{tells_if, refused_is_two}
 use Rattle.running.proofs.linting.run_lint.Goals as goal
 

@@ -1,5 +1,5 @@
 use Rattle.std.proofs.Common.{inl, inr}
-use Rattle.running.proofs.Findings.{within_four}
+use Rattle.running_streams.proofs.Facts.{within_four}
 use Rattle.running.proofs.program.main_program.Goals as goal
 
 pub returns-then-is_lint-clause-done : goal.returns-then-is_lint-clause-done

@@ -1,8 +1,8 @@
 use Rattle.std.proofs.Common.{◌≡◌, rules}
 use Rattle.std.specs.Prelude.{Result, Ok, Err, IfErr}
 use Rattle.words.specs.Asked.{query_of}
-use Rattle.running.specs.Work.{reply_by}
-use Rattle.running.proofs.WholeInput.{replies_to}
+use Rattle.running_work.specs.Work.{reply_by}
+use Rattle.running_streams.proofs.Facts.{replies_to}
 use Rattle.running.proofs.runs.run_keeping.Goals as goal
 
 if_err : {X E : Type 0} (r : Result X E) (P : E → Type 0) → ((e : E) → P e) → IfErr r P

@@ -1,7 +1,7 @@
 use Rattle.std.proofs.Common.{ℕ, List, subst, sym}
 use Rattle.profile.proofs.Facts.{if_ok}
 use Rattle.replies_moves.specs.Replies.{reply_of}
-use Rattle.running.specs.Input.{IsReadFrom}
+use Rattle.running_streams.specs.Input.{IsReadFrom}
 use Rattle.unrolling.specs.Unrolled.{IsUnrollReply}
 use Rattle.unrolling.proofs.told.unroll_read.Goals as goal
 

@@ -1,5 +1,0 @@
-use Rattle.running.proofs.Ending.{front_written}
-use Rattle.running.proofs.commands.tell.Goals as goal
-
-pub returns : goal.returns
-returns g c = front_written c.write_bytes.result _ _ _ c.write_bytes.ensures.whole c.write_bytes.ensures.front

@@ -1,0 +1,5 @@
+pub mod Facts
+mod Filling
+mod FourStatuses
+mod FrontWritten
+mod WholeInput

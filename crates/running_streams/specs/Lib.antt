@@ -1,0 +1,5 @@
+pub mod Input
+pub mod Faults
+pub mod Exits
+pub mod Streams
+pub mod MoreTold

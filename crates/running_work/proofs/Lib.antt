@@ -1,0 +1,2 @@
+mod Works
+pub mod Facts

@@ -1,0 +1,7 @@
+mod FrameTexts
+mod Requests
+mod FoundTexts
+mod Standing
+mod Turning
+mod Holding
+mod Keeping

@@ -1,0 +1,4 @@
+pub mod Telling
+pub mod Kept
+pub mod Turns
+pub mod Serving
