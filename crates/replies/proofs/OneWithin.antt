@@ -4,7 +4,7 @@ use Rattle.std.specs.Prelude.{IfSome, find, nat_le, nat_lt, ◌||◌}
 use Rattle.statement.specs.declared.at_bound.AtBound.{AtBound}
 use Rattle.statement.specs.declared.window.Window.{Window}
 use Rattle.statement.specs.NamedRules.{NamedRules}
-use Rattle.statement.specs.Rules.{Rules, State, is_stuck}
+use Rattle.statement.specs.Rules.{State, is_stuck}
 use Rattle.statement.specs.Value.{value, worst}
 use Rattle.statement.specs.Checking.{count_line}
 use Rattle.statement.specs.Solving.{move_line, solve_lines}

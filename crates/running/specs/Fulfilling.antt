@@ -1,6 +1,6 @@
 -- This crate's own: what `run` promises does not rest on it.
 -- What becomes of a request.
-use Rattle.std.specs.Prelude.{ℕ, List, Option, Result, ◌≡◌, ◌⊎◌, string_bytes}
+use Rattle.std.specs.Prelude.{ℕ, List, Result, ◌≡◌, ◌⊎◌, string_bytes}
 use Rattle.std.specs.Io.KnownBytes.{Appends, Keeps}
 use Rattle.statement.specs.Output.{AppendsFront}
 use Rattle.words.specs.declared.command.Command.{Command}

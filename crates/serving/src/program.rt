@@ -7,6 +7,7 @@ ghost use Rattle.running_streams.specs.Streams.{streams};
 ghost use Rattle.serving.specs.Doing.{IsAskedRun, IsProgramRun};
 
 use crate::found::run_found;
+use netgame::NetGame;
 use running::main_program as run_program;
 use running_streams::{RunFault, status_of};
 use sessions::serve;
@@ -103,7 +104,7 @@ pub fn main_program<T: Threads + Sync + AllocGlobal, R: Read, W: Write, E: Write
     ensures statuses { result ≤ 4 }
 {
     if let Some(language) = session_in(words) {
-        return serve(rt, language, input, output, errors);
+        return serve::<NetGame, T, R, W, E>(rt, language, input, output, errors);
     }
     if let Some(bounds) = bounds_in(words) {
         return run_unroll(rt, input, output, errors, bounds);

@@ -8,7 +8,6 @@ ghost use Rattle.sessions.specs.Serving.{HasServed, IsServed};
 
 use crate::found_rules::{Kept, forget};
 use crate::framing::frame_for;
-use netgame::NetGame;
 use requests::{Desk, Taken};
 use rulebook::GroundGame;
 use running_streams::{RunFault, status_of, write_out};
@@ -79,8 +78,14 @@ fn answer_all<G: GroundGame, T: Threads + Sync + AllocGlobal, R: Read, W: Write>
 /// stand; where the language is the whole one, over the text that is written for them, or why none is. A frame is a line of the exit status and the number of bytes, and then the bytes.
 ///
 /// The exit status is 0 at the end of the input, 3 where there is no memory to begin, and 4 where the input or the output failed. Want of
-/// memory for a request has a frame of its own, and the session goes on.
-pub fn serve<T: Threads + Sync + AllocGlobal, R: Read, W: Write, E: Write>(
+/// memory for a request has a frame of its own, and the session goes on. The type `G` says who plays the game of the rules.
+pub fn serve<
+    G: GroundGame,
+    T: Threads + Sync + AllocGlobal,
+    R: Read,
+    W: Write,
+    E: Write,
+>(
     rt: &T,
     language: Language,
     input: &mut R,
@@ -91,6 +96,6 @@ pub fn serve<T: Threads + Sync + AllocGlobal, R: Read, W: Write, E: Write>(
         (streams (R.remaining input.old) (W.contents output.old) (E.contents errors.old))
         (streams (R.remaining input.new) (W.contents output.new) (E.contents errors.new)) }
 {
-    let ended = answer_all::<NetGame, T, R, W>(rt, language, input, output);
+    let ended = answer_all::<G, T, R, W>(rt, language, input, output);
     status_of(ended, errors)
 }
