@@ -8,7 +8,7 @@ use Rattle.clauses.specs.Numbers.{word_at}
 use Rattle.terms.specs.declared.naming.Named.{Named}
 use Rattle.terms.specs.Vectors.{items_of}
 use Rattle.terms.specs.Dropping.{is_input_in}
-use Rattle.listing.specs.Contexts.{terms_named}
+use Rattle.listing_rows.specs.Contexts.{terms_named}
 use Rattle.lint.specs.Names.{is_goal_number}
 use Rattle.dropped.specs.Keyed.{is_goal_key}
 

@@ -14,8 +14,8 @@ use Rattle.terms.specs.Arena.{Held}
 use Rattle.terms.specs.Keys.{term_at, trees}
 use Rattle.terms.specs.Dropping.{AreShown}
 use Rattle.listing.specs.AllListed.{IsAllListed}
-use Rattle.listing.specs.Contexts.{terms_named}
-use Rattle.listing.specs.Founds.{told, told_by}
+use Rattle.listing_rows.specs.Contexts.{terms_named}
+use Rattle.listing_rows.specs.Founds.{told, told_by}
 use Rattle.dropped.specs.declared.finding.Lack.{Lack}
 use Rattle.dropped.specs.Effects.{HasLackingHead}
 use Rattle.dropped.specs.Keyed.{lacks_in}

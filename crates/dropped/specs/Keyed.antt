@@ -10,8 +10,8 @@ use Rattle.keys.specs.KeyLists.{key_at}
 use Rattle.terms.specs.Vectors.{items_of}
 use Rattle.terms.specs.Dropping.{misses_base_in, misses_input_in}
 use Rattle.listing.specs.declared.all_listed.Listed.{Listed}
-use Rattle.listing.specs.Contexts.{terms_named}
-use Rattle.listing.specs.SetWords.{words_of}
+use Rattle.listing_rows.specs.Contexts.{terms_named}
+use Rattle.listing_rows.specs.SetWords.{words_of}
 use Rattle.lint.specs.Names.{is_goal_number}
 use Rattle.dropped.specs.declared.finding.Lack.{Lack}
 use Rattle.dropped.specs.declared.finding.Lack.TheVariants.{Base, Input, Goal}

@@ -6,8 +6,8 @@ ghost use Rattle.keys.specs.KeyLists.{key_at};
 ghost use Rattle.rules.specs.RuleSetView.{keywords_in};
 ghost use Rattle.terms.specs.Vectors.{items_of};
 ghost use Rattle.terms.specs.Dropping.{is_input_in, misses_base_in, misses_input_in};
-ghost use Rattle.listing.specs.Contexts.{terms_named};
-ghost use Rattle.listing.specs.SetWords.{words_of};
+ghost use Rattle.listing_rows.specs.Contexts.{terms_named};
+ghost use Rattle.listing_rows.specs.SetWords.{words_of};
 ghost use Rattle.dropped.specs.Keyed.{is_goal_key, misses_goal_in, lacks_in, numbers_of};
 
 use crate::finding::Lack;

@@ -14,7 +14,7 @@ ghost use Rattle.terms.specs.Keys.{term_at, trees};
 ghost use Rattle.meaning.specs.Listed.{IsWellFormed};
 ghost use Rattle.statement.specs.Listing.{listing, base_list};
 ghost use Rattle.statement.specs.GoalsAndMoves.{starts, dropped};
-ghost use Rattle.listing.specs.Progress.{IsListed};
+ghost use Rattle.listing_rows.specs.Progress.{IsListed};
 ghost use Rattle.terms.specs.Starting.{starts_in};
 
 /// What the last pass makes of the numbers of terms is what the definitions make of the listing.

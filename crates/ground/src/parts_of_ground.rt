@@ -4,11 +4,11 @@ ghost use Rattle.rules.specs.RuleSetView.{rules_in};
 ghost use Rattle.listing.specs.AllListed.{IsAllListed};
 ghost use Rattle.ground.specs.Parts.{ArePartsOf};
 ghost use Rattle.terms.specs.Vectors.{items_of};
-ghost use Rattle.listing.specs.Contexts.{terms_named};
+ghost use Rattle.listing_rows.specs.Contexts.{terms_named};
 ghost use Rattle.kept.specs.Lists.{numbers_of_list};
 ghost use Rattle.statement.specs.declared.width.Width.TheVariants.{Wide};
 ghost use Rattle.statement.specs.Limits.{excess_in};
-ghost use Rattle.listing.specs.SetWords.{words_of};
+ghost use Rattle.listing_rows.specs.SetWords.{words_of};
 
 use crate::kinds_of_atoms::kinds_of_atoms;
 use crate::tables::Tables;

@@ -2,7 +2,7 @@
 ghost use Rattle.std.specs.Prelude.{◌≡◌, [], map, IfOk};
 ghost use Rattle.rules.specs.RuleSets.{texts_of};
 ghost use Rattle.terms.specs.Vectors.{items_of};
-ghost use Rattle.listing.specs.Contexts.{terms_named, texts_named};
+ghost use Rattle.listing_rows.specs.Contexts.{terms_named, texts_named};
 ghost use Rattle.terms.specs.Atoms.{with_numbers};
 
 use listing::ContextTerms;

@@ -18,15 +18,15 @@ use Rattle.terms.specs.Arena.{AreNumbered}
 use Rattle.terms.specs.Building.{PartsPlaced}
 use Rattle.terms.specs.Keys.{word_of, parts_of, term_at, trees, tree_of_key}
 use Rattle.terms.proofs.Facts.{front_itself, front_length, tree_of_number, length_trees, different, atom_key, below_more}
-use Rattle.listing.specs.declared.sought.BlankKey.{BlankKey}
-use Rattle.listing.specs.Instances.{row_map, IsNowhere, IsNumberIn, IsRow, atom_by}
-use Rattle.listing.specs.Pairs.{IsKeyOf, PartNumbers}
-use Rattle.listing.specs.Settled.{AreTerms, AreNumbersOf, Settles, AreAbsent, terms_by}
-use Rattle.listing.specs.Sought.{word_in, AreSince, HaveValues, IsBlankKey, filled}
-use Rattle.listing.proofs.EarlyTests.{numbers_are, numbers_within, same_numbers, key_whole, key_word, key_below, nowhere}
-use Rattle.listing.proofs.Pairs.{row_terms}
-use Rattle.listing.proofs.RowAtoms.{are_placed, atom_of_row}
-use Rattle.listing.proofs.SettledParts.{numbers_once, trees_same}
+use Rattle.listing_rows.specs.declared.kept_keys.BlankKey.{BlankKey}
+use Rattle.listing_rows.specs.Instances.{row_map, IsNowhere, IsNumberIn, IsRow, atom_by}
+use Rattle.listing_rows.specs.Pairs.{IsKeyOf, PartNumbers}
+use Rattle.listing_rows.specs.Settled.{AreTerms, AreNumbersOf, Settles, AreAbsent, terms_by}
+use Rattle.listing_rows.specs.Sought.{word_in, AreSince, HaveValues, IsBlankKey, filled}
+use Rattle.listing_rows.proofs.Facts.{numbers_are, numbers_within, same_numbers, key_whole, key_word, key_below, nowhere}
+use Rattle.listing_rows.proofs.Facts.{row_terms}
+use Rattle.listing_rows.proofs.Facts.{are_placed, atom_of_row}
+use Rattle.listing_rows.proofs.Facts.{numbers_once, trees_same}
 
 module _ (d : Data) (differ : NamesDiffer d.words) (from : ℕ) (keys : List (List ℕ)) (numbered : AreNumbered (length d.words) keys)
     (places : List (Option ℕ)) (row : List ℕ) (r : IsRow d keys places row) (a : Atom) (c : CanBuild d from places a) where

@@ -18,16 +18,16 @@ use Rattle.kept.proofs.Facts.{many_bodies, get_last}
 use Rattle.matching.specs.Placed.{placed_atom}
 use Rattle.matching.specs.Plans.{CanBuild, CanBuildEach, number_in}
 use Rattle.terms.specs.Keys.{trees}
-use Rattle.listing.specs.Instances.{row_map, IsRow, HaveNumbers, literal_by, ReadsLiterals}
-use Rattle.listing.specs.Matchers.{passes_always}
-use Rattle.listing.specs.RuledOut.{FailsAlike}
-use Rattle.listing.specs.Sharing.{IsCommon, AreCommon, failing, IsBodyBy, IsBodyIn}
+use Rattle.listing_rows.specs.Instances.{row_map, IsRow, HaveNumbers, literal_by, ReadsLiterals}
+use Rattle.listing_rows.specs.Matchers.{passes_always}
+use Rattle.listing_rows.specs.RuledOut.{FailsAlike}
+use Rattle.listing_rows.specs.Sharing.{IsCommon, AreCommon, failing, IsBodyBy, IsBodyIn}
 use Rattle.terms.specs.Atoms.{AreAtoms}
 use Rattle.terms.proofs.Facts.{front_length, terms_front, trees_front}
 use Rattle.listing.proofs.PassAlways.{one_passes}
-use Rattle.listing.proofs.RowAtoms.{map_stays, row_stays, below_trees}
-use Rattle.listing.proofs.RowBodies.{made_of, row_relation}
-use Rattle.listing.proofs.SameFronts.{literal_again}
+use Rattle.listing_rows.proofs.Facts.{map_stays, row_stays, below_trees}
+use Rattle.listing_rows.proofs.Facts.{made_of, row_relation}
+use Rattle.listing_rows.proofs.Facts.{literal_again}
 
 abbrev no_places : List (Option ℕ)
 no_places = []

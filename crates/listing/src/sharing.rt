@@ -4,36 +4,22 @@
 //! negated literal is read. It is made for the first row that passes; of the others only those literals are asked that a row may fail at.
 ghost use Rattle.std.specs.Prelude.{ℕ, List, Option, ◌≡◌, ◌<◌, length, false, true, IfOk};
 ghost use Rattle.clauses.specs.Marks.{literal_in};
+ghost use Rattle.listing_rows.specs.Pairs.{HaveSameValues, simple_number};
+ghost use Rattle.listing_rows.specs.Sharing.{AreCommon, IsCommon, IsLean, failing};
 ghost use Rattle.matching.specs.Placed.{placed_atom, placed_body};
 ghost use Rattle.matching.specs.Plans.{CanBuild, CanBuildEach, HaveRelations};
 ghost use Rattle.rules.specs.Drafts.{numbered};
 ghost use Rattle.rules.specs.RuleSetView.{lists_of_set, rules_in};
 ghost use Rattle.terms.specs.Vectors.{items_of};
-ghost use Rattle.listing.specs.Pairs.{HaveSameValues, simple_number};
-ghost use Rattle.listing.specs.Sharing.{AreCommon, IsCommon, IsLean, failing};
 
 use crate::collected::passes_always;
-use crate::sought::{Sought, sought_atoms};
-use crate::steps::{LiteralStep, steps_of};
+use listing_keys::sought_atoms;
+use listing_rows::Lean;
+use listing_tests::steps_of;
 use matching::{Join, RowPlan, parts_at, plan_of};
 use rules::{Alternative, Part, RuleSet};
 use std::alloc::{AllocError, Global};
 use terms::Terms;
-
-/// What is asked of a row of an alternative whose instances have all the same body.
-#[derive(Drop)]
-pub struct Lean {
-    /// Whether it is such an alternative; if not, the others say nothing.
-    pub shares: bool,
-    /// The alternative with those literals alone that a row may fail at.
-    pub alternative: Alternative,
-    /// Its plan.
-    pub plan: RowPlan,
-    /// What is done with each of these literals.
-    pub steps: Vec<LiteralStep>,
-    /// What is kept of the keys of long atoms.
-    pub sought: Vec<Option<Sought>>,
-}
 
 /// Whether a part with a place is a variable.
 fn is_variable(part: Part) -> bool

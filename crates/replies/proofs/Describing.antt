@@ -17,7 +17,7 @@ use Rattle.statement.specs.Answers.{Reply, refusal}
 use Rattle.statement.specs.Games.{HasNoGame, IsItsGame, IsPlayReply}
 use Rattle.statement.specs.Queries.{Query}
 use Rattle.statement.specs.Replies.{IsReplyIn}
-use Rattle.listing.specs.Progress.{IsFaultOf}
+use Rattle.listing_rows.specs.Progress.{IsFaultOf}
 use Rattle.ground.specs.declared.flat_ground.FlatGround.{FlatGround}
 use Rattle.ground.specs.GroundView.{IsGround}
 use Rattle.rulebook.specs.RuleState.{named_rules_of}

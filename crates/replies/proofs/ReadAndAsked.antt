@@ -14,7 +14,7 @@ use Rattle.statement.specs.Queries.{Query, check, asked_in}
 use Rattle.statement.specs.Answers.{Reply}
 use Rattle.statement.specs.Replies.{IsReplyIn, IsReplyTo, IsReply}
 use Rattle.statement.specs.declared.ground_fault.GroundFault.{GroundFault}
-use Rattle.listing.specs.Progress.{IsFaultOf}
+use Rattle.listing_rows.specs.Progress.{IsFaultOf}
 use Rattle.rules.specs.declared.rule_set.RuleSet.{RuleSet}
 use Rattle.rules.specs.RuleSetView.{rules_in}
 use Rattle.ground.specs.declared.flat_ground.FlatGround.{FlatGround}

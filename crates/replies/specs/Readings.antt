@@ -13,7 +13,7 @@ use Rattle.statement.specs.Answers.{Reply}
 use Rattle.statement.specs.Checking.{RefusesItems}
 use Rattle.statement.specs.Replies.{IsReplyIn, RefusesText}
 use Rattle.statement.specs.declared.ground_fault.GroundFault.{GroundFault}
-use Rattle.listing.specs.Progress.{IsFaultOf}
+use Rattle.listing_rows.specs.Progress.{IsFaultOf}
 use Rattle.rules.specs.RuleSetView.{rules_in}
 use Rattle.ground.specs.declared.flat_ground.FlatGround.{FlatGround}
 use Rattle.ground.specs.GroundView.{IsGround}

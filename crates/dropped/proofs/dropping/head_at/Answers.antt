@@ -4,7 +4,7 @@ use Rattle.statement.specs.Kept.{Kept}
 use Rattle.rules.specs.RuleSetView.{rules_in, keywords_in}
 use Rattle.kept.specs.Lists.{numbers_of_list}
 use Rattle.terms.specs.Vectors.{items_of}
-use Rattle.listing.specs.SetWords.{words_of}
+use Rattle.listing_rows.specs.SetWords.{words_of}
 use Rattle.dropped.specs.Keyed.{lacks_in, numbers_of}
 use Rattle.dropped.proofs.KeptHeads.{lacking_head}
 use Rattle.dropped.proofs.dropping.head_at.Goals as goal

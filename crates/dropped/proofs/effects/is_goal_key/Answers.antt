@@ -1,5 +1,5 @@
 use Rattle.std.proofs.Common.{arith}
-use Rattle.listing.specs.SetWords.{words_of}
+use Rattle.listing_rows.specs.SetWords.{words_of}
 use Rattle.dropped.proofs.InputLists.{goal_key_is}
 use Rattle.dropped.proofs.effects.is_goal_key.Goals as goal
 

@@ -1,7 +1,7 @@
 use Rattle.std.proofs.Common.{◌≡◌, ◌<◌, ◌∙◌, ap, length, nat_eq, get_or, rules}
 use Rattle.std.specs.List.{list_any}
 use Rattle.statement.specs.Printed.{first_place}
-use Rattle.listing.specs.Contexts.{terms_named}
+use Rattle.listing_rows.specs.Contexts.{terms_named}
 use Rattle.dropped.proofs.InputLists.{input_is}
 use Rattle.dropped.proofs.effects.is_input.Goals as goal
 

@@ -1,6 +1,6 @@
 use Rattle.std.proofs.Common.{◌≡◌, drop, nat_eq}
 use Rattle.std.specs.List.{list_any}
-use Rattle.listing.specs.Contexts.{terms_named}
+use Rattle.listing_rows.specs.Contexts.{terms_named}
 use Rattle.dropped.proofs.effects.is_named.Given as goal
 
 abbrev pub invariant-loop-one : goal.invariant-loop-one

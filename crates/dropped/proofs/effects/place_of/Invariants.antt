@@ -1,6 +1,6 @@
 use Rattle.std.proofs.Common.{◌≡◌, ◌+◌, drop, nat_eq}
 use Rattle.statement.specs.Printed.{first_place}
-use Rattle.listing.specs.Contexts.{terms_named}
+use Rattle.listing_rows.specs.Contexts.{terms_named}
 use Rattle.dropped.proofs.effects.place_of.Given as goal
 
 abbrev pub invariant-loop-place : goal.invariant-loop-place

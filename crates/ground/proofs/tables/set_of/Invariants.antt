@@ -1,5 +1,5 @@
 use Rattle.std.proofs.Common.{◌≡◌, [], drop}
-use Rattle.listing.specs.Contexts.{terms_named}
+use Rattle.listing_rows.specs.Contexts.{terms_named}
 use Rattle.terms.specs.Atoms.{with_numbers}
 use Rattle.ground.proofs.tables.set_of.Given as goal
 

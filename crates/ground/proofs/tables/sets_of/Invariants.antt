@@ -1,6 +1,6 @@
 use Rattle.std.proofs.Common.{◌≡◌, [], ◌++◌, map, drop}
 use Rattle.terms.specs.Vectors.{items_of}
-use Rattle.listing.specs.Contexts.{terms_named}
+use Rattle.listing_rows.specs.Contexts.{terms_named}
 use Rattle.terms.specs.Atoms.{with_numbers}
 use Rattle.ground.proofs.tables.sets_of.Given as goal
 

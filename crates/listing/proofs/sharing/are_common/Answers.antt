@@ -1,7 +1,7 @@
 use Rattle.std.proofs.Common.{[], ap, ◌∙◌, arith, get_or}
 use Rattle.rules.specs.RuleSetView.{lists_of_set, rules_in}
 use Rattle.terms.specs.Vectors.{items_of}
-use Rattle.listing.proofs.RowBodies.{placed_at}
+use Rattle.listing_rows.proofs.Facts.{placed_at}
 use Rattle.listing.proofs.SharedBodies.{common_more}
 use Rattle.listing.proofs.sharing.are_common.Goals as goal
 

@@ -2,7 +2,7 @@ use Rattle.std.proofs.Common.{ℕ, List, Option, ◌≡◌, ◌<◌, get_or}
 use Rattle.rules.specs.RuleSetView.{lists_of_set, rules_in}
 use Rattle.matching.specs.Placed.{placed_body}
 use Rattle.terms.specs.Vectors.{items_of}
-use Rattle.listing.specs.Sharing.{IsCommon}
+use Rattle.listing_rows.specs.Sharing.{IsCommon}
 use Rattle.listing.proofs.sharing.are_common.Given as goal
 
 -- those before this one are common

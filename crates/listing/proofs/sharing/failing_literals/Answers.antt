@@ -2,8 +2,8 @@ use Rattle.std.proofs.Common.{ℕ, Bool, not, cond, List, [], ◌∷◌, ◌++�
 use Rattle.std.proofs.lemmas.List.{append-nil}
 use Rattle.std.proofs.lemmas.List.Elements.{filter_more}
 use Rattle.rules.specs.RuleSetView.{lists_of_set, rules_in}
-use Rattle.listing.specs.Matchers.{passes_always}
-use Rattle.listing.specs.Sharing.{failing}
+use Rattle.listing_rows.specs.Matchers.{passes_always}
+use Rattle.listing_rows.specs.Sharing.{failing}
 use Rattle.listing.proofs.sharing.failing_literals.Goals as goal
 
 pub loop-number-preserved-then-passes_always : goal.loop-number-preserved-then-passes_always

@@ -1,6 +1,6 @@
 use Rattle.std.proofs.Common.{◌≡◌, take}
 use Rattle.rules.specs.RuleSetView.{lists_of_set, rules_in}
-use Rattle.listing.specs.Sharing.{failing}
+use Rattle.listing_rows.specs.Sharing.{failing}
 use Rattle.listing.proofs.sharing.failing_literals.Given as goal
 
 -- those of the literals before this one

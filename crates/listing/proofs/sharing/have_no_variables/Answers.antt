@@ -1,6 +1,6 @@
 use Rattle.std.proofs.Common.{ℕ, suc, ◌≡◌, ◌<◌, ◌∷◌, ◌+◌, List, length, drop, drop-cons, get_or, refl, sym, ap, ◌∙◌, subst, arith}
 use Rattle.clauses.specs.declared.numbered.Part.{Part}
-use Rattle.listing.specs.Pairs.{HaveSameValues}
+use Rattle.listing_rows.specs.Pairs.{HaveSameValues}
 use Rattle.terms.proofs.Facts.{at_end}
 use Rattle.listing.proofs.sharing.have_no_variables.Goals as goal
 

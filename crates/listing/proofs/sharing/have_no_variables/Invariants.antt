@@ -1,5 +1,5 @@
 use Rattle.std.proofs.Common.{ℕ, List, drop}
-use Rattle.listing.specs.Pairs.{HaveSameValues}
+use Rattle.listing_rows.specs.Pairs.{HaveSameValues}
 use Rattle.listing.proofs.sharing.have_no_variables.Given as goal
 
 abbrev pub invariant-loop-part : goal.invariant-loop-part

@@ -1,6 +1,6 @@
 use Rattle.std.proofs.Common.{List, inr, subst}
 use Rattle.clauses.specs.declared.numbered.Part.{Part}
-use Rattle.listing.specs.Pairs.{HaveSameValues}
+use Rattle.listing_rows.specs.Pairs.{HaveSameValues}
 use Rattle.listing.proofs.sharing.is_common.Goals as goal
 
 pub returns : goal.returns

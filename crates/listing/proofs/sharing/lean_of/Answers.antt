@@ -5,8 +5,8 @@ use Rattle.matching.specs.Placed.{placed_body}
 use Rattle.matching.specs.Plans.{CanBuildEach, HaveRelations, mark_of}
 use Rattle.terms.specs.Vectors.{items_of}
 use Rattle.matching.proofs.Facts.{build_at}
-use Rattle.listing.specs.Sharing.{AreCommon, failing}
-use Rattle.listing.specs.Sought.{AreSought}
+use Rattle.listing_rows.specs.Sharing.{AreCommon, failing}
+use Rattle.listing_rows.specs.Sought.{AreSought}
 use Rattle.listing.proofs.SharedBodies.{each_failing}
 use Rattle.listing.proofs.sharing.lean_of.Goals as goal
 

@@ -3,10 +3,10 @@ use Rattle.std.specs.Prelude.{MatchOption, IfNone}
 use Rattle.keys.specs.KeyLists.{key_at}
 use Rattle.rules.specs.RuleSetView.{lists_of_set}
 use Rattle.terms.specs.Vectors.{items_of}
-use Rattle.listing.specs.declared.sought.BlankKey.{BlankKey}
-use Rattle.listing.specs.SetWords.{words_of}
-use Rattle.listing.specs.Settled.{AreAbsent}
-use Rattle.listing.specs.Sought.{word_in, IsSettledKey}
+use Rattle.listing_rows.specs.declared.kept_keys.BlankKey.{BlankKey}
+use Rattle.listing_rows.specs.SetWords.{words_of}
+use Rattle.listing_rows.specs.Settled.{AreAbsent}
+use Rattle.listing_rows.specs.Sought.{word_in, IsSettledKey}
 use Rattle.listing.proofs.SettledAtoms.{looked_up_settled, absent_atom, filled_is}
 use Rattle.listing.proofs.unbuilt.number_sought.Goals as goal
 

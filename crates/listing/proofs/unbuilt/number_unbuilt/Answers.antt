@@ -6,7 +6,7 @@ use Rattle.clauses.specs.Signatures.{signature_at}
 use Rattle.keys.specs.KeyLists.{key_at}
 use Rattle.rules.specs.RuleSetView.{lists_of_set}
 use Rattle.terms.specs.Vectors.{items_of}
-use Rattle.listing.specs.Pairs.{IsKeyOf}
+use Rattle.listing_rows.specs.Pairs.{IsKeyOf}
 use Rattle.listing.proofs.SettledAtoms.{looked_up}
 use Rattle.listing.proofs.unbuilt.number_unbuilt.Goals as goal
 

@@ -1,0 +1,24 @@
+mod BuiltHeads
+mod ContextStepLemmas
+mod ContextSteps
+mod EarlyTests
+mod FilledKeys
+mod FoundLemmas
+mod ListingSteps
+mod LongHeads
+mod LongTexts
+mod NumberPlaces
+mod Pairs
+mod RowAtoms
+mod RowBodies
+mod RowInstances
+mod RowNumbers
+mod RowTests
+mod RowsKept
+mod RuledOut
+mod SameFronts
+mod SettledParts
+mod SoughtKeys
+mod StepLemmas
+mod Twice
+pub mod Facts

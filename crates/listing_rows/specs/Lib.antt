@@ -1,0 +1,14 @@
+pub mod Contexts
+pub mod Founds
+pub mod Heads
+pub mod Instances
+pub mod Matchers
+pub mod Pairs
+pub mod Progress
+pub mod Rows
+pub mod RuledOut
+pub mod SetWords
+pub mod Settled
+pub mod Sharing
+pub mod Sought
+pub mod Steps
