@@ -6,8 +6,8 @@ use Rattle.std.specs.Ptr.{Ptr, null_ptr}
 use Rattle.std.specs.declared.alloc.Global.{Global}
 use Rattle.std.specs.contracts.impls.GlobalAllocator.TheImpl.{ghosts}
 use base.Fml.{Fml, feq, fex, fsep, ftrue}
-use Rattle.ground.specs.Grounds.{text_at, texts_at}
-use Rattle.ground.specs.GroundView.{roles_of, inputs_of}
+use Rattle.flat_ground.specs.Grounds.{text_at, texts_at}
+use Rattle.flat_ground.specs.GroundView.{roles_of, inputs_of}
 use Rattle.rulebook.specs.RuleState.{rules_of}
 use Rattle.netgame.specs.declared.net_game.NetGame.{NetGame}
 use Rattle.statement.specs.declared.width.Width.TheVariants.{Plain}

@@ -4,11 +4,6 @@
 
 mod finishing;
 mod finishing_laws;
-mod flat_ground;
-mod flat_view;
-mod ground;
-mod ground_laws;
-mod ground_view;
 mod instantiating;
 mod kinds_of_atoms;
 mod most;
@@ -16,9 +11,7 @@ mod parts_of_ground;
 mod tables;
 
 pub use finishing_laws::the_last_pass_is_the_definition;
-pub use flat_ground::FlatGround;
-pub use ground::{Ground, Instance};
-pub use ground_laws::a_ground_fits_together;
+pub use flat_ground::{FlatGround, Ground, Instance, a_ground_fits_together};
 pub use instantiating::{instantiate, instantiate_flat, instantiate_flat_alone, limits_of_width};
 pub use listing::GroundFault;
 pub use meaning::{Excess, Kind};

@@ -9,8 +9,8 @@ use Rattle.statement.specs.Limits.{excess_in}
 use Rattle.statement.specs.Queries.{Query, asked_in}
 use Rattle.statement.specs.Replies.{IsReply}
 use Rattle.statement.specs.declared.ground_fault.GroundFault.{GroundFault}
-use Rattle.ground.specs.declared.flat_ground.FlatGround.{FlatGround}
-use Rattle.ground.specs.GroundView.{IsGround}
+use Rattle.flat_ground.specs.declared.flat_ground.FlatGround.{FlatGround}
+use Rattle.flat_ground.specs.GroundView.{IsGround}
 use Rattle.rules.specs.declared.rule_set.RuleSet.{RuleSet}
 use Rattle.rules.specs.RuleSetView.{rules_in}
 use Rattle.rulebook.specs.RuleState.{IsGameOver}

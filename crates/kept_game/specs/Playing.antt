@@ -8,8 +8,8 @@ use Rattle.statement.specs.Profile.{HasNoFault}
 use Rattle.statement.specs.Rules.{Rules}
 use Rattle.statement.specs.declared.width.Width.{Width}
 use Rattle.statement.specs.Limits.{excess_in}
-use Rattle.ground.specs.declared.flat_ground.FlatGround.{FlatGround}
-use Rattle.ground.specs.GroundView.{IsGround}
+use Rattle.flat_ground.specs.declared.flat_ground.FlatGround.{FlatGround}
+use Rattle.flat_ground.specs.GroundView.{IsGround}
 use Rattle.rulebook.specs.RuleState.{IsGameOver}
 
 -- the bytes read as items without a fault, this is their instantiation, which passes no limit of a width, and the game with these rules and

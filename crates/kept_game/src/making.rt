@@ -4,7 +4,8 @@ ghost use Rattle.rulebook.specs.RuleState.{IsGameOver};
 ghost use Rattle.statement.specs.declared.width.Width.TheVariants.{Plain};
 ghost use Rattle.kept_game.specs.Playing.{PlaysText};
 
-use ground::{FlatGround, GroundFault, instantiate_flat_alone};
+use flat_ground::FlatGround;
+use ground::{GroundFault, instantiate_flat_alone};
 use replies::{Reading, read};
 use rulebook::GroundGame;
 use statement::Width;

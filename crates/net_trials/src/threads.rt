@@ -1,6 +1,6 @@
 //! Kept instances by several threads and by one.
 ghost use Rattle.std.specs.Prelude.{◌<◌, length};
-ghost use Rattle.ground.specs.GroundView.{instances_of};
+ghost use Rattle.flat_ground.specs.GroundView.{instances_of};
 
 use crate::made::rules_of;
 use ground::{Excess, FlatGround, GroundFault, instantiate, instantiate_flat_alone};

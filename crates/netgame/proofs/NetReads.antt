@@ -37,10 +37,10 @@ use Rattle.statement.specs.Clause.{Atom, Alternative, relation_of}
 use Rattle.statement.specs.Dependence.{IsAmong, is_fixed}
 use Rattle.statement.specs.declared.kind.Kind.{Kind}
 use Rattle.statement.specs.declared.kind.Kind.TheVariants.{Fixed, Now, Does, Next, Legal, Goal, Terminal, Other}
-use Rattle.ground.specs.declared.flat_ground.FlatGround.{FlatGround}
+use Rattle.flat_ground.specs.declared.flat_ground.FlatGround.{FlatGround}
 use Rattle.meaning.specs.Gates.{atom_at}
 use Rattle.statement.specs.Kept.{Kept, numbered, number_of}
-use Rattle.ground.specs.GroundView.{base_of, kinds_of, instances_of, IsGround}
+use Rattle.flat_ground.specs.GroundView.{base_of, kinds_of, instances_of, IsGround}
 use Rattle.statement.specs.Kinds.{kind_of, place_in}
 use Rattle.statement.specs.Listing.{listing, role_list, base_list, input_list}
 use Rattle.meaning.specs.Listed.{IsWellFormed}

@@ -38,8 +38,8 @@ use Rattle.std.proofs.lemmas.List.{map-append, take_more}
 use Rattle.std.proofs.lemmas.List.Elements.{All-append, All-map, filter-append}
 use Rattle.std.proofs.lemmas.List.Folds.{list_any-append}
 use Rattle.statement.specs.declared.kind.Kind.{Kind}
-use Rattle.ground.specs.declared.flat_ground.FlatGround.{FlatGround}
-use Rattle.ground.specs.GroundView.{kinds_of}
+use Rattle.flat_ground.specs.declared.flat_ground.FlatGround.{FlatGround}
+use Rattle.flat_ground.specs.GroundView.{kinds_of}
 use Rattle.rulebook.specs.declared.naming.Naming.TheVariants.{ByLegal}
 use Rattle.rulebook.specs.declared.standing.Sought.TheVariants.{Goals, Ends}
 use Rattle.rulebook.specs.declared.standing.Standing.{Standing}

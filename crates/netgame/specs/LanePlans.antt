@@ -23,9 +23,9 @@ use Rattle.std.specs.Prelude.{
 }
 use Rattle.std.specs.List.{range_with_len}
 use Rattle.statement.specs.declared.kind.Kind.{Kind}
-use Rattle.ground.specs.declared.flat_ground.FlatGround.{FlatGround}
-use Rattle.ground.specs.Grounds.{texts_at}
-use Rattle.ground.specs.GroundView.{inputs_of, kinds_of}
+use Rattle.flat_ground.specs.declared.flat_ground.FlatGround.{FlatGround}
+use Rattle.flat_ground.specs.Grounds.{texts_at}
+use Rattle.flat_ground.specs.GroundView.{inputs_of, kinds_of}
 use Rattle.propnet.specs.declared.net.Net.{Net}
 use Rattle.tape.specs.Tapes.{IsTapeOf, IsTurnTapeOf}
 use Rattle.rulebook.specs.declared.naming.Naming.TheVariants.{ByLegal}

@@ -27,8 +27,8 @@ use Rattle.std.specs.Prelude.{
 use Rattle.std.specs.Int.{bit_at}
 use Rattle.std.specs.List.{range_with_len}
 use Rattle.smallvec.specs.SmallVec.{SmallVec}
-use Rattle.ground.specs.declared.flat_ground.FlatGround.{FlatGround}
-use Rattle.ground.specs.GroundView.{inputs_of, kinds_of}
+use Rattle.flat_ground.specs.declared.flat_ground.FlatGround.{FlatGround}
+use Rattle.flat_ground.specs.GroundView.{inputs_of, kinds_of}
 use Rattle.propnet.specs.declared.net.Net.{Net}
 use Rattle.tape.specs.declared.tape.Tape.{Tape}
 use Rattle.tape.specs.Tapes.{slots_in, kept_in, IsTapeOf, HasRun, IsWordOf}

@@ -3,7 +3,7 @@
 use Rattle.std.specs.Prelude.{◌≡◌, ◌≢◌, ℕ, ◌<◌, ◌≤◌, All, List, length, map, slice_index}
 use Rattle.std.specs.List.{range_with_len}
 use Rattle.smallvec.specs.SmallVec.{SmallVec}
-use Rattle.ground.specs.declared.flat_ground.FlatGround.{FlatGround}
+use Rattle.flat_ground.specs.declared.flat_ground.FlatGround.{FlatGround}
 use Rattle.propnet.specs.Values.{lane}
 use Rattle.statement.specs.Rules.{State}
 use Rattle.game.specs.TurnsAfter.{turns_after}

@@ -3,7 +3,7 @@
 //! The place of an atom behind a pass is how many atoms below it are asked. One structure serves what play goes on from and what
 //! it does not: they differ in which atoms are asked.
 ghost use Rattle.std.specs.Prelude.{◌≡◌, ◌<◌, ◌++◌, [], ◌∷◌, length, OnOk, IfOk, Some, if◌then◌else◌};
-ghost use Rattle.ground.specs.GroundView.{kinds_of};
+ghost use Rattle.flat_ground.specs.GroundView.{kinds_of};
 ghost use Rattle.propnet.specs.Builders.{IsNetOf};
 ghost use Rattle.tape.specs.Tapes.{IsTurnTapeOf};
 ghost use Rattle.netgame.specs.declared.lane_plan.Probe.{Probe};
@@ -12,7 +12,7 @@ ghost use Rattle.netgame.specs.LanePlans.{places_of, asked_nodes, next_below, Is
 
 use crate::lane_plan::{LanePlan, Probe, Scope};
 use crate::net_planning::{list_ends, plan_goals, plan_legals};
-use ground::{FlatGround, Kind};
+use flat_ground::{FlatGround, Kind};
 use propnet::Net;
 use rulebook::kind_of;
 use std::alloc::{AllocError, Global};

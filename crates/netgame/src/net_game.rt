@@ -1,6 +1,6 @@
 //! The game of a network.
 ghost use Rattle.std.specs.Prelude.{◌≡◌, IfOk, length};
-ghost use Rattle.ground.specs.GroundView.{flat_of};
+ghost use Rattle.flat_ground.specs.GroundView.{flat_of};
 ghost use Rattle.propnet.specs.Builders.{IsNetOf};
 ghost use Rattle.netgame.specs.LanePlans.{IsLanePlanOf};
 
@@ -13,8 +13,8 @@ use crate::net_many::{NetMany, NetWide};
 use crate::net_playing::{start_net_state, step_net_state};
 use crate::net_pos::NetPos;
 use crate::net_taking::{net_take, net_told, net_verdict};
+use flat_ground::{FlatGround, Ground};
 use game::{Game, Joint, Told, words_for};
-use ground::{FlatGround, Ground};
 use propnet::Net;
 use rulebook::{GroundGame, copy_roles, legal_at};
 use std::alloc::{AllocError, Global};
@@ -55,8 +55,8 @@ impl NetGame {
 }
 
 impl Game for NetGame {
-    ghost use Rattle.ground.specs.Grounds.{text_at, texts_at};
-    ghost use Rattle.ground.specs.GroundView.{roles_of, inputs_of};
+    ghost use Rattle.flat_ground.specs.Grounds.{text_at, texts_at};
+    ghost use Rattle.flat_ground.specs.GroundView.{roles_of, inputs_of};
     ghost use Rattle.rulebook.specs.RuleState.{rules_of};
     ghost use Rattle.netgame.specs.NetState.{kept_state};
     ghost use Rattle.netgame.specs.NetLanes.{

@@ -3,8 +3,8 @@
 //! These lists are made once, so play looks at no atom's kind. A ground has at most one atom that makes a move legal, so no two
 //! words are joined.
 ghost use Rattle.std.specs.Prelude.{◌≡◌, ◌<◌, ◌++◌, ℕ, None, Some, length, get_or, slice_index, OnOk, IfOk, if◌then◌else◌};
-ghost use Rattle.ground.specs.Grounds.{texts_at};
-ghost use Rattle.ground.specs.GroundView.{kinds_of, inputs_of};
+ghost use Rattle.flat_ground.specs.Grounds.{texts_at};
+ghost use Rattle.flat_ground.specs.GroundView.{kinds_of, inputs_of};
 ghost use Rattle.rulebook.specs.declared.naming.Naming.TheVariants.{ByLegal};
 ghost use Rattle.rulebook.specs.RulePlay.{names};
 ghost use Rattle.netgame.specs.declared.lane_plan.RoleGoals.{RoleGoals};
@@ -12,7 +12,7 @@ ghost use Rattle.netgame.specs.declared.lane_plan.RoleLegals.{RoleLegals};
 ghost use Rattle.netgame.specs.LanePlans.{legal_named, legal_pair, legals_below, goal_pair, goals_of, ends_of};
 
 use crate::lane_plan::{RoleGoals, RoleLegals};
-use ground::{FlatGround, Kind};
+use flat_ground::{FlatGround, Kind};
 use rulebook::{Naming, Sought, Standing, kind_of, list_standing, number_of, value_of};
 use std::alloc::{AllocError, Global};
 

@@ -1,7 +1,7 @@
 //! One state out of up to 64.
 ghost use Rattle.std.specs.Prelude.{◌≡◌, ◌<◌, ◌≤◌, [], None, length, get_or, vec_capacity};
-ghost use Rattle.ground.specs.Grounds.{texts_at};
-ghost use Rattle.ground.specs.GroundView.{inputs_of, kinds_of};
+ghost use Rattle.flat_ground.specs.Grounds.{texts_at};
+ghost use Rattle.flat_ground.specs.GroundView.{inputs_of, kinds_of};
 ghost use Rattle.propnet.specs.Values.{lane};
 ghost use Rattle.rulebook.specs.RuleState.{HasRoleRoom, IsRoleRead, HaveRoom, AreRead, role_capacities, all_capacities, rules_of};
 ghost use Rattle.netgame.specs.NetState.{lane_state, state_in, kept_state, AreSpread};

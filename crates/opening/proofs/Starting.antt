@@ -5,8 +5,8 @@ use Rattle.std.specs.List.{All}
 use Rattle.statement.specs.Clause.{Alternative}
 use Rattle.statement.specs.NamedRules.{NamedRules}
 use Rattle.statement.specs.GameOfRules.{IsGameOf}
-use Rattle.ground.specs.declared.flat_ground.FlatGround.{FlatGround}
-use Rattle.ground.specs.GroundView.{IsGround}
+use Rattle.flat_ground.specs.declared.flat_ground.FlatGround.{FlatGround}
+use Rattle.flat_ground.specs.GroundView.{IsGround}
 use Rattle.rulebook.specs.RuleState.{named_rules_of}
 use Rattle.rulebook.proofs.Facts.{game_of_ground}
 use Rattle.opening.specs.declared.finding.Opening.{Opening}

@@ -2,11 +2,11 @@
 ghost use Rattle.std.specs.Prelude.{OnOk, IfOk, List, ◌≡◌, ◌<◌, false};
 ghost use Rattle.std.specs.List.{All};
 ghost use Rattle.statement.specs.Clause.{Alternative};
-ghost use Rattle.ground.specs.GroundView.{IsGround};
+ghost use Rattle.flat_ground.specs.GroundView.{IsGround};
 ghost use Rattle.opening.specs.Openings.{IsTrueOpening, AreOpenings};
 
+use flat_ground::FlatGround;
 use game::Game;
-use ground::FlatGround;
 use rulebook::GroundGame;
 use std::alloc::{AllocError, Global};
 

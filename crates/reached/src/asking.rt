@@ -2,11 +2,11 @@
 ghost use Rattle.std.specs.Prelude.{◌≡◌, ◌<◌, length, get_or, IfSome};
 ghost use Rattle.statement.specs.Kept.{Kept};
 ghost use Rattle.statement.specs.declared.kind.Kind.TheVariants.{Next};
-ghost use Rattle.ground.specs.GroundView.{instances_of, kinds_of};
+ghost use Rattle.flat_ground.specs.GroundView.{instances_of, kinds_of};
 ghost use Rattle.reached.specs.ReachedByNumber.{kind_in};
 ghost use Rattle.reached.specs.Marks.{Asks};
 
-use ground::FlatGround;
+use flat_ground::FlatGround;
 use kept::AtomLiteral;
 use meaning::Kind;
 

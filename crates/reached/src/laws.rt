@@ -5,8 +5,8 @@ ghost use Rattle.statement.specs.Clause.{Alternative};
 ghost use Rattle.statement.specs.Dependence.{IsAmong};
 ghost use Rattle.statement.specs.Kinds.{place_in};
 ghost use Rattle.statement.specs.Listing.{base_list};
-ghost use Rattle.ground.specs.declared.flat_ground.FlatGround.{FlatGround};
-ghost use Rattle.ground.specs.GroundView.{IsGround, base_of, instances_of, kinds_of};
+ghost use Rattle.flat_ground.specs.declared.flat_ground.FlatGround.{FlatGround};
+ghost use Rattle.flat_ground.specs.GroundView.{IsGround, base_of, instances_of, kinds_of};
 ghost use Rattle.founded.specs.Founded.{IsReached};
 ghost use Rattle.reached.specs.ReachedByNumber.{IsReachedIn};
 

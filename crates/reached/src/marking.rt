@@ -6,7 +6,7 @@ ghost use Rattle.statement.specs.Tree.{Tree};
 ghost use Rattle.statement.specs.Clause.{Alternative};
 ghost use Rattle.statement.specs.Dependence.{IsAmong};
 ghost use Rattle.statement.specs.Listing.{base_list};
-ghost use Rattle.ground.specs.GroundView.{IsGround, base_of, instances_of, kinds_of};
+ghost use Rattle.flat_ground.specs.GroundView.{IsGround, base_of, instances_of, kinds_of};
 ghost use Rattle.founded.specs.Founded.{IsReached};
 ghost use Rattle.reached.specs.ReachedByNumber.{IsReachedIn};
 ghost use Rattle.reached.specs.Marks.{AreReached, AsksMarked, IsMarked};
@@ -14,7 +14,7 @@ ghost use Rattle.reached.specs.Marks.{AreReached, AsksMarked, IsMarked};
 use crate::asking::{asked, brought};
 use crate::laws::where_all_are_reached_by_number_all_terms_are;
 use crate::ordering::order_of;
-use ground::FlatGround;
+use flat_ground::FlatGround;
 use kept::AtomLiteral;
 use std::alloc::{AllocError, Global};
 

@@ -18,8 +18,8 @@ use Rattle.statement.specs.Games.{HasNoGame, IsItsGame, IsPlayReply}
 use Rattle.statement.specs.Queries.{Query}
 use Rattle.statement.specs.Replies.{IsReplyIn}
 use Rattle.listing_rows.specs.Progress.{IsFaultOf}
-use Rattle.ground.specs.declared.flat_ground.FlatGround.{FlatGround}
-use Rattle.ground.specs.GroundView.{IsGround}
+use Rattle.flat_ground.specs.declared.flat_ground.FlatGround.{FlatGround}
+use Rattle.flat_ground.specs.GroundView.{IsGround}
 use Rattle.rulebook.specs.RuleState.{named_rules_of}
 use Rattle.rulebook.proofs.Facts.{game_of_ground}
 use Rattle.words.specs.declared.command.Inquiry.{Inquiry}

@@ -4,11 +4,11 @@ use Rattle.std.proofs.lemmas.List.{length-map, take_all}
 use Rattle.statement.specs.Tree.{Tree, text}
 use Rattle.statement.specs.Clause.{Alternative}
 use Rattle.statement.specs.Items.{alternatives}
-use Rattle.ground.specs.declared.flat_ground.FlatGround.{FlatGround}
-use Rattle.ground.specs.Fits.{count_all}
+use Rattle.flat_ground.specs.declared.flat_ground.FlatGround.{FlatGround}
+use Rattle.flat_ground.specs.Fits.{count_all}
 use Rattle.statement.specs.Kept.{Kept, numbered}
-use Rattle.ground.specs.Grounds.{texts_at}
-use Rattle.ground.specs.GroundView.{IsGround, roles_of, base_of, inputs_of, instances_of}
+use Rattle.flat_ground.specs.Grounds.{texts_at}
+use Rattle.flat_ground.specs.GroundView.{IsGround, roles_of, base_of, inputs_of, instances_of}
 use Rattle.statement.specs.Limits.{count_inputs}
 use Rattle.statement.specs.declared.width.Width.{Width}
 use Rattle.statement.specs.Most.{wide_limits}

@@ -10,8 +10,8 @@ use Rattle.statement.specs.declared.width.Width.{Width}
 use Rattle.statement.specs.Games.{IsPlayReply}
 use Rattle.statement.specs.Queries.{Query}
 use Rattle.statement.specs.Replies.{IsReplyIn}
-use Rattle.ground.specs.declared.flat_ground.FlatGround.{FlatGround}
-use Rattle.ground.specs.GroundView.{IsGround}
+use Rattle.flat_ground.specs.declared.flat_ground.FlatGround.{FlatGround}
+use Rattle.flat_ground.specs.GroundView.{IsGround}
 use Rattle.rulebook.specs.RuleState.{named_rules_of}
 use Rattle.replies_moves.specs.declared.reply.Reply as made
 use Rattle.replies.specs.Games.{IsItsGround}

@@ -17,8 +17,8 @@ use Rattle.statement.specs.declared.ground_fault.GroundFault.{GroundFault}
 use Rattle.listing_rows.specs.Progress.{IsFaultOf}
 use Rattle.rules.specs.declared.rule_set.RuleSet.{RuleSet}
 use Rattle.rules.specs.RuleSetView.{rules_in}
-use Rattle.ground.specs.declared.flat_ground.FlatGround.{FlatGround}
-use Rattle.ground.specs.GroundView.{IsGround}
+use Rattle.flat_ground.specs.declared.flat_ground.FlatGround.{FlatGround}
+use Rattle.flat_ground.specs.GroundView.{IsGround}
 use Rattle.game.specs.declared.game.Game.{Ghosts}
 use Rattle.words.specs.declared.command.Inquiry.{Inquiry}
 use Rattle.words.specs.Asked.{query_about}

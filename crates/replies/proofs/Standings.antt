@@ -21,9 +21,9 @@ use Rattle.statement.specs.Histories.{IsHistoryOf}
 use Rattle.statement.specs.Holding.{true_line, true_lines, state_lines, IsStateReply}
 use Rattle.game.specs.Keys.{has_bit, state_of_bits}
 use Rattle.game.proofs.Facts.{all_below, get_or_any}
-use Rattle.ground.specs.declared.flat_ground.FlatGround.{FlatGround}
-use Rattle.ground.specs.Grounds.{text_at}
-use Rattle.ground.specs.GroundView.{base_of, IsGround}
+use Rattle.flat_ground.specs.declared.flat_ground.FlatGround.{FlatGround}
+use Rattle.flat_ground.specs.Grounds.{text_at}
+use Rattle.flat_ground.specs.GroundView.{base_of, IsGround}
 use Rattle.replies_moves.specs.declared.reply.Reply as made
 use Rattle.replies_moves.specs.Replies.{reply_of}
 use Rattle.replies.specs.Standing.{standing_line, numbered_line, numbered_lines}

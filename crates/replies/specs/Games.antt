@@ -6,8 +6,8 @@ use Rattle.statement.specs.Items.{alternatives}
 use Rattle.statement.specs.Profile.{HasNoFault}
 use Rattle.statement.specs.declared.width.Width.{Width}
 use Rattle.statement.specs.Limits.{excess_in}
-use Rattle.ground.specs.declared.flat_ground.FlatGround.{FlatGround}
-use Rattle.ground.specs.GroundView.{IsGround}
+use Rattle.flat_ground.specs.declared.flat_ground.FlatGround.{FlatGround}
+use Rattle.flat_ground.specs.GroundView.{IsGround}
 
 -- the ground is the instantiation of the items, which are a description within all limits of a width
 pub record IsItsGround (width : Width) (items : List Tree) (g : FlatGround) : Type 0 where

@@ -15,8 +15,8 @@ use Rattle.statement.specs.Replies.{IsReplyIn, RefusesText}
 use Rattle.statement.specs.declared.ground_fault.GroundFault.{GroundFault}
 use Rattle.listing_rows.specs.Progress.{IsFaultOf}
 use Rattle.rules.specs.RuleSetView.{rules_in}
-use Rattle.ground.specs.declared.flat_ground.FlatGround.{FlatGround}
-use Rattle.ground.specs.GroundView.{IsGround}
+use Rattle.flat_ground.specs.declared.flat_ground.FlatGround.{FlatGround}
+use Rattle.flat_ground.specs.GroundView.{IsGround}
 use Rattle.replies.specs.declared.reading.Reading.{Reading}
 use Rattle.replies.specs.declared.reading.Reading.TheVariants.{Rules, Refused}
 use Rattle.replies_moves.specs.Replies.{reply_of}

@@ -3,7 +3,7 @@
 use Rattle.std.specs.Prelude.{ℕ, List, [], ◌∷◌, ◌++◌, codes, if◌then◌else◌}
 use Rattle.std.specs.List.{flat_map}
 use Rattle.statement.specs.Rules.{Rules, State, is_stuck}
-use Rattle.ground.specs.Grounds.{text_at}
+use Rattle.flat_ground.specs.Grounds.{text_at}
 
 -- the line that tells how play stands
 abbrev pub standing_line : Rules → State → List ℕ

@@ -6,8 +6,9 @@ ghost use Rattle.words.specs.Asked.{query_about};
 
 use crate::games::{ask_deepen, ask_solve, reply_for_role, reply_to_moves, reply_to_state};
 use crate::sizes::reply_to_net;
+use flat_ground::FlatGround;
 use game::Game;
-use ground::{FlatGround, GroundFault};
+use ground::GroundFault;
 use replies_moves::{Reply, refused};
 use replies_search::{Search, Wanted};
 use rulebook::GroundGame;

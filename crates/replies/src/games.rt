@@ -16,7 +16,7 @@ ghost use Rattle.replies_search.specs.Windows.{wanted_lines};
 
 use crate::asking::Asked;
 use crate::standing::state_reply;
-use ground::FlatGround;
+use flat_ground::FlatGround;
 use replies_moves::{Reply, moves_reply};
 use replies_search::{Wanted, role_reply, search_for};
 use rulebook::GroundGame;

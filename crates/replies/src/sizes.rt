@@ -1,7 +1,7 @@
 //! How large an instantiation and its network are.
 ghost use Rattle.std.specs.Prelude.{◌≡◌, IfOk, List, length};
-ghost use Rattle.ground.specs.Fits.{count_all};
-ghost use Rattle.ground.specs.GroundView.{base_of, inputs_of, instances_of};
+ghost use Rattle.flat_ground.specs.Fits.{count_all};
+ghost use Rattle.flat_ground.specs.GroundView.{base_of, inputs_of, instances_of};
 ghost use Rattle.propnet.specs.Nets.{gates_of};
 ghost use Rattle.replies.specs.Games.{IsItsGround};
 ghost use Rattle.replies_moves.specs.Replies.{reply_of};
@@ -9,7 +9,7 @@ ghost use Rattle.statement.specs.Networks.{IsNetReply, net_lines};
 ghost use Rattle.statement.specs.Tree.{Tree};
 ghost use Rattle.statement.specs.declared.width.Width.{Width};
 
-use ground::FlatGround;
+use flat_ground::FlatGround;
 use propnet::Net;
 use replies_moves::{Reply, add_count, answered};
 use std::alloc::{AllocError, Global};

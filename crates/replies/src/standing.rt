@@ -2,15 +2,15 @@
 ghost use Rattle.std.specs.Prelude.{◌≡◌, ◌<◌, ◌++◌, List, [], length, slice_index, IfOk, OnOk, if◌then◌else◌};
 ghost use Rattle.std.specs.Int.{bit_at};
 ghost use Rattle.game.specs.Keys.{has_bit, state_of_bits};
-ghost use Rattle.ground.specs.GroundView.{base_of, IsGround};
+ghost use Rattle.flat_ground.specs.GroundView.{base_of, IsGround};
 ghost use Rattle.statement.specs.Clause.{Alternative};
 ghost use Rattle.statement.specs.Holding.{state_lines, IsStateReply};
 ghost use Rattle.replies_moves.specs.Histories.{named};
 ghost use Rattle.replies_moves.specs.Replies.{reply_of};
 ghost use Rattle.replies.specs.Standing.{standing_line, numbered_line, numbered_lines};
 
+use flat_ground::FlatGround;
 use game::{Game, HistoryFault, is_stuck};
-use ground::FlatGround;
 use replies_moves::{Reply, answered, position_after, refused_history};
 use rulebook::GroundGame;
 use std::alloc::{AllocError, Global};

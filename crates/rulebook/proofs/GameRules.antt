@@ -7,14 +7,14 @@ use Rattle.std.proofs.lemmas.List.Elements.{All-filter}
 use Rattle.statement.specs.Tree.{Tree, text}
 use Rattle.statement.specs.Clause.{Alternative}
 use Rattle.statement.specs.declared.kind.Kind.{Kind}
-use Rattle.ground.specs.declared.flat_ground.FlatGround.{FlatGround}
+use Rattle.flat_ground.specs.declared.flat_ground.FlatGround.{FlatGround}
 use Rattle.statement.specs.Meaning.{IsInAfter, IsLegal, IsEnded}
 use Rattle.statement.specs.Listing.{listing, role_list, base_list, input_list}
 use Rattle.meaning.specs.Listed.{IsWellFormed}
 use Rattle.statement.specs.Kinds.{kind_of}
 use Rattle.statement.specs.Kept.{Kept, numbered}
-use Rattle.ground.specs.Grounds.{text_at, texts_at, IsGroundOf}
-use Rattle.ground.specs.GroundView.{roles_of, base_of, inputs_of, kinds_of, instances_of, IsGround}
+use Rattle.flat_ground.specs.Grounds.{text_at, texts_at, IsGroundOf}
+use Rattle.flat_ground.specs.GroundView.{roles_of, base_of, inputs_of, kinds_of, instances_of, IsGround}
 use Rattle.statement.specs.GoalsAndMoves as play
 use Rattle.statement.specs.GoalsAndMoves.{AreStart, AreAfter, AreLegal, IsGoal}
 use Rattle.rulebook.specs.declared.naming.Naming.TheVariants.{ByNext, ByLegal}

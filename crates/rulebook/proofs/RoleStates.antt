@@ -3,7 +3,7 @@ use Rattle.std.proofs.Common.{◌≡◌, ℕ, ◌+◌, ◌<◌, Bool, List, leng
 use Rattle.std.proofs.Math.ListN.{set, length-set}
 use Rattle.std.proofs.lemmas.Bool.{cases_eq}
 use Rattle.statement.specs.declared.kind.Kind.{Kind}
-use Rattle.ground.specs.Grounds.{texts_at}
+use Rattle.flat_ground.specs.Grounds.{texts_at}
 use Rattle.rulebook.specs.declared.role_state.RoleState.{RoleState}
 use Rattle.rulebook.specs.RuleState.{HasRoleRoom, HaveRoom, AreRead, IsCopied}
 

@@ -33,10 +33,10 @@ use Rattle.statement.specs.Tree.{Tree, text}
 use Rattle.statement.specs.Clause.{Alternative}
 use Rattle.statement.specs.Dependence.{IsAmong}
 use Rattle.profile.proofs.Facts.{or_cases}
-use Rattle.ground.specs.declared.flat_ground.FlatGround.{FlatGround}
+use Rattle.flat_ground.specs.declared.flat_ground.FlatGround.{FlatGround}
 use Rattle.statement.specs.Meaning.{IsLegal, IsEnded, IsStuck}
 use Rattle.statement.specs.Listing.{role_list, input_list}
-use Rattle.ground.specs.GroundView.{inputs_of, IsGround}
+use Rattle.flat_ground.specs.GroundView.{inputs_of, IsGround}
 use Rattle.meaning.proofs.Facts.{roles_exact}
 use Rattle.statement.specs.Played.{nth_tree}
 use Rattle.statement.specs.Rules.{is_stuck}

@@ -2,13 +2,13 @@
 -- What each ground has.
 use Rattle.std.proofs.Common.{ℕ, ◌≡◌, ◌+◌, ◌<◌, ◌≤◌, ◌^◌, Bool, List, [], ◌∷◌, All, length, get_or, zero, suc, sym, ap, subst, arith}
 use Rattle.std.proofs.lemmas.List.{get_or_past}
-use Rattle.ground.specs.declared.flat_ground.FlatGround.{FlatGround}
+use Rattle.flat_ground.specs.declared.flat_ground.FlatGround.{FlatGround}
 use Rattle.statement.specs.Kept.{Kept}
-use Rattle.ground.specs.Grounds.{texts_at}
-use Rattle.ground.specs.Fits.{FitTogether, count_all}
+use Rattle.flat_ground.specs.Grounds.{texts_at}
+use Rattle.flat_ground.specs.Fits.{FitTogether, count_all}
 use Rattle.statement.specs.Most.{wide_limits}
-use Rattle.ground.specs.GroundView.{roles_of, base_of, inputs_of, kinds_of, instances_of}
-use Rattle.ground.proofs.Facts.{fit_together}
+use Rattle.flat_ground.specs.GroundView.{roles_of, base_of, inputs_of, kinds_of, instances_of}
+use Rattle.flat_ground.proofs.Facts.{fit_together}
 
 pub fits : (g : FlatGround) → FitTogether (roles_of g) (base_of g) (inputs_of g) g.starts.items (kinds_of g) (instances_of g)
 fits g = fit_together _ _ _ _ _ _ _ g.sound

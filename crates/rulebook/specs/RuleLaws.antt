@@ -12,10 +12,10 @@ use Rattle.std.proofs.lemmas.List.Kept.{IsStrictlyIncreasing-filter}
 use Rattle.std.proofs.lemmas.List.Elements.{All-filter}
 use Rattle.statement.specs.declared.kind.Kind.{Kind}
 use Rattle.statement.specs.declared.kind.Kind.TheVariants.{Fixed, Now, Does, Next, Legal, Goal, Terminal, Other}
-use Rattle.ground.specs.declared.flat_ground.FlatGround.{FlatGround}
-use Rattle.ground.specs.Fits.{IsKindWithin}
-use Rattle.ground.specs.Grounds.{text_at, texts_at}
-use Rattle.ground.specs.GroundView.{roles_of, base_of, inputs_of, kinds_of}
+use Rattle.flat_ground.specs.declared.flat_ground.FlatGround.{FlatGround}
+use Rattle.flat_ground.specs.Fits.{IsKindWithin}
+use Rattle.flat_ground.specs.Grounds.{text_at, texts_at}
+use Rattle.flat_ground.specs.GroundView.{roles_of, base_of, inputs_of, kinds_of}
 use Rattle.rulebook.specs.declared.naming.Naming.TheVariants.{ByLegal}
 use Rattle.rulebook.specs.RulePlay.{kind_at, goal_value, greatest_below, is_named}
 use Rattle.rulebook.specs.RuleState.{rules_of, holds_in}

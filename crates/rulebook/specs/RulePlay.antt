@@ -6,7 +6,7 @@ use Rattle.std.specs.List.{range_with_len}
 use Rattle.statement.specs.declared.kind.Kind.{Kind}
 use Rattle.statement.specs.declared.kind.Kind.TheVariants.{Fixed, Now, Does, Next, Legal, Goal, Terminal, Other}
 use Rattle.statement.specs.Kept.{Kept}
-use Rattle.ground.specs.Grounds.{texts_at}
+use Rattle.flat_ground.specs.Grounds.{texts_at}
 use Rattle.rulebook.specs.declared.naming.Naming.{Naming}
 use Rattle.rulebook.specs.declared.naming.Naming.TheVariants.{ByNext, ByLegal}
 use Rattle.statement.specs.Rules.{Rules, State, Turn}

@@ -2,9 +2,9 @@
 -- The game of an instantiation, and what is told of a role in a state.
 use Rattle.std.specs.Prelude.{ℕ, ◌≡◌, ◌<◌, ◌≤◌, Bool, List, [], ◌∷◌, length, take, get_or, flat_map, vec_capacity}
 use Rattle.statement.specs.declared.kind.Kind.{Kind}
-use Rattle.ground.specs.declared.flat_ground.FlatGround.{FlatGround}
-use Rattle.ground.specs.Grounds.{text_at, texts_at}
-use Rattle.ground.specs.GroundView.{roles_of, inputs_of, kinds_of, instances_of}
+use Rattle.flat_ground.specs.declared.flat_ground.FlatGround.{FlatGround}
+use Rattle.flat_ground.specs.Grounds.{text_at, texts_at}
+use Rattle.flat_ground.specs.GroundView.{roles_of, inputs_of, kinds_of, instances_of}
 use Rattle.rulebook.specs.declared.naming.Naming.TheVariants.{ByLegal}
 use Rattle.rulebook.specs.declared.role_state.RoleState.{RoleState}
 use Rattle.statement.specs.NamedRules.{NamedRules}

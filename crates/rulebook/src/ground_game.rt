@@ -1,11 +1,11 @@
 //! Games that are made of an instantiation.
 ghost use Rattle.std.specs.Prelude.{◌≡◌, ℕ, List, length, IfOk};
-ghost use Rattle.ground.specs.declared.flat_ground.FlatGround.{FlatGround};
+ghost use Rattle.flat_ground.specs.declared.flat_ground.FlatGround.{FlatGround};
 ghost use Rattle.game.specs.Keys.{state_of_bits};
 ghost use Rattle.rulebook.specs.RuleState.{IsGameOver};
 
+use flat_ground::FlatGround;
 use game::Game;
-use ground::FlatGround;
 use std::alloc::{AllocError, Global};
 
 /// A game that an instantiation describes, made of it. The type says who plays it, and over what: all of them are the same game.

@@ -1,10 +1,10 @@
 //! What the kind of an atom tells.
 ghost use Rattle.std.specs.Prelude.{◌≡◌, ◌<◌, length, if◌then◌else◌};
-ghost use Rattle.ground.specs.GroundView.{kinds_of};
+ghost use Rattle.flat_ground.specs.GroundView.{kinds_of};
 ghost use Rattle.rulebook.specs.RulePlay.{kind_at, number_named, goal_value};
 
 use crate::naming::Naming;
-use ground::{FlatGround, Kind};
+use flat_ground::{FlatGround, Kind};
 
 /// Where an atom stands in play.
 pub fn kind_of(ground: &FlatGround, atom: usize) -> Kind

@@ -1,10 +1,10 @@
 //! What is told of a role in a state.
 ghost use Rattle.std.specs.Prelude.{◌≡◌, ◌<◌, ◌≤◌, ℕ, length, take, get_or, slice_get, vec_capacity, IfOk};
-ghost use Rattle.ground.specs.GroundView.{inputs_of};
+ghost use Rattle.flat_ground.specs.GroundView.{inputs_of};
 ghost use Rattle.rulebook.specs.declared.role_state.RoleState.{RoleState};
 ghost use Rattle.rulebook.specs.RuleState.{HasRoleRoom, HaveRoom, IsCopied, role_capacities, all_capacities};
 
-use ground::FlatGround;
+use flat_ground::FlatGround;
 use std::alloc::{AllocError, Global};
 
 /// What is told of a role in a state.

@@ -1,7 +1,7 @@
 //! Atoms that are listed for play.
 
 use crate::naming::Naming;
-use ground::Kind;
+use flat_ground::Kind;
 
 /// An atom, with where it stands in play.
 #[derive(Clone, Copy)]

@@ -1,12 +1,12 @@
 //! Lists the atoms that are asked for in play.
 ghost use Rattle.std.specs.Prelude.{◌≡◌, ◌<◌, ◌++◌, [], ◌∷◌, length, OnOk, IfOk, if◌then◌else◌};
-ghost use Rattle.ground.specs.GroundView.{kinds_of};
+ghost use Rattle.flat_ground.specs.GroundView.{kinds_of};
 ghost use Rattle.rulebook.specs.RulePlay.{kind_at};
 ghost use Rattle.rulebook.specs.Standings.{seeks, standing_at, all_standing};
 
 use crate::kinds::{kind_of, number_of};
 use crate::standing::{Sought, Standing};
-use ground::{FlatGround, Kind};
+use flat_ground::{FlatGround, Kind};
 use std::alloc::{AllocError, Global};
 
 /// Whether atoms of this kind are listed.

@@ -7,7 +7,7 @@ use Rattle.std.proofs.lemmas.Bool.{cases_eq}
 use Rattle.std.proofs.lemmas.List.{get_or_past, drop_more}
 use Rattle.statement.specs.declared.kind.Kind.{Kind}
 use Rattle.statement.specs.Kept.{Kept}
-use Rattle.ground.specs.Fits.{IsKeptWithin}
+use Rattle.flat_ground.specs.Fits.{IsKeptWithin}
 use Rattle.statement.specs.Rules.{State, Turn}
 use Rattle.statement.specs.GameNumbers.{stands_in}
 use Rattle.rulebook.specs.GroundFacts.{blank}

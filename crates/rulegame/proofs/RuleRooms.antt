@@ -2,7 +2,7 @@
 use Rattle.std.proofs.Common.{◌≡◌, ℕ, ◌<◌, List, length, get_or, get_or-set_same, get_or-set_other, sym, ap, ◌∙◌, inl, inr}
 use Rattle.std.proofs.Math.ListN.{set, length-set}
 use Rattle.std.proofs.lemmas.Bool.{cases_eq}
-use Rattle.ground.specs.Grounds.{texts_at}
+use Rattle.flat_ground.specs.Grounds.{texts_at}
 use Rattle.rulebook.specs.declared.role_state.RoleState.{RoleState}
 use Rattle.rulebook.proofs.Facts.{room_set}
 use Rattle.rulegame.specs.declared.rule_many.RuleBase.{RuleBase}

@@ -1,7 +1,7 @@
 -- What is told of a state, by marks that agree with what holds.
 use Rattle.std.proofs.Common.{◌≡◌, ℕ, ◌<◌, Bool, cond, ◌&&◌, List, length, ◌∙◌, ap}
 use Rattle.statement.specs.declared.kind.Kind.{Kind}
-use Rattle.ground.specs.Grounds.{texts_at}
+use Rattle.flat_ground.specs.Grounds.{texts_at}
 use Rattle.rulebook.specs.declared.naming.Naming.{Naming}
 use Rattle.rulebook.specs.declared.naming.Naming.TheVariants.{ByLegal}
 use Rattle.rulebook.specs.declared.role_state.RoleState.{RoleState}

@@ -3,8 +3,8 @@
 use Rattle.std.specs.Prelude.{ℕ, ◌≡◌, ◌<◌, Bool, ◌==◌, ◌&&◌, List, length, get_or}
 use Rattle.std.specs.List.{list_any}
 use Rattle.statement.specs.declared.kind.Kind.{Kind}
-use Rattle.ground.specs.declared.flat_ground.FlatGround.{FlatGround}
-use Rattle.ground.specs.GroundView.{inputs_of, kinds_of}
+use Rattle.flat_ground.specs.declared.flat_ground.FlatGround.{FlatGround}
+use Rattle.flat_ground.specs.GroundView.{inputs_of, kinds_of}
 use Rattle.rulebook.specs.declared.naming.Naming.TheVariants.{ByNext, ByLegal}
 use Rattle.rulebook.specs.declared.standing.Sought.TheVariants.{Given, Named, Goals, Ends}
 use Rattle.rulebook.specs.declared.standing.Standing.{Standing}

@@ -1,8 +1,8 @@
 -- This crate's own: what `run` promises does not rest on it.
 -- Up to 64 states of a game of rules.
 use Rattle.std.specs.Prelude.{ℕ, ◌≡◌, ◌<◌, ◌≤◌, List, [], ◌∷◌, length, map, take, get_or, flat_map, Vec, vec_capacity}
-use Rattle.ground.specs.declared.flat_ground.FlatGround.{FlatGround}
-use Rattle.ground.specs.GroundView.{kinds_of}
+use Rattle.flat_ground.specs.declared.flat_ground.FlatGround.{FlatGround}
+use Rattle.flat_ground.specs.GroundView.{kinds_of}
 use Rattle.rulegame.specs.declared.rule_many.RuleBase.{RuleBase}
 use Rattle.rulegame.specs.declared.rule_many.RuleMany.{RuleMany}
 use Rattle.rulegame.specs.declared.rule_many.RuleWide.{RuleWide}

@@ -1,9 +1,9 @@
 -- This crate's own: what `run` promises does not rest on it.
 -- What a state of a game of rules keeps.
 use Rattle.std.specs.Prelude.{ℕ, ◌≡◌, ◌<◌, ◌++◌, List, [], ◌∷◌, length, get_or, flat_map, Vec, vec_capacity}
-use Rattle.ground.specs.declared.flat_ground.FlatGround.{FlatGround}
-use Rattle.ground.specs.Grounds.{texts_at}
-use Rattle.ground.specs.GroundView.{inputs_of, kinds_of}
+use Rattle.flat_ground.specs.declared.flat_ground.FlatGround.{FlatGround}
+use Rattle.flat_ground.specs.Grounds.{texts_at}
+use Rattle.flat_ground.specs.GroundView.{inputs_of, kinds_of}
 use Rattle.rulebook.specs.declared.role_state.RoleState.{RoleState}
 use Rattle.rulebook.specs.RulePlay.{marked, ends}
 use Rattle.rulebook.specs.RuleState.{holds_in, HasRoleRoom, HaveRoom, AreRead, all_capacities}

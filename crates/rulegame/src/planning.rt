@@ -1,11 +1,11 @@
 //! Lists the atoms that are asked for in play.
 ghost use Rattle.std.specs.Prelude.{◌≡◌, ◌<◌, ℕ, length, get_or, IfOk};
-ghost use Rattle.ground.specs.GroundView.{kinds_of, inputs_of};
+ghost use Rattle.flat_ground.specs.GroundView.{kinds_of, inputs_of};
 ghost use Rattle.rulegame.specs.Plans.{IsRolePlanOf, IsPlanOf};
 ghost use Rattle.rulegame.specs.declared.plan.RolePlan.{RolePlan};
 
 use crate::plan::{RolePlan, RulePlan};
-use ground::FlatGround;
+use flat_ground::FlatGround;
 use rulebook::{Naming, Sought, list_standing};
 use std::alloc::{AllocError, Global};
 

@@ -5,7 +5,7 @@ ghost use Rattle.rulebook.specs.RulePlay.{marked, names, is_terminal};
 ghost use Rattle.rulebook.specs.Standings.{names_among, goal_among, ends_among};
 
 use crate::evaluation::{clear, put_mark};
-use ground::Kind;
+use flat_ground::Kind;
 use rulebook::{Naming, Standing, number_of, value_of};
 
 /// Whether a number is marked.

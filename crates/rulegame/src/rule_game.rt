@@ -1,6 +1,6 @@
 //! The game of an instantiation.
 ghost use Rattle.std.specs.Prelude.{◌≡◌, IfOk, [], length};
-ghost use Rattle.ground.specs.GroundView.{flat_of};
+ghost use Rattle.flat_ground.specs.GroundView.{flat_of};
 ghost use Rattle.rulegame.specs.Plans.{IsPlanOf};
 
 use crate::plan::RulePlan;
@@ -8,8 +8,8 @@ use crate::planning::make_plan;
 use crate::rule_keys::write_marks_key;
 use crate::rule_many::{RuleMany, RuleWide, new_bases, step_each};
 use crate::rule_pos::{RulePos, read_state, start_state, step_state};
+use flat_ground::{FlatGround, Ground};
 use game::{Game, Joint, Told, words_for};
-use ground::{FlatGround, Ground};
 use rulebook::{GroundGame, copy_roles, legal_at};
 use std::alloc::{AllocError, Global};
 
@@ -44,8 +44,8 @@ impl RuleGame {
 }
 
 impl Game for RuleGame {
-    ghost use Rattle.ground.specs.Grounds.{text_at, texts_at};
-    ghost use Rattle.ground.specs.GroundView.{roles_of, inputs_of};
+    ghost use Rattle.flat_ground.specs.Grounds.{text_at, texts_at};
+    ghost use Rattle.flat_ground.specs.GroundView.{roles_of, inputs_of};
     ghost use Rattle.rulebook.specs.RulePlay.{marked};
     ghost use Rattle.rulegame.specs.RuleRoom.{IsStateOf, capacities};
     ghost use Rattle.rulebook.specs.RuleState.{rules_of};

@@ -1,6 +1,6 @@
 //! Up to 64 states of a game of rules.
 ghost use Rattle.std.specs.Prelude.{◌≡◌, ◌<◌, ◌≤◌, ℕ, length, get_or, vec_capacity, IfOk};
-ghost use Rattle.ground.specs.GroundView.{kinds_of};
+ghost use Rattle.flat_ground.specs.GroundView.{kinds_of};
 ghost use Rattle.game.specs.Joints.{joint_at};
 ghost use Rattle.rulegame.specs.declared.rule_many.RuleBase.{RuleBase};
 ghost use Rattle.rulebook.specs.RulePlay.{marked};

@@ -1,7 +1,7 @@
 //! A state of a game of rules, with what is told of it.
 ghost use Rattle.std.specs.Prelude.{◌≡◌, ◌<◌, ℕ, false, length, get_or, slice_index_or, vec_capacity, IfOk};
-ghost use Rattle.ground.specs.Grounds.{texts_at};
-ghost use Rattle.ground.specs.GroundView.{inputs_of, kinds_of};
+ghost use Rattle.flat_ground.specs.Grounds.{texts_at};
+ghost use Rattle.flat_ground.specs.GroundView.{inputs_of, kinds_of};
 ghost use Rattle.rulegame.specs.Marks.{AreMarks};
 ghost use Rattle.rulebook.specs.RulePlay.{marked};
 ghost use Rattle.rulebook.specs.declared.role_state.RoleState.{RoleState};
@@ -20,7 +20,7 @@ ghost use Rattle.rulegame.specs.RuleRoom.{
 use crate::evaluation::{evaluate, put_mark};
 use crate::reading::{best_goal, has_ended, list_marked, mark_named};
 use crate::rule_game::RuleGame;
-use ground::FlatGround;
+use flat_ground::FlatGround;
 use rulebook::{Naming, RoleState, new_roles};
 use std::alloc::{AllocError, Global};
 

@@ -1,9 +1,9 @@
 -- This crate's own: what `run` promises does not rest on it.
 -- What tells whether an instantiation has base propositions and inputs.
 use Rattle.std.specs.Prelude.{ℕ, ◌≡◌, ◌<◌, true, false, length, nat_lt}
-use Rattle.ground.specs.Grounds.{texts_at}
-use Rattle.ground.specs.GroundView.{base_of, inputs_of, roles_of}
-use Rattle.ground.specs.declared.flat_ground.FlatGround.{FlatGround}
+use Rattle.flat_ground.specs.Grounds.{texts_at}
+use Rattle.flat_ground.specs.GroundView.{base_of, inputs_of, roles_of}
+use Rattle.flat_ground.specs.declared.flat_ground.FlatGround.{FlatGround}
 use Rattle.running_work.specs.declared.sizes.Sizes.{Sizes}
 
 -- whether there is a base proposition, and whether some role has an input

@@ -1,10 +1,11 @@
 //! What a description should have to be a game, as its instantiation tells it.
 ghost use Rattle.std.specs.Prelude.{◌≡◌, ◌<◌, ℕ, true, false, length, IfOk, IfSome};
-ghost use Rattle.ground.specs.Grounds.{texts_at};
-ghost use Rattle.ground.specs.GroundView.{inputs_of, roles_of};
+ghost use Rattle.flat_ground.specs.Grounds.{texts_at};
+ghost use Rattle.flat_ground.specs.GroundView.{inputs_of, roles_of};
 ghost use Rattle.running_work.specs.Sizes.{AreSizesOf};
 
-use ground::{FlatGround, GroundFault};
+use flat_ground::FlatGround;
+use ground::GroundFault;
 
 /// Whether an instantiation has base propositions and inputs, and how many heads without effect.
 #[derive(Clone, Copy, Debug)]

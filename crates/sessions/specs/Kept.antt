@@ -3,7 +3,7 @@
 use Rattle.std.specs.Prelude.{ℕ, List, Option, None, Some, IfSome, ⊤}
 use Rattle.statement.specs.declared.width.Width.{Width}
 use Rattle.statement.specs.declared.width.Width.TheVariants.{Plain, Wide}
-use Rattle.ground.specs.declared.flat_ground.FlatGround.{FlatGround}
+use Rattle.flat_ground.specs.declared.flat_ground.FlatGround.{FlatGround}
 use Rattle.game.specs.declared.game.Game.{Ghosts}
 use Rattle.kept_game.specs.Playing.{PlaysText}
 use Rattle.replies_search.specs.Kept.{IsKeptSearch}

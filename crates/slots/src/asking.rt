@@ -5,13 +5,13 @@ ghost use Rattle.statement.specs.Clause as said;
 ghost use Rattle.statement.specs.Dependence.{is_among};
 ghost use Rattle.outline.specs.Relations.{relation_in};
 ghost use Rattle.rules.specs.RuleSetView.{rules_in};
-ghost use Rattle.ground.specs.GroundView.{instances_of};
+ghost use Rattle.flat_ground.specs.GroundView.{instances_of};
 ghost use Rattle.slots.specs.ByNumber.{IsPartOf};
 ghost use Rattle.slots.specs.Owners.{AllAsk};
 
 use crate::marks::head_at;
 use crate::owners::asked_by;
-use ground::FlatGround;
+use flat_ground::FlatGround;
 use outline::{Relation, RelationSet};
 use rules::RuleSet;
 use std::alloc::{AllocError, Global};

@@ -3,12 +3,12 @@ ghost use Rattle.std.specs.Prelude.{◌≡◌, ◌<◌, length, get_or, IfOk, If
 ghost use Rattle.std.specs.Bool.{OnTrue};
 ghost use Rattle.statement.specs.Kept.{Kept};
 ghost use Rattle.rules.specs.RuleSetView.{rules_in};
-ghost use Rattle.ground.specs.GroundView.{instances_of};
+ghost use Rattle.flat_ground.specs.GroundView.{instances_of};
 ghost use Rattle.slots.specs.Owners.{owner_of};
 ghost use Rattle.slots.specs.Carried.{HasOneLiteral, IsCarrier, MarkCarried, MarkHeads, AreCarried};
 
 use crate::owners::{is_marked, only_asked, owner_at};
-use ground::FlatGround;
+use flat_ground::FlatGround;
 use rules::RuleSet;
 use std::alloc::{AllocError, Global};
 

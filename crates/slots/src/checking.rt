@@ -2,13 +2,13 @@
 ghost use Rattle.std.specs.Prelude.{◌≡◌, ◌<◌, All, length, get_or, slice_index};
 ghost use Rattle.std.specs.Bool.{OnTrue};
 ghost use Rattle.statement.specs.Kept.{Kept};
-ghost use Rattle.ground.specs.GroundView.{instances_of};
+ghost use Rattle.flat_ground.specs.GroundView.{instances_of};
 ghost use Rattle.slots.specs.Slotted.{slot_at, IsPlaced, AreTogether, LeadsOn};
 ghost use Rattle.slots.specs.Owners.{AreSlotted, IsSlotted, LeadsFrom};
 
 use crate::owners::{is_marked, owner_at};
 use crate::slot::{Slot, Slots};
-use ground::FlatGround;
+use flat_ground::FlatGround;
 use kept::AtomLiteral;
 
 /// The slot of a node; one that is below no ceiling, if there is no such node.

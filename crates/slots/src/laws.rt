@@ -1,8 +1,8 @@
 //! The laws that lead from the numbers of an instantiation to ways and paths through atoms.
 ghost use Rattle.std.specs.Prelude.{ℕ, suc, Bool, List};
 ghost use Rattle.statement.specs.Clause.{Alternative, Relation};
-ghost use Rattle.ground.specs.declared.flat_ground.FlatGround.{FlatGround};
-ghost use Rattle.ground.specs.GroundView.{IsGround, instances_of};
+ghost use Rattle.flat_ground.specs.declared.flat_ground.FlatGround.{FlatGround};
+ghost use Rattle.flat_ground.specs.GroundView.{IsGround, instances_of};
 ghost use Rattle.layered.specs.Layers.{IsLayered, IsBounded};
 ghost use Rattle.layered.specs.Stacks.{IsStacked, IsEnough};
 ghost use Rattle.slots.specs.ByNumber.{IsBoundedIn};

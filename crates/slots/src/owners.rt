@@ -1,10 +1,10 @@
 //! The own atoms that rest on atoms of layers.
 ghost use Rattle.std.specs.Prelude.{◌≡◌, ◌<◌, ◌∷◌, [], false, length, get_or, slice_index_or, IfOk, IfSome};
 ghost use Rattle.statement.specs.Kept.{Kept};
-ghost use Rattle.ground.specs.GroundView.{instances_of};
+ghost use Rattle.flat_ground.specs.GroundView.{instances_of};
 ghost use Rattle.slots.specs.Owners.{AreOwners, AsksOnly, IsOf, owner_of};
 
-use ground::FlatGround;
+use flat_ground::FlatGround;
 use kept::AtomLiteral;
 use std::alloc::{AllocError, Global};
 

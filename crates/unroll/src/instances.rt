@@ -9,10 +9,11 @@ ghost use Rattle.statement.specs.Profile.{HasNoFault};
 ghost use Rattle.extended.specs.Adding.{HasItsRanges};
 ghost use Rattle.unroll.specs.Answers.{AddsAnswered, AreAnswered};
 ghost use Rattle.rules.specs.RuleSetView.{rules_in};
-ghost use Rattle.ground.specs.GroundView.{IsGround, dropped_of};
+ghost use Rattle.flat_ground.specs.GroundView.{IsGround, dropped_of};
 
 use extended::states_ranges;
-use ground::{FlatGround, GroundFault, instantiate_flat_alone};
+use flat_ground::FlatGround;
+use ground::{GroundFault, instantiate_flat_alone};
 use kif::Expr;
 use layer_items::{is_layered, is_stacked};
 use layered::{what_is_layered_is_answered, what_is_stacked_is_answered};

@@ -1,5 +1,5 @@
 use Rattle.std.proofs.Common.{◌≡◌}
-use Rattle.ground.specs.GroundView.{kinds_of}
+use Rattle.flat_ground.specs.GroundView.{kinds_of}
 use Rattle.netgame.specs.LanePlans.{places_below, asked_below}
 use Rattle.netgame.proofs.lane_planning.lay_out.Given as goal
 

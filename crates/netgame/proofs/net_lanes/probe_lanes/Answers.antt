@@ -1,7 +1,7 @@
 use Rattle.std.proofs.Common.{◌<◌, ◌≤◌, ℕ, Bool, List, ap, subst, sym, ◌∙◌, arith}
 use Rattle.std.specs.Prelude.{All}
 use Rattle.std.specs.List.{list_any}
-use Rattle.ground.specs.GroundView.{kinds_of}
+use Rattle.flat_ground.specs.GroundView.{kinds_of}
 use Rattle.tape.specs.Tapes.{kept_in, slots_in, HasRun}
 use Rattle.netgame.specs.LanePlans.{asked_at, places_of, ends_of}
 use Rattle.netgame.specs.NetLanes.{holds_lane}

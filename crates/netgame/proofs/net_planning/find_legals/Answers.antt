@@ -1,6 +1,6 @@
 use Rattle.std.proofs.Common.{◌≡◌, ◌+◌, ℕ, suc, cond, length, get_or, ap, ◌∙◌, arith, Option, Some, None}
 use Rattle.statement.specs.declared.kind.Kind.{Kind}
-use Rattle.ground.specs.GroundView.{kinds_of}
+use Rattle.flat_ground.specs.GroundView.{kinds_of}
 use Rattle.rulebook.specs.declared.naming.Naming.TheVariants.{ByLegal}
 use Rattle.rulebook.specs.GroundFacts.{few_atoms}
 use Rattle.rulebook.specs.RulePlay.{kind_at, names}

@@ -1,5 +1,5 @@
 use Rattle.std.proofs.Common.{◌≡◌, ◌+◌, ◌<◌, ℕ, List, ◌++◌, suc, length, ap, ◌∙◌, arith, Option, None}
-use Rattle.ground.specs.GroundView.{kinds_of}
+use Rattle.flat_ground.specs.GroundView.{kinds_of}
 use Rattle.game.proofs.Facts.{get_or_any}
 use Rattle.rulebook.specs.GroundFacts.{few_moves}
 use Rattle.netgame.specs.LanePlans.{legal_named, legal_pair, legals_below}

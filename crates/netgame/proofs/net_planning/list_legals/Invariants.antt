@@ -1,5 +1,5 @@
 use Rattle.std.proofs.Common.{◌≡◌}
-use Rattle.ground.specs.GroundView.{kinds_of}
+use Rattle.flat_ground.specs.GroundView.{kinds_of}
 use Rattle.netgame.specs.LanePlans.{legals_below}
 use Rattle.netgame.proofs.net_planning.list_legals.Given as goal
 

@@ -1,5 +1,5 @@
 use Rattle.std.proofs.Common.{◌≡◌, ℕ, ◌<◌, length, get_or}
-use Rattle.ground.specs.GroundView.{kinds_of}
+use Rattle.flat_ground.specs.GroundView.{kinds_of}
 use Rattle.netgame.specs.declared.lane_plan.RoleGoals.{RoleGoals}
 use Rattle.netgame.specs.LanePlans.{goals_of}
 use Rattle.netgame.proofs.net_planning.plan_goals.Given as goal

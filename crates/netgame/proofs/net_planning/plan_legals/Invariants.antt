@@ -1,6 +1,6 @@
 use Rattle.std.proofs.Common.{◌≡◌, ℕ, ◌<◌, length, get_or}
-use Rattle.ground.specs.Grounds.{texts_at}
-use Rattle.ground.specs.GroundView.{kinds_of, inputs_of}
+use Rattle.flat_ground.specs.Grounds.{texts_at}
+use Rattle.flat_ground.specs.GroundView.{kinds_of, inputs_of}
 use Rattle.netgame.specs.declared.lane_plan.RoleLegals.{RoleLegals}
 use Rattle.netgame.specs.LanePlans.{legals_below}
 use Rattle.netgame.proofs.net_planning.plan_legals.Given as goal

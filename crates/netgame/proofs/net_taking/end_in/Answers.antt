@@ -1,7 +1,7 @@
 use Rattle.std.proofs.Common.{◌≡◌, ◌<◌, ℕ, true, false, [], length, get_or, ap, sym, ◌∙◌, arith}
 use Rattle.std.proofs.lemmas.Bool.{ne_eqb}
 use Rattle.std.specs.Prelude.{◌==◌}
-use Rattle.ground.specs.GroundView.{kinds_of}
+use Rattle.flat_ground.specs.GroundView.{kinds_of}
 use Rattle.statement.specs.Rules.{State}
 use Rattle.game.specs.Told.{end_worth}
 use Rattle.rulebook.specs.RulePlay.{ends, best_goal}

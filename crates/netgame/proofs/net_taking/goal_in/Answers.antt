@@ -1,6 +1,6 @@
 use Rattle.std.proofs.Common.{◌≡◌, ◌<◌, ℕ, Bool, List, ap, subst, sym, ◌∙◌, arith}
 use Rattle.std.specs.Prelude.{All}
-use Rattle.ground.specs.GroundView.{kinds_of}
+use Rattle.flat_ground.specs.GroundView.{kinds_of}
 use Rattle.tape.specs.Tapes.{kept_in, HasRun}
 use Rattle.netgame.specs.declared.lane_plan.RoleGoals.{RoleGoals}
 use Rattle.netgame.specs.LanePlans.{asked_at, places_of, goals_of}

@@ -1,7 +1,7 @@
 use Rattle.std.proofs.Common.{◌≡◌, ◌<◌, ◌≤◌, ℕ, Bool, List, length, take, ap, subst, sym, ◌∙◌, arith}
 use Rattle.std.specs.Prelude.{All}
-use Rattle.ground.specs.Grounds.{texts_at}
-use Rattle.ground.specs.GroundView.{inputs_of, kinds_of}
+use Rattle.flat_ground.specs.Grounds.{texts_at}
+use Rattle.flat_ground.specs.GroundView.{inputs_of, kinds_of}
 use Rattle.tape.specs.Tapes.{kept_in, HasRun}
 use Rattle.netgame.specs.declared.lane_plan.RoleLegals.{RoleLegals}
 use Rattle.netgame.specs.LanePlans.{asked_at, places_of, legals_below}

@@ -1,6 +1,6 @@
 use Rattle.std.proofs.Common.{◌≡◌, length, ap, ◌∙◌, arith}
-use Rattle.ground.specs.Grounds.{texts_at}
-use Rattle.ground.specs.GroundView.{inputs_of, kinds_of}
+use Rattle.flat_ground.specs.Grounds.{texts_at}
+use Rattle.flat_ground.specs.GroundView.{inputs_of, kinds_of}
 use Rattle.netgame.specs.NetLanes.{holds_lane}
 use Rattle.rulebook.specs.RuleState.{IsRoleRead, role_capacities}
 use Rattle.rulebook.proofs.Facts.{flat_map-set, room_set, read_more}

@@ -1,6 +1,6 @@
 use Rattle.std.proofs.Common.{◌≡◌, ℕ, ◌<◌, length, get_or, vec_capacity}
-use Rattle.ground.specs.Grounds.{texts_at}
-use Rattle.ground.specs.GroundView.{inputs_of, kinds_of}
+use Rattle.flat_ground.specs.Grounds.{texts_at}
+use Rattle.flat_ground.specs.GroundView.{inputs_of, kinds_of}
 use Rattle.rulebook.specs.declared.role_state.RoleState.{RoleState}
 use Rattle.netgame.specs.NetLanes.{holds_lane}
 use Rattle.rulebook.specs.RuleState.{HaveRoom, IsRoleRead, all_capacities}

@@ -1,6 +1,6 @@
 use Rattle.std.proofs.Common.{◌≡◌, ◌<◌, ◌∷◌, ℕ, List, length, vec_capacity, ap, subst, sym, ◌∙◌, arith}
 use Rattle.std.specs.Prelude.{◌==◌}
-use Rattle.ground.specs.GroundView.{inputs_of, kinds_of}
+use Rattle.flat_ground.specs.GroundView.{inputs_of, kinds_of}
 use Rattle.statement.specs.Rules.{State}
 use Rattle.rulebook.specs.RulePlay.{ends}
 use Rattle.rulebook.specs.RuleState.{holds_in, AreRead, all_capacities}

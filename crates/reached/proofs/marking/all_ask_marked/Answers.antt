@@ -1,7 +1,7 @@
 use Rattle.std.proofs.Common.{ℕ, Bool, subst}
 use Rattle.std.proofs.lemmas.List.{get_or_default}
 use Rattle.std.proofs.lemmas.List.Elements.{AllWithin-more}
-use Rattle.ground.specs.GroundView.{kinds_of}
+use Rattle.flat_ground.specs.GroundView.{kinds_of}
 use Rattle.reached.specs.Marks.{AsksMarked}
 use Rattle.reached.proofs.marking.all_ask_marked.Goals as goal
 

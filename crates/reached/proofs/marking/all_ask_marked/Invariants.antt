@@ -1,5 +1,5 @@
 use Rattle.std.specs.List.{AllWithin}
-use Rattle.ground.specs.GroundView.{kinds_of}
+use Rattle.flat_ground.specs.GroundView.{kinds_of}
 use Rattle.reached.specs.Marks.{AsksMarked}
 use Rattle.reached.proofs.marking.all_ask_marked.Given as goal
 

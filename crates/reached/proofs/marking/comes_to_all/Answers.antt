@@ -3,7 +3,7 @@ use Rattle.statement.specs.Tree.{Tree}
 use Rattle.statement.specs.Clause.{Alternative}
 use Rattle.statement.specs.Dependence.{IsAmong}
 use Rattle.statement.specs.Listing.{base_list}
-use Rattle.ground.specs.GroundView.{IsGround, base_of}
+use Rattle.flat_ground.specs.GroundView.{IsGround, base_of}
 use Rattle.founded.specs.Founded.{IsReached}
 use Rattle.reached.specs.Marks.{IsMarked}
 use Rattle.reached.proofs.Sometime.{on_true}

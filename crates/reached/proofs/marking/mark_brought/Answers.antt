@@ -2,8 +2,8 @@ use Rattle.std.proofs.Common.{◌<◌, ℕ, Bool, List, length, subst, arith}
 use Rattle.std.specs.Prelude.{get_or}
 use Rattle.std.specs.List.{All}
 use Rattle.statement.specs.Kept.{Kept}
-use Rattle.ground.specs.GroundView.{kinds_of, instances_of}
-use Rattle.ground.proofs.Facts.{among_at}
+use Rattle.flat_ground.specs.GroundView.{kinds_of, instances_of}
+use Rattle.flat_ground.proofs.Facts.{among_at}
 use Rattle.reached.specs.Marks.{AsksMarked}
 use Rattle.reached.proofs.Sometime.{with_mark}
 use Rattle.reached.proofs.marking.mark_brought.Goals as goal

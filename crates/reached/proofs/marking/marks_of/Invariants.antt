@@ -1,4 +1,4 @@
-use Rattle.ground.specs.GroundView.{instances_of, kinds_of}
+use Rattle.flat_ground.specs.GroundView.{instances_of, kinds_of}
 use Rattle.reached.specs.Marks.{AreReached}
 use Rattle.reached.proofs.marking.marks_of.Given as goal
 

@@ -1,5 +1,5 @@
 use Rattle.std.proofs.Common.{◌<◌, ◌≡◌, length, refl, arith}
-use Rattle.ground.specs.GroundView.{roles_of}
+use Rattle.flat_ground.specs.GroundView.{roles_of}
 use Rattle.replies.proofs.Measuring.{sum_fits, sum_more, sum_all}
 use Rattle.replies.proofs.sizes.inputs_in.Goals as goal
 

@@ -1,6 +1,6 @@
 use Rattle.std.proofs.Common.{◌≡◌, take}
-use Rattle.ground.specs.Fits.{count_all}
-use Rattle.ground.specs.GroundView.{inputs_of}
+use Rattle.flat_ground.specs.Fits.{count_all}
+use Rattle.flat_ground.specs.GroundView.{inputs_of}
 use Rattle.replies.proofs.sizes.inputs_in.Given as goal
 
 abbrev pub invariant-loop-role : goal.invariant-loop-role

@@ -2,7 +2,7 @@ use Rattle.std.proofs.Common.{ℕ, Bool, ◌≡◌, ◌++◌, [], List, length, 
 use Rattle.std.specs.Prelude.{if◌then◌else◌}
 use Rattle.std.specs.List.{flat_map, range_with_len}
 use Rattle.game.specs.Keys.{has_bit}
-use Rattle.ground.specs.GroundView.{base_of}
+use Rattle.flat_ground.specs.GroundView.{base_of}
 use Rattle.replies.specs.Standing.{numbered_line}
 use Rattle.replies_moves.proofs.Facts.{one_number_more}
 use Rattle.replies.proofs.Standings.{passing_lines}

@@ -1,7 +1,7 @@
 use Rattle.std.proofs.Common.{◌≡◌, length, sym, subst, ◌∙◌, rules as facts}
 use Rattle.game.specs.Keys.{state_of_bits}
-use Rattle.ground.specs.declared.flat_ground.FlatGround.{FlatGround}
-use Rattle.ground.specs.GroundView.{IsGround}
+use Rattle.flat_ground.specs.declared.flat_ground.FlatGround.{FlatGround}
+use Rattle.flat_ground.specs.GroundView.{IsGround}
 use Rattle.replies_moves.specs.Histories.{named}
 use Rattle.replies.proofs.Standings.{standing_told, all_written}
 use Rattle.replies.proofs.standing.standing_lines.Goals as goal

@@ -1,5 +1,5 @@
 use Rattle.std.proofs.Common.{List, cond, ◌∷◌, [], ◌++◌, ap, sym, ◌∙◌}
-use Rattle.ground.specs.GroundView.{kinds_of}
+use Rattle.flat_ground.specs.GroundView.{kinds_of}
 use Rattle.rulebook.specs.declared.standing.Standing.{Standing}
 use Rattle.rulebook.specs.RulePlay.{kind_at}
 use Rattle.rulebook.specs.Standings.{seeks, standing_at}

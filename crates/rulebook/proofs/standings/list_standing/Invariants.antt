@@ -1,5 +1,5 @@
 use Rattle.std.proofs.Common.{◌≡◌}
-use Rattle.ground.specs.GroundView.{kinds_of}
+use Rattle.flat_ground.specs.GroundView.{kinds_of}
 use Rattle.rulebook.specs.Standings.{seeks, standing_below}
 use Rattle.rulebook.proofs.standings.list_standing.Given as goal
 

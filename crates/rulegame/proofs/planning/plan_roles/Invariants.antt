@@ -1,5 +1,5 @@
 use Rattle.std.proofs.Common.{◌≡◌, ℕ, ◌<◌, length, get_or}
-use Rattle.ground.specs.GroundView.{kinds_of}
+use Rattle.flat_ground.specs.GroundView.{kinds_of}
 use Rattle.rulegame.specs.declared.plan.RolePlan.{RolePlan}
 use Rattle.rulegame.specs.Plans.{IsRolePlanOf}
 use Rattle.rulegame.proofs.planning.plan_roles.Given as goal

@@ -1,5 +1,5 @@
 use Rattle.std.proofs.Common.{ℕ, length, false, get_or, ◌∙◌}
-use Rattle.ground.specs.GroundView.{kinds_of, instances_of}
+use Rattle.flat_ground.specs.GroundView.{kinds_of, instances_of}
 use Rattle.rulebook.specs.declared.naming.Naming.TheVariants.{ByNext}
 use Rattle.rulebook.specs.declared.standing.Sought.TheVariants.{Named}
 use Rattle.rulebook.specs.RulePlay.{marked, holds}

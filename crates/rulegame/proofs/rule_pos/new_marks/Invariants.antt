@@ -1,6 +1,6 @@
 use Rattle.std.proofs.Common.{◌≡◌, ℕ, ◌<◌, length, get_or}
-use Rattle.ground.specs.Grounds.{texts_at}
-use Rattle.ground.specs.GroundView.{inputs_of}
+use Rattle.flat_ground.specs.Grounds.{texts_at}
+use Rattle.flat_ground.specs.GroundView.{inputs_of}
 use Rattle.rulegame.specs.declared.rule_pos.MoveMarks.{MoveMarks}
 use Rattle.rulegame.proofs.rule_pos.new_marks.Given as goal
 

@@ -1,5 +1,5 @@
 use Rattle.std.proofs.Common.{ℕ, List, false, length, get_or, ap, subst, sym, ◌∙◌, arith}
-use Rattle.ground.specs.GroundView.{kinds_of}
+use Rattle.flat_ground.specs.GroundView.{kinds_of}
 use Rattle.rulebook.specs.declared.naming.Naming.TheVariants.{ByLegal}
 use Rattle.rulegame.specs.declared.plan.RolePlan.{RolePlan}
 use Rattle.rulebook.specs.declared.standing.Sought.TheVariants.{Named, Goals}

@@ -1,8 +1,8 @@
 use Rattle.std.proofs.Common.{◌≡◌, ◌∷◌, ◌++◌, ℕ, List, length, false, get_or, vec_capacity, ap, ◌∙◌, arith}
 use Rattle.std.specs.Prelude.{flat_map}
 use Rattle.std.proofs.Math.ListN.{set}
-use Rattle.ground.specs.Grounds.{texts_at}
-use Rattle.ground.specs.GroundView.{inputs_of, kinds_of}
+use Rattle.flat_ground.specs.Grounds.{texts_at}
+use Rattle.flat_ground.specs.GroundView.{inputs_of, kinds_of}
 use Rattle.rulebook.specs.declared.role_state.RoleState.{RoleState}
 use Rattle.rulebook.specs.RuleState.{IsRoleRead, role_capacities, all_capacities}
 use Rattle.rulebook.proofs.Facts.{flat_map-set, read_more}

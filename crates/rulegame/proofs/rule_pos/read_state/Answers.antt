@@ -1,5 +1,5 @@
 use Rattle.std.proofs.Common.{ℕ, Bool, List, [], length, false, get_or, ap, subst, ◌∙◌}
-use Rattle.ground.specs.GroundView.{inputs_of, kinds_of, instances_of}
+use Rattle.flat_ground.specs.GroundView.{inputs_of, kinds_of, instances_of}
 use Rattle.rulebook.specs.declared.standing.Sought.TheVariants.{Ends}
 use Rattle.rulebook.specs.declared.standing.Standing.{Standing}
 use Rattle.rulebook.specs.RulePlay.{marked, holds}

@@ -1,6 +1,6 @@
 use Rattle.std.proofs.Common.{◌≡◌, ◌<◌, ℕ, length}
-use Rattle.ground.specs.Grounds.{texts_at}
-use Rattle.ground.specs.GroundView.{inputs_of}
+use Rattle.flat_ground.specs.Grounds.{texts_at}
+use Rattle.flat_ground.specs.GroundView.{inputs_of}
 use Rattle.running_work.proofs.sizes.has_inputs.Given as goal
 
 abbrev pub invariant-loop-role : goal.invariant-loop-role

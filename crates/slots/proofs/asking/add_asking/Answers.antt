@@ -4,8 +4,8 @@ use Rattle.statement.specs.Kept.{Kept}
 use Rattle.meaning.specs.Listed.{IsAlternativeAt}
 use Rattle.outline.specs.Relations.{relation_in}
 use Rattle.rules.specs.RuleSetView.{rules_in}
-use Rattle.ground.specs.GroundView.{instances_of}
-use Rattle.ground.proofs.Facts.{among_at}
+use Rattle.flat_ground.specs.GroundView.{instances_of}
+use Rattle.flat_ground.proofs.Facts.{among_at}
 use Rattle.slots.specs.Owners.{AsksOnly}
 use Rattle.slots.proofs.Heads.{alternative_at}
 use Rattle.slots.proofs.Owned.{asking_added, some_found}

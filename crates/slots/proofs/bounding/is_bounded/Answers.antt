@@ -3,7 +3,7 @@ use Rattle.statement.specs.Clause.{Relation}
 use Rattle.statement.specs.Dependence.{is_among}
 use Rattle.outline.specs.Relations.{relation_in}
 use Rattle.rules.specs.RuleSetView.{rules_in}
-use Rattle.ground.specs.GroundView.{instances_of}
+use Rattle.flat_ground.specs.GroundView.{instances_of}
 use Rattle.layered.specs.Layers.{layer_of}
 use Rattle.layered.specs.Names.{names_of, word_in}
 use Rattle.slots.specs.Owners.{HasSlots}

@@ -1,6 +1,6 @@
 use Rattle.std.proofs.Common.{◌<◌, sym, subst, arith}
 use Rattle.statement.specs.Kept.{Kept}
-use Rattle.ground.specs.GroundView.{instances_of}
+use Rattle.flat_ground.specs.GroundView.{instances_of}
 use Rattle.slots.specs.Owners.{IsOf}
 use Rattle.slots.specs.ByNumber.{IsMarked}
 use Rattle.slots.proofs.Numbers.{place_of}

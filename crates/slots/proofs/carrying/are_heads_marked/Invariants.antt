@@ -1,6 +1,6 @@
 use Rattle.std.proofs.Common.{ℕ, ◌<◌, get_or}
 use Rattle.statement.specs.Kept.{Kept}
-use Rattle.ground.specs.GroundView.{instances_of}
+use Rattle.flat_ground.specs.GroundView.{instances_of}
 use Rattle.slots.specs.Owners.{IsOf}
 use Rattle.slots.specs.ByNumber.{IsMarked}
 use Rattle.slots.proofs.carrying.are_heads_marked.Given as goal

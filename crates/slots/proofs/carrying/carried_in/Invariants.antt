@@ -1,5 +1,5 @@
 use Rattle.rules.specs.RuleSetView.{rules_in}
-use Rattle.ground.specs.GroundView.{instances_of}
+use Rattle.flat_ground.specs.GroundView.{instances_of}
 use Rattle.slots.specs.Carried.{MarkCarried}
 use Rattle.slots.proofs.carrying.carried_in.Given as goal
 

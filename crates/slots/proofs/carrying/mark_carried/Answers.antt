@@ -1,8 +1,8 @@
 use Rattle.std.proofs.Common.{◌<◌, [], length, get_or, arith}
 use Rattle.statement.specs.Kept.{Kept}
 use Rattle.rules.specs.RuleSetView.{rules_in}
-use Rattle.ground.specs.GroundView.{instances_of}
-use Rattle.ground.proofs.Facts.{among_at}
+use Rattle.flat_ground.specs.GroundView.{instances_of}
+use Rattle.flat_ground.proofs.Facts.{among_at}
 use Rattle.slots.proofs.Carried.{carried_added}
 use Rattle.slots.proofs.carrying.mark_carried.Goals as goal
 

@@ -1,6 +1,6 @@
 use Rattle.std.proofs.Common.{◌<◌, sym, subst, arith}
 use Rattle.statement.specs.Kept.{Kept}
-use Rattle.ground.specs.GroundView.{instances_of}
+use Rattle.flat_ground.specs.GroundView.{instances_of}
 use Rattle.slots.specs.Owners.{IsOf, IsSlotted}
 use Rattle.slots.proofs.Numbers.{place_of}
 use Rattle.slots.proofs.checking.are_slotted.Goals as goal

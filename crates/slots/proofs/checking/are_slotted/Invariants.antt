@@ -1,6 +1,6 @@
 use Rattle.std.proofs.Common.{ℕ, ◌<◌, get_or}
 use Rattle.statement.specs.Kept.{Kept}
-use Rattle.ground.specs.GroundView.{instances_of}
+use Rattle.flat_ground.specs.GroundView.{instances_of}
 use Rattle.slots.specs.Owners.{IsOf, IsSlotted}
 use Rattle.slots.proofs.checking.are_slotted.Given as goal
 

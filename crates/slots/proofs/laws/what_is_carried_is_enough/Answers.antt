@@ -1,4 +1,4 @@
-use Rattle.ground.specs.GroundView.{instances_of}
+use Rattle.flat_ground.specs.GroundView.{instances_of}
 use Rattle.slots.proofs.Stacked.{enough}
 use Rattle.slots.proofs.laws.what_is_carried_is_enough.Goals as goal
 

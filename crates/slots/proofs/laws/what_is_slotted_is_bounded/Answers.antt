@@ -1,4 +1,4 @@
-use Rattle.ground.specs.GroundView.{instances_of}
+use Rattle.flat_ground.specs.GroundView.{instances_of}
 use Rattle.slots.proofs.Layered.{bounded}
 use Rattle.slots.proofs.laws.what_is_slotted_is_bounded.Goals as goal
 

@@ -1,7 +1,7 @@
 use Rattle.std.proofs.Common.{ℕ, ◌<◌, [], length, get_or, set, sym, subst, arith, Some}
 use Rattle.statement.specs.Kept.{Kept}
-use Rattle.ground.specs.GroundView.{instances_of}
-use Rattle.ground.proofs.Facts.{among_at}
+use Rattle.flat_ground.specs.GroundView.{instances_of}
+use Rattle.flat_ground.proofs.Facts.{among_at}
 use Rattle.slots.specs.Owners.{AreOwners}
 use Rattle.slots.proofs.Owned.{owner_added}
 use Rattle.slots.proofs.owners.add_owner.Goals as goal

@@ -1,4 +1,4 @@
-use Rattle.ground.specs.GroundView.{instances_of}
+use Rattle.flat_ground.specs.GroundView.{instances_of}
 use Rattle.slots.specs.Owners.{AreOwners}
 use Rattle.slots.proofs.owners.owners_of.Given as goal
 

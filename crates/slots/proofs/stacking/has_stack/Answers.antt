@@ -1,6 +1,6 @@
 use Rattle.std.proofs.Common.{Bool, Option, List, ℕ, subst}
 use Rattle.rules.specs.RuleSetView.{rules_in}
-use Rattle.ground.specs.GroundView.{instances_of}
+use Rattle.flat_ground.specs.GroundView.{instances_of}
 use Rattle.slots.specs.Owners.{AreSlotted}
 use Rattle.slots.specs.Carried.{AreCarried}
 use Rattle.slots.proofs.Growing.{if_true}

@@ -2,7 +2,7 @@ use Rattle.std.proofs.Common.{ℕ, ◌-◌, ◌≡◌, length, map, subst, arith
 use Rattle.statement.specs.Dependence.{is_among}
 use Rattle.outline.specs.Relations.{relation_in}
 use Rattle.rules.specs.RuleSetView.{rules_in}
-use Rattle.ground.specs.GroundView.{instances_of}
+use Rattle.flat_ground.specs.GroundView.{instances_of}
 use Rattle.layered.specs.Names.{names_of, word_in}
 use Rattle.slots.specs.ByNumber.{MarkLayers}
 use Rattle.slots.proofs.Growing.{if_true}

@@ -1,5 +1,5 @@
 use Rattle.std.proofs.Common.{ℕ, List, length, sym, ap, subst, ◌∙◌}
-use Rattle.ground.specs.GroundView.{inputs_of, kinds_of}
+use Rattle.flat_ground.specs.GroundView.{inputs_of, kinds_of}
 use Rattle.rulebook.specs.declared.role_state.RoleState.{RoleState}
 use Rattle.rulebook.specs.RulePlay.{ends}
 use Rattle.rulebook.specs.RuleState.{AreRead, holds_in}

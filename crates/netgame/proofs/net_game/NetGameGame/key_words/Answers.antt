@@ -1,5 +1,5 @@
 use Rattle.std.proofs.Common.{◌≡◌, ◌≤◌, ℕ, length, sym, ap, ◌∙◌, arith}
-use Rattle.ground.specs.GroundView.{base_of}
+use Rattle.flat_ground.specs.GroundView.{base_of}
 use Rattle.rulebook.specs.GroundFacts.{fits}
 use Rattle.game.specs.Keys.{words_for}
 use Rattle.netgame.proofs.net_game.NetGameGame.key_words.Goals as goal

@@ -1,6 +1,6 @@
 //! The kept instances of a description in flat lists, and where their atoms stand in play.
 ghost use Rattle.std.specs.Prelude.{◌≤◌, length, map};
-ghost use Rattle.ground.specs.Grounds.{IsSomeGround};
+ghost use Rattle.flat_ground.specs.Grounds.{IsSomeGround};
 ghost use Rattle.kept.specs.Props.{AreLaid-prop};
 ghost use Rattle.statement.specs.RuleLimits.{most_roles};
 ghost use Rattle.kept.specs.Lists.{AreLaid, numbers_of_list};
@@ -14,13 +14,13 @@ use meaning::Kind;
 /// appearance.
 #[derive(Drop)]
 pub struct FlatGround {
-    pub(crate) roles: Vec<Vec<u8>>,
-    pub(crate) base: Vec<Vec<u8>>,
-    pub(crate) inputs: Vec<Vec<Vec<u8>>>,
-    pub(crate) starts: Vec<bool>,
-    pub(crate) kinds: Vec<Kind>,
-    pub(crate) kept: FoundList,
-    pub(crate) dropped: usize,
+    pub roles: Vec<Vec<u8>>,
+    pub base: Vec<Vec<u8>>,
+    pub inputs: Vec<Vec<Vec<u8>>>,
+    pub starts: Vec<bool>,
+    pub kinds: Vec<Kind>,
+    pub kept: FoundList,
+    pub dropped: usize,
     pub ghost sound: { ∥ IsSomeGround (texts_of roles.items) (texts_of base.items) (map (λ v. texts_of v.items) inputs.items) starts.items kinds.items
         (numbers_of_list kept) dropped ∥₁ },
     pub ghost laid: { AreLaid kept } by { AreLaid-prop kept },

@@ -3,12 +3,12 @@
 use Rattle.std.specs.Prelude.{ℕ, Bool, List, map}
 use Rattle.statement.specs.Clause.{Alternative}
 use Rattle.statement.specs.declared.kind.Kind.{Kind}
-use Rattle.ground.specs.declared.flat_ground.FlatGround.{FlatGround}
-use Rattle.ground.specs.declared.ground.Ground.{Ground}
-use Rattle.ground.specs.declared.ground.Instance.{Instance}
+use Rattle.flat_ground.specs.declared.flat_ground.FlatGround.{FlatGround}
+use Rattle.flat_ground.specs.declared.ground.Ground.{Ground}
+use Rattle.flat_ground.specs.declared.ground.Instance.{Instance}
 use Rattle.kept.specs.Lists.{bodies_of, numbers_of_list}
 use Rattle.statement.specs.Kept.{Kept}
-use Rattle.ground.specs.Grounds.{IsGroundOf}
+use Rattle.flat_ground.specs.Grounds.{IsGroundOf}
 use Rattle.rules.specs.RuleSets.{texts_of}
 
 abbrev pub roles_of : FlatGround → List (List ℕ)

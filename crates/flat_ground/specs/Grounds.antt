@@ -10,7 +10,7 @@ use Rattle.statement.specs.Limits.{excess_in}
 use Rattle.meaning.specs.Listed.{IsWellFormed}
 use Rattle.statement.specs.Listing.{listing, role_list, base_list, input_list}
 use Rattle.statement.specs.GoalsAndMoves as play
-use Rattle.ground.specs.declared.ground.Instance as shown
+use Rattle.flat_ground.specs.declared.ground.Instance as shown
 pub use Rattle.statement.specs.Kept.{Kept, numbered}
 
 -- an instance in memory

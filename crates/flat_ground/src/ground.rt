@@ -1,6 +1,6 @@
 //! What an instantiation gives.
 ghost use Rattle.std.specs.Prelude.{◌≡◌, map};
-ghost use Rattle.ground.specs.Grounds.{shown_kept};
+ghost use Rattle.flat_ground.specs.Grounds.{shown_kept};
 ghost use Rattle.kept.specs.Lists.{numbers_of_list};
 
 use crate::flat_ground::FlatGround;
@@ -20,7 +20,7 @@ pub struct Instance {
 /// The kept instances of a description, each by itself, with all that its flat lists tell.
 #[derive(Drop)]
 pub struct Ground {
-    pub(crate) flat: FlatGround,
-    pub(crate) kept: Vec<Instance>,
+    pub flat: FlatGround,
+    pub kept: Vec<Instance>,
     pub ghost same: { map shown_kept kept.items ≡ numbers_of_list flat.kept },
 }

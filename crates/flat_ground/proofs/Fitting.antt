@@ -62,8 +62,8 @@ use Rattle.statement.specs.Listing.{Instance, is_atom_in, with_atoms, Listing, h
 use Rattle.statement.specs.Kept.{gate}
 use Rattle.statement.specs.GoalsAndMoves as play
 use Rattle.statement.specs.Kept.{Kept, numbered}
-use Rattle.ground.specs.Grounds.{texts_at, IsGroundOf, IsSomeGround}
-use Rattle.ground.specs.Fits.{TextsRise, Differ, count_all, IsInputWithin, IsKindWithin, IsKeptWithin, FitTogether}
+use Rattle.flat_ground.specs.Grounds.{texts_at, IsGroundOf, IsSomeGround}
+use Rattle.flat_ground.specs.Fits.{TextsRise, Differ, count_all, IsInputWithin, IsKindWithin, IsKeptWithin, FitTogether}
 use Rattle.meaning.proofs.Facts.{
   among_map_out,
   place_below,

@@ -1,7 +1,7 @@
 //! What follows from the type of an instantiation alone.
-ghost use Rattle.ground.specs.declared.flat_ground.FlatGround.{FlatGround};
-ghost use Rattle.ground.specs.Fits.{FitTogether};
-ghost use Rattle.ground.specs.GroundView.{roles_of, base_of, inputs_of, kinds_of, instances_of};
+ghost use Rattle.flat_ground.specs.declared.flat_ground.FlatGround.{FlatGround};
+ghost use Rattle.flat_ground.specs.Fits.{FitTogether};
+ghost use Rattle.flat_ground.specs.GroundView.{roles_of, base_of, inputs_of, kinds_of, instances_of};
 
 /// The parts of an instantiation fit together: each base proposition has a mark and each role its inputs, texts stand in
 /// order, all numbers are of what is there, and there are no more than the limits say.

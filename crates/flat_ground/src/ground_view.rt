@@ -1,6 +1,6 @@
 //! The instances of a ground, one by one.
 ghost use Rattle.std.specs.Prelude.{◌≡◌};
-ghost use Rattle.ground.specs.GroundView.{flat_of, kept_in};
+ghost use Rattle.flat_ground.specs.GroundView.{flat_of, kept_in};
 
 use crate::flat_ground::FlatGround;
 use crate::ground::{Ground, Instance};

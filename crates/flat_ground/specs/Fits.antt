@@ -7,7 +7,7 @@ use Rattle.std.specs.declared.cmp.Ordering.TheVariants.{Less}
 use Rattle.statement.specs.declared.kind.Kind.{Kind}
 use Rattle.statement.specs.declared.kind.Kind.TheVariants.{Fixed, Now, Does, Next, Legal, Goal, Terminal, Other}
 use Rattle.statement.specs.Kept.{Kept}
-use Rattle.ground.specs.Grounds.{texts_at}
+use Rattle.flat_ground.specs.Grounds.{texts_at}
 use Rattle.statement.specs.Most.{wide_limits}
 
 -- each text stands before all later ones in the order of bytes

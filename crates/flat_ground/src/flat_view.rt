@@ -1,8 +1,8 @@
 //! What flat lists of instances tell.
 ghost use Rattle.std.specs.Prelude.{◌≡◌, ◌<◌, [], length, get_or, slice_index_or, false};
 ghost use Rattle.statement.specs.Kept.{Kept};
-ghost use Rattle.ground.specs.Grounds.{text_at, texts_at};
-ghost use Rattle.ground.specs.GroundView.{base_of, bodies_in, dropped_of, inputs_of, instances_of, kinds_of, roles_of, starts_of};
+ghost use Rattle.flat_ground.specs.Grounds.{text_at, texts_at};
+ghost use Rattle.flat_ground.specs.GroundView.{base_of, bodies_in, dropped_of, inputs_of, instances_of, kinds_of, roles_of, starts_of};
 ghost use Rattle.statement.specs.declared.kind.Kind.TheVariants.{Other};
 
 use crate::flat_ground::FlatGround;
