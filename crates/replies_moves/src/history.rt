@@ -33,11 +33,7 @@ fn after_turns<G: Game, A: Allocator>(
 
 /// The state after the history of this text, whose trees are its turns. A text that cannot be read is a bad
 /// form at turn 0, and other faults are those of `replay`.
-pub fn position_after<G: Game>(
-    alloc: Global,
-    game: &G,
-    after: &str,
-) -> Result<G::Pos, HistoryFault>
+pub fn position_after<G: Game>(alloc: Global, game: &G, after: &str) -> Result<G::Pos, HistoryFault>
     ensures fits { IfOk result (λ p. G.fits game.now p) }
     ensures played { IfOk result (λ p. IsHistoryOf (named (G.rules game.now) (G.role_name game.now) (G.move_name game.now)) after.now (Ok (G.state game.now p))) }
     ensures refused { IfErr result (λ fault. fault ≢ HistoryFault.NoMemory

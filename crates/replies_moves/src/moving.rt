@@ -117,11 +117,7 @@ fn state_lines<G: Game>(alloc: Global, game: &G, p: &G::Pos) -> Result<Vec<u8>, 
 
 /// The reply to `moves` after the history of a text: the line that names its fault, or how play stands after
 /// it, with the goals of a game that has ended, else the legal moves.
-pub fn moves_reply<G: Game>(
-    alloc: Global,
-    game: &G,
-    after: &str,
-) -> Result<Reply, AllocError>
+pub fn moves_reply<G: Game>(alloc: Global, game: &G, after: &str) -> Result<Reply, AllocError>
     ensures { IfOk result (λ reply. IsMovesReply (named (G.rules game.now) (G.role_name game.now) (G.move_name game.now)) after.now
         (record { output = reply.output.items; status = reply.status })) }
 {

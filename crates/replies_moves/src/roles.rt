@@ -38,11 +38,7 @@ fn role_of<G: Game, A: Allocator>(game: &G, trees: &[Expr<A>]) -> Option<usize>
 
 /// The role that a text names: a text of exactly one tree, which is a role of the game. All other texts name none, also those that
 /// are no list of trees. The trees stand in an arena that is dropped with this call.
-pub fn role_named<G: Game>(
-    alloc: Global,
-    game: &G,
-    text: &str,
-) -> Result<Option<usize>, AllocError>
+pub fn role_named<G: Game>(alloc: Global, game: &G, text: &str) -> Result<Option<usize>, AllocError>
     ensures named { IfOk result (λ found. IsRoleNamed (named (G.rules game.now) (G.role_name game.now) (G.move_name game.now))
         text.now found) }
     ensures known { IfOk result (λ found. IfSome found (λ r. r < (G.rules game.now).roles)) }

@@ -79,13 +79,7 @@ fn answer_all<G: GroundGame, T: Threads + Sync + AllocGlobal, R: Read, W: Write>
 ///
 /// The exit status is 0 at the end of the input, 3 where there is no memory to begin, and 4 where the input or the output failed. Want of
 /// memory for a request has a frame of its own, and the session goes on. The type `G` says who plays the game of the rules.
-pub fn serve<
-    G: GroundGame,
-    T: Threads + Sync + AllocGlobal,
-    R: Read,
-    W: Write,
-    E: Write,
->(
+pub fn serve<G: GroundGame, T: Threads + Sync + AllocGlobal, R: Read, W: Write, E: Write>(
     rt: &T,
     language: Language,
     input: &mut R,

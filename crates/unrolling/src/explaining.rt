@@ -8,7 +8,7 @@ use atoms::{
     DEPTH_LIMIT, Excess, FACTS_LIMIT, INSTANCES_LIMIT, LAYERS_LIMIT, TERM_LIMIT, WAYS_LIMIT,
 };
 use explain::{Source, explain_rules, explain_text, item_spot};
-use kif::{TEXT_LIMIT, Expr, KifFault, copy_to, read};
+use kif::{Expr, KifFault, TEXT_LIMIT, copy_to, read};
 use outline::{Relation, asks, head_of, is_stated};
 use plain::plain_forms;
 use profile::{ITEMS_LIMIT, RuleFault};
