@@ -251,7 +251,7 @@ weight marked' = cond marked' 0 2
 abbrev pub work : List Bool → List ℕ → List ℕ → ℕ
 work marks ends pending = length pending + sum_by weight marks + sum_by (λ x. x) ends
 
-unmarked : (n p : ℕ) → get_or (replicate n false) p false ≡ false
+pub unmarked : (n p : ℕ) → get_or (replicate n false) p false ≡ false
 unmarked zero p = refl
 unmarked (suc n) zero = refl
 unmarked (suc n) (suc p) = unmarked n p

@@ -1,9 +1,9 @@
 -- The walk that lists each node behind all that it leads to.
-use Rattle.std.proofs.Common.{ℕ, zero, suc, ◌≡◌, ◌+◌, ◌-◌, ◌<◌, ◌≤◌, ◌⊎◌, inl, inr, Bool, true, false, cond, List, [], ◌∷◌, ◌++◌, length, get_or, set}
+use Rattle.std.proofs.Common.{ℕ, zero, suc, ◌≡◌, ◌+◌, ◌-◌, ◌<◌, ◌≤◌, ◌⊎◌, inl, inr, Bool, true, false, cond, List, [], ◌∷◌, ◌++◌, length, get_or, set, replicate}
 use Rattle.std.proofs.Common.{refl, sym, ◌∙◌, ap, subst, arith, length-append, Option, Some, None}
 use Rattle.std.specs.List.{sum_by}
 use Rattle.std.specs.Option.{option_to_list}
-use Rattle.std.proofs.lemmas.List.{get_or-set_same, get_or-set_other, length-set}
+use Rattle.std.proofs.lemmas.List.{get_or-set_same, get_or-set_other, length-set, length-replicate}
 use Rattle.std.proofs.Math.ListN.{get_or-append}
 use Rattle.std.proofs.Math.Seq.{get_or-append_seam}
 use Rattle.digraph.specs.declared.graph.Arrow.{Arrow}
@@ -11,7 +11,7 @@ use Rattle.digraph.specs.Graph.{arrow_at, Leads, Reaches, AreLinked, Stands, IsC
 use Rattle.digraph.specs.Walk.{Walking}
 use Rattle.digraph.proofs.GraphLemmas.{same_or, last_or}
 use Rattle.digraph.proofs.Search.{mark_stays, mark_cases, mark_again, stands_more, stands_last, stands_cases, three, weight, work, sum-set}
-use Rattle.digraph.proofs.Search.{weight-set, IsTop, is_top, read_nat, read_arrow}
+use Rattle.digraph.proofs.Search.{weight-set, IsTop, is_top, read_nat, read_arrow, unmarked}
 
 not_both : (b : Bool) → b ≡ true → b ≡ false → ⊥
 not_both b e f = absurd cc
@@ -198,6 +198,31 @@ cyclic arrows pending chain target s last = (target, subst (λ (x : ℕ). Reache
         (suc more.0, (get_or pending (i + 1) 0, chain i (omega (arith, e, h)), more.1))
 
 -- nothing is pending, and all nodes were seen
+-- nothing is seen yet
+pub fresh_walking : (arrows : List Arrow) (ends0 before : List ℕ) → AreLinked arrows ends0 before → (seen done : List Bool)
+    (ends pending order : List ℕ) (n : ℕ) → n ≡ length ends0 → seen ≡ replicate n false → done ≡ replicate n false → ends ≡ ends0 → pending ≡ []
+    → order ≡ [] → Walking arrows (length ends0) 0 seen done ends pending order
+fresh_walking arrows ends0 before l seen done ends pending order n n_is e f g h i =
+    subst (λ (x : List ℕ). Walking arrows (length ends0) 0 seen done ends pending x) (sym i)
+    (subst (λ (x : List ℕ). Walking arrows (length ends0) 0 seen done ends x []) (sym h)
+    (subst (λ (x : List ℕ). Walking arrows (length ends0) 0 seen done x [] []) (sym g)
+    (subst (λ (x : List Bool). Walking arrows (length ends0) 0 seen x ends0 [] []) (sym f)
+    (subst (λ (x : List Bool). Walking arrows (length ends0) 0 x (replicate n false) ends0 [] []) (sym e) record {
+      seen_are = length-replicate n false ∙ n_is;
+      done_are = length-replicate n false ∙ n_is;
+      ends_are = refl;
+      end_in = l.end_in;
+      end_own = l.end_own;
+      pending_in = λ j k. absurd (let bad : ⊥ = omega (arith, k) in bad);
+      chain = λ j k. absurd (let bad : ⊥ = omega (arith, k) in bad);
+      waiting = λ p k mark _. absurd (let u = unmarked n p in let bad : ⊥ = cc in bad);
+      passed = λ k k_in past. absurd (l.end_gap (arrow_at arrows k).from k (l.from_in k k_in) past k_in refl);
+      started = λ p k. absurd (let bad : ⊥ = omega (arith, k) in bad);
+      listed = λ p k mark. absurd (let u = unmarked n p in let bad : ⊥ = cc in bad);
+      inside = λ j k. absurd (let bad : ⊥ = omega (arith, k) in bad);
+      back = λ j k j_in. absurd (let bad : ⊥ = omega (arith, j_in) in bad);
+    }))))
+
 pub ordered : (arrows : List Arrow) (n m : ℕ) (seen done : List Bool) (ends pending order : List ℕ) → n ≤ m → pending ≡ []
     → Walking arrows n m seen done ends pending order → IsOrder arrows n order
 ordered arrows n m seen done ends pending order whole idle w = record {

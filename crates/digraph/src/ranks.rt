@@ -21,6 +21,27 @@ struct Walk {
     order: Vec<usize>,
 }
 
+impl Walk {
+    /// A walk that has seen nothing.
+    fn new(graph: &Graph, alloc: Global) -> Result<Self, AllocError>
+        ensures walking { IfOk result (λ walk. Walking (arrows_of graph.now) (nodes_of graph.now) 0
+            walk.seen.items walk.done.items walk.ends.items walk.pending.items walk.order.items) }
+        ensures idle { IfOk result (λ walk. walk.pending.items ≡ []) }
+    {
+        let nodes = graph.ends.len();
+        let seen = vec![in alloc; false; nodes]?;
+        let done = vec![in alloc; false; nodes]?;
+        let ends = graph.ends.clone()?;
+        Ok(Walk {
+            seen,
+            done,
+            ends,
+            pending: Vec::new(alloc),
+            order: Vec::new(alloc),
+        })
+    }
+}
+
 /// Goes wherever a node leads, and lists each node behind all that it leads to. False if an arrow
 /// leads back onto the way.
 fn visit(graph: &Graph, walk: &mut Walk, root: usize) -> Result<bool, AllocError>
@@ -57,23 +78,30 @@ fn visit(graph: &Graph, walk: &mut Walk, root: usize) -> Result<bool, AllocError
     Ok(true)
 }
 
+/// Goes wherever all nodes lead. False if an arrow leads back onto the way.
+fn visit_all(graph: &Graph, walk: &mut Walk) -> Result<bool, AllocError>
+    requires walking { Walking (arrows_of graph.now) (nodes_of graph.now) 0
+        walk.old.seen.items walk.old.done.items walk.old.ends.items walk.old.pending.items walk.old.order.items }
+    requires idle { walk.old.pending.items ≡ [] }
+    ensures { IfOk result (λ ended. MatchBool ended (IsOrder (arrows_of graph.now) (nodes_of graph.now) walk.new.order.items)
+        (IsCyclic (arrows_of graph.now))) }
+{
+    for root in 0..graph.ends.len() {
+        if !visit(graph, walk, root)? {
+            return Ok(false);
+        }
+    }
+    Ok(true)
+}
+
 /// An order of the nodes in which each arrow leads back, or none if some node reaches itself.
 pub fn order_of(graph: &Graph, alloc: Global) -> Result<Option<Vec<usize>>, AllocError>
     ensures { IfOk result (λ found. MatchOption found (IsCyclic (arrows_of graph.now))
         (λ order. IsOrder (arrows_of graph.now) (nodes_of graph.now) order.items)) }
 {
-    let nodes = graph.ends.len();
-    let mut walk = Walk {
-        seen: vec![in alloc; false; nodes]?,
-        done: vec![in alloc; false; nodes]?,
-        ends: graph.ends.clone()?,
-        pending: Vec::new(alloc),
-        order: Vec::new(alloc),
-    };
-    for root in 0..nodes {
-        if !visit(graph, &mut walk, root)? {
-            return Ok(None);
-        }
+    let mut walk = Walk::new(graph, alloc)?;
+    if !visit_all(graph, &mut walk)? {
+        return Ok(None);
     }
     Ok(Some(walk.order))
 }

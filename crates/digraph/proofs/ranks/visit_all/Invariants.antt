@@ -1,6 +1,6 @@
 use Rattle.std.proofs.Common.{◌≡◌, length, []}
 use Rattle.digraph.specs.Walk.{Walking}
-use Rattle.digraph.proofs.ranks.order_of.Given as goal
+use Rattle.digraph.proofs.ranks.visit_all.Given as goal
 
 abbrev pub invariant-loop-root : goal.invariant-loop-root
 invariant-loop-root l = record {
