@@ -83,7 +83,7 @@ class Repository(unittest.TestCase):
         self.top, self.kit = Path(room.name) / "top", Path(room.name) / "kit"
         self.checks = Path(room.name) / "checks"
         (self.top / "tools").mkdir(parents=True)
-        for file in ("wrong", "edits.py", "prove.py"):
+        for file in ("wrong", "edits.py", "prove.py", "weights.py"):
             shutil.copy(TOOLS / file, self.top / "tools" / file)
         (self.top / "crates.txt").write_text("below:\ncount: below\n")
         (self.kit / "bin").mkdir(parents=True)
