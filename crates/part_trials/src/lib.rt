@@ -11,11 +11,11 @@ mod cuts;
 #[cfg(test)]
 mod graphs;
 #[cfg(test)]
-mod hints;
-#[cfg(test)]
 mod histories;
 #[cfg(test)]
 mod literals;
+#[cfg(test)]
+mod marks_and_counts;
 #[cfg(test)]
 mod nested_boards;
 #[cfg(test)]
