@@ -128,6 +128,11 @@ class Repository(unittest.TestCase):
         (self.wrong / "is_nowhere.edit").unlink()
         self.assertEqual(self.run_wrong("--all")[1][-1], "4 refused, 0 failed")
 
+    def test_a_crate_that_is_proved_is_not_checked_as_it_stands(self) -> None:
+        (self.top / "crates" / "count" / "out" / "rlib" / "count.rlib").mkdir(parents=True)
+        status, lines, checks = self.run_wrong()
+        self.assertEqual((status, lines[-1], checks), (0, "5 refused, 0 failed", 5), lines)
+
     def test_a_contract_below_that_changed_has_them_tried_anew(self) -> None:
         self.run_wrong()
         code = self.top / "crates" / "below" / "src" / "lib.rt"
