@@ -79,9 +79,14 @@ fn refused_times<R: Abort + AllocGlobal, G: Game>(rt: &R, game: &G) -> Result<us
 }
 
 #[test]
-fn refused_history_leaves_a_position(rt: HostRuntime) -> Result<(), Fail> {
+fn refused_history_leaves_a_position_of_rules(rt: HostRuntime) -> Result<(), Fail> {
     let game = rule_game(&rt, MATCH)?;
     assert!(rt; refused_times(&rt, &game)? > 0);
+    Ok(())
+}
+
+#[test]
+fn refused_history_leaves_a_position_of_a_network(rt: HostRuntime) -> Result<(), Fail> {
     let game = net_game(&rt, MATCH)?;
     assert!(rt; refused_times(&rt, &game)? > 0);
     Ok(())
