@@ -246,9 +246,19 @@ fn texts_are_answered_to_their_limits(rt: HostRuntime) -> Result<(), AllocError>
 }
 
 #[test]
-fn games_are_answered_to_their_limits(rt: HostRuntime) -> Result<(), AllocError> {
+fn base_propositions_are_counted_to_their_limit(rt: HostRuntime) -> Result<(), AllocError> {
     assert_eq!(rt; first_unbuilt(&rt, &nets::BASES)?, None);
+    Ok(())
+}
+
+#[test]
+fn inputs_and_instances_are_counted_to_their_limits(rt: HostRuntime) -> Result<(), AllocError> {
     assert_eq!(rt; first_unbuilt(&rt, &nets::INSTANCES)?, None);
+    Ok(())
+}
+
+#[test]
+fn tasks_are_solved_to_the_limit_of_a_board_and_past_it(rt: HostRuntime) -> Result<(), AllocError> {
     assert_eq!(rt; first_unbuilt(&rt, &cuts::TASKS)?, None);
     Ok(())
 }
