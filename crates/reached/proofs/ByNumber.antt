@@ -19,7 +19,7 @@ use Rattle.meaning.specs.Kinds.{MeansKind}
 use Rattle.meaning.proofs.Facts.{among_map_out, among_map_in, among_filter_in, atom_test}
 use Rattle.flat_ground.specs.declared.flat_ground.FlatGround.{FlatGround}
 use Rattle.flat_ground.specs.GroundView.{IsGround, base_of, instances_of, kinds_of}
-use Rattle.founded.specs.Founded.{IsReached}
+use Rattle.derivations.specs.Founded.{IsReached}
 use Rattle.reached.specs.ReachedByNumber.{kind_in, IsReachedIn}
 
 -- one tree stands at a place

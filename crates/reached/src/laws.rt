@@ -7,7 +7,7 @@ ghost use Rattle.statement.specs.Kinds.{place_in};
 ghost use Rattle.statement.specs.Listing.{base_list};
 ghost use Rattle.flat_ground.specs.declared.flat_ground.FlatGround.{FlatGround};
 ghost use Rattle.flat_ground.specs.GroundView.{IsGround, base_of, instances_of, kinds_of};
-ghost use Rattle.founded.specs.Founded.{IsReached};
+ghost use Rattle.derivations.specs.Founded.{IsReached};
 ghost use Rattle.reached.specs.ReachedByNumber.{IsReachedIn};
 
 use meaning::kinds_say_what_atoms_are;

@@ -7,7 +7,7 @@ ghost use Rattle.statement.specs.Clause.{Alternative};
 ghost use Rattle.statement.specs.Dependence.{IsAmong};
 ghost use Rattle.statement.specs.Listing.{base_list};
 ghost use Rattle.flat_ground.specs.GroundView.{IsGround, base_of, instances_of, kinds_of};
-ghost use Rattle.founded.specs.Founded.{IsReached};
+ghost use Rattle.derivations.specs.Founded.{IsReached};
 ghost use Rattle.reached.specs.ReachedByNumber.{IsReachedIn};
 ghost use Rattle.reached.specs.Marks.{AreReached, AsksMarked, IsMarked};
 

@@ -9,7 +9,7 @@ use Rattle.statement.specs.Dependence.{IsAmong, is_distinct, DependsDirectly, De
 use Rattle.profile.proofs.Facts.{relation_eq_yes, relation_eq_self, or_cases, or_left, or_right, table_sound, table_complete, rule_item, same_head}
 use Rattle.outline.specs.Asking.{body_literals}
 use Rattle.whole.specs.Derivable.{StandsBelow, AreStrata}
-use Rattle.extended.proofs.Facts.{stands_in_item}
+use Rattle.derivations.proofs.Facts.{stands_in_item}
 use Rattle.strata.specs.Resting.{RestsOnItsNegation, rule_in, rules_in}
 use Rattle.stratified.proofs.Counts.{as_many, more}
 

@@ -6,12 +6,12 @@ ghost use Rattle.statement.specs.Items.{alternatives};
 ghost use Rattle.kif.specs.View.{trees_in};
 ghost use Rattle.outline.specs.Relations.{relation_in};
 ghost use Rattle.statement.specs.Profile.{HasNoFault};
-ghost use Rattle.extended.specs.Adding.{HasItsRanges};
+ghost use Rattle.derivations.specs.Adding.{HasItsRanges};
 ghost use Rattle.unroll.specs.Answers.{AddsAnswered, AreAnswered};
 ghost use Rattle.rules.specs.RuleSetView.{rules_in};
 ghost use Rattle.flat_ground.specs.GroundView.{IsGround, dropped_of};
 
-use extended::states_ranges;
+use derivations::states_ranges;
 use flat_ground::FlatGround;
 use ground::{GroundFault, instantiate_flat_alone};
 use kif::Expr;

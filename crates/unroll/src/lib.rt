@@ -6,6 +6,7 @@
 //! the same. Elsewhere that is tested, beside an interpreter of the whole language, and no clause says so.
 #![tactic(auto)]
 
+mod certifying;
 mod choosing;
 mod instances;
 mod ranges;

@@ -10,12 +10,11 @@ ghost use Rattle.whole.specs.Possible.{PlaysAs};
 ghost use Rattle.unroll.specs.Answers.{AreAnswered};
 ghost use Rattle.unroll.specs.Played.{played_items};
 
+use crate::certifying::is_founded;
 use crate::choosing::{own_relations, relations_below};
 use crate::instances::{circles_of, look_at_instances};
 use crate::ranges::without_ranges;
-use certified::is_founded;
-use extended::{rewrites, what_is_rewritten_is_played_the_same};
-use founded::set_of;
+use derivations::{rewrites, set_of, what_is_rewritten_is_played_the_same};
 use kif::Expr;
 use outline::Relation;
 use std::alloc::{AllocError, AllocGlobal, Global};

@@ -15,7 +15,7 @@ ghost use Rattle.unroll.specs.Written.{IsShown, IsUnrollFault, IsWrittenFor, IsW
 
 use crate::showing::is_shown;
 use atoms::{Excess, LimitFault};
-use extended::states_ranges;
+use derivations::states_ranges;
 use kif::Expr;
 use lawful::{
     UnrollFault, accept, found_items, is_recursive, read_back, refuse_crossed, refuse_unstated,

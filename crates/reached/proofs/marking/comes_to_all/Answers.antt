@@ -4,7 +4,7 @@ use Rattle.statement.specs.Clause.{Alternative}
 use Rattle.statement.specs.Dependence.{IsAmong}
 use Rattle.statement.specs.Listing.{base_list}
 use Rattle.flat_ground.specs.GroundView.{IsGround, base_of}
-use Rattle.founded.specs.Founded.{IsReached}
+use Rattle.derivations.specs.Founded.{IsReached}
 use Rattle.reached.specs.Marks.{IsMarked}
 use Rattle.reached.proofs.Sometime.{on_true}
 use Rattle.reached.proofs.marking.comes_to_all.Goals as goal

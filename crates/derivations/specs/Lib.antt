@@ -1,0 +1,5 @@
+pub mod Adding
+pub mod Ranges
+pub mod Steps
+pub mod Founded
+pub mod Alone

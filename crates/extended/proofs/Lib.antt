@@ -1,4 +1,0 @@
-mod Readings
-mod AddedItems
-mod RangeLemmas
-pub mod Facts

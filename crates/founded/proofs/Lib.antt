@@ -1,3 +1,0 @@
-mod StepGames
-mod MadeGames
-mod AloneTests

@@ -1,2 +1,0 @@
-pub mod Founded
-pub mod Alone

@@ -1,5 +1,0 @@
-use Rattle.steps.proofs.StepLemmas.{based_alternatives}
-use Rattle.steps.proofs.laws.based_items_say_what_can_be.Goals as goal
-
-pub returns : goal.returns
-returns c = based_alternatives
