@@ -255,20 +255,42 @@ fn state<'a>(alloc: Global) -> Result<clap::Command<'a>, AllocError> {
     in_any_language(alloc, command)
 }
 
+/// Adds the options that say what a search is asked.
+fn with_question<'a>(
+    alloc: Global,
+    command: clap::Command<'a>,
+) -> Result<clap::Command<'a>, AllocError> {
+    command
+        .arg(role(alloc))?
+        .arg(depth(alloc))?
+        .arg(at_bound(alloc))?
+        .arg(unfinished(alloc)?)
+}
+
 /// The command `values` with its options.
 fn values<'a>(alloc: Global) -> Result<clap::Command<'a>, AllocError> {
     let command = clap::Command::new(alloc, "values")
         .about("Tell of each legal move of a role after a history what it makes sure of")
-        .after_help(VALUES_EXAMPLE)
-        .arg(role(alloc))?
-        .arg(depth(alloc))?
-        .arg(at_bound(alloc))?
-        .arg(unfinished(alloc)?)?
+        .after_help(VALUES_EXAMPLE);
+    let command = with_question(alloc, command)?
         .arg(lines(alloc))?
         .arg(cut(alloc))?
         .arg(table(alloc))?
         .arg(history(alloc))?;
     in_any_language(alloc, command)
+}
+
+/// Adds the options of `solve` that say how it is answered.
+fn with_manner<'a>(
+    alloc: Global,
+    command: clap::Command<'a>,
+) -> Result<clap::Command<'a>, AllocError> {
+    command
+        .arg(window(alloc))?
+        .arg(deepen(alloc)?)?
+        .arg(cut(alloc))?
+        .arg(table(alloc))?
+        .arg(history(alloc))
 }
 
 /// The command `solve` with its options.
@@ -277,16 +299,9 @@ fn solve<'a>(alloc: Global) -> Result<clap::Command<'a>, AllocError> {
         .about(
             "Tell what a role can be sure of after a history, the move that makes sure of it, and the line of play",
         )
-        .after_help(SOLVE_EXAMPLE)
-        .arg(role(alloc))?
-        .arg(depth(alloc))?
-        .arg(at_bound(alloc))?
-        .arg(unfinished(alloc)?)?
-        .arg(window(alloc))?
-        .arg(deepen(alloc)?)?
-        .arg(cut(alloc))?
-        .arg(table(alloc))?
-        .arg(history(alloc))?;
+        .after_help(SOLVE_EXAMPLE);
+    let command = with_question(alloc, command)?;
+    let command = with_manner(alloc, command)?;
     in_any_language(alloc, command)
 }
 
@@ -298,25 +313,60 @@ fn serve<'a>(alloc: Global) -> Result<clap::Command<'a>, AllocError> {
     in_any_language(alloc, command)
 }
 
-/// The commands and their options.
-fn grammar<'a>(alloc: Global) -> Result<clap::Command<'a>, AllocError> {
-    clap::Command::new(alloc, "gdlsolve")
-        .about("Read the rules of a game on standard input, and answer on standard output")
-        .bin_name("gdlsolve")?
-        .version(VERSION)
-        .after_help(CLOSING)
-        .no_binary_name(true)
-        .subcommand_required(true)
+/// Adds the commands that look at the rules alone.
+fn with_readings<'a>(
+    alloc: Global,
+    command: clap::Command<'a>,
+) -> Result<clap::Command<'a>, AllocError> {
+    command
         .subcommand(show(alloc))?
         .subcommand(check(alloc)?)?
         .subcommand(lint(alloc))?
-        .subcommand(unroll(alloc)?)?
+        .subcommand(unroll(alloc)?)
+}
+
+/// Adds the commands that tell of the game and its states.
+fn with_states<'a>(
+    alloc: Global,
+    command: clap::Command<'a>,
+) -> Result<clap::Command<'a>, AllocError> {
+    command
         .subcommand(net(alloc)?)?
         .subcommand(moves(alloc)?)?
-        .subcommand(state(alloc)?)?
+        .subcommand(state(alloc)?)
+}
+
+/// Adds the commands that search, and the one that answers many requests.
+fn with_searches<'a>(
+    alloc: Global,
+    command: clap::Command<'a>,
+) -> Result<clap::Command<'a>, AllocError> {
+    command
         .subcommand(solve(alloc)?)?
         .subcommand(values(alloc)?)?
         .subcommand(serve(alloc)?)
+}
+
+/// The program, without its commands.
+fn program<'a>(alloc: Global) -> Result<clap::Command<'a>, AllocError> {
+    let program = clap::Command::new(alloc, "gdlsolve")
+        .about("Read the rules of a game on standard input, and answer on standard output")
+        .bin_name("gdlsolve")?;
+    Ok(
+        program
+            .version(VERSION)
+            .after_help(CLOSING)
+            .no_binary_name(true)
+            .subcommand_required(true),
+    )
+}
+
+/// The commands and their options.
+fn grammar<'a>(alloc: Global) -> Result<clap::Command<'a>, AllocError> {
+    let program = program(alloc)?;
+    let program = with_readings(alloc, program)?;
+    let program = with_states(alloc, program)?;
+    with_searches(alloc, program)
 }
 
 /// What the options say that a state is worth where no turn is left and play goes on, or none where that is no text for it.
@@ -499,6 +549,39 @@ fn width_in(language: Language, plain: Width) -> Width
     }
 }
 
+/// What the words that were matched make, as `requested` says.
+fn of_matches<'a>(
+    alloc: Global,
+    grammar: &mut clap::Command<'a>,
+    matches: &clap::ArgMatches<'a>,
+    plain: Width,
+) -> Result<(Request<'a>, Language), AllocError>
+    ensures { IfOk result (λ asked. IsRequestIn (width_of asked.1 plain) asked.0) }
+{
+    let language = language_in(matches);
+    match matched(matches, width_in(language, plain)) {
+        Some(Ok(command)) => Ok((Request::Run(command), language)),
+        Some(Err(line)) => Ok((misuse(alloc, line)?, Language::Profile)),
+        None => Ok((no_command(alloc, grammar)?, Language::Profile)),
+    }
+}
+
+/// What the words make by the grammar, as `requested` says.
+fn of_words<'a>(
+    alloc: Global,
+    grammar: &mut clap::Command<'a>,
+    words: &'a [&'a str],
+    plain: Width,
+) -> Result<(Request<'a>, Language), AllocError>
+    ensures { IfOk result (λ asked. IsRequestIn (width_of asked.1 plain) asked.0) }
+{
+    let matches = match grammar.try_get_matches_from_mut(words) {
+        Ok(matches) => matches,
+        Err(error) => return Ok((told_by(alloc, &error)?, Language::Profile)),
+    };
+    of_matches(alloc, grammar, &matches, plain)
+}
+
 /// The request that the words make, and in which language it wants the rules. Those in the profile are instantiated by the limits of a width.
 fn requested<'a>(
     alloc: Global,
@@ -508,16 +591,7 @@ fn requested<'a>(
     ensures { IfOk result (λ asked. IsRequestIn (width_of asked.1 plain) asked.0) }
 {
     let mut grammar = grammar(alloc)?;
-    let matches = match grammar.try_get_matches_from_mut(words) {
-        Ok(matches) => matches,
-        Err(error) => return Ok((told_by(alloc, &error)?, Language::Profile)),
-    };
-    let language = language_in(&matches);
-    match matched(&matches, width_in(language, plain)) {
-        Some(Ok(command)) => Ok((Request::Run(command), language)),
-        Some(Err(line)) => Ok((misuse(alloc, line)?, Language::Profile)),
-        None => Ok((no_command(alloc, &mut grammar)?, Language::Profile)),
-    }
+    of_words(alloc, &mut grammar, words, plain)
 }
 
 /// The request that the words make, and in which language it wants the rules: what is written for those of the whole language may have more

@@ -1,7 +1,4 @@
-use Rattle.words.proofs.grammar.requested.Goals as goal
-
-pub returns-in-Err : goal.returns-in-Err
-returns-in-Err c = c.in_ok-told_by-in-Err.ensures c.args.plain
+use Rattle.words.proofs.grammar.of_matches.Goals as goal
 
 pub returns-in-Some-Err : goal.returns-in-Some-Err
 returns-in-Some-Err c = c.in_ok-misuse-in-Some-Err.ensures c.args.plain
