@@ -16,7 +16,7 @@ use listing::Listed;
 use meaning::Kind;
 use rules::RuleSet;
 use std::alloc::{AllocError, Global};
-use terms::{count_dropped, starts_of};
+use terms::{Named, count_dropped, starts_of};
 
 /// Which base propositions hold at the start, where the atoms stand in play, and how many atoms have no effect on play.
 #[derive(Drop)]
@@ -24,6 +24,17 @@ pub struct Parts {
     pub starts: Vec<bool>,
     pub kinds: Vec<Kind>,
     pub dropped: usize,
+}
+
+/// The terms of what is named.
+fn terms_of(alloc: Global, named: &[Named]) -> Result<Vec<usize>, AllocError>
+    ensures { IfOk result (λ terms. terms.items ≡ terms_named named.now) }
+{
+    let mut terms = Vec::with_capacity(alloc, named.len())?;
+    for one in named {
+        terms.push(one.term)?;
+    }
+    Ok(terms)
 }
 
 /// The parts of the ground of a set of rules, from all that is listed of it.
@@ -43,7 +54,9 @@ pub fn parts_of(
     ensures { IfOk result (λ p. ArePartsOf (rules_in rules.now) p.starts.items p.kinds.items p.dropped) }
 {
     let words = rules.keywords();
-    let bases = tables.base.as_slice();
+    let base = listed.context.base.as_slice();
+    let terms = terms_of(alloc, base)?;
+    let bases = terms.as_slice();
     let atoms = listed.atoms.as_slice();
     let starts = starts_of(alloc, &listed.arena, &listed.atoms, words.init, bases)?;
     let kinds = kinds_of_atoms(

@@ -5,6 +5,7 @@ use Rattle.rules.specs.declared.rule_set.Keywords.{Keywords}
 use Rattle.rules.specs.RuleSetView.{rules_in}
 use Rattle.terms.specs.Vectors.{items_of}
 use Rattle.kept.specs.Lists.{numbers_of_list}
+use Rattle.listing_rows.specs.Contexts.{terms_named}
 use Rattle.listing_rows.specs.SetWords.{words_of}
 use Rattle.listing_rows.proofs.Facts.{below_is}
 use Rattle.ground.proofs.GroundParts.{numbered_here, sizes_here, atoms_here, are_tables, each_role, parts_are}
@@ -66,6 +67,6 @@ returns c =
     c.args.rules.now.sound.words c.keywords-words.result
     (subst (λ (k : Keywords). AreKeywords (words_of c.args.rules.now) k) (sym c.keywords-words.ensures) c.args.rules.now.sound.keywords) _ _ _
     c.requires.base c.requires.roles c.requires.inputs
-    _ c.as_slice-bases.ensures.keys _ c.as_slice-atoms.ensures.keys _
+    _ (c.as_slice-bases.ensures ∙ c.in_ok-terms.ensures ∙ ap terms_named c.as_slice-base.ensures ∙ sym c.requires.base) _ c.as_slice-atoms.ensures.keys _
     (ap (map (λ s. s.keys)) c.deref.ensures.value)
     _ c.in_ok-starts.ensures _ c.in_ok-kinds.ensures _ c.count_dropped-dropped.ensures
