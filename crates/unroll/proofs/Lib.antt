@@ -1,3 +1,3 @@
 mod Claims
 mod Transfers
-mod OwnLists
+mod SameRelations

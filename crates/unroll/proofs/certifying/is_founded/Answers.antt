@@ -13,7 +13,7 @@ use Rattle.profile.proofs.Facts.{if_ok}
 use Rattle.whole.specs.Extension.{AreFounded}
 use Rattle.derivations.specs.Founded.{StandAlone, IsStepGame, IsReached}
 use Rattle.unroll.proofs.Claims.{on_true_map, true_on}
-use Rattle.unroll.proofs.OwnLists.{alone_as}
+use Rattle.unroll.proofs.SameRelations.{alone_as}
 use Rattle.unroll.proofs.certifying.is_founded.Goals as goal
 
 pub returns : goal.returns
