@@ -67,6 +67,6 @@ returns c =
     c.args.rules.now.sound.words c.keywords-words.result
     (subst (λ (k : Keywords). AreKeywords (words_of c.args.rules.now) k) (sym c.keywords-words.ensures) c.args.rules.now.sound.keywords) _ _ _
     c.requires.base c.requires.roles c.requires.inputs
-    _ (c.as_slice-bases.ensures ∙ c.in_ok-terms.ensures ∙ ap terms_named c.as_slice-base.ensures ∙ sym c.requires.base) _ c.as_slice-atoms.ensures.keys _
+    _ (c.as_slice-bases.ensures.value ∙ c.in_ok-terms.ensures ∙ ap terms_named c.as_slice-base.ensures.value ∙ sym c.requires.base) _ c.as_slice-atoms.ensures.keys _
     (ap (map (λ s. s.keys)) c.deref.ensures.value)
     _ c.in_ok-starts.ensures _ c.in_ok-kinds.ensures _ c.count_dropped-dropped.ensures
