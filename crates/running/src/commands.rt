@@ -1,6 +1,7 @@
 //! The command line: from words to a request, and from a request to its exit status.
 ghost use Rattle.std.specs.Prelude.{◌≡◌, ◌≤◌, ◌⊎◌, None};
 ghost use Rattle.std.specs.Io.KnownBytes.{Keeps};
+ghost use Rattle.statement.specs.declared.status.Status.{Status};
 ghost use Rattle.running_streams.specs.Exits.{Replied};
 ghost use Rattle.running.specs.Fulfilling.{AreDone, IsCommandRun, HasShown, IsFulfilled};
 ghost use Rattle.running_streams.specs.Streams.{streams};
