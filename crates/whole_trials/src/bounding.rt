@@ -63,15 +63,8 @@ fn names_of_layers(alloc: Global, many: usize) -> Result<Vec<Vec<Vec<u8>>>, Allo
     Ok(names)
 }
 
-/// Whether so many layers of texts behind a start are enough as wanted, where layers keep those before or do not.
-fn is_told<R: AllocGlobal>(
-    rt: &R,
-    keeps: bool,
-    start: &str,
-    row: ([&str; 3], usize, bool),
-) -> Result<bool, Fail> {
-    let (texts, many, wanted) = row;
-    let alloc = rt.alloc();
+/// The rules of texts behind a start.
+fn rules_of(alloc: Global, start: &str, texts: [&str; 3]) -> Result<RuleSet, Fail> {
     let mut whole = Vec::new(alloc);
     whole.extend_from_slice(start.as_bytes())?;
     for text in texts {
@@ -79,30 +72,49 @@ fn is_told<R: AllocGlobal>(
     }
     let items = read(alloc, &whole)?;
     let rules = RuleSet::check(alloc, &items)?;
-    let ground = instantiate_flat_alone(rt, &rules, Width::Plain)?;
+    Ok(rules)
+}
+
+/// Whether so many layers are enough, each of what takes one step more.
+fn are_enough<R: AllocGlobal>(rt: &R, rules: &RuleSet, many: usize) -> Result<bool, Fail> {
+    let alloc = rt.alloc();
+    let ground = instantiate_flat_alone(rt, rules, Width::Plain)?;
     let own = [Relation {
         word: b"at",
         arity: 1,
     }];
     let names = names_of_layers(alloc, many)?;
-    let told = if keeps {
-        is_enough(alloc, &rules, &ground, &own, &names)?
-    } else {
-        is_bounded(alloc, &rules, &ground, &own, &names)?
-    };
-    Ok(told == wanted)
+    let is_so = is_bounded(alloc, rules, &ground, &own, &names)?;
+    Ok(is_so)
+}
+
+/// Whether so many layers are enough that keep those before.
+fn are_enough_kept<R: AllocGlobal>(rt: &R, rules: &RuleSet, many: usize) -> Result<bool, Fail> {
+    let alloc = rt.alloc();
+    let ground = instantiate_flat_alone(rt, rules, Width::Plain)?;
+    let own = [Relation {
+        word: b"at",
+        arity: 1,
+    }];
+    let names = names_of_layers(alloc, many)?;
+    let is_so = is_enough(alloc, rules, &ground, &own, &names)?;
+    Ok(is_so)
 }
 
 #[test]
 fn layers_are_enough_where_ways_are_short(rt: HostRuntime) -> Result<(), Fail> {
-    for (place, row) in TEXTS.into_iter().enumerate() {
-        assert!(rt; is_told(&rt, false, START, row)?, "row {place}");
+    for (place, (texts, many, wanted)) in TEXTS.into_iter().enumerate() {
+        let rules = rules_of(rt.alloc(), START, texts)?;
+        assert_eq!(rt; are_enough(&rt, &rules, many)?, wanted, "row {place}");
     }
-    for (place, row) in KEPT_TEXTS.into_iter().enumerate() {
-        assert!(rt;
-            is_told(&rt, true, KEPT, row)?,
-            "row {place} of those that keep"
-        );
+    Ok(())
+}
+
+#[test]
+fn kept_layers_are_enough_where_paths_are_short(rt: HostRuntime) -> Result<(), Fail> {
+    for (place, (texts, many, wanted)) in KEPT_TEXTS.into_iter().enumerate() {
+        let rules = rules_of(rt.alloc(), KEPT, texts)?;
+        assert_eq!(rt; are_enough_kept(&rt, &rules, many)?, wanted, "row {place}");
     }
     Ok(())
 }
