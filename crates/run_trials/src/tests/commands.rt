@@ -13,28 +13,45 @@ fn make(alloc: Global, words: &[&str], command: &Command) -> Result<bool, AllocE
     Ok(made == *command)
 }
 
+/// A command that seeks nothing, of some with the history that they are asked after.
+#[derive(Clone, Copy)]
+enum Plain<'a> {
+    Show,
+    Check,
+    Net,
+    Moves(&'a str),
+    State(&'a str),
+}
+
 /// Words that seek nothing, and their commands.
-const PLAIN: [(&[&str], Command); 7] = [
-    (&["show"], Command::Show),
-    (&["check"], Command::Check),
-    (&["net"], Command::Ask(Inquiry::Net, Width::Plain)),
-    (
-        &["moves"],
-        Command::Ask(Inquiry::Moves { after: "" }, Width::Plain),
-    ),
-    (
-        &["state"],
-        Command::Ask(Inquiry::State { after: "" }, Width::Plain),
-    ),
-    (
-        &["moves", "--after", "(h t)"],
-        Command::Ask(Inquiry::Moves { after: "(h t)" }, Width::Plain),
-    ),
-    (
-        &["state", "--after", "(h t)"],
-        Command::Ask(Inquiry::State { after: "(h t)" }, Width::Plain),
-    ),
+const PLAIN: [(&[&str], Plain); 7] = [
+    (&["show"], Plain::Show),
+    (&["check"], Plain::Check),
+    (&["net"], Plain::Net),
+    (&["moves"], Plain::Moves("")),
+    (&["state"], Plain::State("")),
+    (&["moves", "--after", "(h t)"], Plain::Moves("(h t)")),
+    (&["state", "--after", "(h t)"], Plain::State("(h t)")),
 ];
+
+/// Whether words make the command that seeks nothing.
+fn is_plain(alloc: Global, words: &[&str], plain: Plain) -> Result<bool, AllocError> {
+    match plain {
+        Plain::Show => make(alloc, words, &Command::Show),
+        Plain::Check => make(alloc, words, &Command::Check),
+        Plain::Net => make(alloc, words, &Command::Ask(Inquiry::Net, Width::Plain)),
+        Plain::Moves(after) => make(
+            alloc,
+            words,
+            &Command::Ask(Inquiry::Moves { after }, Width::Plain),
+        ),
+        Plain::State(after) => make(
+            alloc,
+            words,
+            &Command::Ask(Inquiry::State { after }, Width::Plain),
+        ),
+    }
+}
 
 /// In which way best play is sought, the last within a window.
 #[derive(Clone, Copy)]
@@ -131,31 +148,43 @@ fn sought_by(plan: Plan) -> Option<Sought> {
     })
 }
 
-/// The inquiry that seeks in a way, if there is such a window.
-fn inquiry_of(way: Way, sought: Sought) -> Option<Inquiry> {
+/// The window that a way seeks within, if it has one and there is such a window.
+fn window_of(way: Way) -> Option<Window> {
     match way {
-        Solve => Some(Inquiry::Solve(sought)),
-        Values => Some(Inquiry::Values(sought)),
-        Within(low, high) => Some(Inquiry::SolveWithin(sought, Window::of(low, high)?)),
+        Within(low, high) => Window::of(low, high),
+        Solve | Values => None,
     }
 }
 
-/// Whether the words of a row make the command that it tells.
+/// Whether the words of a row make the command that it tells, within a window where there is one.
 fn is_made(alloc: Global, row: Row) -> Result<bool, AllocError> {
     let (words, way, plan) = row;
     let Some(sought) = sought_by(plan) else {
         return Ok(false);
     };
-    let Some(inquiry) = inquiry_of(way, sought) else {
-        return Ok(false);
-    };
-    make(alloc, words, &Command::Ask(inquiry, Width::Plain))
+    match (window_of(way), way) {
+        (Some(window), _) => make(
+            alloc,
+            words,
+            &Command::Ask(Inquiry::SolveWithin(sought, window), Width::Plain),
+        ),
+        (None, Values) => make(
+            alloc,
+            words,
+            &Command::Ask(Inquiry::Values(sought), Width::Plain),
+        ),
+        (None, Solve | Within(_, _)) => make(
+            alloc,
+            words,
+            &Command::Ask(Inquiry::Solve(sought), Width::Plain),
+        ),
+    }
 }
 
 #[test]
 fn words_make_their_commands(rt: HostRuntime) -> Result<(), AllocError> {
-    for (words, command) in PLAIN {
-        assert!(rt; make(rt.alloc(), words, &command)?, "{words:?}");
+    for (words, plain) in PLAIN {
+        assert!(rt; is_plain(rt.alloc(), words, plain)?, "{words:?}");
     }
     for row in SEEKING {
         assert!(rt; is_made(rt.alloc(), row)?, "{:?}", row.0);
