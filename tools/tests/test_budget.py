@@ -43,11 +43,11 @@ class Sorts(unittest.TestCase):
     def test_commands_have_a_crate_and_a_kind(self) -> None:
         crate = ["/kit/bin/rattle", "build", "--crate-name", "kif", "src/lib.rt"]
         for more, folder, kind in [
-            (["--statements", "-o", "out/rlib/kif.rlib"], "/top/crates/kif", "proof"),
-            (["--crate-type", "staticlib"], "/top/crates/kif", "proof"),
-            (["--test", "-o", "out/kif_tests.o"], "/top/crates/kif", "tests"),
-            (["--crate-checked", "/tmp/room"], "/top/crates/kif", "builds"),
-            (["--incremental", "/tmp/seed"], "/tmp/rt-edit-17-abc", "edits"),
+            (["--statements", "-o", "out/rlib/kif.rlib"], "/crates/kif", "proof"),
+            (["--crate-type", "staticlib"], "/crates/kif", "proof"),
+            (["--test", "-o", "out/kif_tests.o"], "/crates/kif", "tests"),
+            (["--crate-checked", "room"], "/crates/kif", "builds"),
+            (["--incremental", "seed"], "/rt-edit-17-abc", "edits"),
         ]:
             with self.subTest(kind=kind):
                 self.assertEqual(budget.sort_of([*crate, *more], folder), ("kif", kind))
