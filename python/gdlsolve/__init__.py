@@ -1,13 +1,14 @@
 """Games in the Game Description Language: reads their rules, refuses broken ones by name, lists legal moves and computes best play.
 
-Each function is one call of the proved library of gdlsolve, which the calling thread does. Rules are bytes, or a text that is taken in
-UTF-8. A history is the text of its turns, or a sequence of turns, each of which is a sequence of one move for each role.
+Each function is one call of the proved library of gdlsolve: a short one in the calling thread, and a search in a child process, so that a key
+or a `timeout` ends it at once. Rules are bytes, or a text that is taken in UTF-8. A history is the text of its turns, or a sequence of
+turns, each of which is a sequence of one move for each role.
 
 Rules are those of `games/`, with `base` and `input` and no relation that rests on itself. With `whole=True` a game may be as it is found:
 `unroll` writes it out first.
 
 A refusal of the rules, the role or the history is raised as `Refusal`, arguments that make no command as `Misuse`, and want of memory
-as `MemoryError`.
+as `MemoryError`, an answer that is not there in time as `TimedOut`, and a program or a child process that ended without one as `Ended`.
 
 >>> position = gdlsolve.moves(Path("games/matching_pennies.kif").read_bytes(), after=[("h", "t")])
 >>> position.goals
@@ -15,17 +16,19 @@ as `MemoryError`.
 """
 # This one first, so that a key ends a command in silence also while the others are read.
 from gdlsolve import keys as keys
-from gdlsolve.calls import Misuse, Refusal, Reply, Status, reply
-from gdlsolve.commands import Bound, History, check, moves, net, show, solve, solve_within, state, values
+from gdlsolve.asking import reply
+from gdlsolve.calls import Cancelled, Ended, Misuse, Refusal, Reply, Status, TimedOut
+from gdlsolve.commands import Bound, History, check, moves, net, show, solve, solve_within, state, unroll, values
 from gdlsolve.replies import Description, Network, Outside, Position, Solution, Standing, State, Values
 from gdlsolve.session import Session
-from gdlsolve.whole import unroll
 
 __version__ = "0.1.0"
 
 __all__ = [
     "Bound",
+    "Cancelled",
     "Description",
+    "Ended",
     "History",
     "Misuse",
     "Network",
@@ -38,6 +41,7 @@ __all__ = [
     "Standing",
     "State",
     "Status",
+    "TimedOut",
     "Values",
     "check",
     "moves",

@@ -19,7 +19,8 @@ from pathlib import Path
 from typing import Any, NoReturn
 
 from gdlsolve import keys, program, whole
-from gdlsolve.calls import ASKS_FOR_HELP, Ended, Misuse, Refusal, Reply, Status, lines_of, reply
+from gdlsolve.asking import SEARCHES, reply
+from gdlsolve.calls import ASKS_FOR_HELP, Ended, Misuse, Refusal, Reply, Status, lines_of
 from gdlsolve.deepening import Deepest, deepen
 from gdlsolve.engine import Broken, readable
 from gdlsolve.progress import progress
@@ -38,8 +39,6 @@ With this package a file of rules may stand among the words, also without --rule
 ASKS = {*ASKS_FOR_HELP, "help"}
 # Options that have no value.
 FLAGS = {"--deepen", "--lines", "--tighten", "--whole"}
-# Commands that may take long.
-SEARCHES = (["solve"], ["values"])
 # Commands to which a game as it is found is written out.
 OVER_RULES = {"check", "moves", "net", "solve", "state", "values"}
 STREAM_FAILED = 4

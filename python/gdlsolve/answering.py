@@ -1,6 +1,7 @@
 """The child process of an engine: it answers questions on its standard input, which is a socket.
 
     python -m gdlsolve.answering [--session] [PROGRAM WORDS..]
+    python -m gdlsolve.answering --library FILE
 
 A request is a line `rules N` and then N bytes of rules, or a line `words N` and then N bytes, which
 are the words of a command with a byte 0 behind each. The reply to words, over the last rules, is a
@@ -8,8 +9,9 @@ line `STATUS SIZE SIZE` and then the bytes of the reply and of what is said to p
 none, the status is 70, and what is said tells why. A line `batch N` says that the next N requests
 are words, which are answered together. The words of the command line start a program that answers;
 without any, the package does. With `--session` the program reads rules once, and then says nothing
-to people. The words `legal` and `playouts` are answered in Python, without the program. The end of
-input ends the process, whatever it does.
+to people; where there is no program, a handle of the library does so, and with `--library` that of
+this one. The words `legal` and `playouts` are answered in Python, without the program. The end of
+input ends the process, whatever it does, and so does the end of the one who has started it.
 """
 
 from __future__ import annotations
@@ -19,14 +21,18 @@ import select
 import sys
 import threading
 from collections.abc import Iterator, Sequence
+from dataclasses import replace
+from pathlib import Path
 from typing import IO
 
 from gdlsolve import program
-from gdlsolve.calls import WRITTEN_OUT, Ended, Misuse, Reply, Status, by_program, reply
+from gdlsolve.calls import NO_REPLY, WRITTEN_OUT, Ended, Misuse, Reply, Status, by_program, library, reply
+from gdlsolve.handles import has_handles
 from gdlsolve.lanes import Rehearsal
-from gdlsolve.session import Process, line_of
+from gdlsolve.standing import ByHandle, Process, line_of
 
-NO_REPLY = 70
+# So often it is looked whether the one who asks is still there, in milliseconds, where the end of the socket does not tell.
+LOOK = 1000
 # Commands that are answered in Python, and those that no session knows.
 OWN = (["legal"], ["playouts"])
 ALONE = (["unroll"], ["lint"])
@@ -77,14 +83,47 @@ class InSession:
             return None
 
 
+class InHandle:
+    """A handle of the library."""
+
+    def __init__(self, file: Path):
+        self.handle = ByHandle(file)
+        self.rules: bytes | None = None
+
+    def reply(self, words: Sequence[str]) -> Reply:
+        """The reply to a command. The one who asks can ask the library itself to explain it."""
+        told = self.handle.reply(words)
+        return replace(told, explain=None) if told.explain else told
+
+    def replies(self, batch: Sequence[Sequence[str]], rules: bytes) -> list[Reply]:
+        """The replies to commands."""
+        if self.rules is not rules:
+            self.rules = None
+            self.handle.stand(rules)
+            self.rules = rules
+        return list(map(self.reply, batch))
+
+
+def session_of(command: Sequence[str]) -> InSession | InHandle | None:
+    """What keeps rules: the program that these words start, or that of the package, or else the library."""
+    known = command or program.words()
+    if known:
+        return InSession(known)
+    file = library()
+    return InHandle(file) if file and has_handles(file) else None
+
+
 class Answers:
     """What answers: the program that the words start, or the package."""
 
     def __init__(self, words: Sequence[str]):
-        in_session = words[:1] == ["--session"]
-        self.command = list(words[1:] if in_session else words)
-        known = self.command or (program.words() if in_session else [])
-        self.session = InSession(known) if in_session and known else None
+        kind, further = words[:1], list(words[1:])
+        self.command = [] if kind == ["--library"] else further if kind == ["--session"] else list(words)
+        self.session: InSession | InHandle | None = None
+        if kind == ["--library"]:
+            self.session = InHandle(Path(further[0]))
+        elif kind == ["--session"]:
+            self.session = session_of(further)
         self.rehearsal = Rehearsal()
 
     def alone(self, words: Sequence[str], rules: bytes) -> Reply:
@@ -122,11 +161,13 @@ def told(answers: Answers, batch: Sequence[Sequence[str]], rules: bytes) -> Iter
         yield each.output + said
 
 
-def watch(socket: int) -> None:
-    """Waits until nobody is at the other end, and then ends the process."""
+def watch(socket: int, asker: int) -> None:
+    """Waits until nobody is at the other end, or the process that asks has ended and another one that it has forked off keeps that end open.
+    Then it ends this process."""
     poll = select.poll()
     poll.register(socket, select.POLLRDHUP)
-    poll.poll()
+    while not poll.poll(LOOK) and os.getppid() == asker:
+        pass
     os._exit(1)
 
 
@@ -163,7 +204,7 @@ def serve(answers: Answers, source: IO[bytes], sink: IO[bytes]) -> None:
 
 def run(answers: Answers) -> None:
     """Answers, and ends without a word where nobody is at the other end any more."""
-    threading.Thread(target=watch, args=(sys.stdin.fileno(),), daemon=True).start()
+    threading.Thread(target=watch, args=(sys.stdin.fileno(), os.getppid()), daemon=True).start()
     try:
         serve(answers, sys.stdin.buffer, sys.stdout.buffer)
     except OSError:

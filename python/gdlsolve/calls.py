@@ -1,7 +1,7 @@
 """The call of the solver: words and rules in, status and bytes out.
 
-The library answers, in the calling thread. Where `GDLSOLVE_PROGRAM` names a program, that answers in
-its place, as a child process.
+The library answers, in the calling thread, which hears no key and no clock before. Where
+`GDLSOLVE_PROGRAM` names a program, that answers in its place, as a child process.
 """
 import ctypes
 import os
@@ -17,6 +17,12 @@ from gdlsolve import program
 from gdlsolve.terms import terms
 
 LIBRARY = "libgdlsolve.so"
+# What may tell that an answer is not wanted any more.
+Stops = Callable[[], bool] | None
+# So many bytes of a reply are taken at once. Of a longer one the call is made again.
+ROOM = 1 << 16
+# The status of a child process that has no reply.
+NO_REPLY = 70
 # Words that ask for a text, and not for an answer over rules.
 ASKS_FOR_HELP = frozenset({"--help", "-h", "--version", "-V"})
 
@@ -89,7 +95,15 @@ class Misuse(ValueError):
 
 
 class Ended(RuntimeError):
-    """The program that answers ended without a reply, as one does that is killed."""
+    """What answers ended without a reply, as a program does that is killed."""
+
+
+class TimedOut(TimeoutError):
+    """There was no answer within the seconds that a question had."""
+
+
+class Cancelled(Exception):
+    """A question was given up, as `Session.cancel` asked for."""
 
 
 @dataclass(frozen=True)
@@ -134,7 +148,7 @@ def library() -> Path | None:
     """The file of the library: the one that `GDLSOLVE_LIBRARY` names, else that of the package, else that of the clone."""
     named = os.environ.get("GDLSOLVE_LIBRARY")
     if named:
-        return Path(named)
+        return Path(named).absolute()
     here, clone = _places()
     return next((file for file in (here / LIBRARY, clone / "c/out" / LIBRARY) if file.exists()), None)
 
@@ -164,6 +178,11 @@ def is_too_wide(told: Reply, words: Sequence[str], rules: bytes) -> bool:
 OF_PROGRAM = (["lint"], ["unroll"])
 
 
+def is_of_program(words: Sequence[str]) -> bool:
+    """Whether the library does not take these words, and the program does."""
+    return list(words[:1]) in OF_PROGRAM or "--whole" in words
+
+
 @cache
 def _call(library: Path, name: str, texts: int) -> Callable[..., int]:
     """A function of the library, which takes so many texts, a room and the place of a size."""
@@ -176,7 +195,7 @@ def _call(library: Path, name: str, texts: int) -> Callable[..., int]:
 
 def in_room(call: Callable[..., int], given: Sequence[object]) -> tuple[Status, bytes]:
     """What a call tells that is given these and a room. It raises `MemoryError` for want of memory."""
-    size = ctypes.c_size_t(4096)
+    size = ctypes.c_size_t(ROOM)
     while True:
         place = size.value
         room = ctypes.create_string_buffer(max(place, 1))
@@ -184,7 +203,7 @@ def in_room(call: Callable[..., int], given: Sequence[object]) -> tuple[Status, 
         if status == Status.NO_MEMORY:
             raise MemoryError
         if size.value <= place:
-            return status, room.raw[: size.value]
+            return status, ctypes.string_at(room, size.value)
 
 
 def _told(library: Path, name: str, texts: Sequence[bytes]) -> tuple[Status, bytes]:
@@ -192,7 +211,7 @@ def _told(library: Path, name: str, texts: Sequence[bytes]) -> tuple[Status, byt
     return in_room(_call(library, name, len(texts)), [part for text in texts for part in (text, len(text))])
 
 
-def _check(words: Sequence[str]) -> None:
+def check_words(words: Sequence[str]) -> None:
     """Holds that no word has a character 0."""
     for word in words:
         if "\0" in word:
@@ -201,7 +220,7 @@ def _check(words: Sequence[str]) -> None:
 
 def command_of(words: Sequence[str]) -> bytes:
     """The words as the library takes them, none of which has a character 0."""
-    _check(words)
+    check_words(words)
     return b"".join(word.encode() + b"\0" for word in words)
 
 
@@ -220,9 +239,9 @@ def by_library(library: Path, words: Sequence[str], rules: bytes) -> Reply:
     return told_by_library(library, command, rules, *_told(library, "gdlsolve_reply", [command, rules]))
 
 
-def by_program(command: Sequence[str], words: Sequence[str], rules: bytes) -> Reply:
-    """The reply of a program to words without a character 0."""
-    ran = program.run(command, words, rules)
+def by_program(command: Sequence[str], words: Sequence[str], rules: bytes, stopped: Stops = None) -> Reply:
+    """The reply of a program to words without a character 0. `program.Stopped` tells that it was stopped before."""
+    ran = program.run(command, words, rules, stopped)
     if ran.status == Status.NO_MEMORY:
         raise MemoryError
     if ran.status not in set(Status):
@@ -236,20 +255,26 @@ def by_program(command: Sequence[str], words: Sequence[str], rules: bytes) -> Re
     return Reply(status, ran.output, ran.errors)
 
 
-def reply(words: Sequence[str], rules: bytes | str) -> Reply:
-    """The reply to the words of the program, over these rules. It raises `MemoryError` for want of memory alone. The library has no `lint`,
-    no `unroll` and no `--whole`, which the program of the package or of the clone answers in its place. Of rules that were written out there
-    may be as many inputs as `--whole` takes."""
-    _check(words)
-    text = rules.encode() if isinstance(rules, str) else bytes(rules)
+def bytes_of(rules: bytes | str) -> bytes:
+    """Rules as bytes."""
+    return rules.encode() if isinstance(rules, str) else bytes(rules)
+
+
+def reply(words: Sequence[str], rules: bytes | str, stopped: Stops = None) -> Reply:
+    """The reply to the words of the program, over these rules, in the calling thread; `asking.reply` is for searches. It raises `MemoryError`
+    for want of memory alone. The library has no `lint`, no `unroll` and no `--whole`, which the program of the package or of the clone answers
+    in its place. Of rules that were written out there may be as many inputs as `--whole` takes. A program may be stopped, a call of the library
+    may not; `program.Stopped` tells it."""
+    check_words(words)
+    text = bytes_of(rules)
     found = answers()
-    if (words[:1] in OF_PROGRAM or "--whole" in words) and isinstance(found, Path):
+    if is_of_program(words) and isinstance(found, Path):
         found = program.words()
         if not found:
             said = f"{' '.join(words)} is answered by the program alone: ./gdlsolve --prove builds it, or {program.VARIABLE} names one\n"
             return Reply(Status.MISUSE, said.encode())
-    told = by_library(found, words, text) if isinstance(found, Path) else by_program(found, words, text)
-    return reply([*words, "--whole"], text) if is_too_wide(told, words, text) else told
+    told = by_library(found, words, text) if isinstance(found, Path) else by_program(found, words, text, stopped)
+    return reply([*words, "--whole"], text, stopped) if is_too_wide(told, words, text) else told
 
 
 def is_own(version: Reply) -> bool:

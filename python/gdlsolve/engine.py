@@ -7,6 +7,7 @@ that its start is paid for once. This is the one place that knows how the solver
 
 from __future__ import annotations
 
+import math
 import os
 import select
 import signal
@@ -19,18 +20,19 @@ from collections.abc import Iterator, Sequence
 from contextlib import contextmanager
 from dataclasses import asdict, dataclass
 
-from gdlsolve.answering import NO_REPLY
-from gdlsolve.calls import Misuse, Reply, Status
+from gdlsolve.calls import NO_REPLY, Misuse, Reply, Status
 from gdlsolve.program import environment
 from gdlsolve.replies import Description, Position, Solution
 from gdlsolve.terms import terms
 
 Turn = tuple[str, ...]
-# What starts a child process, and what starts one that reads rules once where it can.
-OWN_COMMAND = (sys.executable, "-m", "gdlsolve.answering")
+# What starts a child process, and what starts one that reads rules once where it can. No module of the current folder is read.
+OWN_COMMAND = (sys.executable, "-P", "-m", "gdlsolve.answering")
 SESSION_COMMAND = (*OWN_COMMAND, "--session")
 # So often a question that is waited for looks whether it has been given up, in seconds.
 BEAT = 0.02
+# And so often where it cannot be given up.
+LONGEST_PAUSE = 3600.0
 # No reply is longer: a line for each of 4,096 moves of at most 4,096 bytes.
 MOST_BYTES = 1 << 25
 # A request that is not taken within so many seconds is not taken at all.
@@ -66,6 +68,21 @@ class Limit:
         self.until, self.given_up, self.grace = until, given_up, grace
         self.closed: threading.Event | None = None
 
+    @classmethod
+    def of(cls, seconds: float | None, given_up: threading.Event | None = None) -> Limit:
+        """So many seconds from now on, or no end."""
+        return cls(math.inf if seconds is None else time.monotonic() + seconds, given_up)
+
+    def may_end(self) -> bool:
+        """Whether there may be an end."""
+        return self.until < math.inf or self.given_up is not None or self.closed is not None
+
+    def pause(self) -> int:
+        """How long may be waited before this is asked again, in milliseconds; at most 0 where the time is over."""
+        left = self.left()
+        seconds = LONGEST_PAUSE if self.given_up is None and self.closed is None else BEAT
+        return math.ceil(min(left, seconds) * 1000)
+
     def within(self, closed: threading.Event) -> Limit:
         """The same for one who asks that may be closed."""
         self.closed = closed
@@ -97,6 +114,7 @@ class Child:
     def __init__(self, command: Sequence[str]):
         self.rules: bytes | None = None
         self.unread = bytearray()
+        self.owner = os.getpid()
         ours, theirs = socket.socketpair()
         try:
             # A group of its own, so that a key that ends the asker does not end it first.
@@ -115,11 +133,16 @@ class Child:
         self.socket = ours
 
     def lives(self) -> bool:
-        """Whether the process is there."""
-        return self.process.poll() is None
+        """Whether the process is there, for this one: it is none of a process that was forked off the one who started it."""
+        return self.owner == os.getpid() and self.process.poll() is None
 
     def end(self) -> None:
         """Ends the process, and the program that it may have started."""
+        if self.owner != os.getpid():
+            # Nobody here may wait for it.
+            self.process.returncode = 0
+            self.socket.close()
+            return
         if self.lives():
             try:
                 os.killpg(self.process.pid, signal.SIGKILL)
@@ -134,14 +157,18 @@ class Child:
         try:
             self.socket.sendall(requests)
         except TimeoutError:
+            if limit.left() > 0:
+                raise Broken("a request was not taken") from None
             raise Late from None
         except OSError as fault:
             raise Broken(str(fault)) from None
 
     def receive(self, limit: Limit) -> None:
         """Reads some bytes of a reply."""
-        while (left := limit.left()) > 0:
-            if select.select([self.socket], [], [], min(left, BEAT))[0]:
+        poll = select.poll()
+        poll.register(self.socket, select.POLLIN)
+        while (pause := limit.pause()) > 0:
+            if poll.poll(pause):
                 try:
                     found = self.socket.recv(1 << 16)
                 except OSError as fault:
@@ -184,7 +211,7 @@ class Child:
 
     def ask(self, batch: Sequence[Sequence[str]], rules: bytes, limit: Limit) -> list[Reply]:
         """The replies to commands over rules, which are sent where they are not those of before."""
-        if self.rules is not rules:
+        if self.rules != rules:
             self.send(b"rules %d\n" % len(rules) + rules, limit)
             self.rules = rules
         requests = [b"batch %d\n" % len(batch)]
@@ -209,7 +236,8 @@ class Children:
         self.at_work: set[Child] = set()
         self.change = threading.Condition()
         self.is_closed = False
-        threading.Thread(target=self._fill, daemon=True).start()
+        if spare:
+            threading.Thread(target=self._fill, daemon=True).start()
 
     def _fill(self) -> None:
         """Starts processes until enough are spare, whenever one was taken."""
@@ -223,11 +251,12 @@ class Children:
             except OSError:
                 time.sleep(BEAT)
 
-    def take(self) -> Child:
-        """The process that has been idle for longest, or else a new one."""
+    def take(self, rules: bytes | None = None) -> Child:
+        """A process that is idle: one that has these rules, or else that which has been so for longest, or a new one."""
         with self.change:
             while self.idle:
-                child = self.idle.pop(0)
+                known = (place for place, child in enumerate(self.idle) if child.rules == rules)
+                child = self.idle.pop(next(known, 0))
                 self.change.notify()
                 if child.lives():
                     return child
@@ -264,8 +293,11 @@ class Children:
     ) -> tuple[Child, list[Reply]]:
         """The replies of a child, and that child. One that is late is ended; one that ended by
         itself is replaced once."""
+        if child is not None and not child.lives():
+            child.end()
+            child = None
         for is_last in (False, True):
-            asked = child or self.take()
+            asked = child or self.take(rules)
             try:
                 with self._working(asked):
                     return asked, asked.ask(batch, rules, limit)
@@ -318,14 +350,12 @@ class Pool:
 
 @dataclass(frozen=True)
 class Playouts:
-    """So many random matches, of so many turns at most, behind which play is worth `unfinished`. What
-    they need may take so many seconds to be made."""
+    """So many random matches, of so many turns at most, behind which play is worth `unfinished`."""
 
     matches: int
     turns: int
     unfinished: int
     seed: int
-    seconds: float
 
     def words(self) -> list[str]:
         """The options that ask for them."""
@@ -388,22 +418,6 @@ class Engine:
         lines = self.ask([*words, *behind(turns)], limit)
         with readable():
             return Solution.of(lines)
-
-    def legal(self, turns: Sequence[Turn], limit: Limit) -> Position:
-        """How play stands after a history, without the solver. `Misuse` tells that the rules are
-        too large for that."""
-        seconds = f"{max(limit.left() / 2, 0):.3f}"
-        lines = self.ask(["legal", "--seconds", seconds, *behind(turns)], limit)
-        with readable():
-            return Position.of(lines)
-
-    def played(self, turns: Sequence[Turn], asked: Playouts, limit: Limit) -> tuple[Position, dict[str, int]]:
-        """How play stands after a history, and what random matches behind it bring each role in all.
-        `Misuse` tells that the rules are too large for those."""
-        both = [["moves", *behind(turns)], ["playouts", *asked.words(), *behind(turns)]]
-        position, goals = self.ask_all(both, limit)
-        with readable():
-            return Position.of(position), {role: int(goal) for _, role, goal in map(terms, goals)}
 
     def close(self) -> None:
         """Asks no more. A question that is under way is given up."""

@@ -7,12 +7,13 @@ What it tells is held against the program in the tests, and not proved.
 from __future__ import annotations
 
 import random
+import threading
 import time
-from collections.abc import Callable, Iterator, Mapping, Sequence
+from collections.abc import Callable, Mapping, Sequence
 from dataclasses import dataclass
 
 from gdlsolve.calls import Reply, Status
-from gdlsolve.grounding import DOES, TRUE, Atom, Grounding, Instance, Term, TooLarge, key_of, text_of
+from gdlsolve.grounding import DOES, TRUE, Atom, Grounding, Instance, Term, TooLarge, ignore, key_of, text_of
 from gdlsolve.replies import Position, State
 from gdlsolve.terms import terms, trees
 
@@ -26,6 +27,10 @@ LONGEST = 32
 AT_ONCE = 256
 # What works out heads in the matches of which a number has a bit.
 Work = Callable[[list[int], int], None]
+
+
+# What is told where there are no gates: for now, or at all.
+NOT_YET, TOO_LARGE = "the gates are not built yet", "the rules are too large for gates"
 
 
 class NotLegal(Exception):
@@ -54,9 +59,10 @@ def made(lines: Sequence[str]) -> Work:
 
 
 class Lanes:
-    """The gates of a description. The place 0 is always wrong."""
+    """The gates of a description. The place 0 is always wrong. While they are made, `tick` is called again and again."""
 
-    def __init__(self, grounding: Grounding):
+    def __init__(self, grounding: Grounding, tick: Callable[[], None] = ignore):
+        self.tick = tick
         self.places: dict[Atom, int] = {}
         for key in (TRUE, DOES):
             for atom in grounding.of(key):
@@ -115,7 +121,10 @@ class Lanes:
 
     def function(self, lines: Sequence[str]) -> Work:
         """The code that works out heads in the matches of which `full` has a bit, made in parts, since one would take much memory."""
-        parts = [made(lines[start : start + AT_ONCE]) for start in range(0, len(lines), AT_ONCE)]
+        parts = list[Work]()
+        for start in range(0, len(lines), AT_ONCE):
+            self.tick()
+            parts.append(made(lines[start : start + AT_ONCE]))
 
         def work(values: list[int], full: int) -> None:
             for part in parts:
@@ -177,13 +186,21 @@ class Lanes:
 
     def choose(self, values: list[int], lanes: int, dice: random.Random) -> None:
         """Chooses a legal move at random for each role in each of these matches."""
+        chance = dice.random
         for seat in self.seats:
-            legal: dict[int, list[int]] = {}
-            for does, place in seat.moves.values():
-                for lane in bits_of(values[place] & lanes):
-                    legal.setdefault(lane, []).append(does)
-            for lane, moves in legal.items():
-                values[dice.choice(moves)] |= 1 << lane
+            found = [(does, legal) for does, place in seat.moves.values() if (legal := values[place] & lanes)]
+            if len(found) == 1:
+                # It is the only one in each match.
+                values[found[0][0]] = lanes
+                continue
+            moves: dict[int, list[int]] = {}
+            for does, legal in found:
+                while legal:
+                    lane = legal & -legal
+                    moves.setdefault(lane, []).append(does)
+                    legal ^= lane
+            for lane, each in moves.items():
+                values[each[int(chance() * len(each))]] |= lane
 
     def playouts(self, turns: tuple[Turn, ...], matches: int, most: int, unfinished: int, dice: random.Random) -> dict[str, int]:
         """What each role has in all at the end of so many random matches behind a history. What goes on after so many turns is broken off."""
@@ -193,9 +210,10 @@ class Lanes:
         for _ in range(most):
             values = self.seen(bits, lanes)
             ended = values[self.end] & lanes
-            for role in total:
-                total[role] += self.goal(role, values, ended)
-            lanes &= ~ended
+            if ended:
+                for role in total:
+                    total[role] += self.goal(role, values, ended)
+                lanes &= ~ended
             for seat in self.seats:
                 some = 0
                 for _, place in seat.moves.values():
@@ -214,30 +232,75 @@ class Lanes:
         return "".join(f"goal {role} {goals}\n" for role, goals in found.items())
 
 
+class Building:
+    """The gates of rules, which a thread builds for as long as it is given time."""
+
+    def __init__(self, rules: bytes):
+        self.rules = rules
+        self.lanes: Lanes | None = None
+        self.until, self.is_over, self.is_dropped = 0.0, False, False
+        self.change = threading.Condition()
+        threading.Thread(target=self.work, daemon=True).start()
+
+    def work(self) -> None:
+        """Builds them, where they are not too many."""
+        found = None
+        try:
+            self.tick()
+            found = Lanes(Grounding(self.rules.decode("latin-1"), self.tick), self.tick)
+        except (TooLarge, RecursionError, MemoryError, ValueError):
+            pass
+        with self.change:
+            self.lanes, self.is_over = found, True
+            self.change.notify_all()
+
+    def tick(self) -> None:
+        """Waits for time to go on."""
+        if time.monotonic() >= self.until:
+            with self.change:
+                self.change.wait_for(lambda: self.is_dropped or time.monotonic() < self.until)
+        if self.is_dropped:
+            raise TooLarge
+
+    def give(self, seconds: float) -> None:
+        """Gives it so many seconds, or as many as it needs."""
+        with self.change:
+            self.until = time.monotonic() + seconds
+            self.change.notify_all()
+            self.change.wait_for(lambda: self.is_over, seconds)
+
+    def drop(self) -> None:
+        """Gives it up."""
+        with self.change:
+            self.is_dropped = True
+            self.change.notify_all()
+
+
 class Rehearsal:
     """Answers over one text of rules: to `legal` as the program's to `moves`, and to `playouts` what
     random matches bring each role in all."""
 
     def __init__(self) -> None:
-        self.rules: bytes | None = None
-        self.lanes: Lanes | None = None
+        self.building: Building | None = None
 
-    def standing(self, rules: bytes, seconds: float) -> Lanes | None:
-        """The gates of these rules, where they are not too many to be found in so many seconds. That is tried once."""
-        if self.rules is not rules:
-            self.rules, self.lanes = rules, None
-            try:
-                self.lanes = Lanes(Grounding(rules.decode("latin-1"), time.monotonic() + seconds))
-            except (TooLarge, RecursionError, MemoryError, ValueError):
-                pass
-        return self.lanes
+    def standing(self, rules: bytes, seconds: float) -> Building:
+        """The gates of these rules. Where they are not there yet, they are built for so many seconds, and on from there the next time."""
+        made = self.building
+        if made is None or made.rules is not rules:
+            if made is not None:
+                made.drop()
+            made = self.building = Building(rules)
+        if not made.is_over:
+            made.give(seconds)
+        return made
 
     def reply(self, words: Sequence[str], rules: bytes) -> Reply:
-        """The reply to words over rules. It is a misuse where the gates are too many."""
+        """The reply to words over rules. It is a misuse where there are no gates."""
         options = dict(zip(words[1::2], words[2::2]))
-        lanes = self.standing(rules, float(options["--seconds"]))
+        built = self.standing(rules, float(options["--seconds"]))
+        lanes = built.lanes
         if lanes is None:
-            return Reply(Status.MISUSE, b"the rules are too large\n")
+            return Reply(Status.MISUSE, f"{TOO_LARGE if built.is_over else NOT_YET}\n".encode())
         turns = tuple(tuple(terms(turn[1:-1])) for turn in trees(options.get("--after", "")))
         try:
             told = lanes.position(turns).told() if words[0] == "legal" else lanes.random_matches(turns, options)
@@ -245,10 +308,3 @@ class Rehearsal:
             return Reply(Status.REFUSED, b"refused H2 NotLegal\n")
         return Reply(Status.ANSWER, told.encode("latin-1"))
 
-
-def bits_of(lanes: int) -> Iterator[int]:
-    """The places of the bits."""
-    while lanes:
-        low = lanes & -lanes
-        yield low.bit_length() - 1
-        lanes ^= low

@@ -1,6 +1,6 @@
 """A referee of matches for players over HTTP.
 
-    python -m gdlsolve.manager GAME.kif --player http://127.0.0.1:9147 --player random
+    python -P -m gdlsolve.manager GAME.kif --player http://127.0.0.1:9147 --player random
 
 Each player has the start clock to get ready, and the play clock for each move. For one that fails,
 and for a role that is `random`, a legal move is chosen at random. The record of the match is JSON;
@@ -10,15 +10,12 @@ it is written behind each turn, and a match that was broken off goes on from it.
 from __future__ import annotations
 
 import argparse
-import http
-import http.client
 import json
 import math
 import random
 import re
-import socket
+import signal
 import sys
-import threading
 import time
 from collections.abc import Callable, Sequence
 from concurrent.futures import Future, wait
@@ -26,22 +23,25 @@ from contextlib import suppress
 from dataclasses import asdict, dataclass, field
 from functools import partial
 from pathlib import Path
-from urllib.parse import urlsplit
+from typing import NoReturn
 
 import gdlsolve
 from gdlsolve import keys, whole
+from gdlsolve.aside import begun
 from gdlsolve.calls import Ended, Refusal, answer
 from gdlsolve.engine import Broken, Turn, history, readable
 from gdlsolve.messages import tree
+from gdlsolve.notes import missing, shown
+from gdlsolve.posting import NOTHING, Told, post
 from gdlsolve.replies import Position, State
 from gdlsolve.streams import StreamFault, put, say
 from gdlsolve.terms import Malformed, trees
 
 RANDOM = "random"
+# These end a match as a key does.
+SIGNALS = (signal.SIGTERM, signal.SIGHUP)
 # For so many seconds a wait lasts at most, before it is begun again.
 BEAT = 0.5
-# An answer is no longer, in bytes.
-MOST_BYTES = 1 << 20
 # So long a player may take for what ends a match, in seconds.
 FAREWELL = 5.0
 
@@ -108,76 +108,6 @@ def now() -> int:
     return time.time_ns() // 1_000_000
 
 
-@dataclass(frozen=True)
-class Told:
-    """What a player answered, why there is nothing, and after how many seconds."""
-
-    text: str | None
-    error: str
-    seconds: float
-
-
-def reached(player: str, seconds: float) -> tuple[http.client.HTTPConnection, str]:
-    """A connection to a player, and its path there."""
-    try:
-        where = urlsplit(player)
-        host, port = where.hostname, where.port or 80
-    except ValueError:
-        host = None
-    if not host or where.scheme != "http":
-        raise ValueError(f"{player} is no http://HOST:PORT")
-    return http.client.HTTPConnection(host, port, timeout=seconds), where.path or "/"
-
-
-def asked(link: http.client.HTTPConnection, path: str, message: str, until: float) -> str:
-    """The answer to a message. At the clock the connection is cut, however slowly it comes."""
-    link.connect()
-    cut = partial(link.sock.shutdown, socket.SHUT_RDWR)
-    clock = threading.Timer(max(until - time.monotonic(), 0.001), cut)
-    clock.daemon = True
-    clock.start()
-    try:
-        link.request("POST", path, message.encode(), {"Content-Type": "text/acl"})
-        answer = link.getresponse()
-        text = answer.read(MOST_BYTES).decode(errors="replace").strip()
-        if answer.status != http.HTTPStatus.OK:
-            raise http.client.HTTPException(f"status {answer.status} {text[:200]}")
-        return text
-    finally:
-        clock.cancel()
-
-
-def post(player: str, message: str, seconds: float) -> Told:
-    """Sends a message to a player, and waits so long for the answer."""
-    begun = time.monotonic()
-    link, path = reached(player, max(seconds, 0.001))
-    text, error = None, ""
-    try:
-        text = asked(link, path, message, begun + seconds)
-    except (OSError, http.client.HTTPException) as fault:
-        error = str(fault) or repr(fault)
-    finally:
-        link.close()
-    took = time.monotonic() - begun
-    if took >= seconds:
-        text, error = None, "late"
-    return Told(text, error, round(took, 3))
-
-
-def begun(work: Callable[[], Told]) -> Future[Told]:
-    """What will have been told, by a thread that is not waited for where the referee ends: a clock may be long."""
-    found: Future[Told] = Future()
-
-    def run() -> None:
-        try:
-            found.set_result(work())
-        except Exception as fault:
-            found.set_exception(fault)
-
-    threading.Thread(target=run, daemon=True).start()
-    return found
-
-
 def told_by(found: Future[Told]) -> Told:
     """What was told, once it is. A key that is struck just before a wait begins is seen at its end, so none is long."""
     while not wait([found], BEAT).done:
@@ -215,7 +145,7 @@ class Referee:
 
         def one(role: str, player: str) -> Told:
             if player == RANDOM:
-                return Told(None, "", 0.0)
+                return NOTHING
             return post(player, message(role), seconds)
 
         both = zip(self.record.roles, self.record.players)
@@ -239,7 +169,7 @@ class Referee:
         for done in range(len(turns)):
             self.tell_turn("PLAY", turns[:done], record.playClock + self.slack)
         return [
-            f"{role}: {one.error or one.text}"
+            f"{role}: {shown(one.error or one.text or '')}"
             for role, player, one in zip(record.roles, record.players, told)
             if player != RANDOM and (one.text or "").lower() != "ready"
         ]
@@ -254,7 +184,7 @@ class Referee:
                     return own, ""
             except Malformed:
                 pass
-            error = f"not legal: {told.text[:200]}"
+            error = f"not legal: {shown(told.text)}"
         return self.dice.choice(legal), error
 
     def turn(self) -> None:
@@ -292,7 +222,7 @@ class Referee:
         self.record.isAborted = True
         with suppress(OSError):
             self.note()
-        with suppress(ValueError):
+        with suppress(ValueError, ImportError):
             self.tell(lambda role: f"(ABORT {self.record.matchId})", FAREWELL)
 
     def led(self, most_turns: int) -> Record:
@@ -389,10 +319,19 @@ def told(record: Record) -> str:
     return "".join([f"{record.matchId}: {record.state} after {count}\n", *goals])
 
 
+def end(number: int, frame: object) -> NoReturn:
+    """Ends the match as a key would, with the status of this signal."""
+    raise SystemExit(128 + number)
+
+
 @keys.quiet
 def main(words: Sequence[str] | None = None) -> int:
     """The command `gdlsolve-manager`."""
     given = options(words)
+    for number in SIGNALS:
+        # What nohup starts goes on.
+        if signal.getsignal(number) is signal.SIG_DFL:
+            signal.signal(number, end)
     try:
         record = resumed(given) if given.resume else made(given)
         file = given.record or given.resume
@@ -402,6 +341,9 @@ def main(words: Sequence[str] | None = None) -> int:
         put(told(record).encode())
     except Refusal as refusal:
         say(f"{given.resume or given.rules}: {refusal}\n{refusal.explanation}")
+        return 1
+    except ModuleNotFoundError as fault:
+        say(missing(fault))
         return 1
     except (StreamFault, ValueError, ImportError, Ended, Broken) as fault:
         say(f"{fault}\n")

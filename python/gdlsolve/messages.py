@@ -14,9 +14,17 @@ from gdlsolve.terms import Malformed, terms, trees
 MOST_BYTES = 2 << 20
 # Words that some servers say for those of the protocol.
 ALIASES = {"ping": "info", "replay": "play", "kill": "abort", "quit": "abort"}
+# The words of a match, whose name stands behind them.
+OF_MATCH = {"start", "play", "stop", "abort"}
 PARTS = {"info": 0, "preview": 2, "start": 5, "play": 2, "stop": 2, "abort": 1}
-# The longest clock, in seconds: a week.
+# A longer clock is taken as this one, in seconds: a week.
 LONGEST_CLOCK = 604_800.0
+# The name of a match is no longer, as each line that is told of it begins with it.
+LONGEST_NAME = 256
+
+
+class Crowded(Exception):
+    """There are too many messages at once."""
 
 
 def tree(text: str) -> str:
@@ -61,6 +69,8 @@ class Message:
             raise Malformed(f"no message begins with {word[:40]}")
         if len(parts) != PARTS[word]:
             raise Malformed(f"{word} has {PARTS[word]} parts, and not {len(parts)}")
+        if word in OF_MATCH and len(parts[0]) > LONGEST_NAME:
+            raise Malformed(f"the name of a match has at most {LONGEST_NAME} characters")
         return cls(word, tuple(parts))
 
 

@@ -12,6 +12,7 @@ import shlex
 import shutil
 import signal
 import subprocess
+import time
 from collections.abc import Callable, Mapping, Sequence
 from dataclasses import dataclass
 from functools import cache
@@ -23,6 +24,9 @@ NAME = "gdlsolve"
 # first, and at most, in seconds.
 FIRST_BEAT = 0.01
 LAST_BEAT = 0.1
+# So often it is looked at what a child has become, in seconds.
+SHORTEST = 0.0002
+SETPRIV = "setpriv"
 PR_SET_PDEATHSIG = 1
 ORPHANED = 70
 
@@ -42,11 +46,25 @@ class Stopped(Exception):
     """The answer is not wanted any more, so the program was killed."""
 
 
+def found(name: str) -> str | None:
+    """The whole path of a program: of one that a path names, or else of the first of that name in the folders of `PATH`. Of these such count
+    alone as have a whole path themselves, so that no program of the current folder is run by chance."""
+    if os.sep in name:
+        return shutil.which(os.path.abspath(name))
+    folders = os.environ.get("PATH", os.defpath).split(os.pathsep)
+    return shutil.which(name, path=os.pathsep.join(filter(os.path.isabs, folders)) or os.devnull)
+
+
+def absolute(command: Sequence[str]) -> list[str]:
+    """A command with the whole path of its program, where there is one."""
+    return [*(found(name) or name for name in command[:1]), *command[1:]]
+
+
 def named() -> list[str]:
-    """The words that start the program that is named, or none where none is."""
+    """The words that start the program that is named, with its whole path, or none where none is."""
     text = os.environ.get(VARIABLE) or ""
     try:
-        return [text] if Path(text).is_file() else shlex.split(text)
+        return absolute([text] if os.sep in text and Path(text).is_file() else shlex.split(text))
     except ValueError as fault:
         raise ImportError(f"{VARIABLE} names no command: {fault}: {text}") from None
 
@@ -65,9 +83,10 @@ def words() -> list[str]:
 
 
 def environment() -> dict[str, str]:
-    """The environment, in which this package is found."""
+    """The environment, in which this package is found. Nothing in it stands for the current folder."""
     package = str(Path(__file__).resolve().parent.parent)
-    path = os.pathsep.join(filter(None, [package, os.environ.get("PYTHONPATH")]))
+    further = [os.path.abspath(folder) for folder in os.environ.get("PYTHONPATH", "").split(os.pathsep) if folder]
+    path = os.pathsep.join([package, *further])
     return {**os.environ, "PYTHONPATH": path}
 
 
@@ -87,25 +106,38 @@ def dies_with(parent: int) -> Callable[[], None]:
 def _setpriv() -> tuple[str, ...]:
     """The words that have a command killed when the one who started it ends, where the system has such. A fork of a large process, which
     is the other way, takes several times as long as the start of a program."""
-    found = shutil.which("setpriv")
-    words = (str(found), "--pdeathsig", "KILL", "--")
-    if found and subprocess.run([*words, "true"], capture_output=True, check=False).returncode == 0:
+    file, nothing = found(SETPRIV), found("true")
+    words = (str(file), "--pdeathsig", "KILL", "--")
+    if file and nothing and subprocess.run([*words, nothing], capture_output=True, check=False).returncode == 0:
         return words
     return ()
 
 
+def _become(child: subprocess.Popen[bytes]) -> None:
+    """Waits until a child that `setpriv` starts is the program, and so ends with this process. Before, nothing may be asked of it."""
+    name = Path(f"/proc/{child.pid}/comm")
+    try:
+        while child.poll() is None and name.read_text() == f"{SETPRIV}\n":
+            time.sleep(SHORTEST)
+    except (FileNotFoundError, ProcessLookupError):
+        pass
+
+
 def started(command: Sequence[str], known: Mapping[str, str] | None) -> subprocess.Popen[bytes]:
-    """A child that ends with this process."""
-    if shutil.which(command[0]) is None:
+    """A child that ends with this process, or before with the thread that has started it."""
+    file = found(command[0])
+    if file is None:
         raise FileNotFoundError(errno.ENOENT, "there is no such program", command[0])
-    return subprocess.Popen(
-        [*_setpriv(), *command],
+    child = subprocess.Popen(
+        [*_setpriv(), file, *command[1:]],
         stdin=subprocess.PIPE,
         stdout=subprocess.PIPE,
         stderr=subprocess.PIPE,
         env=known,
         preexec_fn=None if _setpriv() else dies_with(os.getpid()),
     )
+    _become(child)
+    return child
 
 
 def _outputs(

@@ -103,6 +103,29 @@ class Values:
 
 
 @dataclass(frozen=True)
+class Worth:
+    """What a legal move of a role makes sure of, and the line of play: the turn with it and the first best reply to it, and then best play.
+    There is no line where none was asked for."""
+
+    move: str
+    value: int
+    line: tuple[tuple[str, ...], ...]
+
+    @classmethod
+    def each_of(cls, lines: list[str]) -> "list[Worth]":
+        """What the lines of `values --lines` tell of each legal move, or of none where there is no turn to come."""
+        found: dict[str, tuple[int, list[tuple[str, ...]]]] = {}
+        turns: list[tuple[str, ...]] = []
+        for word, *rest in map(terms, lines):
+            if word == "value" and len(rest) == 2:
+                turns = []
+                found[rest[1]] = int(rest[0]), turns
+            elif word == "line":
+                turns.append(tuple(rest[1:]))
+        return [cls(move, value, tuple(line)) for move, (value, line) in found.items()]
+
+
+@dataclass(frozen=True)
 class Solution:
     """What a role can be sure of, from 0 to 100; the first move in printed order that makes sure of it, or `None` where play is over,
     stuck or not looked at; and the turns of best play, each with a move of each role."""

@@ -1,25 +1,27 @@
-"""Many questions over rules that are read once: to a handle of the library, or to one process of the program, `gdlsolve serve`."""
+"""Many questions over rules that are read once, by a child process: one that has a handle of the library, or one that asks the program,
+`gdlsolve serve`."""
 from __future__ import annotations
 
-import subprocess
+import errno
 import threading
-from collections.abc import Callable, Iterator, Sequence
-from itertools import pairwise
+from collections.abc import Iterator, Sequence
+from contextlib import contextmanager
 from pathlib import Path
 from types import TracebackType
-from typing import IO, Protocol
+from typing import Protocol
 
-from gdlsolve import program
-from gdlsolve.calls import WRITTEN_OUT, Misuse, Reply, Status, by_program, command_of, is_too_wide, library, reply, told_by_library
+from gdlsolve import asking, program
+from gdlsolve.calls import WRITTEN_OUT, Cancelled, Ended, Reply, Status, TimedOut, by_program, bytes_of, check_words, library
 from gdlsolve.commands import Bound, History, history_text, question
-from gdlsolve.handles import Handle, has_handles
+from gdlsolve.engine import BEAT, Broken, Child, Children, Late, Limit
+from gdlsolve.handles import has_handles
 from gdlsolve.replies import Description, Network, Outside, Position, Solution, Standing, Values
-from gdlsolve.terms import COMMENT, Malformed, trees
+from gdlsolve.standing import one_line
 from gdlsolve.whole import reply as written_reply
 from gdlsolve.whole import words as whole_words
 
-# So many bytes of requests are written before a frame is read; a pipe takes twice as many.
-AT_ONCE = 1 << 15
+# So many seconds a child has to give back what its rules took, at the end of a session.
+FORGETS = 1.0
 
 
 def program_words() -> list[str]:
@@ -30,98 +32,13 @@ def program_words() -> list[str]:
     return found
 
 
-def _is_list(word: str) -> bool:
-    """Whether a word begins with a bracket, and so goes on over all lists behind it."""
-    return word.startswith("(")
-
-
-def _is_one(word: str) -> bool:
-    """Whether a session reads a text as one word: lists alone, or what has neither blanks nor brackets."""
-    if ";" in word or "\n" in word:
-        return False
-    if not _is_list(word):
-        return bool(word) and not set(" \t\r()") & set(word)
-    try:
-        return word.endswith(")") and all(map(_is_list, trees(word)))
-    except Malformed:
-        return False
-
-
-def line_of(words: Sequence[str]) -> bytes:
-    """The line that asks for these words. For some there is none, as for an empty one, or two lists that follow each other."""
-    if not all(map(_is_one, words)) or any(_is_list(one) and _is_list(next) for one, next in pairwise(words)):
-        raise Misuse(f"no line has these words: {list(words)!r}")
-    return " ".join(words).encode() + b"\n"
-
-
-def one_line(after: History) -> str:
-    """The text of a history without its comments and line feeds."""
-    return " ".join(COMMENT.sub(" ", history_text(after)).split())
-
-
-class Process:
-    """A process of `gdlsolve serve`, which is asked one request after the other, or of `gdlsolve serve --whole`. `ProcessLookupError` tells
-    that it has ended."""
-
-    def __init__(self, command: Sequence[str], begin: Callable[[], None] | None = None, *, whole: bool = False):
-        words = ["serve", "--whole"] if whole else ["serve"]
-        self.is_whole = whole
-        self._process = subprocess.Popen([*command, *words], stdin=subprocess.PIPE, stdout=subprocess.PIPE, preexec_fn=begin)
-        assert self._process.stdin is not None and self._process.stdout is not None
-        self._requests: IO[bytes] = self._process.stdin
-        self._frames: IO[bytes] = self._process.stdout
-
-    def close(self) -> None:
-        """Ends the process."""
-        self._process.kill()
-        self._process.wait()
-        self._frames.close()
-        try:
-            self._requests.close()
-        except BrokenPipeError:
-            pass
-
-    def _frame(self) -> Reply:
-        """The next frame."""
-        status, size = map(int, self._frames.readline().split())
-        output = self._frames.read(size)
-        if len(output) < size:
-            raise EOFError
-        return Reply(Status(status), output)
-
-    def exchange(self, requests: Sequence[bytes]) -> list[Reply]:
-        """The frames of requests, which are written before the first frame is read. Together they are no longer than a pipe."""
-        try:
-            self._requests.write(b"".join(requests))
-            self._requests.flush()
-            return [self._frame() for _ in requests]
-        except (OSError, ValueError, EOFError):
-            raise ProcessLookupError("the session has ended") from None
-
-    def replies(self, lines: Sequence[bytes]) -> Iterator[Reply]:
-        """The replies to lines, of which as many are written at once as a pipe takes."""
-        start, size = 0, 0
-        for end, line in enumerate(lines):
-            if start < end and size + len(line) > AT_ONCE:
-                yield from self.exchange(lines[start:end])
-                start, size = end, 0
-            size += len(line)
-        yield from self.exchange(lines[start:])
-
-    def stand(self, rules: bytes) -> None:
-        """Takes other rules, which stand from then on."""
-        [told] = self.exchange([b"rules %d\n" % len(rules) + rules])
-        if told.status == Status.NO_MEMORY:
-            raise MemoryError
-
-
 class Asked(Protocol):
     """What a session asks."""
 
-    def stand(self, rules: bytes) -> None:
-        """Takes other rules, which stand from then on."""
+    def stand(self, rules: bytes, limit: Limit) -> None:
+        """Takes other rules, which stand from then on. Where that is broken off those of before stand."""
 
-    def reply(self, words: Sequence[str]) -> Reply:
+    def reply(self, words: Sequence[str], limit: Limit) -> Reply:
         """The reply to words, over the rules that stand."""
 
     def history(self, after: History) -> str:
@@ -131,84 +48,77 @@ class Asked(Protocol):
         """Ends it."""
 
 
-class ByProgram:
-    """A process of the program, which takes only words that a line has. What explains a refusal is asked of another process. Rules that were
-    written out may have more inputs."""
+class _ByChild:
+    """A child process. One whose answer is not waited for any more is ended, and the next question is asked of another."""
 
-    def __init__(self, command: Sequence[str]):
-        self._command = command
-        self._process = Process(command)
+    def __init__(self, children: Children):
+        self._children = children
+        self._child: Child | None = None
         self._rules = b""
 
-    def stand(self, rules: bytes) -> None:
-        """Takes other rules, which stand from then on."""
-        is_whole = rules.startswith(WRITTEN_OUT)
-        if is_whole != self._process.is_whole:
-            self._process.close()
-            self._process = Process(self._command, whole=is_whole)
+    def stand(self, rules: bytes, limit: Limit) -> None:
+        """Takes other rules, which are read where they are first asked over."""
         self._rules = rules
-        self._process.stand(rules)
 
-    def reply(self, words: Sequence[str]) -> Reply:
+    def reply(self, words: Sequence[str], limit: Limit) -> Reply:
         """The reply to words, over the rules that stand."""
-        [told] = self._process.exchange([line_of(words)])
-        if told.status == Status.NO_MEMORY:
-            raise MemoryError
-        rules = self._rules
-        asked = [*words, "--whole"] if self._process.is_whole else words
+        check_words(words)
+        child, self._child = self._child, None
+        self._child, [told] = self._children.ask(child, [words], self._rules, limit)
+        return asking.checked(told)
+
+    def close(self) -> None:
+        """Gives the child back to others, without the memory that its rules took."""
+        child, self._child = self._child, None
+        if child is None:
+            return
+        try:
+            if not child.lives():
+                raise Broken("it has ended")
+            child.ask([["show"]], b"", Limit.of(FORGETS))
+            self._children.give_back(child)
+        except (Late, Broken):
+            child.end()
+
+
+class ByProgram(_ByChild):
+    """A child that asks a process of the program. What explains a refusal is asked of another process."""
+
+    def __init__(self, command: Sequence[str]):
+        self._command = program.absolute(command)
+        if program.found(self._command[0]) is None:
+            raise FileNotFoundError(errno.ENOENT, "there is no such program", self._command[0])
+        super().__init__(asking.children("--session", *self._command))
+
+    def reply(self, words: Sequence[str], limit: Limit) -> Reply:
+        """The reply to words, over the rules that stand. Rules that were written out may have more inputs."""
+        told, rules = super().reply(words, limit), self._rules
+        asked = [*words, "--whole"] if rules.startswith(WRITTEN_OUT) else words
 
         def explain() -> str:
             return by_program(self._command, asked, rules).errors.decode(errors="replace")
 
-        return Reply(told.status, told.output, explain=explain)
+        return told if told.errors else Reply(told.status, told.output, explain=explain)
 
     def history(self, after: History) -> str:
-        """The text of a history, in one line."""
+        """The text of a history, in one line, as a session of the program reads it."""
         return one_line(after)
 
-    def close(self) -> None:
-        """Ends the process."""
-        self._process.close()
 
-
-class ByHandle:
-    """A handle of the library, in this process."""
+class ByLibrary(_ByChild):
+    """A child that asks a handle of the library."""
 
     def __init__(self, file: Path):
         self._file = file
-        self._rules = b""
-        self._handle: Handle | None = None
-        self._has_ended = False
+        super().__init__(asking.of_library(file))
 
-    def stand(self, rules: bytes) -> None:
-        """Takes other rules, which stand from then on."""
-        if self._has_ended:
-            raise ProcessLookupError("the session has ended")
-        old, self._handle = self._handle, Handle(self._file, rules)
-        self._rules = rules
-        if old:
-            old.close()
-
-    def reply(self, words: Sequence[str]) -> Reply:
+    def reply(self, words: Sequence[str], limit: Limit) -> Reply:
         """The reply to words, over the rules that stand."""
-        handle = self._handle
-        if handle is None:
-            raise ProcessLookupError("the session has ended")
-        if words[:1] == ["lint"]:
-            return reply(words, self._rules)
-        command = command_of(words)
-        told = told_by_library(self._file, command, self._rules, *handle.ask(command))
-        return reply(words, self._rules) if is_too_wide(told, words, self._rules) else told
+        return asking.explained(self._file, words, self._rules, super().reply(words, limit))
 
     def history(self, after: History) -> str:
         """The text of a history."""
         return history_text(after)
-
-    def close(self) -> None:
-        """Closes the handle, once it has answered."""
-        self._has_ended = True
-        if self._handle:
-            self._handle.close()
 
 
 def begun(named: str | Path | None) -> Asked:
@@ -218,7 +128,7 @@ def begun(named: str | Path | None) -> Asked:
         return ByProgram([str(named)])
     file = None if program.named() else library()
     if file and has_handles(file):
-        return ByHandle(file)
+        return ByLibrary(file)
     return ByProgram(program_words())
 
 
@@ -229,15 +139,17 @@ class Whole:
         self._asked, self._named = asked, named
         self._refused: Reply | None = None
 
-    def stand(self, rules: bytes) -> None:
+    def stand(self, rules: bytes, limit: Limit) -> None:
         """Takes another game, which stands from then on."""
-        written = by_program([str(self._named)], whole_words(), rules) if self._named else written_reply(rules)
-        self._refused = None if written.status == Status.ANSWER else written
-        self._asked.stand(rules if self._refused else written.output)
+        stopped = asking.stops(limit)
+        written = by_program([str(self._named)], whole_words(), rules, stopped) if self._named else written_reply(rules, stopped=stopped)
+        refused = None if written.status == Status.ANSWER else written
+        self._asked.stand(rules if refused else written.output, limit)
+        self._refused = refused
 
-    def reply(self, words: Sequence[str]) -> Reply:
+    def reply(self, words: Sequence[str], limit: Limit) -> Reply:
         """The reply to words, over what was written out."""
-        return self._refused or self._asked.reply(words)
+        return self._refused or self._asked.reply(words, limit)
 
     def history(self, after: History) -> str:
         """The text of a history, as it is taken here."""
@@ -252,13 +164,18 @@ class Session:
     """Questions over rules that are read once. It is closed by `close`, or at the end of a `with`.
 
     The calls are those of the package without their first argument, and several threads may call at once: each waits for those before
-    it. `ProcessLookupError` tells that the session has ended. A handle of the library answers, in the calling thread; or a process of the
-    program that is named, or where there is no library of its own, and that takes only words that a line of `gdlsolve serve` has. With
-    `whole` the rules are a game as it is found, which the program writes out.
+    it. `ProcessLookupError` tells that the session has ended. A child process answers, by a handle of the library, or by the program that is
+    named, or where there is no library by that of the package. With `whole` the rules are a game as it is found, which is written out.
+
+    A question has so many seconds as its `timeout` says, or else that of the session, from when it is asked; `TimedOut` tells that they were
+    over. `cancel` gives up what other threads have asked, which `Cancelled` tells them. Behind both, and behind a key, further questions are
+    answered as ever: the child that searched is ended, and another one reads the rules.
     """
 
-    def __init__(self, rules: bytes | str, program: str | Path | None = None, *, whole: bool = False):
+    def __init__(self, rules: bytes | str, program: str | Path | None = None, *, whole: bool = False, timeout: float | None = None):
         self._lock = threading.Lock()
+        self._timeout = timeout
+        self._given_up, self._closed = threading.Event(), threading.Event()
         asked = begun(program)
         self._asked: Asked = Whole(asked, program) if whole else asked
         try:
@@ -274,59 +191,123 @@ class Session:
         self.close()
 
     def close(self) -> None:
-        """Ends the session."""
-        self._asked.close()
+        """Ends the session. What is still asked is given up."""
+        self._closed.set()
+        with self._lock:
+            self._asked.close()
 
-    def stand(self, rules: bytes | str) -> None:
+    def cancel(self) -> None:
+        """Gives up all that other threads have asked and that is not answered yet."""
+        given_up, self._given_up = self._given_up, threading.Event()
+        given_up.set()
+
+    def _begin(self, limit: Limit) -> None:
+        """Waits for the questions before this one."""
+        while not self._lock.acquire(timeout=BEAT):
+            if limit.left() <= 0:
+                raise Late
+
+    @contextmanager
+    def _turn(self, timeout: float | None) -> Iterator[Limit]:
+        """The turn of a question, and how long it may take."""
+        seconds, given_up = self._timeout if timeout is None else timeout, self._given_up
+        limit = Limit.of(seconds, given_up).within(self._closed)
+        try:
+            self._begin(limit)
+            try:
+                if self._closed.is_set():
+                    raise Late
+                yield limit
+            finally:
+                self._lock.release()
+        except (Late, program.Stopped):
+            raise self._why(seconds, given_up) from None
+        except Broken as fault:
+            raise Ended(str(fault)) from None
+
+    def _why(self, seconds: float | None, given_up: threading.Event) -> Exception:
+        """Why a question has no answer."""
+        if self._closed.is_set():
+            return ProcessLookupError("the session has ended")
+        return Cancelled("the question was given up") if given_up.is_set() else TimedOut(f"no answer within {seconds} s")
+
+    def stand(self, rules: bytes | str, *, timeout: float | None = None) -> None:
         """Takes other rules, which stand from then on."""
-        with self._lock:
-            self._asked.stand(rules.encode() if isinstance(rules, str) else bytes(rules))
+        with self._turn(timeout) as limit:
+            self._asked.stand(bytes_of(rules), limit)
 
-    def reply(self, words: Sequence[str]) -> Reply:
-        """The reply to the words of the program, over the rules that stand. It raises `MemoryError` for want of memory alone."""
-        with self._lock:
-            return self._asked.reply(words)
+    def reply(self, words: Sequence[str], *, timeout: float | None = None) -> Reply:
+        """The reply to the words of the program, over the rules that stand. It raises `MemoryError` for want of memory."""
+        with self._turn(timeout) as limit:
+            return self._asked.reply(words, limit)
 
-    def _answer(self, words: Sequence[str]) -> list[str]:
+    def _answer(self, words: Sequence[str], timeout: float | None) -> list[str]:
         """The lines of the answer to a command, where it is one."""
-        return self.reply(words).lines()
+        return self.reply(words, timeout=timeout).lines()
 
-    def show(self) -> tuple[str, ...]:
+    def show(self, *, timeout: float | None = None) -> tuple[str, ...]:
         """The canonical text of each tree."""
-        return tuple(self._answer(["show"]))
+        return tuple(self._answer(["show"], timeout))
 
-    def check(self) -> Description:
+    def check(self, *, timeout: float | None = None) -> Description:
         """What the rules have."""
-        return Description.of(self._answer(["check"]))
+        return Description.of(self._answer(["check"], timeout))
 
-    def net(self) -> Network:
+    def net(self, *, timeout: float | None = None) -> Network:
         """How large the network of the rules is."""
-        return Network.of(self._answer(["net"]))
+        return Network.of(self._answer(["net"], timeout))
 
-    def _after(self, words: list[str], after: History) -> list[str]:
+    def _after(self, words: list[str], after: History, timeout: float | None) -> list[str]:
         """The lines of the answer to a command after a history."""
         text = self._asked.history(after)
-        return self._answer([*words, "--after", text] if text else words)
+        return self._answer([*words, "--after", text] if text else words, timeout)
 
-    def moves(self, after: History = "") -> Position:
+    def moves(self, after: History = "", *, timeout: float | None = None) -> Position:
         """How play stands after a history."""
-        return Position.of(self._after(["moves"], after))
+        return Position.of(self._after(["moves"], after, timeout))
 
-    def state(self, after: History = "") -> Standing:
+    def state(self, after: History = "", *, timeout: float | None = None) -> Standing:
         """How play stands after a history, and which base propositions hold."""
-        return Standing.of(self._after(["state"], after))
+        return Standing.of(self._after(["state"], after, timeout))
 
-    def solve(self, role: str, depth: int, *, at_bound: Bound = "zero", unfinished: int | None = None, after: History = "") -> Solution:
+    def solve(
+        self,
+        role: str,
+        depth: int,
+        *,
+        at_bound: Bound = "zero",
+        unfinished: int | None = None,
+        after: History = "",
+        timeout: float | None = None,
+    ) -> Solution:
         """What a role can be sure of, as `gdlsolve.solve` tells it."""
-        return Solution.of(self._after(["solve", *question(role, depth, at_bound, unfinished)], after))
+        return Solution.of(self._after(["solve", *question(role, depth, at_bound, unfinished)], after, timeout))
 
     def solve_within(
-        self, role: str, depth: int, low: int, high: int, *, at_bound: Bound = "zero", unfinished: int | None = None, after: History = ""
+        self,
+        role: str,
+        depth: int,
+        low: int,
+        high: int,
+        *,
+        at_bound: Bound = "zero",
+        unfinished: int | None = None,
+        after: History = "",
+        timeout: float | None = None,
     ) -> Solution | Outside:
         """The same between two bounds, as `gdlsolve.solve_within` tells it."""
         words = ["solve", "--window", f"{low}:{high}", *question(role, depth, at_bound, unfinished)]
-        return Outside.of(self._after(words, after))
+        return Outside.of(self._after(words, after, timeout))
 
-    def values(self, role: str, depth: int, *, at_bound: Bound = "zero", unfinished: int | None = None, after: History = "") -> Values:
+    def values(
+        self,
+        role: str,
+        depth: int,
+        *,
+        at_bound: Bound = "zero",
+        unfinished: int | None = None,
+        after: History = "",
+        timeout: float | None = None,
+    ) -> Values:
         """What each legal move of a role makes sure of, as `gdlsolve.values` tells it."""
-        return Values.of(self._after(["values", *question(role, depth, at_bound, unfinished)], after))
+        return Values.of(self._after(["values", *question(role, depth, at_bound, unfinished)], after, timeout))

@@ -8,7 +8,6 @@ is won or lost already.
 
 from __future__ import annotations
 
-import itertools
 import math
 import random
 import threading
@@ -16,8 +15,8 @@ import time
 from collections.abc import Mapping, Sequence
 from dataclasses import dataclass, field
 
-from gdlsolve.calls import Misuse
 from gdlsolve.engine import Broken, Engine, Late, Limit, Playouts, Turn
+from gdlsolve.gates import Gates
 from gdlsolve.replies import Position, State
 
 # The goals of a match that is broken off, and after so many turns one is.
@@ -33,22 +32,40 @@ QUICK, SLOW, TOO_SLOW = 0.002, 0.01, 0.5
 # So many matches go on at once at most, twice as many where a turn of them was quicker than the
 # first of these times, and half as many where it was slower than the second, in seconds.
 MOST_AT_ONCE = 16
-# So many matches are played behind a new position where the child process plays them by itself.
-# What it needs for that may take so long to be made, in seconds, and this part of the time.
-BY_CHILD = 32
-PATIENCE, PART = 4.0, 0.25
+# So many matches are played behind a new position where they go over gates. These are built before any match is played for so long at
+# most, in seconds, and from then on by turns with matches that the solver leads.
+BY_GATES = 32
+AT_FIRST = 20.0
 QUICK_TURN, SLOW_TURN = 0.02, 0.2
 # So often the tree is gone through for a question, and so many positions are added, at most.
 MOST_PASSES = 20_000
 MOST_NODES = 5_000
 # The greatest depth that the solver takes.
 MOST_DEPTH = 64
+# Longer than any work goes on, in seconds.
+FOREVER = 1e7
+
+
+class Stop(threading.Event):
+    """What ends work: that it is set, or that a time has come, by `monotonic`, which may be put off."""
+
+    def __init__(self, until: float):
+        super().__init__()
+        self.until = until
+
+    def is_set(self) -> bool:
+        """Whether the work is to end."""
+        return super().is_set() or time.monotonic() >= self.until
+
+    def limit(self, grace: float = 0.0) -> Limit:
+        """How long an answer is waited for: until the work ends, and a grace longer."""
+        return Limit(time.monotonic() + FOREVER, self, grace)
 
 
 @dataclass(frozen=True)
 class Question:
-    """The role that moves, the turns so far and how play stands behind them; when there has to be
-    an answer, and the greatest depth to search."""
+    """The role that moves, the turns so far and how play stands behind them; until when it is thought
+    of, and the greatest depth to search."""
 
     role: str
     turns: tuple[Turn, ...]
@@ -60,14 +77,6 @@ class Question:
     def legal(self) -> tuple[str, ...]:
         """The moves of the role."""
         return self.here.legal[self.role]
-
-    def replies(self, move: str, most: int) -> list[Turn]:
-        """The turns with this move, or none where they are more than so many."""
-        legal: dict[str, Turn] = {**self.here.legal, self.role: (move,)}
-        lists = list(legal.values())
-        if math.prod(map(len, lists)) > most:
-            return []
-        return list(itertools.product(*lists))
 
 
 class Seat:
@@ -133,24 +142,33 @@ class Node:
         for move, (role, seat) in zip(turn, self.seats.items()):
             seat.note(move, found.goals.get(role, 0), found.matches)
 
+    def size(self) -> int:
+        """How many positions stand behind this one."""
+        count, left = 0, [self]
+        while left:
+            behind = list(left.pop().next.values())
+            count += len(behind)
+            left += behind
+        return count
+
 
 class Simulation:
     """The matches behind a question. The tree may have grown before, behind earlier turns."""
 
-    def __init__(
-        self, question: Question, engine: Engine, dice: random.Random, root: Node | None = None
-    ):
-        self.question, self.engine, self.dice = question, engine, dice
+    def __init__(self, question: Question, engine: Engine, gates: Gates, dice: random.Random, root: Node | None = None):
+        self.question, self.engine, self.gates, self.dice = question, engine, gates, dice
         self.root = root or Node(question.here)
         # What a short search said of it does not say by which move.
         self.root.goals = None
-        self.nodes = 0
+        self.nodes = self.root.size()
         # How many turns the short search looks ahead, or 0 where there is none.
         self.ahead = 1
-        # How many matches go on at once, and how many there were in all.
-        self.at_once = BY_CHILD
-        self.by_child = True
+        # How many matches that the solver leads go on at once, and how many matches there were in all.
+        self.at_once = MOST_AT_ONCE // 2
         self.matches = 0
+        # Whether a move is waited for, and the one that was answered, behind which is thought on.
+        self.is_awaited = False
+        self.answered: str | None = None
 
     @property
     def seat(self) -> Seat:
@@ -167,30 +185,19 @@ class Simulation:
         tried = [move for move, times in seat.tried.items() if times]
         return sorted(tried, key=lambda move: (seat.tried[move], seat.mean(move)), reverse=True)
 
-    def limit(self, stop: threading.Event) -> Limit:
-        """Until when an answer on positions is waited for."""
-        return Limit(self.question.until + GRACE, stop, GRACE)
-
     def longest(self, histories: Sequence[list[Turn]]) -> bool:
         """Whether matches with these turns are broken off."""
         return any(len(turns) >= len(self.question.turns) + MOST_TURNS for turns in histories)
 
-    def asked(self, turns: list[Turn], stop: threading.Event) -> tuple[Position, Outcome | None]:
-        """How play stands after these turns, and what matches bring that go on at random, where the
-        child process plays them."""
-        if self.by_child:
-            left = max(self.question.until - time.monotonic(), 0)
-            seconds = min(left * PART, PATIENCE)
-            asked = Playouts(self.at_once, MOST_TURNS, UNFINISHED, self.dice.getrandbits(32), seconds)
-            try:
-                here, goals = self.engine.played(turns, asked, self.limit(stop))
-                return here, Outcome(goals, self.at_once)
-            except Misuse:
-                self.by_child, self.at_once = False, MOST_AT_ONCE // 2
-        return self.engine.positions([turns], self.limit(stop))[0], None
+    def by_gates(self, turns: list[Turn]) -> Outcome | None:
+        """What matches bring that go on at random over gates, where there are such."""
+        if not self.gates.are_there:
+            return None
+        goals = self.gates.goals(turns, Playouts(BY_GATES, MOST_TURNS, UNFINISHED, self.dice.getrandbits(32)))
+        return None if goals is None else Outcome(goals, BY_GATES)
 
-    def goals(self, here: Position, turns: list[Turn], stop: threading.Event) -> Outcome | None:
-        """What matches bring that go on at random, turn by turn all at once, if they are not
+    def by_turns(self, here: Position, turns: list[Turn], stop: Stop) -> Outcome | None:
+        """What matches bring that the solver leads, turn by turn all at once, if they are not
         stopped."""
         count = self.at_once
         going = [(here, list(turns)) for _ in range(count)]
@@ -201,7 +208,7 @@ class Simulation:
             for position, each in going:
                 each.append(tuple(map(self.dice.choice, position.legal.values())))
             begun = time.monotonic()
-            found = self.engine.positions([each for _, each in going], self.limit(stop))
+            found = self.engine.positions([each for _, each in going], stop.limit(GRACE))
             self.measure(time.monotonic() - begun)
             ended += [position.goals for position in found if position.state is not State.OPEN]
             both = zip(found, [each for _, each in going])
@@ -216,10 +223,10 @@ class Simulation:
         elif took > SLOW_TURN:
             self.at_once = max(self.at_once // 2, 1)
 
-    def look(self, turns: list[Turn], stop: threading.Event) -> int | None:
+    def look(self, turns: list[Turn], stop: Stop) -> int | None:
         """The value that a short search tells."""
         asked, begun = self.question, time.monotonic()
-        limit = Limit(min(asked.until + GRACE, begun + TOO_SLOW), stop, GRACE)
+        limit = Limit(begun + TOO_SLOW, stop, GRACE)
         try:
             value = self.engine.solve(asked.role, self.ahead, turns, UNFINISHED, limit).value
         except (Late, Broken):
@@ -230,9 +237,7 @@ class Simulation:
         self.ahead = min(max(self.ahead + change, 1), asked.most_depth)
         return value
 
-    def known(
-        self, here: Position, turns: list[Turn], stop: threading.Event
-    ) -> dict[str, int] | None:
+    def known(self, here: Position, turns: list[Turn], stop: Stop) -> dict[str, int] | None:
         """What each role has, where play is over, or a short search says who wins."""
         if here.state is not State.OPEN:
             return {role: here.goals.get(role, 0) for role in self.root.here.legal}
@@ -241,22 +246,27 @@ class Simulation:
             return None
         return {each: value if each == self.question.role else 100 - value for each in here.legal}
 
-    def grown(
-        self, node: Node, turn: Turn, turns: list[Turn], stop: threading.Event
-    ) -> tuple[Node, Outcome | None]:
+    def grown(self, node: Node, turn: Turn, turns: list[Turn], stop: Stop) -> tuple[Node, Outcome | None]:
         """The position behind a turn, which is new in the tree, and what matches behind it bring."""
-        here, found = self.asked(turns, stop)
+        here = self.engine.positions([turns], stop.limit(GRACE))[0]
         made = Node(here, self.known(here, turns, stop))
         if self.nodes < MOST_NODES:
             node.next[turn] = made
             self.nodes += 1
         if made.goals is not None:
             return made, None
-        found = found or self.goals(here, turns, stop)
+        found = self.by_gates(turns) or self.by_turns(here, turns, stop)
         self.matches += found.matches if found else 0
         return made, found
 
-    def grow(self, stop: threading.Event) -> None:
+    def turn(self, node: Node) -> Turn:
+        """The turn to be tried next in a position. A move that was answered stands."""
+        found = node.turn(self.dice)
+        if node is not self.root or self.answered is None:
+            return found
+        return tuple(self.answered if role == self.question.role else move for role, move in zip(node.seats, found))
+
+    def grow(self, stop: Stop) -> None:
         """Goes through the tree to a new position, and puts down what matches behind it brought."""
         node, turns = self.root, list(self.question.turns)
         path: list[tuple[Node, Turn]] = []
@@ -264,20 +274,33 @@ class Simulation:
         while node.goals is None and found is None:
             if stop.is_set():
                 return
-            turn = node.turn(self.dice)
+            turn = self.turn(node)
             path.append((node, turn))
             turns.append(turn)
             if turn in node.next:
                 node = node.next[turn]
             else:
                 node, found = self.grown(node, turn, turns, stop)
-        found = found or Outcome.of(node.goals or {}, self.at_once)
+        found = found or Outcome.of(node.goals or {}, BY_GATES if self.gates.are_there else self.at_once)
         for place, turn in path:
             place.note(turn, found)
 
-    def run(self, stop: threading.Event) -> None:
+    def build(self, took: float, stop: Stop) -> None:
+        """Has the gates built: as long as the last match took, or at first for longer where no move is waited for."""
+        spent = 0.0
+        while self.gates.are_wanted() and not stop.is_set():
+            at_first = self.gates.spent < AT_FIRST and not self.is_awaited
+            if spent > took and not at_first:
+                return
+            spent += self.gates.build()
+
+    def run(self, stop: Stop) -> None:
         """Plays until it is stopped, or more matches would say no more."""
+        took = 0.0
         for _ in range(MOST_PASSES):
+            self.build(took, stop)
             if stop.is_set():
                 return
+            begun = time.monotonic()
             self.grow(stop)
+            took = time.monotonic() - begun

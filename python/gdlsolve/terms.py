@@ -5,6 +5,8 @@ from functools import lru_cache
 
 TOKEN = re.compile(r"[()]|[^\t-\r ();]+")
 COMMENT = re.compile(r";[^\n]*")
+# Longer lines are not kept: one may be a whole message.
+LONGEST_KEPT = 256
 
 
 class Malformed(ValueError):
@@ -49,10 +51,13 @@ def _parts(line: str) -> Iterator[str]:
         yield line[start:]
 
 
-@lru_cache(1024)
-def _known(line: str) -> tuple[str, ...]:
-    """The parts of a line. Answers over one game have few lines, and these again and again."""
+def _taken_apart(line: str) -> tuple[str, ...]:
+    """The parts of a line."""
     return tuple(_parts(line) if "(" in line else line.split())
+
+
+# Answers over one game have few lines, and these again and again.
+_known = lru_cache(1024)(_taken_apart)
 
 
 def terms(line: str) -> list[str]:
@@ -61,4 +66,4 @@ def terms(line: str) -> list[str]:
     >>> terms("line 1 (mark 1 1) noop")
     ['line', '1', '(mark 1 1)', 'noop']
     """
-    return list(_known(line))
+    return list(_known(line) if len(line) <= LONGEST_KEPT else _taken_apart(line))

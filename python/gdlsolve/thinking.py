@@ -11,18 +11,16 @@ from __future__ import annotations
 import random
 import threading
 import time
-from collections.abc import Callable, Iterator, Sequence
+from collections.abc import Callable, Iterator
 from contextlib import contextmanager
-from dataclasses import dataclass, field, replace
+from dataclasses import dataclass, replace
 
 from gdlsolve.calls import Misuse, Refusal
-from gdlsolve.engine import Broken, Engine, Late, Limit, Turn
-from gdlsolve.replies import Solution, State
-from gdlsolve.simulation import UNFINISHED, Node, Question, Simulation
+from gdlsolve.engine import Broken, Engine, Late, behind, readable
+from gdlsolve.gates import Gates
+from gdlsolve.replies import Solution, State, Values
+from gdlsolve.simulation import UNFINISHED, Node, Question, Simulation, Stop
 
-# So many moves are compared with the search's own at each depth, each over so many replies at most.
-COMPARED_MOVES = 3
-COMPARED_REPLIES = 16
 # So often it is seen whether an answer is still waited for, in seconds.
 BEAT = 0.1
 
@@ -47,28 +45,24 @@ class Search:
         self.engine = engine
         self.simulation = simulation
         self.deepest: tuple[int, Solution] | None = None
-        self.confirmed: tuple[int, str] | None = None
-        self.held: str | None = None
-        self.weaker: set[tuple[int, str]] = set()
+        # The moves of the greatest value at the last depth that settled nothing.
+        self.equal: tuple[str, ...] = ()
         self.settled = threading.Event()
 
-    def solve(
-        self, depth: int, unfinished: int, stop: threading.Event, more: Sequence[Turn] = ()
-    ) -> Solution:
-        """The answer of the solver behind the turns of the question and further ones."""
-        asked, turns = self.question, [*self.question.turns, *more]
-        limit = Limit(asked.until, stop)
-        return self.engine.solve(asked.role, depth, turns, unfinished, limit)
+    def solve(self, depth: int, unfinished: int, stop: Stop) -> Solution:
+        """The answer of the solver behind the turns of the question."""
+        asked = self.question
+        return self.engine.solve(asked.role, depth, asked.turns, unfinished, stop.limit())
 
-    def is_over(self, found: Solution, depth: int, stop: threading.Event) -> bool:
+    def is_over(self, found: Solution, depth: int, stop: Stop) -> bool:
         """Whether play ends with the line of an answer."""
         if len(found.line) < depth:
             return True
         turns = [*self.question.turns, *found.line]
-        here = self.engine.moves(turns, Limit(self.question.until, stop))
+        here = self.engine.moves(turns, stop.limit())
         return here.state is not State.OPEN
 
-    def settle(self, found: Solution, depth: int, stop: threading.Event) -> Solution | None:
+    def settle(self, found: Solution, depth: int, stop: Stop) -> Solution | None:
         """The answer that no further turn changes, where there is one at this depth."""
         if found.value in (0, 100):
             return found
@@ -77,26 +71,17 @@ class Search:
         sure = self.solve(depth, 0, stop)
         return sure if self.solve(depth, 100, stop).value == sure.value else None
 
-    def is_as_good(self, move: str, depth: int, value: int, stop: threading.Event) -> bool:
-        """Whether a move is worth as much as the search's own at this depth."""
-        replies = self.question.replies(move, COMPARED_REPLIES)
-        return bool(replies) and all(
-            self.solve(depth - 1, UNFINISHED, stop, [turn]).value >= value for turn in replies
-        )
-
-    def confirm(self, depth: int, found: Solution, stop: threading.Event) -> None:
-        """Notes the best move of random play that is worth as much as the search's own. Where that
-        is sure of more than half, it stands."""
+    def equals(self, found: Solution, depth: int, stop: Stop) -> tuple[str, ...]:
+        """The moves that are worth as much as that of an answer at its depth. Where it is sure of more
+        than half, that stands alone."""
         if found.value > UNFINISHED:
-            return
-        for move in self.simulation.ranking()[:COMPARED_MOVES]:
-            if (depth, move) in self.weaker:
-                continue
-            is_known = move == found.move or self.confirmed == (depth, move)
-            if is_known or self.is_as_good(move, depth, found.value, stop):
-                self.confirmed = depth, move
-                return
-            self.weaker.add((depth, move))
+            return tuple(filter(None, [found.move]))
+        asked = self.question
+        words = ["values", "--role", asked.role, "--depth", str(depth), "--unfinished", str(UNFINISHED)]
+        lines = self.engine.ask([*words, *behind(asked.turns)], stop.limit())
+        with readable():
+            values = Values.of(lines)
+        return tuple(move for move, value in values.moves.items() if value == values.value)
 
     def kept(self, found: Solution) -> Solution:
         """An answer, with the move that was already sure of this at less depth, where one was."""
@@ -104,7 +89,7 @@ class Search:
             return replace(found, move=self.deepest[1].move)
         return found
 
-    def deepen(self, stop: threading.Event) -> None:
+    def deepen(self, stop: Stop) -> None:
         """Searches deeper and deeper, to the greatest depth or a settled value."""
         for depth in range(1, self.question.most_depth + 1):
             found = self.solve(depth, UNFINISHED, stop)
@@ -114,29 +99,34 @@ class Search:
                 self.settled.set()
                 return
             found = self.kept(found)
+            self.equal = self.equals(found, depth, stop)
             self.deepest = depth, found
-            self.held = found.move
-            self.confirm(depth, found, stop)
-            if self.confirmed is not None and self.confirmed[0] == depth:
-                self.held = self.confirmed[1]
 
-    def run(self, stop: threading.Event) -> None:
-        """Deepens, and then looks again at what random play speaks for, until it is stopped."""
+    def run(self, stop: Stop) -> None:
+        """Deepens until it is stopped. A value that is settled ends all work."""
         self.deepen(stop)
-        while self.deepest and not self.settled.is_set() and not stop.wait(0.1):
-            self.confirm(*self.deepest, stop)
+        if self.settled.is_set():
+            stop.set()
+
+    def preferred(self) -> str | None:
+        """Of the moves of the greatest value the one that random matches speak for; any where these say
+        nothing."""
+        for move in self.simulation.ranking():
+            if move in self.equal:
+                return move
+        return self.simulation.dice.choice(self.equal) if self.equal else None
 
     def choice(self) -> Choice | None:
         """What the search says, where it finished a depth."""
+        # What is settled stands there before it is said to be so.
+        is_settled = self.settled.is_set()
         if self.deepest is None:
             return None
-        (depth, found), is_settled = self.deepest, self.settled.is_set()
+        depth, found = self.deepest
         move = found.move
-        if is_settled and found.value == 0:
-            # All is lost: what was not yet lost with one turn less holds out longest.
-            move = self.held or move
-        elif not is_settled and self.confirmed is not None and self.confirmed[0] == depth:
-            move = self.confirmed[1]
+        # Where all is lost, what was not yet lost with one turn less holds out longest.
+        if not is_settled or found.value == 0:
+            move = self.preferred() or move
         if move is None:
             return None
         return Choice(move, found.value, depth, is_settled, self.simulation.tried(move))
@@ -154,24 +144,26 @@ def giving_up() -> Iterator[None]:
 @dataclass
 class Thinking:
     """The work on a question, in two threads with an engine each, until it is stopped. Random play
-    may go on with a tree that it has grown before."""
+    may go on with a tree that it has grown before, and over gates that were built before."""
 
     question: Question
     deep: Engine
     quick: Engine
     dice: random.Random
     root: Node | None = None
-    stop: threading.Event = field(default_factory=threading.Event)
+    gates: Gates | None = None
 
     def __post_init__(self) -> None:
-        self.simulation = Simulation(self.question, self.quick, self.dice, self.root)
+        self.stop = Stop(self.question.until)
+        gates = self.gates or Gates(self.quick)
+        self.simulation = Simulation(self.question, self.quick, gates, self.dice, self.root)
         self.search = Search(self.question, self.deep, self.simulation)
         runs = (self.search.run, self.simulation.run)
         self.threads = [threading.Thread(target=self.work, args=(run,), daemon=True) for run in runs]
         for thread in self.threads:
             thread.start()
 
-    def work(self, run: Callable[[threading.Event], None]) -> None:
+    def work(self, run: Callable[[Stop], None]) -> None:
         """Does a part of the work in its thread."""
         with giving_up():
             run(self.stop)
@@ -180,19 +172,36 @@ class Thinking:
         """Whether more may be found than is."""
         return not self.deep.closed.is_set() and any(thread.is_alive() for thread in self.threads)
 
-    def wait(self, until: float) -> None:
+    def is_of_use(self) -> bool:
+        """Whether it has found all that there is, or goes on."""
+        return self.search.settled.is_set() or self.goes_on()
+
+    def wait(self, until: float, for_move: bool = True) -> None:
         """Waits until the value is settled, the time is over, the engine is closed, or both threads
-        have given up."""
+        have given up. For a move matches at random are played at once, also while there are no gates."""
+        self.simulation.is_awaited = for_move
         while self.goes_on():
             left = until - time.monotonic()
             if left <= 0 or self.search.settled.wait(min(left, BEAT)):
-                return
+                break
+        self.simulation.is_awaited = False
+
+    def best(self) -> Choice:
+        """What the work has come to so far. Where that is nothing any move is as good."""
+        found = self.search.choice()
+        if found is not None and found.move in self.question.legal:
+            return found
+        best = [*self.simulation.ranking(), self.dice.choice(self.question.legal)][0]
+        return Choice(best, None, 0, False, self.simulation.tried(best))
+
+    def for_move(self, until: float) -> Choice:
+        """What to play at this time. Then the work goes on, behind that move."""
+        self.wait(until)
+        found = self.best()
+        self.simulation.answered = found.move
+        return found
 
     def choice(self) -> Choice:
         """Ends the work, and says what it came to."""
         self.stop.set()
-        found = self.search.choice()
-        if found is not None and found.move in self.question.legal:
-            return found
-        best = [*self.simulation.ranking(), *self.question.legal][0]
-        return Choice(best, None, 0, False, self.simulation.tried(best))
+        return self.best()

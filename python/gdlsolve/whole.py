@@ -6,6 +6,7 @@ from __future__ import annotations
 
 import re
 from collections.abc import Callable, Sequence
+from dataclasses import dataclass, field
 from functools import lru_cache
 from pathlib import Path
 
@@ -86,19 +87,23 @@ def playable(rules: bytes, ask: Ask) -> bytes:
     return stated
 
 
+@dataclass(frozen=True)
+class _Asked:
+    """What answers, and the rules that it writes out. It may be that it is stopped, and then there is no reply that could be kept."""
+
+    answers: Path | tuple[str, ...]
+    rules: bytes
+    tighten: bool
+    stopped: calls.Stops = field(compare=False)
+
+
 @lru_cache(8)
-def _reply(answers: Path | tuple[str, ...], rules: bytes, tighten: bool) -> Reply:
+def _reply(asked: _Asked) -> Reply:
     """The reply of what answers."""
-    return calls.reply(words(tighten), rules)
+    return calls.reply(words(asked.tighten), asked.rules, asked.stopped)
 
 
-def reply(rules: bytes | str, tighten: bool = False) -> Reply:
+def reply(rules: bytes | str, tighten: bool = False, stopped: calls.Stops = None) -> Reply:
     """The reply that has rules written out. It is asked for once, also where many calls are over them."""
     found = calls.answers()
-    text = rules.encode() if isinstance(rules, str) else bytes(rules)
-    return _reply(found if isinstance(found, Path) else tuple(found), text, tighten)
-
-
-def unroll(rules: bytes | str, *, tighten: bool = False) -> str:
-    """A game as it is found, written out as rules that every command takes. With `tighten` only what play can come to is stated."""
-    return "".join(f"{line}\n" for line in reply(rules, tighten).lines())
+    return _reply(_Asked(found if isinstance(found, Path) else tuple(found), calls.bytes_of(rules), tighten, stopped))

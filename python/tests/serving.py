@@ -11,12 +11,15 @@ import urllib.error
 import urllib.request
 from collections.abc import Callable, Sequence
 from contextlib import suppress
+from dataclasses import replace
 from pathlib import Path
 from typing import Any
-from unittest import TestCase
+from unittest import SkipTest, TestCase
 
+from gdlsolve.door import Door
 from gdlsolve.engine import SESSION_COMMAND, Broken, Children, Engine, Limit
-from gdlsolve.player import Options, Player, Server
+from gdlsolve.match import Options
+from gdlsolve.player import Player
 from tests import ENDLESS, ENDLESS_RULES, PROGRAM, TOP
 
 HANGING = Path(__file__).with_name("hanging.py")
@@ -55,8 +58,18 @@ def is_alive(process: int) -> bool:
 
 def started_by(process: int) -> list[int]:
     """The processes that a process has started."""
-    lists = Path(f"/proc/{process}/task").glob("*/children")
-    return [int(child) for text in lists for child in text.read_text().split()]
+    found: list[int] = []
+    for children in Path(f"/proc/{process}/task").glob("*/children"):
+        # A thread may end at any time.
+        with suppress(FileNotFoundError, ProcessLookupError):
+            found += map(int, children.read_text().split())
+    return found
+
+
+def all_started_by(process: int) -> set[int]:
+    """Those, and all that they have started."""
+    own = started_by(process)
+    return set(own).union(*map(all_started_by, own))
 
 
 def until(test: Callable[[], object], seconds: float = 180.0) -> bool:
@@ -119,12 +132,17 @@ class Asking(TestCase):
 class Served:
     """A player that serves while a test runs."""
 
-    def __init__(self, test: TestCase, command: Sequence[str] | None = None, **options: Any):
+    def __init__(self, test: TestCase, command: Sequence[str] | None = None, door: Door = Door(), **options: Any):
+        try:
+            from gdlsolve.listening import Server
+        except ModuleNotFoundError as fault:
+            raise SkipTest(f"there is no {fault.name} (python3-{fault.name})") from None
         self.player = Player(Options(is_quiet=True, **options), command or SESSIONS)
-        self.server = Server("127.0.0.1", 0, self.player)
-        self.url = f"http://127.0.0.1:{self.server.server_address[1]}"
-        thread = threading.Thread(target=self.server.serve_forever, args=(0.05,), daemon=True)
-        thread.start()
+        self.faults: list[dict[str, Any]] = []
+        self.server = Server(replace(door, port=0), self.player.options.matches, self.player.answer, self.faults.append)
+        self.port = self.server.port
+        self.url = f"http://127.0.0.1:{self.port}"
+        self.server.__enter__()
         test.addCleanup(self.close)
         self.warm()
 
@@ -139,9 +157,8 @@ class Served:
 
     def close(self) -> None:
         """Ends the player."""
-        self.server.shutdown()
-        self.server.server_close()
         self.player.close()
+        self.server.__exit__()
 
     def says(self, message: str) -> str:
         """The answer to a message that is one."""

@@ -9,6 +9,7 @@ import importlib.util
 import io
 import json
 import os
+import re
 import shutil
 import sys
 import tempfile
@@ -16,12 +17,14 @@ import threading
 import time
 import unittest
 from collections.abc import Callable
+from http.server import BaseHTTPRequestHandler, ThreadingHTTPServer
 from pathlib import Path
 from typing import Any
 from unittest.mock import patch
 
 from gdlsolve.engine import OWN_COMMAND, Pool
-from gdlsolve.page.server import Desk, Server
+from gdlsolve.page.desk import Desk
+from gdlsolve.page.server import QUESTIONS, Server
 from tests import ENDLESS, ENDLESS_RULES, PROGRAM, TOP, needs_program
 from tests.found import FOUND, LISTED
 from tests.serving import until
@@ -83,6 +86,48 @@ const kinds = "button, a[href], input, textarea, select, [role=tree], progress";
 return [...document.querySelectorAll(kinds)].filter((each) => !named(each)
   || (field(each) && !each.getAttribute("aria-label") && !each.labels?.length))
   .map((each) => each.outerHTML.slice(0, 80));
+"""
+# Notes each time that the table of moves changes which moves are marked as best, and what all are worth.
+MARKS = """
+window.marks = [];
+new MutationObserver(() => {
+  const rows = [...document.querySelectorAll("#rows tr")];
+  window.marks.push(rows.map((row) => [row.dataset.move, row.classList.contains("best"), row.children[1].textContent]));
+}).observe(document, { subtree: true, childList: true, attributes: true, characterData: true });
+"""
+# What a page of another origin may try, each with what came of it.
+STRANGER = """
+const [base, done] = arguments;
+const place = `${base}/api/open`;
+const question = '{"text": "(role a)"}';
+const tried = async (work) => { try { return await work(); } catch (fault) { return "refused"; } };
+const post = async (kind, mode) => {
+  const response = await fetch(place, { method: "POST", mode, headers: { "Content-Type": kind }, body: question });
+  return `${response.type} ${response.status}`;
+};
+const beacon = () => navigator.sendBeacon(place, new Blob([question], { type: "application/json" })) ? "sent" : "refused";
+const make = (tag, properties) => Object.assign(document.createElement(tag), properties);
+const loaded = (tag, file) => new Promise((told) => {
+  document.body.append(make(tag, { src: base + file, onload: () => told("loaded"), onerror: () => told("refused") }));
+});
+const form = () => new Promise((told) => {
+  const frame = make("iframe", { name: "target" });
+  const made = make("form", { method: "POST", enctype: "text/plain", action: place, target: "target" });
+  // What the browser sends is JSON: {"text": "(role a)", "more": "="}
+  made.append(make("input", { name: '{"text": "(role a)", "more": "', value: '"}' }));
+  document.body.append(frame, made);
+  frame.onload = () => told("sent");
+  made.submit();
+});
+(async () => done({
+  json: await tried(() => post("application/json", "cors")),
+  text: await tried(() => post("text/plain", "no-cors")),
+  beacon: await tried(beacon),
+  form: await tried(form),
+  read: await tried(() => fetch(`${base}/`).then((response) => response.text())),
+  picture: await loaded("img", "/icon.svg"),
+  script: await loaded("script", "/page.js"),
+}))();
 """
 
 
@@ -227,6 +272,40 @@ class Play(Browser):
         self.all("#rows tr.best button")[0].click()
         self.wait(lambda: "Turn 6" in self.text("status") or self.is_over())
 
+    def test_a_move_is_best_only_where_all_were_looked_at(self) -> None:
+        on_each_page = self.browser.execute_cdp_cmd("Page.addScriptToEvaluateOnNewDocument", {"source": MARKS})
+        self.addCleanup(self.browser.execute_cdp_cmd, "Page.removeScriptToEvaluateOnNewDocument", on_each_page)
+        after = "((mark 1 1) noop) (noop (mark 2 2)) ((mark 3 3) noop) (noop (mark 1 2))"
+        self.browser.get(f"http://127.0.0.1:{self.server.server_address[1]}/#game=tic_tac_toe&you=xplayer&after={after}")
+        self.wait(lambda: self.text("status"))
+        self.pick("seconds", "60")
+        self.wait(lambda: "settled" in self.text("looked"))
+        marked = [rows for rows in self.run_js("return window.marks") if any(best for _, best, _ in rows)]
+        self.assertTrue(marked)
+        for rows in marked:
+            # All other moves lose.
+            self.assertEqual([move for move, best, _ in rows if best], ["(mark 3 2)"])
+            self.assertEqual([move for move, _, worth in rows if not worth or "…" in worth], [])
+
+    def test_what_was_looked_at_less_deep_stands_in_the_way_of_a_best_move(self) -> None:
+        self.go("game=matching_pennies&you=a,b")
+        self.element("tell").click()
+        self.wait(lambda: len(self.all("#rows button")) == 2)
+        for bounds, best in (
+            ([(0, 0, 2), (0, 100, 0)], []),
+            ([(50, 100, 2), (0, 100, 1)], []),
+            ([(50, 100, 2), (0, 100, 2)], ["h"]),
+            ([(0, 0, 1), (0, 100, 2)], ["t"]),
+            ([(100, 100, 2), (0, 100, 0)], ["h"]),
+            ([(40, 40, 1), (0, 40, 3)], ["h"]),
+            ([(40, 40, 1), (40, 40, 3)], []),
+        ):
+            moves = [{"move": move, "low": low, "high": high, "depth": depth, "line": [["h", "t"]]}
+                     for move, (low, high, depth) in zip("ht", bounds)]
+            self.run_js("drawWorth({ moves: arguments[0] })", moves)
+            with self.subTest(bounds=bounds):
+                self.assertEqual([row.get_dom_attribute("data-move") for row in self.all("#rows tr.best")], best)
+
     def test_a_move_that_is_pressed_twice_is_one_turn(self) -> None:
         self.go("game=tic_tac_toe&you=xplayer,oplayer")
         self.wait(lambda: len(self.all("#rows button")) == 9)
@@ -251,6 +330,22 @@ class Play(Browser):
         self.wait(self.is_over)
         self.assertEqual([goal.text for goal in self.all(".goal b")], ["0", "100"])
 
+    def test_roles_may_have_names_that_scripts_use(self) -> None:
+        rules = (TOP / "games/matching_pennies.kif").read_text()
+        for old, new in ("a", "constructor"), ("b", "__proto__"):
+            rules = re.sub(rf"(?<=[( ]){old}(?=[) ])", new, rules)
+        self.go("game=nim")
+        self.element("write").click()
+        self.run_js("arguments[0].value = arguments[1]", self.element("text"), rules)
+        self.element("open").click()
+        self.wait(lambda: "Your move, constructor" in self.text("status"))
+        self.pick("seat-__proto__", "you")
+        self.wait(lambda: not self.run_js("return now.awaited"))
+        self.all("#rows button")[0].click()
+        self.wait(lambda: "Your move, __proto__" in self.text("status"))
+        self.all("#rows button")[1].click()
+        self.wait(lambda: "The game has ended: constructor 0, __proto__ 100." in self.text("status"))
+
     def test_the_keyboard_is_enough(self) -> None:
         self.go("game=tic_tac_toe&you=xplayer,oplayer")
         self.wait(lambda: len(self.all(".board button")) == 9)
@@ -267,6 +362,43 @@ class Play(Browser):
         self.wait(lambda: self.text("status").startswith("Turn 1: xplayer (mark 2 2)."))
 
 
+class Strangers(Browser):
+    def test_a_page_of_another_origin_starts_nothing(self) -> None:
+        class Page(BaseHTTPRequestHandler):
+            """A page of another origin: another port is one."""
+
+            def do_GET(self) -> None:
+                self.send_response(200)
+                self.send_header("Content-Type", "text/html")
+                self.end_headers()
+                self.wfile.write(b"<!doctype html><title>another</title><body></body>")
+
+            def log_message(self, *words: Any) -> None:
+                """Says nothing."""
+
+        other = ThreadingHTTPServer(("127.0.0.1", 0), Page)
+        threading.Thread(target=other.serve_forever, daemon=True).start()
+        self.addCleanup(other.server_close)
+        self.addCleanup(other.shutdown)
+        self.browser.set_script_timeout(60)
+        opened: list[dict[str, Any]] = []
+
+        def note(desk: Desk, told: dict[str, Any]) -> dict[str, Any]:
+            opened.append(told)
+            return {}
+
+        with patch.dict(QUESTIONS, {"/api/open": note}):
+            for host in "127.0.0.1", "localhost":
+                with self.subTest(host=host):
+                    self.browser.get(f"http://{host}:{other.server_address[1]}/")
+                    base = f"http://127.0.0.1:{self.server.server_address[1]}"
+                    told = self.browser.execute_async_script(STRANGER, base)
+                    # These are sent blindly, and nothing is told of what came of them.
+                    self.assertEqual(told, {**dict.fromkeys(told, "refused"), "form": "sent", "beacon": "sent"})
+        self.assertEqual(opened, [])
+        self.browser.get_log("browser")
+
+
 class Long(Browser):
     def test_a_narrow_page_does_not_go_sideways(self) -> None:
         narrow = {"width": 360, "height": 740, "deviceScaleFactor": 1, "mobile": False}
@@ -276,7 +408,7 @@ class Long(Browser):
             with self.subTest(name=name):
                 self.browser.get("about:blank")
                 self.browser.get(f"http://127.0.0.1:{self.server.server_address[1]}/#game={name}")
-                self.wait(lambda: self.all("#rows .bar"), 20)
+                self.wait(lambda: self.all("#rows .bar"))
                 self.assertLessEqual(self.run_js("return document.documentElement.scrollWidth"), 360)
 
     def test_a_long_look_is_cancelled(self) -> None:
@@ -294,7 +426,7 @@ class Long(Browser):
     def test_a_page_that_is_left_gives_up_its_look(self) -> None:
         self.go(f"game={ENDLESS}")
         self.pick("seconds", "")
-        at_work = self.desk.pool.children.at_work
+        at_work = self.desk.sessions.children.at_work
         self.wait(lambda: "turns ahead" in self.text("looked") and at_work)
         self.browser.get("about:blank")
         self.assertTrue(until(lambda: not at_work, 10))
@@ -310,6 +442,14 @@ class Long(Browser):
         turns = len(self.all("#list button"))
         self.keys("\ue00c")
         self.wait(lambda: len(self.all("#list button")) == turns + 1, 40)
+
+
+    def test_a_solver_that_has_to_move_before_it_knows_anything_makes_any_move(self) -> None:
+        self.go("game=nim&you=first,second")
+        self.wait(lambda: len(self.all("#rows button")) == 7)
+        self.run_js("look = async () => ({ ended: 'stopped', best: null, moves: [] }); Math.random = () => 0.99;")
+        self.pick("seat-first", "solver")
+        self.wait(lambda: self.text("status").startswith("Turn 1: first (take c 4)."))
 
 
 class Texts(Browser):

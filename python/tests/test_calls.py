@@ -1,5 +1,6 @@
 """Single calls: values, refusals, words that are none, rooms and threads."""
 import ctypes
+import re
 import unittest
 from concurrent.futures import ThreadPoolExecutor
 
@@ -137,6 +138,10 @@ class Faults(unittest.TestCase):
             gdlsolve.moves(PENNIES, "(h t)\0--after\0")
 
 
+# The name of an option.
+OPTION = re.compile(rb"--[a-z][a-z-]*")
+
+
 @needs_library
 @needs_program
 class Both(unittest.TestCase):
@@ -162,14 +167,18 @@ class Both(unittest.TestCase):
                 told = self.library(words, PENNIES)
                 status, output, errors = ran(words, PENNIES)
                 self.assertEqual((told.status, status, output), (Status.MISUSE, 1, b""))
-                # The program adds what the option takes.
-                self.assertTrue(errors.startswith(told.output), (told.output, errors))
+                # The program adds what the option takes, and its usage has the option for a file of rules.
+                self.assertEqual(errors.partition(b"\n")[0], told.output.partition(b"\n")[0])
 
     def test_help(self) -> None:
         for words in HELP:
             with self.subTest(words=words):
-                told = self.library(words, b"(")
-                self.assertEqual((0, told.output, b""), ran(words, b"("))
+                told = self.library(words, b"(").output
+                status, output, errors = ran(words, b"(")
+                self.assertEqual((status, errors), (0, b""))
+                # The library reads no file of rules, and says else the same.
+                self.assertEqual(told.partition(b"\n")[0], output.partition(b"\n")[0])
+                self.assertEqual({*OPTION.findall(told), b"--rules"}, {*OPTION.findall(output), b"--rules"})
 
 
 @needs_program

@@ -3,10 +3,12 @@ loopback in which things are killed.
 """
 import contextlib
 import os
+import re
 import shlex
 import shutil
 import signal
 import socket
+import ssl
 import subprocess
 import sys
 import tempfile
@@ -20,7 +22,7 @@ from unittest import mock
 
 from gdlsolve import Refusal, cluster
 from gdlsolve.cluster import program
-from tests import ENDLESS_RULES, GAMES, PROGRAM, TOP, known, needs_program, package, ran
+from tests import ENDLESS_RULES, GAMES, PROGRAM, TOP, known, needs_library, needs_program, package, ran
 from tests.found import BEGINS, FOUND, NEVER
 
 T = TypeVar("T")
@@ -29,8 +31,21 @@ FOUND_GAMES = sorted((TOP / "games/found").glob("*.kif"))
 WORKERS = 3
 # So long a test waits for what has to happen at some time, in seconds.
 PATIENCE = 180.0
-# Starts a command again whenever it ends, as what looks after a cluster does.
-AGAIN = 'trap \'kill $child; exit\' TERM; while :; do "$@" & child=$!; wait $child; sleep 0.2; done'
+# What stands for all addresses of a machine, or for none.
+EVERYWHERE = ("0.0.0.0", "0", "::", "")
+# Asks a pool of one process.
+POOLED = """
+import sys
+from concurrent.futures import ProcessPoolExecutor
+from pathlib import Path
+from gdlsolve.cluster import solve
+with ProcessPoolExecutor(1) as pool:
+    solve(Path(sys.argv[1]).read_bytes(), "xplayer", 9, executor=pool, width=1)
+"""
+# What in the page of the cluster makes a certificate and its key.
+CERTIFICATE = re.compile(r"    (openssl req(?:.*\\\n)*.*)\n")
+# Modules that are read where a part of a cluster, or what asks the library, is started.
+PLANTED = ("ctypes", "distributed", "gdlsolve", "select")
 # The program, slow enough that something can be killed while it runs, as long as a file is there. The whole question, which has an empty
 # history, is slowest. What it is asked stands in another file.
 SLOWLY = """#!/bin/sh
@@ -93,6 +108,49 @@ def children(pid: int) -> list[int]:
         with contextlib.suppress(OSError):
             found += map(int, (thread / "children").read_text().split())
     return found
+
+
+def listening(pid: int) -> set[tuple[str, int]]:
+    """The addresses at which a process listens, each with its port."""
+    own = set()
+    for link in Path(f"/proc/{pid}/fd").glob("*"):
+        with contextlib.suppress(OSError):
+            own.add(os.readlink(link))
+    found = set()
+    for table, family in (("tcp", socket.AF_INET), ("tcp6", socket.AF_INET6)):
+        try:
+            lines = Path(f"/proc/{pid}/net/{table}").read_text().splitlines()[1:]
+        except OSError:
+            return set()
+        for words in map(str.split, lines):
+            if words[3] == "0A" and f"socket:[{words[9]}]" in own:
+                address, port = words[1].split(":")
+                parts = [bytes.fromhex(address[at : at + 8])[::-1] for at in range(0, len(address), 8)]
+                found.add((socket.inet_ntop(family, b"".join(parts)), int(port, 16)))
+    return found
+
+
+def other_addresses() -> list[str]:
+    """Addresses of this machine beside 127.0.0.1."""
+    with socket.socket(socket.AF_INET, socket.SOCK_DGRAM) as seeks, contextlib.suppress(OSError):
+        # Nothing is sent: this asks for the address from which it would be.
+        seeks.connect(("192.0.2.1", 9))
+        return ["127.0.0.2", str(seeks.getsockname()[0])]
+    return ["127.0.0.2"]
+
+
+def free_port() -> str:
+    """A port of the loopback that is free."""
+    with socket.socket() as free:
+        free.bind(("127.0.0.1", 0))
+        return str(free.getsockname()[1])
+
+
+def plant(room: Path) -> Path:
+    """Puts modules into a folder that leave a file there if they are read. That file."""
+    for name in PLANTED:
+        (room / f"{name}.py").write_text(f"open({str(room / 'read')!r}, 'w').close()\n")
+    return room / "read"
 
 
 def marked(mark: str) -> set[int]:
@@ -266,7 +324,7 @@ class Here(unittest.TestCase):
                 (["--scheduler-file", part], f"no answer: Lost: {part} tells of no scheduler\n"),
                 (["--scheduler", "nonsense"], "no answer: Lost: no scheduler: missing port number in address 'nonsense'\n"),
                 (["--scheduler", "foo://127.0.0.1:1"], "no answer: Lost: no scheduler: unknown address scheme 'foo'"),
-                (["--scheduler", "tls://127.0.0.1:1"], "no answer: Lost: no scheduler: TLS wants its files in the configuration of Dask\n"),
+                (["--scheduler", "tls://127.0.0.1:1"], "no answer: Lost: no scheduler: TLS wants its files, by --tls-ca-file, "),
                 (["--scheduler", "tcp://127.0.0.1:1"], "no answer: Lost: no scheduler: "),
             ]
             for words, want in wrong:
@@ -277,6 +335,33 @@ class Here(unittest.TestCase):
                     self.assertEqual((done.returncode, done.stdout), (69, ""))
                     self.assertTrue(done.stderr.startswith(want), done.stderr)
                     self.assertEqual(done.stderr.count("\n"), 1, done.stderr)
+
+    @needs_library
+    def test_no_module_of_the_current_folder_is_read(self) -> None:
+        options, answer = stored(MARKS)
+        with tempfile.TemporaryDirectory() as room:
+            read = plant(Path(room))
+            command = [sys.executable, "-P", "-m", "gdlsolve.cluster", "--processes", "1", *options, str(MARKS)]
+            done = subprocess.run(command, capture_output=True, env=known(**{program.VARIABLE: ""}), cwd=room, check=False)
+            self.assertEqual((done.returncode, done.stdout, done.stderr), (0, answer, b""))
+            self.assertFalse(read.exists())
+
+    def test_parts_that_would_let_in_everybody_are_misuse(self) -> None:
+        own, tls = ["--host", "127.0.0.1"], ["--tls-ca-file", "none", "--tls-cert", "none", "--tls-key", "none"]
+        open_to_all = "a part of a cluster takes --tls-ca-file, --tls-cert and --tls-key, or else --unprotected"
+        for words, want in (
+            (["scheduler", "--unprotected"], "the following arguments are required: --host"),
+            *((["scheduler", "--host", text], f"argument --host: it takes one address of this machine, and not {text!r}") for text in EVERYWHERE),
+            (["scheduler", *own], open_to_all),
+            (["worker", *own, "tls://127.0.0.1:1"], open_to_all),
+            (["scheduler", *own, *tls[:4]], "--tls-ca-file, --tls-cert and --tls-key go together"),
+            (["scheduler", *own, *tls], "the files of TLS cannot be used: [Errno 2] No such file or directory"),
+            (["worker", *own, "--unprotected"], "a worker takes the address of its scheduler or --scheduler-file"),
+            (["worker", *own, "--unprotected", "tls://127.0.0.1:1"], "the address of the scheduler begins with tcp:// here"),
+        ):
+            with self.subTest(words=words):
+                status, output, errors = self.told(*words)
+                self.assertEqual((status, output, errors.decode().splitlines()[-1]), (1, b"", want))
 
     def test_other_words_are_misuse(self) -> None:
         none: list[str] = []
@@ -311,6 +396,18 @@ class Slow(unittest.TestCase):
         slowly.chmod(0o755)
         cls.known = environment(**{program.VARIABLE: str(slowly)})
         cls.addClassCleanup(lambda: until(lambda: not marked(str(cls.room)), "no process is left behind"))
+
+    @classmethod
+    def keep(cls, part: str, *words: str) -> subprocess.Popen[bytes]:
+        """Starts a part of a Dask cluster, which starts it again whenever it ends."""
+        log = (cls.room / "log").open("ab")
+        command = [cls.python, "-P", "-m", "gdlsolve.cluster", part, *words]
+        # Of one that is killed a folder is left.
+        kept = subprocess.Popen(command, env={**cls.known, "TMPDIR": str(cls.room)}, stdout=log, stderr=log, cwd=cls.room)
+        log.close()
+        cls.addClassCleanup(kept.wait)
+        cls.addClassCleanup(kept.terminate)
+        return kept
 
     def started(self, *words: object, **more: str) -> tuple[subprocess.Popen[bytes], IO[bytes]]:
         """Starts a command, and gives what it tells of."""
@@ -359,27 +456,12 @@ class OverDask(Slow):
         if python is None:
             raise unittest.SkipTest("there is no Dask: Debian has it as python3-distributed")
         cls.begin(python)
-        with socket.socket() as free:
-            free.bind(("127.0.0.1", 0))
-            port = str(free.getsockname()[1])
+        port = free_port()
         cls.address = f"tcp://127.0.0.1:{port}"
-        at = ["--host", "127.0.0.1", "--port", port, "--no-dashboard", "--scheduler-file", str(cls.room / "scheduler.json")]
-        cls.scheduler = cls.keep("distributed.cli.dask_scheduler", *at)
-        worker = [cls.address, "--no-nanny", "--no-dashboard"]
-        worker += ["--local-directory", str(cls.room), "--death-timeout", "60"]
-        more = ["distributed.cli.dask_worker", *worker]
-        cls.workers = [cls.keep(*more, "--nthreads", str(1 + (place == 0))) for place in range(WORKERS)]
-
-    @classmethod
-    def keep(cls, module: str, *words: str) -> subprocess.Popen[bytes]:
-        """Starts a part of the cluster, again whenever it ends."""
-        log = (cls.room / "log").open("ab")
-        command = ["bash", "-c", AGAIN, "again", cls.python, "-m", module, *words]
-        kept = subprocess.Popen(command, env=cls.known, stdout=log, stderr=log, cwd=cls.room)
-        log.close()
-        cls.addClassCleanup(kept.wait)
-        cls.addClassCleanup(kept.terminate)
-        return kept
+        file = ["--scheduler-file", str(cls.room / "scheduler.json")]
+        cls.scheduler = cls.keep("scheduler", "--host", "127.0.0.1", "--port", port, *file, "--unprotected")
+        worker = ["worker", "--host", "127.0.0.1", cls.address, "--unprotected"]
+        cls.workers = [cls.keep(*worker, "--nthreads", str(1 + (place == 0))) for place in range(WORKERS)]
 
     def command(self, *more: object) -> tuple[subprocess.Popen[bytes], IO[bytes]]:
         """Starts the command for tic-tac-toe, and what it has told of."""
@@ -439,9 +521,19 @@ class OverDask(Slow):
             with self.subTest(engine=engine):
                 started, _ = self.started(self.python, "-m", "gdlsolve.cluster", engine, 2, *options, MARKS)
                 asked = until(lambda: {each for each in children(started.pid) if asks_by_cut(each)}, "a program runs")
+                self.assertEqual(listening(started.pid), set())
                 started.kill()
                 started.wait()
                 until(lambda: not asked & marked(str(self.room)), "no program is left behind")
+
+    def test_nothing_is_left_of_a_pool_whose_asker_is_killed(self) -> None:
+        self.be_slow()
+        started, _ = self.started(sys.executable, "-P", "-c", POOLED, MARKS)
+        [worker] = until(lambda: [each for each in children(started.pid) if children(each)], "a program runs")
+        left = {worker, *children(worker)}
+        started.kill()
+        started.wait()
+        until(lambda: not left & marked(str(self.room)), "nothing is left behind")
 
     def test_a_worker_is_killed(self) -> None:
         orphans: list[int] = []
@@ -480,6 +572,106 @@ class OverDask(Slow):
             sent.append(int(self.said(told).split("\nsent ")[1].split()[0]))
         self.assertGreater(sent[0], 0)
         self.assertEqual(sent[1], 0)
+
+
+class OverTls(Slow):
+    """One scheduler and one worker, as the page of the cluster starts them."""
+
+    read: Path
+    tls: list[str]
+    strangers: list[str]
+    port: str
+    address: str
+    scheduler: subprocess.Popen[bytes]
+    worker: subprocess.Popen[bytes]
+
+    @classmethod
+    def setUpClass(cls) -> None:
+        python = with_package("distributed")
+        if python is None or shutil.which("openssl") is None:
+            raise unittest.SkipTest("there is no Dask or no openssl: Debian has them as python3-distributed and openssl")
+        cls.begin(python)
+        cls.read = plant(cls.room)
+        makes = CERTIFICATE.search((TOP / "docs/CLUSTER.md").read_text())
+        assert makes is not None
+        cls.tls = cls.made(makes[1], "own")
+        cls.port = free_port()
+        cls.address = f"tls://127.0.0.1:{cls.port}"
+        cls.scheduler = cls.keep("scheduler", "--host", "127.0.0.1", "--port", cls.port, *cls.tls)
+        cls.worker = cls.keep("worker", cls.address, "--host", "127.0.0.1", "--nthreads", "1", *cls.tls)
+        cls.strangers = cls.made(makes[1], "strangers")
+
+    @classmethod
+    def made(cls, makes: str, name: str) -> list[str]:
+        """Makes a certificate in a folder of its own, and gives the words that name it."""
+        room = cls.room / name
+        room.mkdir()
+        subprocess.run(makes, shell=True, cwd=room, check=True, capture_output=True)
+        cert, key = str(room / "cert.pem"), str(room / "key.pem")
+        return ["--tls-ca-file", cert, "--tls-cert", cert, "--tls-key", key]
+
+    def answer(self, *words: str) -> tuple[int, bytes, str]:
+        """What the command does for tic-tac-toe over this cluster."""
+        options, _ = stored(MARKS)
+        started, told = self.started(self.python, "-P", "-m", "gdlsolve.cluster", *words, *options, MARKS)
+        output, _ = started.communicate(timeout=2 * PATIENCE)
+        return started.returncode, output, self.said(told)
+
+    def parts(self) -> list[int]:
+        """The processes of the scheduler and the worker, where both listen."""
+        found = [*children(self.scheduler.pid), *children(self.worker.pid)]
+        return found if len(found) == 2 and all(map(listening, found)) else []
+
+    def test_the_answer_is_that_of_one_machine_and_no_module_of_the_current_folder_is_read(self) -> None:
+        self.assertEqual(self.answer("--scheduler", self.address, *self.tls)[:2], (0, stored(MARKS)[1]))
+        self.assertFalse(self.read.exists())
+
+    def test_each_listens_at_one_port_of_one_address_and_at_no_other(self) -> None:
+        parts = until(self.parts, "both listen")
+        places = [listening(part) for part in parts]
+        self.assertEqual([len(place) for place in places], [1, 1])
+        self.assertIn(("127.0.0.1", int(self.port)), places[0])
+        for address, port in [each for place in places for each in place]:
+            self.assertEqual(address, "127.0.0.1")
+            for other in other_addresses():
+                with self.subTest(other=other, port=port), self.assertRaises(ConnectionRefusedError):
+                    socket.create_connection((other, port), PATIENCE).close()
+
+    def greeting(self, port: int, files: list[str]) -> bytes:
+        """The first bytes that a part says over TLS to one who has these files, or none; nothing where it says none."""
+        context = ssl.create_default_context(cafile=self.tls[1])
+        context.check_hostname = False
+        if files:
+            context.load_cert_chain(files[3], files[5])
+        with socket.create_connection(("127.0.0.1", port), PATIENCE) as plain:
+            try:
+                with context.wrap_socket(plain) as own:
+                    return own.recv(8)
+            except (ssl.SSLError, ConnectionError):
+                return b""
+
+    def test_who_has_no_certificate_of_the_cluster_is_refused(self) -> None:
+        for part in until(self.parts, "both listen"):
+            [(_, port)] = listening(part)
+            self.assertTrue(self.greeting(port, self.tls))
+            self.assertEqual((self.greeting(port, []), self.greeting(port, self.strangers)), (b"", b""))
+        for words in (["--scheduler", self.address, *self.strangers], ["--scheduler", f"tcp://127.0.0.1:{self.port}"]):
+            status, output, said = self.answer(*words, "--patience", "3")
+            self.assertEqual((status, output), (69, b""))
+            self.assertTrue(said.startswith("no answer: Lost: no scheduler: "), said)
+
+    def test_a_part_ends_with_the_command_that_keeps_it(self) -> None:
+        kept = self.keep("worker", self.address, "--host", "127.0.0.1", "--nthreads", "1", *self.tls)
+        [part] = until(lambda: [each for each in children(kept.pid) if listening(each)], "it listens")
+        kept.kill()
+        until(lambda: part not in marked(str(self.room)), "it ends")
+
+    def test_a_worker_comes_back_behind_its_scheduler(self) -> None:
+        scheduler, worker = until(self.parts, "both listen")
+        until(lambda: self.answer("--scheduler", self.address, *self.tls)[0] == 0, "an answer")
+        os.kill(scheduler, signal.SIGKILL)
+        until(lambda: len({scheduler, worker, *self.parts()}) == 4, "both were started again")
+        self.assertEqual(self.answer("--scheduler", self.address, *self.tls)[:2], (0, stored(MARKS)[1]))
 
 
 class OverMpi(Slow):

@@ -20,9 +20,9 @@ NIM = str(TOP / "games/nim.kif")
 COMMANDS = {
     "gdlsolve": ("gdlsolve", ["check", NIM], "json"),
     "gdlsolve-cluster": ("gdlsolve.cluster", ["--role", "first", "--depth", "1", NIM], "argparse"),
-    "gdlsolve-manager": ("gdlsolve.manager", [NIM], "http"),
+    "gdlsolve-manager": ("gdlsolve.manager", [NIM], "random"),
     "gdlsolve-page": ("gdlsolve.page", ["--port", "0"], "webbrowser"),
-    "gdlsolve-player": ("gdlsolve.player", ["--port", "0"], "http"),
+    "gdlsolve-player": ("gdlsolve.player", ["--port", "0"], "hmac"),
 }
 SCRIPTS = tomllib.loads((TOP / "python/pyproject.toml").read_text())["project"]["scripts"]
 # What pip writes for a script.

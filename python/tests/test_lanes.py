@@ -7,8 +7,9 @@ import unittest
 import gdlsolve
 from gdlsolve import Misuse, Position, State, Status
 from gdlsolve.engine import Limit, Playouts, Turn
+from gdlsolve.gates import Gates
 from gdlsolve.grounding import Grounding, TooLarge
-from gdlsolve.lanes import Lanes, Rehearsal
+from gdlsolve.lanes import NOT_YET, TOO_LARGE, Lanes, Rehearsal
 from tests import GAMES, TOP
 from tests.serving import LONG, Asking
 
@@ -36,7 +37,7 @@ ALL_KINDS = """
 
 def lanes(rules: str) -> Lanes:
     """The gates of rules."""
-    return Lanes(Grounding(rules, time.monotonic() + LONG))
+    return Lanes(Grounding(rules))
 
 
 class Play(unittest.TestCase):
@@ -62,7 +63,7 @@ class Play(unittest.TestCase):
     def test_there_are_as_many_instances_as_the_network_has(self) -> None:
         for game in GAMES:
             with self.subTest(game=game.stem):
-                found = Grounding(game.read_text(), time.monotonic() + LONG)
+                found = Grounding(game.read_text())
                 self.assertEqual(len(found.instances), gdlsolve.net(game.read_bytes()).instances)
 
     def test_goals_at_random_are_fair(self) -> None:
@@ -80,42 +81,69 @@ class Play(unittest.TestCase):
         rules = f"(role a) {numbers} (<= (p ?x ?y ?z) (n ?x) (n ?y) (n ?z))"
         with self.assertRaises(TooLarge):
             lanes(rules)
-        self.assertEqual(Rehearsal().reply(["legal", "--seconds", "30"], rules.encode()).status, Status.MISUSE)
+        told = Rehearsal().reply(["legal", "--seconds", "30"], rules.encode())
+        self.assertEqual((told.status, told.output.decode().strip()), (Status.MISUSE, TOO_LARGE))
 
-    def test_what_takes_too_long(self) -> None:
+    def test_what_takes_long_is_built_piece_by_piece(self) -> None:
+        numbers = "".join(f"(n {number})" for number in range(16))
+        slow = f"{MARKS} {numbers} (<= (p ?w) (n ?w) (n ?x) (n ?y) (n ?z) (m ?z)) (m none)"
+        rehearsal, rules, pieces = Rehearsal(), slow.encode(), 0
+        while (told := rehearsal.reply(["legal", "--seconds", "0.02"], rules)).status == Status.MISUSE:
+            self.assertEqual(told.output.decode().strip(), NOT_YET)
+            pieces += 1
+        self.assertGreater(pieces, 2)
+        self.assertEqual(Position.of(told.lines()), gdlsolve.moves(MARKS))
+
+    def test_what_takes_too_long_is_given_up_for_other_rules(self) -> None:
         numbers = "".join(f"(n {number})" for number in range(200))
         rules = f"(role a) {numbers} (<= (p ?w) (n ?w) (n ?x) (n ?y) (n ?z) (m ?z)) (m none)"
-        begun = time.monotonic()
-        with self.assertRaises(TooLarge):
-            Grounding(rules, begun + 0.2)
-        self.assertLess(time.monotonic() - begun, LONG)
+        rehearsal = Rehearsal()
+        self.assertEqual(rehearsal.reply(["legal", "--seconds", "0.05"], rules.encode()).status, Status.MISUSE)
+        building = rehearsal.building
+        assert building is not None
+        self.assertEqual(rehearsal.reply(["legal", "--seconds", "30"], MARKS.encode()).status, Status.ANSWER)
+        building.give(LONG)
+        self.assertTrue(building.is_over)
 
 
 class Asked(Asking):
+    def gates(self) -> Gates:
+        """The gates of a game, which are there."""
+        made = Gates(self.engine(MARKS))
+        while made.are_wanted():
+            made.build()
+        self.assertTrue(made.are_there)
+        return made
+
     def test_legal_moves_without_the_solver(self) -> None:
         limit, turns = Limit(time.monotonic() + LONG), [("(mark 2 2)", "noop")]
-        engine = self.engine(MARKS)
-        self.assertEqual(engine.legal(turns, limit), gdlsolve.moves(MARKS, turns))
+        gates = Gates(self.engine(MARKS))
+        self.assertEqual(gates.legal(turns, limit), gdlsolve.moves(MARKS, turns))
         for turn in (("(mark 2 2)", "(mark 1 1)"), ("noop",), ("x", "noop")):
             with self.assertRaises(gdlsolve.Refusal):
-                engine.legal([turn], limit)
+                gates.legal([turn], limit)
 
     def test_matches_at_random(self) -> None:
-        limit, asked = Limit(time.monotonic() + LONG), Playouts(32, 200, 50, 1, 30)
-        here, goals = self.engine(MARKS).played([], asked, limit)
-        self.assertEqual(here, gdlsolve.moves(MARKS))
-        self.assertEqual(sum(goals.values()), 3200)
+        asked, gates = Playouts(32, 200, 50, 1), self.gates()
+        goals = gates.goals([], asked)
+        self.assertEqual(sum((goals or {}).values()), 3200)
         ended = [("(mark 1 1)", "noop"), ("noop", "(mark 2 1)"), ("(mark 1 2)", "noop"), ("noop", "(mark 2 2)"), ("(mark 1 3)", "noop")]
-        here, goals = self.engine(MARKS).played(ended, asked, limit)
-        self.assertEqual((here, goals), (Position(State.ENDED, {"xplayer": 100, "oplayer": 0}, {}), {"xplayer": 3200, "oplayer": 0}))
+        self.assertEqual(gates.goals(ended, asked), {"xplayer": 3200, "oplayer": 0})
+
+    def test_gates_of_a_process_that_ended_are_built_again(self) -> None:
+        gates = self.gates()
+        assert gates.engine.child is not None
+        gates.engine.child.process.kill()
+        gates.engine.child.process.wait()
+        while not gates.goals([], Playouts(1, 9, 50, 1)):
+            self.assertFalse(gates.are_none)
 
     def test_hundreds_of_matches_a_second(self) -> None:
-        engine, asked = self.engine(MARKS), Playouts(32, 200, 50, 1, 30)
-        engine.played([], asked, Limit(time.monotonic() + LONG))
+        gates, asked = self.gates(), Playouts(32, 200, 50, 1)
         took = []
         for _ in range(20):
             begun = time.monotonic()
-            engine.played([], asked, Limit(begun + LONG))
+            gates.goals([], asked)
             took.append(time.monotonic() - begun)
         self.assertGreater(32 / min(took), 300)
 

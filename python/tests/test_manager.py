@@ -3,6 +3,7 @@
 import json
 import random
 import signal
+import socket
 import subprocess
 import tempfile
 import threading
@@ -10,6 +11,7 @@ import time
 import unittest
 from collections.abc import Callable, Sequence
 from concurrent.futures import ThreadPoolExecutor
+from contextlib import suppress
 from http.server import BaseHTTPRequestHandler, ThreadingHTTPServer
 from pathlib import Path
 from typing import Any
@@ -18,8 +20,9 @@ import gdlsolve
 from gdlsolve import State
 from gdlsolve.manager import Record, Referee, made, options, resumed
 from gdlsolve.page import records
+from gdlsolve.posting import post
 from tests import TOP, known, package
-from tests.serving import PACE, Served
+from tests.serving import LONG, PACE, Served
 
 # Clocks at the pace of this machine.
 CLOCKS = ["--start", f"{20 * PACE:.1f}", "--play", f"{2 * PACE:.1f}", "--slack", f"{3 * PACE:.1f}"]
@@ -88,6 +91,29 @@ class Odd:
         test.addCleanup(self.server.shutdown)
 
 
+class Raw:
+    """A server that sends these bytes to who comes first, and then a byte now and then where it drips."""
+
+    def __init__(self, told: bytes, drips: bool = False):
+        self.told, self.drips = told, drips
+        self.socket = socket.create_server(("127.0.0.1", 0))
+
+    def __enter__(self) -> str:
+        threading.Thread(target=self.serve, daemon=True).start()
+        return f"http://127.0.0.1:{self.socket.getsockname()[1]}"
+
+    def serve(self) -> None:
+        with suppress(OSError), self.socket.accept()[0] as link:
+            link.recv(4096)
+            link.sendall(self.told)
+            while self.drips:
+                time.sleep(0.2)
+                link.sendall(b"x")
+
+    def __exit__(self, *_: object) -> None:
+        self.socket.close()
+
+
 class Matches(unittest.TestCase):
     def judge(self, record: Record) -> None:
         """The record tells a match by the rules, and its goals."""
@@ -148,6 +174,26 @@ class Matches(unittest.TestCase):
         record = played([game("matching_pennies"), "--player", "http://127.0.0.1:1"])
         self.judge(record)
         self.assertNotEqual(record.errors[0][0], "")
+
+    def test_what_a_player_writes_is_no_code_for_a_terminal(self) -> None:
+        odd = Odd(self, lambda text: "\x1b[2J\u202e" + "x" * 900_000)
+        words = ["--start", "60", "--play", "60", "--player", odd.url]
+        done = subprocess.run(package("gdlsolve.manager", game("matching_pennies"), *words), capture_output=True, env=known(), text=True)
+        self.assertRegex(done.stderr, r"^not ready: a: \ufffd\[2J\ufffdx{195}\n$")
+        self.assertEqual(done.returncode, 0)
+
+    def test_heads_that_are_none_are_told_as_errors(self) -> None:
+        for head in b"Content-Length: " + b"9" * 5_000, b"A: " + b"9" * 200_000, b"\x00", b"Transfer-Encoding: chunked\r\n\r\n-1":
+            with self.subTest(head=head[:20]), Raw(b"HTTP/1.1 200 OK\r\n" + head + b"\r\n\r\nready") as url:
+                told = post(url, "(INFO)", LONG)
+                self.assertIsNone(told.text)
+                self.assertRegex(told.error, "^[ -~]{1,200}$")
+
+    def test_an_answer_that_drips_is_late(self) -> None:
+        with Raw(b"HTTP/1.1 200 OK\r\n\r\n", drips=True) as url:
+            begun = time.monotonic()
+            self.assertEqual(post(url, "(INFO)", 1.0).error, "late")
+            self.assertLess(time.monotonic() - begun, LONG)
 
     def test_what_players_are_told(self) -> None:
         odd = Odd(self, lambda text: "READY" if text.startswith("(START") else " H\n")
@@ -264,8 +310,17 @@ class Program(unittest.TestCase):
         self.assertIn("/no such folder/match.json", errors)
         self.assertEqual(odd.heard, [])
 
-    @unittest.skipIf(signal.getsignal(signal.SIGINT) is signal.SIG_IGN, "the key is of no account here")
+    @unittest.skipIf(signal.SIG_IGN in map(signal.getsignal, (signal.SIGINT, signal.SIGTERM, signal.SIGHUP)), "a signal is of no account here")
     def test_a_key_breaks_the_match_off_at_once_and_at_the_players_too(self) -> None:
+        self.broken_off_by(signal.SIGINT, 130)
+
+    @unittest.skipIf(signal.SIG_IGN in map(signal.getsignal, (signal.SIGINT, signal.SIGTERM, signal.SIGHUP)), "a signal is of no account here")
+    def test_a_signal_does_the_same(self) -> None:
+        self.broken_off_by(signal.SIGTERM, 143)
+        self.broken_off_by(signal.SIGHUP, 129)
+
+    def broken_off_by(self, number: signal.Signals, status: int) -> None:
+        """A signal ends a match whose player is asked."""
         ended, is_asked = threading.Event(), threading.Event()
         self.addCleanup(ended.set)
 
@@ -283,12 +338,12 @@ class Program(unittest.TestCase):
             with subprocess.Popen(package("gdlsolve.manager", *words), stdout=pipe, stderr=pipe, env=known()) as manager:
                 try:
                     self.assertTrue(is_asked.wait(120))
-                    manager.send_signal(signal.SIGINT)
+                    manager.send_signal(number)
                     self.assertEqual(manager.communicate(timeout=120), (b"", b""))
                 finally:
                     manager.kill()
             record = Record.read(file)
-        self.assertEqual((manager.returncode, record.isAborted, record.state), (130, True, "open"))
+        self.assertEqual((manager.returncode, record.isAborted, record.state), (status, True, "open"))
         self.assertEqual(odd.heard[-1], "(ABORT m)")
 
     def test_an_output_that_is_full_is_told_in_a_line(self) -> None:
@@ -296,6 +351,13 @@ class Program(unittest.TestCase):
             command = package("gdlsolve.manager", game("nim"))
             done = subprocess.run(command, stdout=full, stderr=subprocess.PIPE, env=known(), check=False, text=True)
         self.assertEqual((done.returncode, done.stderr), (1, "write fault\n"))
+
+    def test_a_library_that_is_not_there_is_told_with_its_package(self) -> None:
+        with tempfile.TemporaryDirectory() as room:
+            Path(room, "httpx.py").write_text("raise ModuleNotFoundError('no', name='httpx')\n")
+            command, path = package("gdlsolve.manager", game("nim"), "--player", "http://127.0.0.1:1"), f"{room}:{TOP / 'python'}"
+            done = subprocess.run(command, env=known(PYTHONPATH=path), capture_output=True, text=True, timeout=120)
+        self.assertEqual((done.returncode, done.stdout, done.stderr), (1, "", "there is no httpx: apt-get install python3-httpx, or pip install httpx\n"))
 
     def test_a_refusal_is_told_with_the_file(self) -> None:
         with tempfile.TemporaryDirectory() as room:

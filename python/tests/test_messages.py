@@ -1,8 +1,16 @@
 """Messages of the protocol: what they are, and what is none."""
 
+import io
+import json
+import sys
+import time
+import tracemalloc
 import unittest
+from concurrent.futures import ThreadPoolExecutor
+from unittest.mock import patch
 
 from gdlsolve.messages import Message, clock, parts_of, tree, turn
+from gdlsolve.notes import note, shown
 from gdlsolve.terms import Malformed, trees
 
 
@@ -48,9 +56,21 @@ class Reading(unittest.TestCase):
             "\0",
             "(" * 100_000,
             "(" * 100_000 + ")" * 100_000,
+            f"(play {'m' * 257} nil)",
         ]:
             with self.subTest(text=text[:20]), self.assertRaises(Malformed):
                 Message.of(text)
+
+    def test_what_is_long_is_not_kept(self) -> None:
+        rules = "(next (cell 1 1)) " * 3_000
+        Message.of("(preview () 5)")
+        tracemalloc.start()
+        self.addCleanup(tracemalloc.stop)
+        for number in range(4):
+            parts_of(Message.of(f"(preview ((role r{number}) {rules}) 5)").parts[0])
+        kept, most = tracemalloc.get_traced_memory()
+        self.assertGreater(most, len(rules))
+        self.assertLess(kept, len(rules) / 4)
 
     def test_trees(self) -> None:
         self.assertEqual(trees("A (b ( C)());x\r y\n d"), ["a", "(b (c) ())", "d"])
@@ -71,6 +91,26 @@ class Reading(unittest.TestCase):
         self.assertEqual([turn("nil"), turn("()"), turn("(a (b c))")], [None, None, ("a", "(b c)")])
         with self.assertRaises(Malformed):
             turn("noop")
+
+
+class Slow(io.StringIO):
+    """A stream to which others may write between two letters."""
+
+    def write(self, text: str) -> int:
+        for letter in text:
+            time.sleep(0)
+            super().write(letter)
+        return len(text)
+
+
+class Notes(unittest.TestCase):
+    def test_lines_do_not_mix(self) -> None:
+        with patch.object(sys, "stderr", Slow()) as told, ThreadPoolExecutor(8) as threads:
+            list(threads.map(note, [{"number": number} for number in range(80)]))
+        self.assertCountEqual(map(json.loads, told.getvalue().splitlines()), [{"number": number} for number in range(80)])
+
+    def test_what_a_stranger_wrote_is_shown_without_codes(self) -> None:
+        self.assertEqual(shown("a\x1b[2J\r\n\u202e\u00e9" + "x" * 300), "a\ufffd[2J\ufffd\ufffd\ufffd\u00e9" + "x" * 191)
 
 
 if __name__ == "__main__":

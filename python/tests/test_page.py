@@ -3,25 +3,33 @@
 import http.client
 import json
 import os
+import random
 import signal
+import socket
 import subprocess
 import tempfile
 import threading
 import time
 import unittest
+from collections.abc import Iterator, Sequence
+from concurrent.futures import ThreadPoolExecutor
+from contextlib import contextmanager
 from pathlib import Path
 from typing import Any
+from unittest.mock import patch
 
-from gdlsolve.calls import Refusal
-from gdlsolve.engine import Limit, Pool
-from gdlsolve.page import looks, places, records, state
-from gdlsolve.page.server import MOST_LOOKS, Desk, Server
+from gdlsolve.calls import Refusal, Reply
+from gdlsolve.engine import Child, Children, Engine, Limit, Pool
+from gdlsolve.page import looks, places, records, server, sessions, state
+from gdlsolve.page.desk import MOST_LOOKS, Desk
+from gdlsolve.page.server import Server
+from gdlsolve.replies import Worth
 from tests import ENDLESS, ENDLESS_RULES, TOP, known, package
 from tests.serving import Held, processor_time, until
 
 MARKS = (TOP / "games/tic_tac_toe.kif").read_bytes()
 # How deep a look goes before it is stopped.
-DEEP = 8
+DEEP = 5
 # What is given up ends within so many seconds, also on a busy machine.
 SOON = 20.0
 UNSAFE = "(role a) ; one\n(base p)\n  (<= (next p) (not (true ?x)))\n"
@@ -46,6 +54,35 @@ def alive(processes: set[int]) -> set[int]:
     return {each for each in processes if Path(f"/proc/{each}").exists()}
 
 
+class Heard:
+    """What sessions are asked while something is tried, and which; or those that are none."""
+
+    def __init__(self, of_sessions: bool = True) -> None:
+        self.of_sessions = of_sessions
+        self.batches: list[tuple[Child, Sequence[Sequence[str]]]] = []
+
+    def commands(self) -> list[str]:
+        """The first words of what was asked."""
+        return [words[0] for _, batch in self.batches for words in batch]
+
+    def children(self) -> set[Child]:
+        """Those that were asked."""
+        return {child for child, _ in self.batches}
+
+    @contextmanager
+    def listening(self) -> Iterator[None]:
+        """Notes what is asked."""
+        ask = Child.ask
+
+        def heard(child: Child, batch: Sequence[Sequence[str]], rules: bytes, limit: Limit) -> list[Reply]:
+            if ("--session" in str(child.process.args)) == self.of_sessions:
+                self.batches.append((child, batch))
+            return ask(child, batch, rules, limit)
+
+        with patch.object(Child, "ask", heard):
+            yield
+
+
 def turns(*moves: str) -> list[list[str]]:
     """Turns of two roles that move in turn."""
     pairs = enumerate(moves)
@@ -60,14 +97,14 @@ class Served(unittest.TestCase):
     port: int
 
     @classmethod
-    def pool(cls) -> Pool:
-        """What answers."""
-        return Pool(2)
+    def command(cls) -> list[str] | None:
+        """The command of what answers, where it is another one."""
+        return None
 
     @classmethod
     def setUpClass(cls) -> None:
-        cls.desk = Desk(cls.pool(), TOP / "games")
-        cls.server = Server(cls.desk, 0)
+        cls.desk = Desk(Pool(2, cls.command()), TOP / "games", cls.command())
+        cls.server = Server(cls.desk, 0, ["box.example:8080"])
         cls.port = cls.server.server_address[1]
         threading.Thread(target=cls.server.serve_forever, daemon=True).start()
 
@@ -139,6 +176,15 @@ class Games(Served):
         self.assertEqual(self.ask("open", text=MARKS.decode())["roles"], ["xplayer", "oplayer"])
         self.assertIn("no game", self.ask("open", 400, name="../games/nim")["error"])
 
+    def test_a_game_is_read_by_few_questions_and_opened_again_goes_on(self) -> None:
+        heard = Heard(of_sessions=False)
+        with heard.listening():
+            game = self.opened("nim")
+        self.assertEqual(heard.commands(), ["check", "moves"])
+        rules = self.desk._game({"game": game}).rules
+        self.assertEqual(self.opened("nim"), game)
+        self.assertIs(self.desk._game({"game": game}).rules, rules)
+
     def test_a_refusal_is_told_at_its_line(self) -> None:
         told = self.ask("open", text=UNSAFE)["refused"]
         self.assertEqual((told["code"], told["name"], told["line"]), ("G3", "Unsafe", 3))
@@ -188,6 +234,22 @@ class Positions(Served):
             self.assertIn("is a list", told["error"])
         self.assertIn("not open", self.ask("position", 400, game="0", after=[])["error"])
 
+    def test_positions_of_a_game_are_asked_of_one_session(self) -> None:
+        game, heard = self.opened("nim"), Heard()
+        self.ask("position", game=game, after=[])
+        with heard.listening():
+            for _ in range(3):
+                self.ask("position", game=game, after=[["(take a 1)", "noop"]])
+        self.assertEqual((heard.commands(), len(heard.children())), (["moves", "state"] * 3, 1))
+
+    def test_a_move_that_no_name_could_be_is_no_word_of_a_question(self) -> None:
+        game, heard = self.opened("nim"), Heard()
+        with heard.listening():
+            for bad in "noop)\0--rules\0/etc/passwd\0--after\0(", "noop\nshow", "no\u00e9p":
+                told = self.ask("position", 400, game=game, after=[["(take a 1)", bad]])
+                self.assertIn("no name has", told["error"])
+        self.assertEqual(heard.batches, [])
+
     def test_what_the_rules_name_stands_in_the_way_of_nothing(self) -> None:
         rules = (
             b"(role a)(base see)(base (see_0 legal_0))(input a go)(legal a go)(init see)"
@@ -223,6 +285,34 @@ class Looks(Served):
         self.assertEqual(told["ended"], "settled")
         self.assertEqual(held, {"(mark 1 2)", "(mark 2 1)", "(mark 2 3)", "(mark 3 2)"})
 
+    def test_a_look_asks_two_questions_a_depth_for_all_moves(self) -> None:
+        heard = Heard()
+        with heard.listening():
+            told = self.looked("values", "tic_tac_toe", "xplayer", [])
+        self.assertEqual((told["ended"], set(self.values(told).values())), ("settled", {(50, 50)}))
+        self.assertEqual({each["depth"] for each in told["moves"]}, {told["depth"]})
+        self.assertEqual(heard.commands(), ["moves"] * 2 + ["values"] * 2 * told["depth"])
+        # The next look goes on with what these two sessions have found.
+        more = Heard()
+        with more.listening():
+            self.looked("values", "tic_tac_toe", "xplayer", turns("(mark 2 2)", "(mark 1 1)"))
+        self.assertEqual((len(heard.children()), more.children()), (2, heard.children()))
+
+    def test_turns_are_asked_together(self) -> None:
+        heard = Heard()
+        with heard.listening():
+            told = self.looked("replies", "nim", "second", [])
+        sizes = [len(batch) for _, batch in heard.batches]
+        self.assertEqual((told["ended"], len(sizes)), ("settled", 2 + 2 * told["depth"]))
+        self.assertEqual(sizes[:4], [1, 1, 7, 7])
+
+    def test_lines_are_those_of_best_play(self) -> None:
+        told = self.looked("values", "nim", "first", [])
+        [best] = [each for each in told["moves"] if each["low"] == 100]
+        self.assertEqual(best["line"][0], [best["move"], "noop"])
+        end = self.ask("position", game=self.opened("nim"), after=best["line"])
+        self.assertEqual(end["goals"], {"first": 100, "second": 0})
+
     def test_replies_are_turns(self) -> None:
         told = self.looked("replies", "matching_pennies", "b", [])
         won, lost = (100, 100), (0, 0)
@@ -234,6 +324,14 @@ class Looks(Served):
         self.assertEqual((told["best"]["move"], told["best"]["value"]), ("(mark 1 3)", 100))
         self.assertEqual(told["ended"], "settled")
 
+    def test_the_solver_plays_a_move_of_the_greatest_value_that_random_matches_speak_for(self) -> None:
+        told = self.looked("choose", ENDLESS, "red", [], 4)
+        best = told["best"]
+        self.assertEqual((told["ended"], best["is_settled"]), ("time", False))
+        self.assertGreater(told["depth"], 0)
+        # At the border a disc is in three lines of a board of eight by eight, and all moves have one value.
+        self.assertNotIn(best["move"], ("(drop 1)", "(drop 8)"))
+
     def test_a_look_ends_with_its_time(self) -> None:
         told = self.looked("values", ENDLESS, "red", [], 0.5)
         self.assertEqual(told["ended"], "time")
@@ -244,7 +342,7 @@ class Looks(Served):
         self.assertTrue(until(lambda: self.ask("news", look=look, seen=-1)["depth"] >= DEEP))
         self.ask("stop", look=look)
         self.assertEqual(self.ended(look)["ended"], "stopped")
-        self.assertTrue(until(lambda: not self.desk.pool.children.at_work, SOON))
+        self.assertTrue(until(lambda: not self.desk.sessions.children.at_work, SOON))
         # Those that stand ready for other questions do nothing: they use less than a quarter of a second.
         ready = {each: processor_time(each) for each in children(os.getpid())}
         time.sleep(1)
@@ -286,14 +384,14 @@ class Stops(Served):
         super().setUpClass()
 
     @classmethod
-    def pool(cls) -> Pool:
-        return Pool(2, cls.held.command)
+    def command(cls) -> list[str]:
+        return cls.held.command
 
     def begun(self) -> tuple[int, set[int]]:
         """A look, and the processes that are at work at it."""
         self.held.at("")
         about: dict[str, Any] = {"game": self.opened("nim"), "role": "first", "after": []}
-        self.held.at("solve")
+        self.held.at("values")
         look: int = self.ask("values", **about, seconds=None)["look"]
         return look, self.hung()
 
@@ -305,13 +403,21 @@ class Stops(Served):
     def check_ended(self, processes: set[int]) -> None:
         """All these have ended soon, and none is at work."""
         self.assertTrue(until(lambda: not alive(processes), SOON), alive(processes))
-        self.assertTrue(until(lambda: not self.desk.pool.children.at_work, SOON))
+        self.assertTrue(until(lambda: not self.desk.sessions.children.at_work, SOON))
 
     def test_a_position_waits_for_no_look(self) -> None:
         look, _ = self.begun()
         game = self.opened("nim")
         self.assertEqual(self.ask("position", game=game, after=[])["state"], "open")
         self.ask("stop", look=look)
+
+    def test_a_solver_that_knows_nothing_does_not_always_play_the_first_move(self) -> None:
+        self.held.at("")
+        about: dict[str, Any] = {"game": self.opened("nim"), "role": "first", "after": []}
+        self.held.at("solve values playouts legal")
+        with patch.object(random.Random, "choice", lambda dice, moves: moves[-1]), patch.object(looks, "REHEARSAL", 0.2):
+            told = self.ended(self.ask("choose", **about, seconds=0.5)["look"])
+        self.assertEqual((told["ended"], told["best"]["move"]), ("time", "(take c 4)"))
 
     def test_by_the_button(self) -> None:
         look, processes = self.begun()
@@ -329,10 +435,10 @@ class Stops(Served):
         self.assertEqual(self.ended(look)["ended"], "stopped")
 
     def test_by_the_end_of_the_desk(self) -> None:
-        desk = Desk(Pool(2, self.held.command), TOP / "games")
+        desk = Desk(Pool(2, self.held.command), TOP / "games", self.held.command)
         self.held.at("")
         about: dict[str, Any] = {"game": desk.open({"name": "nim"})["id"], "role": "first", "after": []}
-        self.held.at("solve")
+        self.held.at("values")
         desk.values(about)
         processes = self.hung()
         desk.close()
@@ -347,10 +453,26 @@ class Guards(Served):
             self.assertEqual(self.request("GET", path)[0], 404)
 
     def test_other_pages_are_not_heard(self) -> None:
-        self.assertEqual(self.request("GET", "/", Host="example.org")[0], 403)
-        foreign = f"example.org:{self.port}"
-        self.assertEqual(self.post("/api/games", b"{}", Host=foreign)[0], 403)
+        own = f"127.0.0.1:{self.port}"
+        for host in ("example.org", f"example.org:{self.port}", "127.0.0.1", ""):
+            self.assertEqual(self.request("GET", "/", Host=host)[0], 403)
+            self.assertEqual(self.post("/api/games", b"{}", Host=host)[0], 403)
+        for origin in (f"http://example.org:{self.port}", f"http://localhost:{self.port}", "http://127.0.0.1:1", "null", ""):
+            self.assertEqual(self.post("/api/games", b"{}", Host=own, Origin=origin)[0], 403, origin)
+        for host in (own, f"localhost:{self.port}", "box.example:8080"):
+            for origin in (f"http://{host}", f"https://{host}"):
+                self.assertEqual(self.post("/api/games", b"{}", Host=host, Origin=origin)[0], 200)
         self.assertEqual(self.post("/api/games", b"{}", Content_Type="text/plain")[0], 400)
+
+    def test_nothing_is_said_to_other_pages(self) -> None:
+        link = http.client.HTTPConnection("127.0.0.1", self.port, timeout=60)
+        self.addCleanup(link.close)
+        for method, path in (("GET", "/"), ("POST", "/api/games"), ("OPTIONS", "/api/games")):
+            link.request(method, path, b"{}" if method == "POST" else None, {"Content-Type": "application/json"})
+            answer = link.getresponse()
+            answer.read()
+            self.assertEqual([name for name, _ in answer.getheaders() if name.startswith("Access-Control")], [])
+            self.assertEqual(answer.status == 200, method != "OPTIONS")
 
     def test_what_is_no_question(self) -> None:
         for body in (b"", b"[]", b"{", b"\xff"):
@@ -359,7 +481,117 @@ class Guards(Served):
         deep = "[" * 100_000
         for path, body in ("/api/games", deep.encode()), ("/api/record", json.dumps({"text": f'{{"moves": {deep}'}).encode()):
             self.assertEqual(self.post(path, body), (400, b'{"error": "Too many lists are open inside each other."}'))
-        self.assertEqual(self.post("/api/games", b"", Content_Length="999999999")[0], 413)
+        self.assertEqual(self.post("/api/games", b"{}", Transfer_Encoding="chunked", Content_Length="2")[0], 400)
+        for size in "999999999", "9" * 5_000:
+            self.assertEqual(self.post("/api/games", b"", Content_Length=size)[0], 413)
+
+    def heard(self, *parts: bytes, pause: float = 0.0) -> bytes:
+        """What is answered to parts of a request until the connection ends."""
+        with socket.create_connection(("127.0.0.1", self.port), 60) as link:
+            try:
+                for part in parts:
+                    link.sendall(part)
+                    time.sleep(pause)
+                return b"".join(iter(lambda: link.recv(1 << 16), b""))
+            except ConnectionError:
+                return b""
+
+    def test_a_request_comes_in_time_as_a_whole(self) -> None:
+        head = f"POST /api/games HTTP/1.1\r\nHost: 127.0.0.1:{self.port}\r\nContent-Type: application/json\r\nContent-Length: 1000\r\n\r\n"
+        begun = time.monotonic()
+        with patch.object(server, "COMING", 0.5):
+            # Each byte comes soon behind the last, and all together too late.
+            self.assertEqual(self.heard(*[b"G"] * 20, pause=0.1), b"")
+            self.assertIn(self.heard(head.encode(), *[b" "] * 20, pause=0.1)[:13], (b"", b"HTTP/1.1 408 "))
+        with patch.object(server, "SILENT", 0.1):
+            self.assertEqual(self.heard(), b"")
+        self.assertLess(time.monotonic() - begun, SOON)
+
+    def small(self) -> int:
+        """The port of a server for two connections."""
+        with patch.object(server, "MOST_CONNECTIONS", 2):
+            made = Server(self.desk, 0)
+        threading.Thread(target=made.serve_forever, daemon=True).start()
+        self.addCleanup(made.server_close)
+        self.addCleanup(made.shutdown)
+        return int(made.server_address[1])
+
+    def links(self, port: int, count: int) -> list[http.client.HTTPConnection]:
+        """So many connections."""
+        found = [http.client.HTTPConnection("127.0.0.1", port, timeout=60) for _ in range(count)]
+        for link in found:
+            self.addCleanup(link.close)
+        return found
+
+    def status(self, link: http.client.HTTPConnection) -> int:
+        """The status of an answer; 503 also where the connection was ended before it was read."""
+        try:
+            link.request("POST", "/api/games", b"{}", {"Content-Type": "application/json"})
+            with link.getresponse() as answer:
+                answer.read()
+                return answer.status
+        except ConnectionError:
+            return 503
+
+    def test_one_connection_more_takes_the_place_of_one_that_says_nothing(self) -> None:
+        links = self.links(self.small(), 5)
+        for link in links[:3]:
+            self.assertEqual(self.status(link), 200)
+        # The first has gone, and the second is still there.
+        assert links[0].sock and links[1].sock
+        self.assertEqual(links[0].sock.recv(1), b"")
+        links[1].auto_open = 0
+        self.assertEqual(self.status(links[1]), 200)
+        with socket.create_connection(("127.0.0.1", links[0].port), 60) as slow:
+            slow.sendall(b"POST /api/games")
+            self.assertEqual([self.status(link) for link in links[3:]], [200, 200])
+            self.assertEqual(slow.recv(1), b"")
+
+    def test_one_connection_more_is_refused_where_all_others_wait_for_answers(self) -> None:
+        links, goes_on = self.links(self.small(), 3), threading.Event()
+        self.addCleanup(goes_on.set)
+        asked = threading.Semaphore(0)
+
+        def hang(desk: Desk, told: dict[str, Any]) -> dict[str, Any]:
+            asked.release()
+            goes_on.wait(60)
+            return {}
+
+        with patch.dict(server.QUESTIONS, {"/api/games": hang}), ThreadPoolExecutor(2) as threads:
+            statuses = [threads.submit(self.status, link) for link in links[:2]]
+            self.assertTrue(all(asked.acquire(timeout=60) for _ in range(2)))
+            self.assertEqual(self.status(links[2]), 503)
+            goes_on.set()
+            self.assertEqual([each.result() for each in statuses], [200, 200])
+
+
+class Kept(unittest.TestCase):
+    """Sessions that are kept for the next question."""
+
+    def setUp(self) -> None:
+        self.sessions = sessions.Sessions(Children(0, spare=0))
+        self.addCleanup(self.sessions.close)
+
+    def engine(self, kind: str) -> Engine:
+        """An engine that was asked once."""
+        with self.sessions.engine(b"(role a)", kind) as engine:
+            engine.moves((), Limit(time.monotonic() + 60))
+        return engine
+
+    def test_the_last_of_a_kind_is_asked_again(self) -> None:
+        engine = self.engine("here")
+        self.assertIs(self.engine("here"), engine)
+        self.assertIsNot(self.engine("sure"), engine)
+        with self.sessions.engine(b"(role a)", "here") as one, self.sessions.engine(b"(role a)", "here") as other:
+            self.assertIsNot(one, other)
+
+    def test_so_many_are_kept_and_so_long(self) -> None:
+        with patch.object(sessions, "MOST_KEPT", 2):
+            made = [self.engine(kind) for kind in ("one", "two", "three")]
+        self.assertEqual([engine.closed.is_set() for engine in made], [True, False, False])
+        with patch.object(sessions, "LONGEST_KEPT", 0.0):
+            self.sessions.sweep()
+        self.assertTrue(all(engine.closed.is_set() and engine.child is None for engine in made))
 
 
 class Ends(unittest.TestCase):
@@ -385,7 +617,8 @@ class Ends(unittest.TestCase):
         self.assertEqual((done.returncode, done.stderr), (1, "write fault\n"))
 
     def test_words_that_are_none_are_told_in_a_line(self) -> None:
-        wrong = {"--port=65536": "--port is a number from 0 to 65535", "--program='it": "--program is no command: No closing quotation"}
+        wrong = {"--port=65536": "--port is a number from 0 to 65535", "--program='it": "--program is no command: No closing quotation",
+                 "--allow-host=http://box": "--allow-host is a name, or a name and a port, as box.local:8080"}
         for word, want in wrong.items():
             done = subprocess.run(package("gdlsolve.page", word), env=known(), capture_output=True, text=True, timeout=120)
             self.assertEqual((done.returncode, done.stdout), (2, ""))
@@ -475,13 +708,12 @@ class Records(unittest.TestCase):
                 records.record(text)
 
 
-class Choices(unittest.TestCase):
-    def test_the_worst_reply_says_what_a_move_is_worth(self) -> None:
-        bounds = {"a": (30, 100), "b": (10, 90), "c": (10, 80)}
-        replies = [looks.Reply(("m", reply), *each) for reply, each in bounds.items()]
-        choice = looks.Choice("m", replies)
-        self.assertEqual(choice.bounds(), (10, 80))
-        self.assertEqual(choice.worst().turn, ("m", "c"))
+class Worths(unittest.TestCase):
+    def test_the_lines_of_values_with_lines(self) -> None:
+        told = ["value 0 (take a 1)", "line 1 (take a 1) noop", "line 2 noop (take b 1)", "value 100 pass", "line 1 pass noop"]
+        want = [Worth("(take a 1)", 0, (("(take a 1)", "noop"), ("noop", "(take b 1)"))), Worth("pass", 100, (("pass", "noop"),))]
+        self.assertEqual(Worth.each_of(told), want)
+        self.assertEqual(Worth.each_of(["value 100", "move none"]), [])
 
 
 if __name__ == "__main__":

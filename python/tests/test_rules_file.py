@@ -23,11 +23,11 @@ SAME: list[tuple[Path, list[str]]] = [
     (FOUND, ["unroll", "--tighten"]),
     (FOUND, ["solve", "--whole", "--role", "red", "--depth", "3"]),
     (MARKS, ["--help"]),
-    (MARKS, ["chek"]),
-    (MARKS, []),
 ]
+# Words that are no command, with the file or without.
+MISUSES: list[list[str]] = [["chek"], [], ["check", "--hole"]]
 OPTION = "error: the argument '--rules <FILE>' cannot be used"
-NAMELESS = b"error: a value is required for '--rules <FILE>' but none was supplied\n"
+NAMELESS = "error: a value is required for '--rules <FILE>' but none was supplied"
 
 
 def over(file: Path, words: Sequence[str]) -> tuple[int, bytes, bytes]:
@@ -47,6 +47,14 @@ class RulesOfAFile(unittest.TestCase):
                     given = [*words[:place], *option, *words[place:]]
                     with self.subTest(words=given):
                         self.assertEqual(over(file, given), want)
+
+    def test_words_that_are_no_command_are_misuse_with_a_file_too(self) -> None:
+        for words in MISUSES:
+            for option in ["--rules", "FILE"], ["--rules=FILE"]:
+                status, output, errors = over(MARKS, [*option, *words])
+                with self.subTest(words=words, option=option):
+                    self.assertEqual((status, output), (1, b""))
+                    self.assertEqual(errors.partition(b"\n")[0], ran(words, b"")[2].partition(b"\n")[0])
 
     def test_faults_of_the_rules_are_told_as_those_of_standard_input(self) -> None:
         with tempfile.TemporaryDirectory() as folder:
@@ -82,13 +90,14 @@ class RulesOfAFile(unittest.TestCase):
             (["check", "--rules="], NAMELESS),
             (["check", "--rules", ""], NAMELESS),
             (["check", "--rules", "--whole"], NAMELESS),
-            (["check", "--rules", "FILE", "--rules", "FILE"], f"{OPTION} multiple times\n".encode()),
-            (["--rules=FILE", "check", "--rules=FILE"], f"{OPTION} multiple times\n".encode()),
-            (["serve", "--rules", "FILE"], f"{OPTION} with 'serve'\n".encode()),
-            (["--rules=FILE", "serve", "--whole"], f"{OPTION} with 'serve'\n".encode()),
+            (["check", "--rules", "FILE", "--rules", "FILE"], f"{OPTION} multiple times"),
+            (["--rules=FILE", "check", "--rules=FILE"], f"{OPTION} multiple times"),
+            (["serve", "--rules", "FILE"], f"{OPTION} with 'serve'"),
+            (["--rules=FILE", "serve", "--whole"], f"{OPTION} with 'serve'"),
         ):
             with self.subTest(words=words):
-                self.assertEqual(over(PENNIES, words), (1, b"", said))
+                status, output, errors = over(PENNIES, words)
+                self.assertEqual((status, output, errors.decode().partition("\n")[0]), (1, b"", said))
 
     def test_a_session_has_no_such_option(self) -> None:
         status, output, errors = ran(["serve"], f"check --rules {PENNIES}\n".encode())

@@ -10,7 +10,8 @@ from unittest import mock
 import gdlsolve
 from gdlsolve import Misuse, Refusal, Session, calls, program
 from gdlsolve.handles import Handle, has_handles
-from gdlsolve.session import AT_ONCE, ByHandle, ByProgram, Process, line_of
+from gdlsolve.session import ByLibrary, ByProgram
+from gdlsolve.standing import AT_ONCE, ByHandle, Process, line_of
 from tests import GAMES, NO_LIBRARY, PROGRAM, TOP, needs_program, ran
 
 PENNIES = (TOP / "games/matching_pennies.kif").read_bytes()
@@ -143,9 +144,11 @@ class Sessions:
 class OverProgram(Sessions.Each):
     begun = staticmethod(over_program)
 
-    def test_what_no_line_has_is_misuse(self) -> None:
-        with self.begun(PENNIES) as session, self.assertRaises(Misuse):
-            session.moves("h t")
+    def test_words_that_no_line_has_are_asked_of_a_process_of_their_own(self) -> None:
+        with self.begun(PENNIES) as session:
+            for words in NO_LINES:
+                found, want = session.reply(words), calls.by_program(PROGRAM, words, PENNIES)
+                self.assertEqual((found.status, found.output), (want.status, want.output), words)
 
     def test_many_requests_at_once(self) -> None:
         process = Process(PROGRAM)
@@ -167,13 +170,13 @@ class OverLibrary(Sessions.Each):
 
     def test_the_library_answers(self) -> None:
         with self.begun(PENNIES) as session:
-            self.assertIsInstance(session._asked, ByHandle)
+            self.assertIsInstance(session._asked, ByLibrary)
 
     def test_words_that_no_line_has(self) -> None:
         with self.begun(PENNIES) as session:
             for words in NO_LINES:
                 found, want = session.reply(words), calls.by_library(file(), words, PENNIES)
-                self.assertEqual((found, found.explain is None), (want, want.explain is None), words)
+                self.assertEqual((found, found.told()), (want, want.told()), words)
 
     def test_a_handle_asks_over_its_own_rules(self) -> None:
         with self.begun(PENNIES) as pennies, self.begun(MARKS) as marks:
@@ -195,8 +198,10 @@ class OverLibrary(Sessions.Each):
 
         def use(times: int) -> int:
             for _ in range(times):
-                with self.begun(MARKS) as session:
-                    session.moves()
+                kept = ByHandle(file())
+                kept.stand(MARKS)
+                kept.reply(["moves"])
+                kept.close()
             return size()
 
         before = use(100)

@@ -4,13 +4,15 @@ import random
 import time
 import unittest
 from collections.abc import Callable
+from unittest.mock import patch
 
 import gdlsolve
-from gdlsolve.engine import Children, Engine, Turn
+from gdlsolve.engine import Children, Engine, Playouts, Turn
+from gdlsolve.gates import Gates
 from gdlsolve.simulation import Question
 from gdlsolve.thinking import Choice, Thinking
-from tests import TOP
-from tests.serving import LONG, Asking
+from tests import ENDLESS_RULES, TOP
+from tests.serving import LONG, Asking, until
 
 # One role, which loses at once or one turn later.
 LOST = """
@@ -28,6 +30,9 @@ SURE = """
 (<= terminal (true end)) (<= (goal a 60) (true end))
 """
 
+
+# What takes a second to be found, and is of no account.
+SLOW = "".join(f"(n {number})" for number in range(22)) + "(<= (p ?w) (n ?w) (n ?x) (n ?y) (n ?z) (m ?z)) (m none)"
 
 Enough = Callable[[Thinking], bool]
 
@@ -96,6 +101,28 @@ class Choices(Asking):
                 turns = [first, ("noop", found.move)]
                 self.assertEqual(gdlsolve.solve(rules, "xplayer", 7, after=turns).value, 50)
 
+    def searched(self, quick: Engine, enough: Enough) -> Thinking:
+        """What was thought, and ended, on the first move of a large game, all moves of which have one value for long."""
+        question = Question("red", (), gdlsolve.moves(ENDLESS_RULES), later())
+        thinking = Thinking(question, self.engine(ENDLESS_RULES), quick, random.Random(1))
+        self.assertTrue(until(lambda: enough(thinking)))
+        thinking.stop.set()
+        for thread in thinking.threads:
+            thread.join()
+        self.assertEqual(set(thinking.search.equal), set(question.legal))
+        return thinking
+
+    def test_among_moves_of_one_value_random_matches_choose(self) -> None:
+        thinking = self.searched(self.engine(ENDLESS_RULES), thinks(2, 50))
+        found = thinking.choice()
+        self.assertEqual((found.move, found.value, found.is_settled), (thinking.simulation.ranking()[0], 50, False))
+
+    def test_where_random_matches_say_nothing_any_of_them_is_played(self) -> None:
+        none = Children(1, ["false"], spare=0)
+        self.addCleanup(none.close)
+        thinking = self.searched(Engine(ENDLESS_RULES, none), thinks(2, 0))
+        self.assertGreater(len({thinking.choice().move for _ in range(50)}), 1)
+
     def test_what_is_lost_is_held_out_longest(self) -> None:
         found = self.choice(LOST, "a", never)
         self.assertEqual((found.move, found.value, found.is_settled), ("slow", 0, True))
@@ -103,6 +130,44 @@ class Choices(Asking):
     def test_more_than_half_for_sure_is_taken_where_nothing_is_settled(self) -> None:
         found = self.choice(SURE, "a", thinks(4, 100))
         self.assertEqual((found.move, found.value, found.is_settled), ("take", 60, False))
+
+    def test_behind_an_answer_its_move_alone_is_tried(self) -> None:
+        rules = (TOP / "games/tic_tac_toe.kif").read_text()
+        question = Question("xplayer", (), gdlsolve.moves(rules), later(), 2)
+        thinking = Thinking(question, self.engine(rules), self.engine(rules), random.Random(1))
+        self.addCleanup(thinking.stop.set)
+        simulation = thinking.simulation
+
+        def tried(more: int) -> dict[str, int]:
+            """How often each move was tried, once so many more matches were played."""
+            enough = simulation.matches + more
+            self.assertTrue(until(lambda: simulation.matches > enough, LONG))
+            return {move: simulation.tried(move) for move in question.legal}
+
+        tried(300)
+        found = thinking.for_move(time.monotonic())
+        # A match that was under way may still be one behind another move.
+        first, last = tried(100), tried(300)
+        self.assertEqual([move for move in question.legal if last[move] > first[move]], [found.move])
+
+    def test_gates_are_built_from_question_to_question(self) -> None:
+        rules = (TOP / "games/tic_tac_toe.kif").read_text() + SLOW
+        gates, deep, quick, here = Gates(self.engine(rules)), self.engine(rules), self.engine(rules), gdlsolve.moves(rules)
+        with patch("gdlsolve.gates.PIECE", 0.02):
+            gates.build()
+            child = gates.engine.child
+            self.assertTrue(gates.are_wanted())
+            questions = 0
+            while not gates.are_there:
+                questions += 1
+                thinking = Thinking(Question("xplayer", (), here, later(), 2), deep, quick, random.Random(1), None, gates)
+                enough = gates.spent + 0.1
+                self.assertTrue(until(lambda: gates.are_there or gates.spent > enough, LONG))
+                thinking.choice()
+                self.assertFalse(gates.are_none)
+        self.assertGreater(questions, 1)
+        self.assertIs(gates.engine.child, child)
+        self.assertGreater(sum((gates.goals((), Playouts(32, 200, 50, 1)) or {}).values()), 0)
 
     def test_a_search_that_never_answers_leaves_random_play(self) -> None:
         rules = (TOP / "games/tic_tac_toe.kif").read_text()

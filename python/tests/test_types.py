@@ -1,5 +1,6 @@
 """The types of the package, its tests, and the scripts of bench/, tools/ and examples/, by mypy where it is there."""
 
+import importlib.util
 import os
 import shutil
 import subprocess
@@ -10,6 +11,8 @@ from pathlib import Path
 from tests import TOP
 
 MYPY = shutil.which("mypy") or shutil.which("mypy", path="/usr/bin")
+
+MISSING = [name for name in ("aiohttp", "httpx") if importlib.util.find_spec(name) is None]
 
 
 def scripts(folder: Path) -> list[str]:
@@ -25,6 +28,7 @@ def scripts(folder: Path) -> list[str]:
 
 
 @unittest.skipUnless(MYPY, "types are not looked at: there is no mypy")
+@unittest.skipIf(MISSING, f"types are not looked at: there is no {', '.join(MISSING)} (python3-..)")
 class Types(unittest.TestCase):
     def test_all_of_python(self) -> None:
         own = [str(TOP / "python" / part) for part in ("gdlsolve", "tests", "tests/run", "setup.py")]

@@ -12,8 +12,9 @@ from unittest.mock import patch
 import gdlsolve
 from gdlsolve import Misuse, Refusal, Session, State, program, whole
 from gdlsolve.engine import Engine, Limit, Pool
+from gdlsolve.gates import Gates
 from gdlsolve.manager import Record, Referee, made, options, resumed
-from gdlsolve.page.server import SHOWN as PROVED, TESTED, WRITTEN, Desk
+from gdlsolve.page.desk import SHOWN as PROVED, TESTED, WRITTEN, Desk
 from tests import GAMES, PROGRAM, TOP, known, needs_library, needs_program, package, ran
 from tests.found import BEGINS, FOUND, LISTED, NEVER
 from tests.serving import LONG, Asking, Served, clocks
@@ -262,7 +263,7 @@ class Matches(Asking):
         self.assertEqual(played(["--resume", str(file)]).state, "ended")
 
     def test_what_is_played_without_the_solver(self) -> None:
-        asked = self.engine(gdlsolve.unroll(FOUND))
+        asked = Gates(self.engine(gdlsolve.unroll(FOUND)))
         self.assertEqual(asked.legal(TURNS, Limit(time.monotonic() + LONG)), gdlsolve.moves(FOUND, TURNS, whole=True))
 
     def test_an_engine_has_rules_written_out(self) -> None:

@@ -1,6 +1,7 @@
 """The command line: the options of `solve`, and who shares the work.
 
     python -m gdlsolve.cluster [ENGINE] --role ROLE --depth TURNS [OPTIONS] [GAME.kif]
+    python -m gdlsolve.cluster scheduler|worker [OPTIONS]
 
 Where no file is named the rules come on standard input. The exit statuses are those of the program,
 and 69 where the cluster gave no answer.
@@ -10,24 +11,22 @@ from __future__ import annotations
 
 import argparse
 import math
-import os
 import signal
 import sys
-from collections.abc import Callable, Sequence
+from collections.abc import Sequence
 from contextlib import AbstractContextManager
 from dataclasses import asdict
 from pathlib import Path
-from typing import NoReturn, TypeVar
 
 from gdlsolve import __version__, keys
 from gdlsolve.calls import Misuse, Refusal, Status
-from gdlsolve.cluster import MOST_TURNS, engines, sought
+from gdlsolve.cluster import MOST_TURNS, engines, nodes, sought
 from gdlsolve.cluster.driver import Driver, Engine, Manner
 from gdlsolve.cluster.engines import Share
 from gdlsolve.cluster.faults import ClusterFault
+from gdlsolve.cluster.options import Parser, add_tls, one, processors, tls_of
 from gdlsolve.streams import StreamFault, on_input, put, say
 
-Found = TypeVar("Found")
 STREAM_FAILED = 4
 NO_ANSWER = 69
 # What a program takes for its table at most, in MiB.
@@ -35,14 +34,7 @@ MOST_TABLE = 65_536
 TURNS = f"a whole number from 0 to {MOST_TURNS}"
 TABLES = f"a whole number from 0 to {MOST_TABLE}"
 DESCRIPTION = "Solves a game on many machines. The answer is that of one, or there is none."
-
-
-class _Parser(argparse.ArgumentParser):
-    """A parser whose misuse is that of the program."""
-
-    def error(self, message: str) -> NoReturn:
-        """Raises what is wrong with the words."""
-        raise Misuse(f"{self.format_usage()}{message}")
+PARTS = "The words scheduler and worker in place of the options begin a part of a Dask cluster: scheduler --help, worker --help."
 
 
 def _share(workers: str, processors: str) -> Share:
@@ -73,11 +65,6 @@ def mebibytes(text: str) -> int:
     return found
 
 
-def processors() -> int:
-    """How many processors this process may use."""
-    return len(os.sched_getaffinity(0))
-
-
 def seconds(text: str) -> float:
     """A number of seconds from 0 on."""
     found = float(text)
@@ -86,23 +73,11 @@ def seconds(text: str) -> float:
     return found
 
 
-def _one(read: Callable[[str], Found], what: str) -> Callable[[str], Found]:
-    """Reads a word that says what is told here, or tells what is wrong with it."""
-
-    def taken(text: str) -> Found:
-        try:
-            return read(text)
-        except ValueError:
-            raise argparse.ArgumentTypeError(f"it takes {what}, and not {text!r}") from None
-
-    return taken
-
-
 def _add_engines(parser: argparse.ArgumentParser) -> None:
     """The options of which one says who shares the work."""
     which = parser.add_mutually_exclusive_group()
     add = which.add_argument
-    mine, others = _one(here, "N or NxK, each above 0"), _one(of_mpi, "N or NxK, each above 0")
+    mine, others = one(here, "N or NxK, each above 0"), one(of_mpi, "N or NxK, each above 0")
     add("--processes", type=mine, metavar="N", help="N processors of this machine (all of them)")
     add("--scheduler", metavar="ADDRESS", help="the workers of a Dask scheduler")
     add("--scheduler-file", metavar="FILE", help="the same, by the file that the scheduler writes")
@@ -113,13 +88,14 @@ def _add_engines(parser: argparse.ArgumentParser) -> None:
 def _parser() -> argparse.ArgumentParser:
     """The options of the command."""
     own = keys.name("gdlsolve-cluster", "gdlsolve.cluster")
-    parser = _Parser(prog=own, description=DESCRIPTION, allow_abbrev=False)
+    parser = Parser(prog=own, description=DESCRIPTION, epilog=PARTS, allow_abbrev=False)
     _add_engines(parser)
+    add_tls(parser)
     add = parser.add_argument
-    waits = _one(seconds, "a number of seconds from 0 on")
+    waits = one(seconds, "a number of seconds from 0 on")
     add("--version", action="version", version=f"gdlsolve {__version__}")
     add("--role", required=True, help="whose play it is")
-    turns = _one(int, TURNS)
+    turns = one(int, TURNS)
     add("--depth", required=True, type=turns, metavar="TURNS", help="how many turns to look ahead")
     worth = parser.add_mutually_exclusive_group()
     worth.add_argument("--at-bound", metavar="BOUND", help="zero or goal, as with solve")
@@ -130,7 +106,7 @@ def _parser() -> argparse.ArgumentParser:
     add("--split", type=waits, default=2.0, metavar="SECONDS", help="when a question may be split")
     add("--journal", type=Path, metavar="FILE", help="keeps answers, and asks for none again")
     add("--patience", type=waits, default=120.0, metavar="SECONDS", help="how long it may be gone")
-    add("--table", type=_one(mebibytes, TABLES), metavar="MIB", help="of each program, as with solve")
+    add("--table", type=one(mebibytes, TABLES), metavar="MIB", help="of each program, as with solve")
     add("--parts", action="store_true", help="asks for parts alone, and never for the whole")
     add("--verbose", action="store_true", help="tells on standard error what happens")
     add("game", type=Path, nargs="?", metavar="GAME.kif", help="the rules")
@@ -139,10 +115,13 @@ def _parser() -> argparse.ArgumentParser:
 
 def engine_of(words: argparse.Namespace) -> AbstractContextManager[Engine]:
     """The engine that the words name."""
+    tls = tls_of(words)
     if words.scheduler is not None:
-        return engines.dask(words.scheduler, words.patience)
+        return engines.dask(words.scheduler, words.patience, tls)
     if words.scheduler_file is not None:
-        return engines.dask_by_file(words.scheduler_file, words.patience)
+        return engines.dask_by_file(words.scheduler_file, words.patience, tls)
+    if tls is not None:
+        raise Misuse("the files of TLS go with --scheduler and --scheduler-file")
     if words.local is not None:
         return engines.dask_here(words.local, words.patience)
     if words.mpi is not None:
@@ -177,7 +156,9 @@ def run(words: Sequence[str]) -> int:
 
 
 def answered(words: Sequence[str]) -> int:
-    """The same, also where the rules or the history are refused further on."""
+    """The same, also where a part of a cluster is asked for, or the rules or the history are refused further on."""
+    if words and words[0] in nodes.PARTS:
+        return nodes.keep(words[0], words[1:])
     try:
         return run(words)
     except Refusal as refusal:

@@ -49,5 +49,5 @@ def digest() -> str:
 def run(words: Sequence[str], rules: bytes, stopped: Callable[[], bool] | None = None) -> Ran:
     """A run of the program in a child process, which ends with this one, or where it is stopped."""
     found = answers()
-    command = [sys.executable, "-m", "gdlsolve"] if isinstance(found, Path) else found
+    command = [sys.executable, "-P", "-m", "gdlsolve"] if isinstance(found, Path) else found
     return program.run(command, words, rules, stopped, program.environment())

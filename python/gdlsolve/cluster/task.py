@@ -6,6 +6,7 @@ apart from one of the engine.
 
 from __future__ import annotations
 
+import multiprocessing
 import os
 import sys
 import time
@@ -15,6 +16,7 @@ from enum import Enum
 
 from gdlsolve.calls import Status, lines_of
 from gdlsolve.cluster import program
+from gdlsolve.program import ORPHANED
 
 # No value is outside.
 OPEN = (-1, 101)
@@ -123,10 +125,16 @@ def _by_file(path: str | None) -> Callable[[], bool] | None:
     return lambda: os.path.exists(file) or not os.path.isdir(folder)
 
 
-def _stopped(path: str | None) -> Callable[[], bool] | None:
+def _is_orphan() -> bool:
+    """Whether this is a process of `multiprocessing`, as of a pool, and the one who has started it is gone."""
+    parent = multiprocessing.parent_process()
+    return parent is not None and not parent.is_alive()
+
+
+def _stopped(path: str | None) -> Callable[[], bool]:
     """Tells whether the answer is not wanted any more, in each way that there is."""
-    ways = [way for way in (_by_dask(), _by_file(path)) if way is not None]
-    return (lambda: any(way() for way in ways)) if ways else None
+    ways = [way for way in (_by_dask(), _by_file(path), _is_orphan) if way is not None]
+    return lambda: any(way() for way in ways)
 
 
 def _end(ran: program.Ran) -> End:
@@ -144,6 +152,9 @@ def answer(question: Question) -> Outcome:
     try:
         ran = program.run(question.words(processors), question.rules, _stopped(question.stop))
     except program.Stopped:
+        if _is_orphan():
+            # Nobody is there to be told, and such a process would wait for questions without an end.
+            os._exit(ORPHANED)
         return Outcome(End.STOPPED, (), time.monotonic() - begun)
     end = _end(ran)
     if end in (End.ANSWERED, End.REFUSED):

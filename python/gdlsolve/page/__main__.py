@@ -4,6 +4,7 @@ from __future__ import annotations
 
 import argparse
 import os
+import re
 import shlex
 import signal
 import sys
@@ -12,11 +13,13 @@ from pathlib import Path
 
 from gdlsolve import __version__, keys
 from gdlsolve.calls import is_own
-from gdlsolve.engine import OWN_COMMAND, Broken, Late, Pool
-from gdlsolve.page.server import Desk, Server
+from gdlsolve.engine import OWN_COMMAND, SESSION_COMMAND, Broken, Late, Pool
+from gdlsolve.page.desk import Desk
+from gdlsolve.page.server import Server
 from gdlsolve.streams import StreamFault, put_line, say
 
 PORT = 9160
+HOST = re.compile(r"[\w.-]+(:\d{1,5})?", re.ASCII)
 CLONE = Path(__file__).resolve().parent.parent.parent.parent / "games"
 
 
@@ -31,7 +34,9 @@ def options() -> argparse.Namespace:
     words.add_argument("--program", default="",
                        help="the command of the program; if not given, the package answers")
     words.add_argument("--workers", type=int, default=max(1, min(4, os.cpu_count() or 1)),
-                       help="how many questions are looked at, at once")
+                       help="how many positions and how many rules are read at once")
+    words.add_argument("--allow-host", action="append", default=[], metavar="NAME[:PORT]",
+                       help="another name by which a browser may call it, as behind a tunnel; may be given again")
     words.add_argument("--open", action="store_true", help="open the page in a browser")
     given = words.parse_args()
     if given.folder is not None and not given.folder.is_dir():
@@ -44,6 +49,8 @@ def options() -> argparse.Namespace:
         words.error("--port is a number from 0 to 65535")
     if not 1 <= given.workers <= 64:
         words.error("--workers is a number from 1 to 64")
+    if not all(HOST.fullmatch(name) for name in given.allow_host):
+        words.error("--allow-host is a name, or a name and a port, as box.local:8080")
     return given
 
 
@@ -57,8 +64,8 @@ def main() -> int:
     """Serves the page until it is ended."""
     given = options()
     folder = given.folder or (CLONE if CLONE.is_dir() else None)
-    command = [*OWN_COMMAND, *given.program]
-    desk = Desk(Pool(given.workers, command, spare=1), folder)
+    pool = Pool(given.workers, [*OWN_COMMAND, *given.program], spare=1)
+    desk = Desk(pool, folder, [*SESSION_COMMAND, *given.program])
     try:
         if not is_own(desk.reply(["--version"], b"")):
             raise Broken("the program that is named is another one")
@@ -67,7 +74,7 @@ def main() -> int:
         desk.close()
         return 1
     try:
-        server = Server(desk, given.port)
+        server = Server(desk, given.port, given.allow_host)
     except OSError as fault:
         print(f"port {given.port}: {fault.strerror}", file=sys.stderr)
         desk.close()

@@ -8,7 +8,7 @@ const MOST_SHOWN = 12;
 // What the page is at. `run` counts the positions shown: news for an earlier one is dropped. While one is `awaited`, the one that is
 // drawn is old.
 const now = {
-  games: [], game: null, turns: [], chosen: [], at: 0, position: null, pending: {}, seats: {},
+  games: [], game: null, turns: [], chosen: [], at: 0, position: null, pending: null, seats: {},
   auto: false, source: null, run: 0, awaited: false, looks: new Set(), role: "", tree: null, drawn: "",
 };
 
@@ -220,7 +220,8 @@ async function show({ auto = false } = {}) {
     throw new Error(`That turn cannot be played: ${told.refused.told}.`);
   }
   now.position = told;
-  now.pending = {};
+  // A role may have any name, also one that each object knows, as `constructor`.
+  now.pending = Object.create(null);
   now.source = null;
   remember();
   drawAll();
@@ -285,8 +286,10 @@ async function letSolver(roles) {
     busy(false);
     if (told.ended === "failed") throw new Error(told.why);
     const legal = now.position.legal[role];
-    const found = told.best && told.best.move;
-    now.pending[role] = legal.includes(found) ? found : legal[0];
+    // One that has to move before it has read the rules knows of none.
+    const move = told.best ? told.best.move : legal[Math.floor(Math.random() * legal.length)];
+    if (!legal.includes(move)) throw new Error("The solver has no move.");
+    now.pending[role] = move;
   }
   await play();
 }
@@ -463,19 +466,24 @@ function worthText({ low, high, depth }) {
   return low === high ? [String(low), "settled"] : [`${low} to ${high}`, `within ${turnsAhead(depth)}`];
 }
 
-// The choices that are best so far: as much as any is sure of, and among these as much to hope for.
+// The choices that are best. Where all that are not settled were looked at to one depth, those that are sure of as much as any, and of these
+// those that can hope for most. Else those alone that are sure of as much as any other can hope for.
 function bestOf(moves) {
-  const known = moves.filter((choice) => choice.depth);
-  const low = Math.max(...known.map((choice) => choice.low));
-  const sure = known.filter((choice) => choice.low === low);
+  const unsettled = moves.filter((choice) => choice.low < choice.high);
+  if (unsettled.some(({ depth }) => !depth || depth !== unsettled[0].depth)) {
+    return moves.filter((choice) => moves.every((other) => other.high <= choice.low));
+  }
+  const low = Math.max(...moves.map((choice) => choice.low));
+  const sure = moves.filter((choice) => choice.low === low);
   const high = Math.max(...sure.map((choice) => choice.high));
   return sure.filter((choice) => choice.high === high);
 }
 
 function drawWorth(told) {
   const best = bestOf(told.moves);
+  const rows = new Map([...$("rows").children].map((each) => [each.dataset.move, each]));
   for (const choice of told.moves) {
-    const row = [...$("rows").children].find((each) => each.dataset.move === choice.move);
+    const row = rows.get(choice.move);
     if (!row) continue;
     const [value, kind] = worthText(choice);
     const isBest = best.includes(choice) && best.length < told.moves.length;

@@ -1,39 +1,42 @@
-"""The server of the page: its files, and what the page asks as JSON."""
+"""The server of the page on the loopback: its files, and its questions as JSON.
+
+It is called by its own name alone, and of pages only by its own. A request has to be there in time, as a whole.
+"""
 
 from __future__ import annotations
 
-import hashlib
-import itertools
+import io
 import json
 import select
+import socket
 import sys
 import threading
 import time
-from collections.abc import Callable, Sequence
+from collections.abc import Callable, Iterable
 from contextlib import suppress
-from dataclasses import dataclass
 from http.server import BaseHTTPRequestHandler, ThreadingHTTPServer
 from importlib.resources import files
-from pathlib import Path
 from typing import Any, cast
 
-import gdlsolve
-from gdlsolve import board, whole
-from gdlsolve.calls import Misuse, Refusal, Reply
-from gdlsolve.engine import Broken, Late, Limit, Pool, history
-from gdlsolve.page import looks, places, records, state
-from gdlsolve.replies import Description, Position
+from gdlsolve.calls import Misuse, Refusal
+from gdlsolve.engine import Broken, Late
+from gdlsolve.page import looks
+from gdlsolve.page.desk import BadQuestion, Desk
 
 MOST_BYTES = 4 << 20
-MOST_GAMES = 32
-MOST_LOOKS = 8
-# So long a short question may take, and so long a page waits for news of a look, in seconds.
-PATIENCE = 30.0
-NEWS = 10.0
-NO_ANSWER = (Late, Broken, MemoryError)
-WRITTEN = "These rules are as games are found, and were written out to be played."
-SHOWN = "It is proved that what was written out is played the same."
-TESTED = "That what was written out is played the same is tested, and not proved."
+# So many connections are there at once. One more takes the place of the one whose request has been waited for longest, which may take so
+# many seconds.
+MOST_CONNECTIONS = 64
+PARTING = 1.0
+# So long a connection may be silent between requests; so long a request may take to come, from its first byte to its last, and an answer
+# to go; all in seconds.
+SILENT = 30.0
+COMING = 20.0
+GOING = 20.0
+FULL = b"HTTP/1.1 503 Service Unavailable\r\nContent-Length: 0\r\nConnection: close\r\n\r\n"
+# What is told where there is no answer.
+NO_ANSWER = (ValueError, KeyError, RecursionError, Misuse, Refusal, OSError, Late, Broken, MemoryError)
+STRANGER = "This server answers its own page alone."
 
 FILES = {
     "/": ("page.html", "text/html"),
@@ -41,225 +44,14 @@ FILES = {
     "/page.js": ("page.js", "text/javascript"),
     "/icon.svg": ("icon.svg", "image/svg+xml"),
 }
-POLICY = (
-    "default-src 'none'; script-src 'self'; style-src 'self'; connect-src 'self'; "
-    "img-src 'self' data:; base-uri 'none'; form-action 'none'; frame-ancestors 'none'"
-)
-
-
-class BadQuestion(ValueError):
-    """What the page asked makes no sense. The message says why."""
-
-
-@dataclass(frozen=True)
-class Opened:
-    """A game that the page has opened, with what does not change in play."""
-
-    name: str
-    rules: bytes
-    roles: tuple[str, ...]
-    style: board.Style
-    frames: list[board.Frame]
-
-
-def _turns(told: Any) -> tuple[tuple[str, ...], ...]:
-    """A history, as the page tells it."""
-    if not isinstance(told, list):
-        raise BadQuestion("A history is a list of turns.")
-    for turn in told:
-        if not isinstance(turn, list) or not all(isinstance(move, str) for move in turn):
-            raise BadQuestion("A turn is a list of moves.")
-    return tuple(tuple(turn) for turn in told)
-
-
-def about(text: str) -> str:
-    """What the comment at the head of a description says, up to its first full stop."""
-    lines = itertools.takewhile(lambda line: line.startswith(";"), text.splitlines())
-    return " ".join(line.lstrip("; ") for line in lines).split(". ")[0].rstrip(".")
-
-
-class Desk:
-    """All that the server keeps: an engine, the games, and the looks that go on."""
-
-    def __init__(self, pool: Pool, folder: Path | None) -> None:
-        self.pool, self.folder = pool, folder
-        self._lock = threading.Lock()
-        # Looks may take all places of the pool for long, and a page that only steps on waits for none of them.
-        self._places = threading.Semaphore(pool.most)
-        self._opened: dict[str, Opened] = {}
-        self._looks: dict[int, looks.Look] = {}
-        self._numbers = itertools.count(1)
-
-    def reply(self, words: Sequence[str], rules: bytes) -> Reply:
-        """The reply to a question that is given up after some seconds."""
-        return self.pool.ask(words, rules, Limit(time.monotonic() + PATIENCE), self._places)
-
-    def _ask(self, words: Sequence[str], rules: bytes) -> list[str]:
-        """The lines of a short answer."""
-        return self.reply(words, rules).lines()
-
-    def games(self) -> dict[str, Any]:
-        """The games of the folder. What cannot be read there is passed over."""
-        told = []
-        for path in sorted(self.folder.glob("*.kif")) if self.folder else []:
-            with suppress(OSError):
-                told.append({"name": path.stem, "about": about(path.read_text("latin-1"))})
-        return {"games": told, "version": gdlsolve.__version__}
-
-    def _stored(self, name: str) -> Path:
-        """The file of a game of the folder."""
-        known = {path.stem: path for path in self.folder.glob("*.kif")} if self.folder else {}
-        if name not in known:
-            raise BadQuestion(f"There is no game {name} in the folder.")
-        return known[name]
-
-    def _style(self, path: Path | None) -> tuple[board.Style, str]:
-        """How a board is drawn, and what is wrong with the file that says it."""
-        beside = path.with_suffix(".board") if path else None
-        if beside is None or not beside.is_file():
-            return board.Style(), ""
-        try:
-            return board.Style.of(beside.read_text()), ""
-        except (ValueError, OSError) as fault:
-            return board.Style(), f"{beside.name}: {fault}"
-
-    def open(self, told: dict[str, Any]) -> dict[str, Any]:
-        """Opens a game by its name or by its text, or tells its refusal. One of the folder that is as
-        games are found is written out, and of others those for which it is asked."""
-        path = self._stored(str(told["name"])) if "text" not in told else None
-        found = path.read_bytes() if path else str(told["text"]).encode()
-        text = found.decode(errors="replace")
-        try:
-            rules = whole.playable(found, self._ask) if path or told.get("whole") else found
-            roles = Description.of(self._ask(["check"], rules)).roles
-            warning = self.reply(["moves"], rules)
-            warning.lines()
-        except Refusal as refused:
-            return {"text": text, "refused": places.refusal(refused, found)}
-        style, note = self._style(path)
-        base = state.base(rules, roles[0], self._ask) if style.draw else []
-        name = path.stem if path else "pasted"
-        opened = Opened(name, rules, roles, style, board.frames(base, style))
-        key = hashlib.sha256(name.encode() + b"\0" + rules).hexdigest()[:16]
-        with self._lock:
-            self._opened.pop(key, None)
-            self._opened[key] = opened
-            while len(self._opened) > MOST_GAMES:
-                del self._opened[next(iter(self._opened))]
-        written = [] if rules is found else [WRITTEN, SHOWN if whole.is_shown(rules) else TESTED]
-        notes = [note, *written, warning.errors.decode(errors="replace").strip()]
-        return {"id": key, "name": name, "text": text, "roles": roles, "about": about(text),
-                "notes": [each for each in notes if each], "whole": not (written or whole.states_all(found))}
-
-    def _game(self, told: dict[str, Any]) -> Opened:
-        """The game that a question is about."""
-        with self._lock:
-            found = self._opened.get(str(told.get("game")))
-        if found is None:
-            raise BadQuestion("This game is not open any more: choose it again.")
-        return found
-
-    def position(self, told: dict[str, Any]) -> dict[str, Any]:
-        """How play stands behind a history, with what can be drawn of it."""
-        game, after = self._game(told), _turns(told.get("after"))
-        try:
-            lines = self._ask(["moves", "--after", history(after)], game.rules)
-        except Refusal as refused:
-            return {"refused": places.refusal(refused, game.rules)}
-        here = Position.of(lines)
-        facts = state.facts(game.rules, game.roles[0], after, self._ask)
-        grids, rest = board.boards(facts or [], game.frames, game.style)
-        press = {}
-        if grids:
-            press = {role: board.spots(legal, game.frames[0], game.style)
-                     for role, legal in here.legal.items()}
-        return {
-            "state": here.state.value,
-            "goals": here.goals,
-            "legal": here.legal,
-            "facts": None if facts is None else rest,
-            "boards": [grid.told() for grid in grids],
-            "spots": press,
-        }
-
-    def _begin(self, told: dict[str, Any], work: Callable[[looks.Look], str]) -> dict[str, Any]:
-        """Begins a look."""
-        game, after = self._game(told), _turns(told.get("after"))
-        role, seconds = str(told.get("role")), told.get("seconds")
-        if role not in game.roles:
-            raise BadQuestion(f"There is no role {role}.")
-        if seconds is not None and not (isinstance(seconds, (int, float)) and 0 < seconds < 1e6):
-            raise BadQuestion("The time is a number of seconds above 0.")
-        look = looks.Look(looks.Asked(game.rules, role, after, seconds), self.pool)
-        with self._lock:
-            self._drop_old()
-            number = next(self._numbers)
-            self._looks[number] = look
-        look.start(work)
-        return {"look": number}
-
-    def _drop_old(self) -> None:
-        """Gives up looks for which nobody asks, and the oldest where there are too many."""
-        # Those that have ended make room first, so that one goes on as long as no eight others do.
-        for number, look in sorted(self._looks.items(), key=lambda each: not each[1].ended):
-            if look.forgotten() or len(self._looks) >= MOST_LOOKS:
-                del self._looks[number]
-                threading.Thread(target=look.stop, daemon=True).start()
-
-    def values(self, told: dict[str, Any]) -> dict[str, Any]:
-        """Begins a look at what each move of a role is worth."""
-        return self._begin(told, looks.values)
-
-    def replies(self, told: dict[str, Any]) -> dict[str, Any]:
-        """Begins a look at what each turn is worth to a role."""
-        return self._begin(told, looks.replies)
-
-    def choose(self, told: dict[str, Any]) -> dict[str, Any]:
-        """Begins a look for the move that the solver plays."""
-        return self._begin(told, looks.choose)
-
-    def _look(self, told: dict[str, Any]) -> looks.Look:
-        """The look that a question is about."""
-        number = told.get("look")
-        with self._lock:
-            found = self._looks.get(number) if isinstance(number, int) else None
-        if found is None:
-            raise BadQuestion("This look is over.")
-        return found
-
-    def news(self, told: dict[str, Any], is_gone: Callable[[], bool]) -> dict[str, Any]:
-        """What a look has found, once it is more than what the page has seen. A page that goes while
-        it waits gives the look up."""
-        seen = told.get("seen")
-        return self._look(told).told(seen if isinstance(seen, int) else -1, NEWS, is_gone)
-
-    def stop(self, told: dict[str, Any]) -> dict[str, Any]:
-        """Gives a look up."""
-        self._look(told).stop()
-        return {}
-
-    def record(self, told: dict[str, Any]) -> dict[str, Any]:
-        """Reads the record of a match."""
-        found = records.record(str(told.get("text", "")))
-        return {"game": found.game, "rules": found.rules, "turns": found.turns}
-
-    def watch(self) -> None:
-        """Gives up looks for which nobody asks. The server calls it again and again."""
-        with self._lock:
-            old = [number for number, look in self._looks.items() if look.forgotten()]
-            gone = [self._looks.pop(number) for number in old]
-        for look in gone:
-            look.stop()
-
-    def close(self) -> None:
-        """Gives up all looks, and ends the engine."""
-        with self._lock:
-            going, self._looks = list(self._looks.values()), {}
-        for look in going:
-            look.stop()
-        self.pool.close()
-
-
+HEADERS = {
+    "Content-Security-Policy": "default-src 'none'; script-src 'self'; style-src 'self'; connect-src 'self'; "
+    "img-src 'self' data:; base-uri 'none'; form-action 'none'; frame-ancestors 'none'",
+    "Cross-Origin-Resource-Policy": "same-origin",
+    "X-Content-Type-Options": "nosniff",
+    "Referrer-Policy": "no-referrer",
+    "Cache-Control": "no-store",
+}
 QUESTIONS: dict[str, Callable[[Desk, dict[str, Any]], dict[str, Any]]] = {
     "/api/games": lambda desk, told: desk.games(),
     "/api/open": Desk.open,
@@ -272,23 +64,91 @@ QUESTIONS: dict[str, Callable[[Desk, dict[str, Any]], dict[str, Any]]] = {
 }
 
 
+class Unheard(Exception):
+    """A request that is not heard. `status` is that of HTTP, and the text says why."""
+
+    def __init__(self, status: int, why: str):
+        super().__init__(why)
+        self.status = status
+
+
+class Coming(io.RawIOBase):
+    """The bytes of a connection, as far as they come in time."""
+
+    def __init__(self, link: socket.socket) -> None:
+        self.link, self.until = link, 0.0
+
+    def within(self, seconds: float) -> None:
+        """From now on what is read has to be there within so many seconds in all."""
+        self.until = time.monotonic() + seconds
+
+    def readable(self) -> bool:
+        return True
+
+    def readinto(self, room: Any) -> int:
+        left = self.until - time.monotonic()
+        if left <= 0:
+            raise TimeoutError("the request is too slow")
+        self.link.settimeout(left)
+        return self.link.recv_into(room)
+
+
 class Server(ThreadingHTTPServer):
-    """The server of one page, on the loopback."""
+    """The server of one page, on the loopback. It has further names where it is called by them."""
 
     daemon_threads = True
+    request_queue_size = MOST_CONNECTIONS
 
-    def __init__(self, desk: Desk, port: int) -> None:
+    def __init__(self, desk: Desk, port: int, names: Iterable[str] = ()) -> None:
         super().__init__(("127.0.0.1", port), Handler)
         self.desk = desk
+        self._places = threading.Semaphore(MOST_CONNECTIONS)
+        # The connections whose next request has not come, those first whose is waited for longest.
+        self._silent: dict[socket.socket, None] = {}
+        self._lock = threading.Lock()
+        own = self.server_address[1]
+        # A browser names no port that is the usual one.
+        ends = [f":{own}", ""] if own == 80 else [f":{own}"]
+        self.names = {f"{name}{end}" for name in ("127.0.0.1", "localhost") for end in ends}.union(names)
 
-    def hosts(self) -> set[str]:
-        """The names by which a page of this server may call it."""
-        port = self.server_address[1]
-        return {f"{name}:{port}" for name in ("127.0.0.1", "localhost")}
+    def note(self, link: socket.socket, is_silent: bool) -> None:
+        """Notes whether a request of a connection is waited for."""
+        with self._lock:
+            self._silent.pop(link, None)
+            if is_silent:
+                self._silent[link] = None
+
+    def _part(self) -> bool:
+        """Ends the connection whose request has been waited for longest, where there is one."""
+        with self._lock, suppress(OSError):
+            for link in list(self._silent)[:1]:
+                del self._silent[link]
+                link.shutdown(socket.SHUT_RDWR)
+                return True
+        return False
+
+    def process_request(self, request: Any, client_address: Any) -> None:
+        """Hears a connection, once there is a place."""
+        if not self._places.acquire(blocking=False) and not (self._part() and self._places.acquire(timeout=PARTING)):
+            with suppress(OSError):
+                request.send(FULL)
+            return self.shutdown_request(request)
+        try:
+            return super().process_request(request, client_address)
+        except BaseException:
+            self._places.release()
+            raise
+
+    def process_request_thread(self, request: Any, client_address: Any) -> None:
+        """Hears a connection to its end."""
+        try:
+            super().process_request_thread(request, client_address)
+        finally:
+            self._places.release()
 
     def handle_error(self, request: Any, client_address: Any) -> None:
         """Says nothing where a page has gone, and else what went wrong."""
-        if not isinstance(sys.exception(), ConnectionError):
+        if not isinstance(sys.exception(), ConnectionError | TimeoutError):
             super().handle_error(request, client_address)
 
     def service_actions(self) -> None:
@@ -297,45 +157,48 @@ class Server(ThreadingHTTPServer):
 
 
 class Handler(BaseHTTPRequestHandler):
-    """Answers one request."""
+    """Answers the requests of a connection."""
 
+    server: Server
     protocol_version = "HTTP/1.1"
-    timeout = 60
     server_version = "gdlsolve"
     sys_version = ""
 
+    def setup(self) -> None:
+        """Has what comes be read in time."""
+        super().setup()
+        self.rfile.close()
+        self.coming = Coming(self.connection)
+        self.rfile = io.BufferedReader(self.coming)
+
+    def handle_one_request(self) -> None:
+        """Waits for a request, and answers it."""
+        self.server.note(self.connection, is_silent=True)
+        self.coming.within(SILENT)
+        try:
+            self.close_connection = not cast(io.BufferedReader, self.rfile).peek(1)
+            if not self.close_connection:
+                self.coming.within(COMING)
+                super().handle_one_request()
+        except TimeoutError:
+            self.close_connection = True
+        finally:
+            self.server.note(self.connection, is_silent=False)
+
     def _send(self, status: int, kind: str, body: bytes) -> None:
+        self.connection.settimeout(GOING)
         self.send_response(status)
         self.send_header("Content-Type", f"{kind}; charset=utf-8")
         self.send_header("Content-Length", str(len(body)))
-        self.send_header("Content-Security-Policy", POLICY)
-        self.send_header("X-Content-Type-Options", "nosniff")
-        self.send_header("Referrer-Policy", "no-referrer")
-        self.send_header("Cache-Control", "no-store")
+        for name, value in HEADERS.items():
+            self.send_header(name, value)
+        if self.close_connection:
+            self.send_header("Connection", "close")
         self.end_headers()
         self.wfile.write(body)
 
     def _json(self, status: int, told: dict[str, Any]) -> None:
         self._send(status, "application/json", json.dumps(told).encode())
-
-    def _fault(self, status: int, why: str) -> None:
-        """Says what is wrong, and hears no more on this connection."""
-        self.close_connection = True
-        self._json(status, {"error": why})
-
-    def _is_ours(self) -> bool:
-        """Whether the request is for this host by its name, so that no other page can ask."""
-        return self.headers.get("Host", "") in cast(Server, self.server).hosts()
-
-    def do_GET(self) -> None:
-        """Gives a file of the page."""
-        if not self._is_ours():
-            return self._fault(403, "This server answers the loopback alone.")
-        found = FILES.get(self.path.partition("?")[0])
-        if found is None:
-            return self._fault(404, "There is no such page.")
-        name, kind = found
-        return self._send(200, kind, (files("gdlsolve.page") / name).read_bytes())
 
     def _is_gone(self) -> bool:
         """Whether nobody is at the other end any more."""
@@ -343,34 +206,72 @@ class Handler(BaseHTTPRequestHandler):
         poll.register(self.connection, select.POLLRDHUP)
         return bool(poll.poll(0))
 
-    def _answer(self, told: dict[str, Any]) -> dict[str, Any] | None:
-        """The answer to a question of the page, where there is such a one."""
-        desk = cast(Server, self.server).desk
-        if self.path == "/api/news":
-            return desk.news(told, self._is_gone)
-        question = QUESTIONS.get(self.path)
-        return None if question is None else question(desk, told)
+    def _check_caller(self) -> None:
+        """Holds that the server is called by a name of its own, and not by another page: of each request that
+        a page may send to another server, a browser tells whose page that is."""
+        host, origin = self.headers.get("Host", ""), self.headers.get("Origin")
+        if host not in self.server.names:
+            raise Unheard(403, STRANGER)
+        if origin is not None and origin not in (f"http://{host}", f"https://{host}"):
+            raise Unheard(403, STRANGER)
+
+    def _heard(self, work: Callable[[], tuple[str, bytes]]) -> None:
+        """Answers a request with what the work gives. Behind what is not heard the connection ends."""
+        try:
+            self._check_caller()
+            kind, body = work()
+        except Unheard as fault:
+            self.close_connection = True
+            self._json(fault.status, {"error": str(fault)})
+        except NO_ANSWER as fault:
+            self._json(400, {"error": looks.said(fault)})
+        else:
+            self._send(200, kind, body)
+
+    def do_GET(self) -> None:
+        """Gives a file of the page."""
+        self._heard(self._file)
 
     def do_POST(self) -> None:
         """Answers a question of the page."""
-        if not self._is_ours():
-            return self._fault(403, "This server answers the loopback alone.")
+        self._heard(self._answer)
+
+    def _file(self) -> tuple[str, bytes]:
+        """The kind and the bytes of a file."""
+        self.server.note(self.connection, is_silent=False)
+        found = FILES.get(self.path.partition("?")[0])
+        if found is None:
+            raise Unheard(404, "There is no such page.")
+        name, kind = found
+        return kind, (files("gdlsolve.page") / name).read_bytes()
+
+    def _body(self) -> bytes:
+        """The body of a question."""
         size = self.headers.get("Content-Length", "")
-        if self.headers.get_content_type() != "application/json" or not size.isdecimal():
-            return self._fault(400, "A question is JSON.")
-        if int(size) > MOST_BYTES:
-            return self._fault(413, "That is too long.")
-        body = self.rfile.read(int(size))
+        is_told = size.isascii() and size.isdigit() and "Transfer-Encoding" not in self.headers
+        if self.headers.get_content_type() != "application/json" or not is_told:
+            raise Unheard(400, "A question is JSON, whose length is told.")
+        if len(size) > 9 or int(size) > MOST_BYTES:
+            raise Unheard(413, "That is too long.")
         try:
-            told = json.loads(body)
-            if not isinstance(told, dict):
-                raise BadQuestion("A question is a JSON object.")
-            answer = self._answer(told)
-        except (ValueError, KeyError, RecursionError, Misuse, Refusal, OSError, *NO_ANSWER) as fault:
-            return self._json(400, {"error": looks.said(fault)})
-        if answer is None:
-            return self._fault(404, "There is no such question.")
-        return self._json(200, answer)
+            body = self.rfile.read(int(size))
+        except TimeoutError:
+            raise Unheard(408, "That took too long to come.") from None
+        if len(body) < int(size):
+            raise Unheard(400, "That is cut off.")
+        self.server.note(self.connection, is_silent=False)
+        return body
+
+    def _answer(self) -> tuple[str, bytes]:
+        """The answer to a question, as JSON."""
+        if self.path != "/api/news" and self.path not in QUESTIONS:
+            raise Unheard(404, "There is no such question.")
+        told = json.loads(self._body())
+        if not isinstance(told, dict):
+            raise BadQuestion("A question is a JSON object.")
+        desk = self.server.desk
+        answer = desk.news(told, self._is_gone) if self.path == "/api/news" else QUESTIONS[self.path](desk, told)
+        return "application/json", json.dumps(answer).encode()
 
     def log_message(self, *words: Any) -> None:
         """Says nothing: a page asks often."""

@@ -9,7 +9,7 @@ from __future__ import annotations
 from collections.abc import Callable, Sequence
 
 from gdlsolve.calls import Misuse, Refusal
-from gdlsolve.engine import Turn, history
+from gdlsolve.engine import Turn, behind
 from gdlsolve.terms import terms, tokens
 
 Ask = Callable[[Sequence[str], bytes], list[str]]
@@ -42,7 +42,7 @@ def _seen(rules: bytes, role: str, asked: str, after: Sequence[Turn], ask: Ask) 
     text, see = watching(rules, role, asked)
     start = f"({see} "
     try:
-        told = ask(["moves", "--after", history(after)], text)
+        told = ask(["moves", *behind(after)], text)
     except Refusal:
         return None
     found = [terms(line) for line in told]
@@ -58,7 +58,7 @@ def base(rules: bytes, role: str, ask: Ask) -> list[str]:
 def facts(rules: bytes, role: str, after: Sequence[Turn], ask: Ask) -> list[str] | None:
     """What holds behind a history, or nothing where the engine cannot tell."""
     try:
-        told = ask(["state", "--after", history(after)], rules)
+        told = ask(["state", *behind(after)], rules)
     except Misuse:
         return _seen(rules, role, "true", after, ask)
     return [terms(line)[1] for line in told if line.startswith("true ")]
