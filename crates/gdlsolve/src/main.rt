@@ -2,13 +2,14 @@
 #![tactic(auto)]
 
 use serving::main_program;
-use source::{source_of, tell_unread, without_rules};
+use source::{source_of, tell_unread};
 use std::alloc::Global;
 use std::io::{ErrorKind, Read, Write};
 use std::process::ExitCode;
 use std::rt::Files;
 use std::thread::Threads;
 use std::{env, io};
+use words::{Asked, asked_of};
 
 /// The status where the words are no command.
 const MISUSE: u8 = 1;
@@ -33,17 +34,11 @@ fn ended<T: Threads + Sync + AllocGlobal + Files, R: Read + Drop, W: Write, E: W
     output: &mut W,
     errors: &mut E,
 ) -> io::Result<u8> {
-    let words = match without_rules(rt.alloc(), words)? {
-        Ok(words) => words,
-        Err(misuse) => {
-            let _ = writeln!(errors, "{}", misuse.line());
-            return Ok(MISUSE);
-        }
-    };
-    match source_of(rt, words.file, input) {
-        Ok(mut input) => Ok(main_program(rt, &words.left, &mut input, output, errors)),
+    let Asked { request, rules } = asked_of(rt.alloc(), words)?;
+    match source_of(rt, rules, input) {
+        Ok(mut input) => Ok(main_program(rt, &request, &mut input, output, errors)),
         Err(fault) => {
-            tell_unread(errors, words.file.unwrap_or(""), &fault);
+            tell_unread(errors, rules.unwrap_or(""), &fault);
             Ok(READ_FAULT)
         }
     }

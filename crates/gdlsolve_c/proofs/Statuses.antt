@@ -5,7 +5,7 @@ use Rattle.statement.specs.declared.status.Status.TheVariants.{Answer, Refused}
 use Rattle.statement.specs.declared.width.Width.TheVariants.{Plain}
 use Rattle.statement.specs.Replies.{IsReply}
 use Rattle.words.specs.Asked.{query_of}
-use Rattle.words.specs.Widths.{IsCommandIn}
+use Rattle.words.specs.Requests.{IsCommandIn}
 use Rattle.words.specs.declared.command.Command.{Command}
 use Rattle.gdlsolve_c.specs.declared.told.Outcome.{Outcome}
 use Rattle.gdlsolve_c.specs.declared.told.Outcome.TheVariants.{Reply, Words}

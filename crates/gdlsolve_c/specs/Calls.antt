@@ -5,7 +5,7 @@ use Rattle.statement.specs.declared.status.Status.{Status}
 use Rattle.statement.specs.declared.width.Width.TheVariants.{Plain}
 use Rattle.statement.specs.Replies.{IsReply}
 use Rattle.words.specs.Asked.{query_of}
-use Rattle.words.specs.Widths.{IsCommandIn}
+use Rattle.words.specs.Requests.{IsCommandIn}
 use Rattle.words.specs.declared.command.Command.{Command}
 
 -- a room with the bytes at its front, as many as it has place for, and behind them what stood there

@@ -5,10 +5,10 @@ use Rattle.statement.specs.declared.status.Status.{Status}
 use Rattle.statement.specs.declared.status.Status.TheVariants.{Answer, Refused}
 use Rattle.statement.specs.declared.width.Width.TheVariants.{Plain}
 use Rattle.words.specs.declared.command.Command.{Command}
-use Rattle.words.specs.declared.grammar.Request.{Request}
-use Rattle.words.specs.declared.grammar.Request.TheVariants.{Run, Help, Misuse}
+use Rattle.words.specs.declared.request.Request.{Request}
+use Rattle.words.specs.declared.request.Request.TheVariants.{Run, Lint, Unroll, Serve, Help, Misuse}
 use Rattle.words.specs.Asked.{query_of}
-use Rattle.words.specs.Widths.{IsCommandIn}
+use Rattle.words.specs.Requests.{IsCommandIn}
 use Rattle.replies_moves.specs.Replies.{reply_of}
 use Rattle.statement.specs.Replies.{IsReply}
 use Rattle.gdlsolve_c.specs.declared.told.Outcome.{Outcome}
@@ -36,8 +36,14 @@ IsOutcome rules (Words text) = Unit
 
 -- of a command its reply is told, and of any other request a text
 abbrev pub IsOutcomeOf : Request → List ℕ → Outcome → Type 0
-IsOutcomeOf (Run command) rules (Reply reply) = IsReply (query_of command) rules (reply_of reply)
-IsOutcomeOf (Run command) rules (Words text) = ⊥
+IsOutcomeOf (Run command language) rules (Reply reply) = IsReply (query_of command) rules (reply_of reply)
+IsOutcomeOf (Run command language) rules (Words text) = ⊥
+IsOutcomeOf Lint rules (Reply reply) = ⊥
+IsOutcomeOf Lint rules (Words text) = Unit
+IsOutcomeOf (Unroll language) rules (Reply reply) = ⊥
+IsOutcomeOf (Unroll language) rules (Words text) = Unit
+IsOutcomeOf (Serve language) rules (Reply reply) = ⊥
+IsOutcomeOf (Serve language) rules (Words text) = Unit
 IsOutcomeOf (Help help) rules (Reply reply) = ⊥
 IsOutcomeOf (Help help) rules (Words text) = Unit
 IsOutcomeOf (Misuse fault) rules (Reply reply) = ⊥

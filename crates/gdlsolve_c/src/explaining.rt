@@ -7,8 +7,9 @@ ghost use Rattle.reasons.specs.Headed.{IsHeaded};
 use crate::call::fill;
 use reasons::explanation;
 use rulegame::RuleGame;
+use statement::Width;
 use std::alloc::{AllocError, Global};
-use words::{Request, request_of};
+use words::{Request, request_in};
 
 /// The status of an explanation.
 const EXPLAINED: u32 = 0;
@@ -28,10 +29,10 @@ fn explained(
 ) -> Result<Option<Vec<u8>>, AllocError>
     ensures { IfOk result (λ text. IfSome text (λ text. IsHeaded text.items)) }
 {
-    let Ok(request) = request_of(alloc, words) else {
+    let Ok(request) = request_in(alloc, words, Width::Plain) else {
         return Err(AllocError);
     };
-    let Request::Run(command) = &request else {
+    let Request::Run(command, _) = &request else {
         return Ok(None);
     };
     let text = explanation::<RuleGame, ((), Global)>(&((), alloc), command, rules, reply)?;

@@ -7,9 +7,9 @@ use kept_game::replied_alone;
 use netgame::NetGame;
 use replies::{Reply, reply_alone};
 use rulegame::RuleGame;
-use statement::Status;
+use statement::{Status, Width};
 use std::alloc::{AllocError, Global};
-use words::{Request, request_of};
+use words::{Request, request_in};
 
 /// The status of a reply that answers a command.
 const ANSWERED: u32 = 0;
@@ -19,6 +19,9 @@ const MISUSED: u32 = 1;
 
 /// The status of a reply that is a refusal.
 const REFUSED: u32 = 2;
+
+/// What is said of a command that the program alone has.
+const OF_THE_PROGRAM: &str = "the program alone has this command\n";
 
 /// What a caller is told.
 #[derive(Drop)]
@@ -65,7 +68,7 @@ fn tell_of(alloc: Global, request: &Request, rules: &[u8]) -> Result<Outcome, Al
     ensures { IfOk result (IsOutcomeOf request.now rules.now) }
 {
     match request {
-        Request::Run(command) => {
+        Request::Run(command, _) => {
             let reply = reply_alone::<NetGame, RuleGame, ((), Global)>(
                 &((), alloc),
                 command,
@@ -74,6 +77,9 @@ fn tell_of(alloc: Global, request: &Request, rules: &[u8]) -> Result<Outcome, Al
             Ok(Outcome::Reply(reply))
         }
         Request::Help(text) | Request::Misuse(text) => Ok(Outcome::Words(said(alloc, text)?)),
+        Request::Lint | Request::Unroll(_) | Request::Serve(_) => {
+            Ok(Outcome::Words(said(alloc, OF_THE_PROGRAM)?))
+        }
     }
 }
 
@@ -89,11 +95,14 @@ fn tell_of_kept(
     ensures made { IsMadeOf made.new rules.now }
 {
     match request {
-        Request::Run(command) => {
+        Request::Run(command, _) => {
             let reply = replied_alone(&((), alloc), command, rules, made)?;
             Ok(Outcome::Reply(reply))
         }
         Request::Help(text) | Request::Misuse(text) => Ok(Outcome::Words(said(alloc, text)?)),
+        Request::Lint | Request::Unroll(_) | Request::Serve(_) => {
+            Ok(Outcome::Words(said(alloc, OF_THE_PROGRAM)?))
+        }
     }
 }
 
@@ -110,7 +119,7 @@ pub(crate) fn tell(alloc: Global, words: &[u8], rules: &[u8]) -> Result<Outcome,
         return Ok(Outcome::Words(said(alloc, "a word is no UTF-8\n")?));
     };
     let list = words_of(alloc, text)?;
-    let Ok(request) = request_of(alloc, &list) else {
+    let Ok(request) = request_in(alloc, &list, Width::Plain) else {
         return Err(AllocError);
     };
     tell_of(alloc, &request, rules)
@@ -131,7 +140,7 @@ pub(crate) fn tell_over(
         return Ok(Outcome::Words(said(alloc, "a word is no UTF-8\n")?));
     };
     let list = words_of(alloc, text)?;
-    let Ok(request) = request_of(alloc, &list) else {
+    let Ok(request) = request_in(alloc, &list, Width::Plain) else {
         return Err(AllocError);
     };
     tell_of_kept(alloc, &request, rules, made)

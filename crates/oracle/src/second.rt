@@ -4,12 +4,14 @@ ghost use Rattle.std.specs.Io.KnownBytes.{Appends, Keeps};
 ghost use Rattle.statement.specs.Output.{AppendsFront};
 ghost use Rattle.statement.specs.Answers.{Reply};
 ghost use Rattle.statement.specs.Input.{RepliesTo};
+ghost use Rattle.statement.specs.declared.status.Status.TheVariants.{Refused};
 ghost use Rattle.words.specs.Asked.{query_of};
+ghost use Rattle.replies_moves.specs.Replies.{reply_of};
+ghost use Rattle.running_streams.specs.Exits.{RepliedTo};
 
 use netgame::NetGame;
 use rulegame::RuleGame;
-use running::{RunFault, run_with};
-use statement::Status;
+use running::{Ran, RunFault, run_with};
 use std::io::{Read, Write};
 use std::thread::Threads;
 use words::Command;
@@ -21,10 +23,12 @@ pub fn run_rules<T: Threads + Sync + AllocGlobal, R: Read, W: Write>(
     command: &Command,
     input: &mut R,
     output: &mut W,
-) -> Result<Status, RunFault>
-    ensures answers { IfOk result (λ status. (written : List ℕ)
-        × RepliesTo (query_of command.now) (R.remaining input.old) (R.remaining input.new) (record { output = written; status = status })
-        × Appends (W.contents output.old) (W.contents output.new) written) }
+) -> Result<Ran, RunFault>
+    ensures answers { IfOk result (λ ran. RepliedTo (query_of command.now) ran.reply.status
+        (R.remaining input.old) (R.remaining input.new) (W.contents output.old) (W.contents output.new)) }
+    ensures refused { IfOk result (λ ran. ran.reply.status ≡ Refused
+        → RepliesTo (query_of command.now) (R.remaining input.old) (R.remaining input.new) (reply_of ran.reply)
+        × Appends (W.contents output.old) (W.contents output.new) ran.reply.output.items) }
     ensures silent { IfErr result (λ fault. fault ≢ RunFault.Write → Keeps (W.contents output.old) (W.contents output.new)) }
     ensures broken { IfErr result (λ fault. fault ≡ RunFault.Write → (reply : Reply)
         × RepliesTo (query_of command.now) (R.remaining input.old) (R.remaining input.new) reply

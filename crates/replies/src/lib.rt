@@ -18,4 +18,4 @@ pub use laws::each_input_has_one_reply;
 pub use over_game::{reply_over, reply_over_keeping};
 pub use reading::{Reading, check, read, show};
 pub use replies_moves::Reply;
-pub use replies_search::{Deepening, Found, KeptSearch, Search, told_alone};
+pub use replies_search::{KeptSearch, Search};

@@ -10,11 +10,13 @@ mod cubes;
 mod cuts;
 mod deepenings;
 mod devices;
+mod files;
 mod helps;
 mod lines;
 mod misuses;
 mod moves;
 mod nets;
+mod program;
 mod starved;
 mod states;
 mod tables;
@@ -22,12 +24,13 @@ mod texts;
 mod windows;
 mod workers;
 
+use self::program::program;
 use oracle::run_rules;
-use running::{main_with, run};
-use statement::Status;
+use running::{ended, run};
+use statement::{Status, Width};
 use std::alloc::{AllocError, Global};
 use std::thread::Threads;
-use words::{Command, Request, request_of};
+use words::{Command, Request, request_in};
 
 /// A description, what is written for it, and the exit status.
 type Text<'a> = (&'a [u8], &'a [u8], u8);
@@ -80,7 +83,7 @@ fn told<T: Threads + Sync + AllocGlobal>(
     let mut input = text;
     let mut output = Vec::new(rt.alloc());
     let mut errors = Vec::new(rt.alloc());
-    let status = main_with(rt, words, &mut input, &mut output, &mut errors);
+    let status = program(rt, words, &mut input, &mut output, &mut errors);
     (status, output, errors)
 }
 
@@ -92,8 +95,8 @@ fn is_by_words<T: Threads + Sync + AllocGlobal>(
     want: &[u8],
     exit: u8,
 ) -> bool {
-    let (status, output, errors) = told(rt, words, text);
-    status == exit && output.as_slice() == want && errors.is_empty()
+    let (status, output, _) = told(rt, words, text);
+    status == exit && output.as_slice() == want
 }
 
 /// The status of a run that belongs to an exit status.
@@ -115,8 +118,8 @@ fn is_by_network<T: Threads + Sync + AllocGlobal>(
 ) -> bool {
     let mut input = text;
     let mut output = Vec::new(rt.alloc());
-    let ended = run(rt, command, &mut input, &mut output);
-    ended == Ok(status) && output.as_slice() == want
+    let ran = run(rt, command, &mut input, &mut output);
+    ended(&ran) == Ok(status) && output.as_slice() == want
 }
 
 /// The same of a run over the kept instances.
@@ -129,8 +132,8 @@ fn is_by_rules<T: Threads + Sync + AllocGlobal>(
 ) -> bool {
     let mut input = text;
     let mut output = Vec::new(rt.alloc());
-    let ended = run_rules(rt, command, &mut input, &mut output);
-    ended == Ok(status) && output.as_slice() == want
+    let ran = run_rules(rt, command, &mut input, &mut output);
+    ended(&ran) == Ok(status) && output.as_slice() == want
 }
 
 /// Whether words, and the command that they make, by a run of either player, answer a text with these bytes and this exit status.
@@ -141,10 +144,10 @@ fn is_answered<T: Threads + Sync + AllocGlobal>(
     want: &[u8],
     exit: u8,
 ) -> bool {
-    let made = request_of(rt.alloc(), &*words);
+    let made = request_in(rt.alloc(), &*words, Width::Plain);
     let status = status_of(exit);
     match &made {
-        Ok(Request::Run(command)) => {
+        Ok(Request::Run(command, _)) => {
             is_by_network(rt, command, text, want, status)
                 && is_by_rules(rt, command, text, want, status)
                 && is_by_words(rt, words, text, want, exit)

@@ -1,3 +1,2 @@
-mod Ending
 mod LintRuns
 mod Telling

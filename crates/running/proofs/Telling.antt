@@ -44,14 +44,3 @@ refused_is_two ended status is e = is ∙ ap exit_status e
 pub replied_is_answered : (ended kept : Result Status RunFault) (status : ℕ) → status ≡ exit_status ended → ended ≡ kept → IsReplied kept → IsAnswered status
 replied_is_answered ended kept status is same (inl e) = inl (is ∙ ap exit_status (same ∙ e))
 replied_is_answered ended kept status is same (inr e) = inr (is ∙ ap exit_status (same ∙ e))
-
--- what is told of how a run ended that keeps its reply
-pub replied : (query : Query) (r : Result Ran RunFault) (result : Result Status RunFault) (input left before after : Option (List ℕ)) → result ≡ ended_of r
-    → IfOk r (λ ran. RepliedTo query ran.reply.status input left before after)
-    → IfOk result (λ status. (output : List ℕ) × RepliesTo query input left (record { output = output; status = status }) × Appends before after output)
-replied query (Ok ran) result input left before after is ok = rw is ok
-replied query (Err fault) result input left before after is ok = rw is tt
-
-pub failed : (P : RunFault → Type 0) (r : Result Ran RunFault) (result : Result Status RunFault) → result ≡ ended_of r → IfErr r P → IfErr result P
-failed P (Ok ran) result is h = rw is tt
-failed P (Err fault) result is h = rw is h

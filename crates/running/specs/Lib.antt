@@ -1,3 +1,3 @@
-pub mod Fulfilling
+pub mod Commands
 pub mod Ran
 pub mod Explained

@@ -68,7 +68,7 @@ fn explain_lint<T: Threads + Sync + AllocGlobal, E: Write>(
 }
 
 /// Runs `lint`, and tells the errors what explains a refusal.
-pub(crate) fn run_lint<T: Threads + Sync + AllocGlobal, R: Read, W: Write, E: Write>(
+pub fn run_lint<T: Threads + Sync + AllocGlobal, R: Read, W: Write, E: Write>(
     rt: &T,
     input: &mut R,
     output: &mut W,

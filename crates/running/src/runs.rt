@@ -27,13 +27,23 @@ use words::Command;
 
 /// A run that ended with its reply.
 #[derive(Drop)]
-pub(crate) struct Ran {
+pub struct Ran {
     /// The bytes that were read.
     pub(crate) bytes: Vec<u8>,
     /// The reply that was written. Of an answer that was written as it was found the status alone is kept.
     pub(crate) reply: replies_moves::Reply,
     /// The sizes of the instantiation, if there was one.
     pub(crate) sizes: Option<Sizes>,
+}
+
+/// How a run ended, without what it kept.
+pub fn ended(ran: &Result<Ran, RunFault>) -> Result<Status, RunFault>
+    ensures { result ≡ ended_of ran.now }
+{
+    match ran {
+        Ok(ran) => Ok(ran.reply.status),
+        Err(fault) => Err(*fault),
+    }
 }
 
 /// Writes what a command comes to, and what is kept of it.
@@ -83,13 +93,12 @@ fn write_as_found<G: Game + Drop, W: Write>(
 
 /// Reads the rules, writes the reply to the command and nothing else, and keeps both. The type `G` says who plays their game, and `S` who
 /// tells of a state where nothing is searched.
-pub(crate) fn run_keeping<
-    G: GroundGame,
-    S: GroundGame,
-    T: Threads + Sync + AllocGlobal,
-    R: Read,
-    W: Write,
->(rt: &T, command: &Command, input: &mut R, output: &mut W) -> Result<Ran, RunFault>
+pub fn run_with<G: GroundGame, S: GroundGame, T: Threads + Sync + AllocGlobal, R: Read, W: Write>(
+    rt: &T,
+    command: &Command,
+    input: &mut R,
+    output: &mut W,
+) -> Result<Ran, RunFault>
     ensures answers { IfOk result (λ ran. RepliedTo (query_of command.now) ran.reply.status
         (R.remaining input.old) (R.remaining input.new) (W.contents output.old) (W.contents output.new)) }
     ensures refused { IfOk result (λ ran. ran.reply.status ≡ Refused
@@ -113,46 +122,21 @@ pub(crate) fn run_keeping<
     })
 }
 
-/// How a run ended, without what it kept.
-pub(crate) fn ended(ran: &Result<Ran, RunFault>) -> Result<Status, RunFault>
-    ensures { result ≡ ended_of ran.now }
-{
-    match ran {
-        Ok(ran) => Ok(ran.reply.status),
-        Err(fault) => Err(*fault),
-    }
-}
-
-/// Reads the rules, and writes the reply to the command and nothing else. The type `G` says who plays their game, and `S` who tells of a
-/// state where nothing is searched.
-pub fn run_with<G: GroundGame, S: GroundGame, T: Threads + Sync + AllocGlobal, R: Read, W: Write>(
-    rt: &T,
-    command: &Command,
-    input: &mut R,
-    output: &mut W,
-) -> Result<Status, RunFault>
-    ensures answers { IfOk result (λ status. (written : List ℕ)
-        × RepliesTo (query_of command.now) (R.remaining input.old) (R.remaining input.new) (record { output = written; status = status })
-        × Appends (W.contents output.old) (W.contents output.new) written) }
-    ensures silent { IfErr result (λ fault. fault ≢ RunFault.Write → Keeps (W.contents output.old) (W.contents output.new)) }
-    ensures broken { IfErr result (λ fault. fault ≡ RunFault.Write → (reply : Reply)
-        × RepliesTo (query_of command.now) (R.remaining input.old) (R.remaining input.new) reply
-        × AppendsFront (W.contents output.old) (W.contents output.new) reply.output) }
-{
-    ended(&run_keeping::<G, S, T, R, W>(rt, command, input, output))
-}
-
-/// Reads the rules, and writes the reply to the command and nothing else. The network of the rules plays their game, and their kept
-/// instances tell of a state where nothing is searched, which needs no network.
+/// Reads the rules, writes the reply to the command and nothing else, and keeps both. The network of the rules plays their game, and their
+/// kept instances tell of a state where nothing is searched, which needs no network.
+///
+/// The program runs each command by this call.
 pub fn run<T: Threads + Sync + AllocGlobal, R: Read, W: Write>(
     rt: &T,
     command: &Command,
     input: &mut R,
     output: &mut W,
-) -> Result<Status, RunFault>
-    ensures answers { IfOk result (λ status. (written : List ℕ)
-        × RepliesTo (query_of command.now) (R.remaining input.old) (R.remaining input.new) (record { output = written; status = status })
-        × Appends (W.contents output.old) (W.contents output.new) written) }
+) -> Result<Ran, RunFault>
+    ensures answers { IfOk result (λ ran. RepliedTo (query_of command.now) ran.reply.status
+        (R.remaining input.old) (R.remaining input.new) (W.contents output.old) (W.contents output.new)) }
+    ensures refused { IfOk result (λ ran. ran.reply.status ≡ Refused
+        → RepliesTo (query_of command.now) (R.remaining input.old) (R.remaining input.new) (reply_of ran.reply)
+        × Appends (W.contents output.old) (W.contents output.new) ran.reply.output.items) }
     ensures silent { IfErr result (λ fault. fault ≢ RunFault.Write → Keeps (W.contents output.old) (W.contents output.new)) }
     ensures broken { IfErr result (λ fault. fault ≡ RunFault.Write → (reply : Reply)
         × RepliesTo (query_of command.now) (R.remaining input.old) (R.remaining input.new) reply

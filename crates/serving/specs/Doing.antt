@@ -1,26 +1,48 @@
 -- This crate's own: what `run` promises does not rest on it.
--- What becomes of the words of the program.
-use Rattle.std.specs.Prelude.{ℕ, ◌⊎◌}
-use Rattle.statement.specs.declared.width.Width.TheVariants.{Wide}
-use Rattle.words.specs.Widths.{IsCommandIn}
+-- What becomes of a request.
+use Rattle.std.specs.Prelude.{ℕ, ◌≡◌, Option, None, Some, string_bytes}
+use Rattle.std.specs.Io.KnownBytes.{Keeps}
+use Rattle.statement.specs.Output.{AppendsFront}
 use Rattle.words.specs.declared.command.Command.{Command}
 use Rattle.words.specs.declared.command.Language.{Language}
+use Rattle.words.specs.declared.command.Language.TheVariants.{Profile, Whole, Tightened}
+use Rattle.words.specs.declared.request.Request.{Request}
+use Rattle.words.specs.declared.request.Request.TheVariants.{Run, Lint, Unroll, Serve, Help, Misuse}
 use Rattle.running_streams.specs.Streams.{Streams}
-use Rattle.running.specs.Explained.{IsExplained}
+use Rattle.running.specs.Commands.{HasShown}
+use Rattle.running.specs.Explained.{IsRunExplained}
 use Rattle.running_lint.specs.Linted.{IsLintRun}
 use Rattle.writing.specs.declared.written.Bounds.{Bounds}
+use Rattle.writing.specs.declared.written.Bounds.TheVariants as bounds
 use Rattle.unrolling.specs.Unrolled.{IsUnrollRun}
 use Rattle.serving.specs.Found.{IsFoundRun}
 use Rattle.sessions.specs.Serving.{IsServed}
 
--- a command was run over rules as they are found, which may have more inputs, or it was `lint`, or some request was fulfilled over rules in the profile
-abbrev pub IsAskedRun : ℕ → Streams → Streams → Type 0
-IsAskedRun status old new =
-    ((bounds : Bounds) × (command : Command) × IsCommandIn Wide command × IsFoundRun bounds command status old new)
-    ⊎ (IsLintRun status old new ⊎ IsExplained status old new)
+-- what is written of `base` and `input` for rules in a language, where they are written out before a command is run
+abbrev pub found_bounds : Language → Option Bounds
+found_bounds Profile = None
+found_bounds Whole = Some bounds.AsStated
+found_bounds Tightened = Some bounds.Tightened
 
--- a session was held, or rules were written out, or the words asked for something else
-abbrev pub IsProgramRun : ℕ → Streams → Streams → Type 0
-IsProgramRun status old new =
-    ((language : Language) × IsServed language status old new)
-    ⊎ (((bounds : Bounds) × IsUnrollRun bounds status old new) ⊎ IsAskedRun status old new)
+-- what `unroll` writes of them
+abbrev pub bounds_for : Language → Bounds
+bounds_for Profile = bounds.AsStated
+bounds_for Whole = bounds.AsStated
+bounds_for Tightened = bounds.Tightened
+
+-- a command was run: over the rules as they stand, or over what is written for them
+abbrev pub IsRunBy : Option Bounds → Command → ℕ → Streams → Streams → Type 0
+IsRunBy None command = IsRunExplained command
+IsRunBy (Some ranges) command = IsFoundRun ranges command
+
+-- The command was run over rules in its language; the findings in the rules were written; a description was written out; a session was held;
+-- a text was shown, and nothing was read; or it was told to the errors, of which they may have taken a beginning alone, and nothing was read
+-- or written.
+abbrev pub IsPerformed : Request → ℕ → Streams → Streams → Type 0
+IsPerformed (Run command language) status old new = IsRunBy (found_bounds language) command status old new
+IsPerformed Lint status old new = IsLintRun status old new
+IsPerformed (Unroll language) status old new = IsUnrollRun (bounds_for language) status old new
+IsPerformed (Serve language) status old new = IsServed language status old new
+IsPerformed (Help text) status old new = Keeps old.input new.input × HasShown (string_bytes text) status old new
+IsPerformed (Misuse text) status old new =
+    (status ≡ 1) × Keeps old.input new.input × Keeps old.output new.output × AppendsFront old.errors new.errors (string_bytes text)

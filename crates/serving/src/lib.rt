@@ -1,5 +1,5 @@
-//! All that the program does: a session, a description that is written out, a command over a description as it is found, or what the words
-//! ask for otherwise.
+//! All that the program does, once its words are read: a command, over a description as it is found too, findings, a description that is written
+//! out, or a session.
 #![tactic(auto)]
 
 mod found;
@@ -7,4 +7,3 @@ mod program;
 
 pub use found::run_found;
 pub use program::main_program;
-pub use sessions::serve;

@@ -1,61 +1,21 @@
-//! The program: a session, a description that is written out, a command over a description as it is found, or what the words ask for
-//! otherwise.
-ghost use Rattle.std.specs.Prelude.{◌≡◌, ◌≤◌, IfSome};
-ghost use Rattle.statement.specs.declared.width.Width.TheVariants.{Plain, Wide};
-ghost use Rattle.words.specs.Widths.{width_of};
+//! The program, once its words are read: what a request asks for is done.
+ghost use Rattle.std.specs.Prelude.{◌≡◌, ◌≤◌};
 ghost use Rattle.running_streams.specs.Streams.{streams};
-ghost use Rattle.serving.specs.Doing.{IsAskedRun, IsProgramRun};
+ghost use Rattle.serving.specs.Doing.{IsPerformed, bounds_for, found_bounds};
 
 use crate::found::run_found;
 use netgame::NetGame;
-use running::main_program as run_program;
-use running_streams::{RunFault, status_of};
+use running::{run_explained, run_lint, show_help, tell_misuse};
 use sessions::serve;
 use std::io::{Read, Write};
 use std::thread::Threads;
 use unroll::Bounds;
 use unrolling::run_unroll;
-use words::{Language, Request, asked_of};
-
-/// The option for rules in the whole language.
-const WHOLE: &str = "--whole";
-
-/// The option for base propositions and inputs that play can come to alone.
-const TIGHTEN: &str = "--tighten";
-
-/// In which language the rules of a session are, where the words are the command `serve`.
-fn session_in(words: &[&str]) -> Option<Language> {
-    match words {
-        ["serve"] => Some(Language::Profile),
-        ["serve", option] if *option == WHOLE => Some(Language::Whole),
-        ["serve", one, other] if *one == WHOLE && *other == TIGHTEN => Some(Language::Tightened),
-        ["serve", one, other] if *one == TIGHTEN && *other == WHOLE => Some(Language::Tightened),
-        _ => None,
-    }
-}
-
-/// What `unroll` is to write of `base` and `input`, where the words are this command.
-fn bounds_in(words: &[&str]) -> Option<Bounds> {
-    match words {
-        [word] if *word == "unroll" => Some(Bounds::AsStated),
-        [word, option] if *word == "unroll" && *option == TIGHTEN => Some(Bounds::Tightened),
-        _ => None,
-    }
-}
-
-/// Whether one of the words is the option for the whole language, or a text that looks like it.
-fn may_be_whole(words: &[&str]) -> bool {
-    for word in words {
-        if *word == WHOLE {
-            return true;
-        }
-    }
-    false
-}
+use words::{Language, Request};
 
 /// What is to be written of `base` and `input` for rules in a language, if they are to be written out.
 fn bounds_of(language: Language) -> Option<Bounds>
-    ensures { IfSome result (λ bounds. width_of language Plain ≡ Wide) }
+    ensures { result ≡ found_bounds language }
 {
     match language {
         Language::Profile => None,
@@ -64,53 +24,46 @@ fn bounds_of(language: Language) -> Option<Bounds>
     }
 }
 
-/// Runs the command that the words ask for over a description as it is found, where they do, and does else what `running::main_program`
-/// does.
-fn run_whole<T: Threads + Sync + AllocGlobal, R: Read, W: Write, E: Write>(
-    rt: &T,
-    words: &[&str],
-    input: &mut R,
-    output: &mut W,
-    errors: &mut E,
-) -> u8
-    ensures done { IsAskedRun result
-        (streams (R.remaining input.old) (W.contents output.old) (E.contents errors.old))
-        (streams (R.remaining input.new) (W.contents output.new) (E.contents errors.new)) }
-    ensures statuses { result ≤ 4 }
+/// What `unroll` writes of `base` and `input` for rules in a language.
+fn bounds_to_write(language: Language) -> Bounds
+    ensures { result ≡ bounds_for language }
 {
-    let Ok((request, language)) = asked_of(rt.alloc(), words) else {
-        return status_of(Err(RunFault::Memory), errors);
-    };
-    match (&request, bounds_of(language)) {
-        (Request::Run(command), Some(bounds)) => {
-            run_found(rt, command, input, output, errors, bounds)
-        }
-        _ => run_program(rt, words, input, output, errors),
+    match language {
+        Language::Profile | Language::Whole => Bounds::AsStated,
+        Language::Tightened => Bounds::Tightened,
     }
 }
 
-/// Does what the words ask for: holds a session for `serve`, writes a description out for `unroll`, runs a command over a description as it
-/// is found for `--whole`, and does else what `running::main_program` does.
+/// Does what a request asks for, and answers the exit status: 0 for an answer, help or the version, 1 for words that are no command, 2 for a
+/// refusal, 3 for want of memory, 4 where the input or the output failed.
+///
+/// A command is run, over rules as they are found by what is written for them; `lint` looks for findings, `unroll` writes a description out,
+/// `serve` holds a session, and a text is told. What goes to the errors is for people, and a fault in writing it is passed over.
 pub fn main_program<T: Threads + Sync + AllocGlobal, R: Read, W: Write, E: Write>(
     rt: &T,
-    words: &[&str],
+    request: &Request,
     input: &mut R,
     output: &mut W,
     errors: &mut E,
 ) -> u8
-    ensures done { IsProgramRun result
+    ensures done { IsPerformed request.now result
         (streams (R.remaining input.old) (W.contents output.old) (E.contents errors.old))
         (streams (R.remaining input.new) (W.contents output.new) (E.contents errors.new)) }
     ensures statuses { result ≤ 4 }
 {
-    if let Some(language) = session_in(words) {
-        return serve::<NetGame, T, R, W, E>(rt, language, input, output, errors);
+    match request {
+        Request::Run(command, language) => match bounds_of(*language) {
+            Some(bounds) => run_found(rt, command, input, output, errors, bounds),
+            None => run_explained(rt, command, input, output, errors),
+        },
+        Request::Lint => run_lint(rt, input, output, errors),
+        Request::Unroll(language) => {
+            run_unroll(rt, input, output, errors, bounds_to_write(*language))
+        }
+        Request::Serve(language) => {
+            serve::<NetGame, T, R, W, E>(rt, *language, input, output, errors)
+        }
+        Request::Help(text) => show_help(text, output, errors),
+        Request::Misuse(text) => tell_misuse(text, errors),
     }
-    if let Some(bounds) = bounds_in(words) {
-        return run_unroll(rt, input, output, errors, bounds);
-    }
-    if may_be_whole(words) {
-        return run_whole(rt, words, input, output, errors);
-    }
-    run_program(rt, words, input, output, errors)
 }

@@ -13,8 +13,8 @@ use Rattle.statement.specs.declared.width.Width.TheVariants.{Plain}
 use Rattle.words.specs.Asked.{query_of}
 use Rattle.words.specs.declared.command.Language.{Language}
 use Rattle.words.specs.declared.command.Language.TheVariants.{Profile, Whole, Tightened}
-use Rattle.words.specs.declared.grammar.Request.{Request}
-use Rattle.words.specs.declared.grammar.Request.TheVariants.{Run, Help, Misuse}
+use Rattle.words.specs.declared.request.Request.{Request}
+use Rattle.words.specs.declared.request.Request.TheVariants.{Run, Lint, Unroll, Serve, Help, Misuse}
 use Rattle.running_streams.specs.Input.{IsReadFrom}
 use Rattle.running_streams.proofs.Facts.{replies_to}
 use Rattle.unrolling.proofs.Facts.{written_over, refuses_over}
@@ -46,20 +46,22 @@ reply_over query kept rules reply stand h =
     let found = replies_to query (Some rules) (Some (drop read_limit rules)) (take read_limit rules) reply (is_read rules) same in
     subst (λ (l : List ℕ). IsReply query l reply) found.1.0 found.2
 
-told_of_over : (request : Request) (kept rules : List ℕ) (status : ℕ) (bytes : List ℕ) → Stand kept rules → IsToldOf request kept status bytes
-    → IsToldOf request rules status bytes
-told_of_over (Run command) kept rules status bytes stand h = (h.0, reply_over (query_of command) kept rules h.0 stand h.1, h.2, h.3)
-told_of_over (Help text) kept rules status bytes stand h = h
-told_of_over (Misuse text) kept rules status bytes stand h = h
-
 lint_over : (kept rules : List ℕ) (status : ℕ) (bytes : List ℕ) → Stand kept rules → IsToldOfLint kept status bytes → IsToldOfLint rules status bytes
 lint_over kept rules status bytes stand h =
     let checked = h.1 in (h.0, (checked.0, reply_over query.check kept rules checked.0 stand checked.1, checked.2), h.2, h.3)
 
+told_of_over : (request : Request) (kept rules : List ℕ) (status : ℕ) (bytes : List ℕ) → Stand kept rules → IsToldOf request kept status bytes
+    → IsToldOf request rules status bytes
+told_of_over (Run command language) kept rules status bytes stand h = (h.0, reply_over (query_of command) kept rules h.0 stand h.1, h.2, h.3)
+told_of_over Lint kept rules status bytes stand h = lint_over kept rules status bytes stand h
+told_of_over (Unroll language) kept rules status bytes stand h = h
+told_of_over (Serve language) kept rules status bytes stand h = h
+told_of_over (Help text) kept rules status bytes stand h = h
+told_of_over (Misuse text) kept rules status bytes stand h = h
+
 told_over : (width : Width) (kept rules : List ℕ) (status : ℕ) (bytes : List ℕ) → Stand kept rules → IsTold width kept status bytes
     → IsTold width rules status bytes
-told_over width kept rules status bytes stand (inl h) = inl (h.0, h.1, told_of_over h.0 kept rules status bytes stand h.2)
-told_over width kept rules status bytes stand (inr h) = inr (lint_over kept rules status bytes stand h)
+told_over width kept rules status bytes stand h = (h.0, h.1, told_of_over h.0 kept rules status bytes stand h.2)
 
 found_over : (ranges : Bounds) (kept rules : List ℕ) (status : ℕ) (bytes : List ℕ) → Stand kept rules → IsToldFound ranges kept status bytes
     → IsToldFound ranges rules status bytes

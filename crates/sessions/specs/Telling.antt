@@ -1,16 +1,16 @@
 -- This crate's own: what `run` promises does not rest on it.
 -- What is told of a line, and the frame of it.
-use Rattle.std.specs.Prelude.{ℕ, ◌≡◌, ◌⊎◌, List, Ok, string_bytes}
+use Rattle.std.specs.Prelude.{ℕ, ◌≡◌, ◌⊎◌, List, [], Ok, string_bytes}
 use Rattle.statement.specs.Answers.{Reply}
 use Rattle.statement.specs.Replies.{IsReply}
 use Rattle.statement.specs.declared.width.Width.{Width}
 use Rattle.statement.specs.declared.width.Width.TheVariants.{Plain, Wide}
 use Rattle.words.specs.Asked.{query_of}
-use Rattle.words.specs.Widths.{IsRequestIn}
+use Rattle.words.specs.Requests.{IsRequestOver}
 use Rattle.words.specs.declared.command.Language.{Language}
 use Rattle.words.specs.declared.command.Language.TheVariants.{Profile, Whole, Tightened}
-use Rattle.words.specs.declared.grammar.Request.{Request}
-use Rattle.words.specs.declared.grammar.Request.TheVariants.{Run, Help, Misuse}
+use Rattle.words.specs.declared.request.Request.{Request}
+use Rattle.words.specs.declared.request.Request.TheVariants.{Run, Lint, Unroll, Serve, Help, Misuse}
 use Rattle.running_streams.specs.Exits.{exit_status}
 use Rattle.running_lint.specs.Linted.{IsLintReply}
 use Rattle.writing.specs.declared.written.Bounds.{Bounds}
@@ -20,23 +20,25 @@ use Rattle.unrolling.specs.Unrolled.{RefusesToUnroll}
 use Rattle.sessions.specs.declared.framing.Frame.{Frame}
 use Rattle.sessions.specs.declared.framing.Frame.TheVariants.{Made, Fixed}
 
--- of a command its reply over the rules is told, with the status that the program ends with; of any other request its text, with status 0
--- for help, and 1 where the words are no command
-abbrev pub IsToldOf : Request → List ℕ → ℕ → List ℕ → Type 0
-IsToldOf (Run command) rules status bytes =
-    (reply : Reply) × IsReply (query_of command) rules reply × (status ≡ exit_status (Ok reply.status)) × (bytes ≡ reply.output)
-IsToldOf (Help text) rules status bytes = (status ≡ 0) × (bytes ≡ string_bytes text)
-IsToldOf (Misuse text) rules status bytes = (status ≡ 1) × (bytes ≡ string_bytes text)
-
 -- the findings in the rules, or what `check` refuses in them
 abbrev pub IsToldOfLint : List ℕ → ℕ → List ℕ → Type 0
 IsToldOfLint rules status bytes =
     (reply : Reply) × IsLintReply rules reply × (status ≡ exit_status (Ok reply.status)) × (bytes ≡ reply.output)
 
--- some request by the limits of a width is answered, or `lint`
+-- of a command its reply over the rules is told, with the status that the program ends with; of any other request its text, with status 0
+-- for help, and 1 where the words are no command; of what is no request of rules that stand, nothing
+abbrev pub IsToldOf : Request → List ℕ → ℕ → List ℕ → Type 0
+IsToldOf (Run command language) rules status bytes =
+    (reply : Reply) × IsReply (query_of command) rules reply × (status ≡ exit_status (Ok reply.status)) × (bytes ≡ reply.output)
+IsToldOf Lint rules status bytes = IsToldOfLint rules status bytes
+IsToldOf (Unroll language) rules status bytes = (status ≡ 1) × (bytes ≡ [])
+IsToldOf (Serve language) rules status bytes = (status ≡ 1) × (bytes ≡ [])
+IsToldOf (Help text) rules status bytes = (status ≡ 0) × (bytes ≡ string_bytes text)
+IsToldOf (Misuse text) rules status bytes = (status ≡ 1) × (bytes ≡ string_bytes text)
+
+-- some request of rules that stand, by the limits of a width, is answered
 abbrev pub IsTold : Width → List ℕ → ℕ → List ℕ → Type 0
-IsTold width rules status bytes =
-    ((request : Request) × IsRequestIn width request × IsToldOf request rules status bytes) ⊎ IsToldOfLint rules status bytes
+IsTold width rules status bytes = (request : Request) × IsRequestOver width request × IsToldOf request rules status bytes
 
 -- nothing is written for the rules, and the refusal that names why is told
 abbrev pub IsToldRefusal : List ℕ → ℕ → List ℕ → Type 0

@@ -81,41 +81,18 @@ fn told_of<G: GroundGame, T: Threads + Sync + AllocGlobal>(
     ensures made { IfSome made.new (IsKeptGame G.Game G.source width rules.now) }
 {
     match request {
-        Request::Run(command) => {
+        Request::Run(command, _) => {
             let reply = replied::<G, T>(rt, command, width, rules, made)?;
+            Ok(told_by(reply))
+        }
+        Request::Lint => {
+            let reply = lint_reply(rt, rules)?;
             Ok(told_by(reply))
         }
         Request::Help(text) => told_text(rt.alloc(), ANSWERED, text.as_str()),
         Request::Misuse(text) => told_text(rt.alloc(), MISUSED, text.as_str()),
+        Request::Unroll(_) | Request::Serve(_) => told_text(rt.alloc(), MISUSED, ""),
     }
-}
-
-/// Whether the words are the command `lint` and nothing else.
-fn is_lint(words: &[&str]) -> bool {
-    match words {
-        [word] => *word == "lint",
-        _ => false,
-    }
-}
-
-/// What is told of words, over the rules.
-fn told_of_words<G: GroundGame, T: Threads + Sync + AllocGlobal>(
-    rt: &T,
-    words: &[&str],
-    width: Width,
-    rules: &[u8],
-    made: &mut Option<KeptGame<G>>,
-) -> Result<Told, AllocError>
-    requires { IfSome made.old (IsKeptGame G.Game G.source width rules.now) }
-    ensures told { IfOk result (λ told. IsTold width rules.now told.status told.bytes.items) }
-    ensures made { IfSome made.new (IsKeptGame G.Game G.source width rules.now) }
-{
-    if is_lint(words) {
-        let reply = lint_reply(rt, rules)?;
-        return Ok(told_by(reply));
-    }
-    let request = request_in(rt.alloc(), words, width)?;
-    told_of(rt, &request, width, rules, made)
 }
 
 /// What is told of a line, over the rules, by the limits of the width. It fails only for want of memory.
@@ -134,5 +111,6 @@ pub(crate) fn told_of_line<G: GroundGame, T: Threads + Sync + AllocGlobal>(
         let fault = Request::Misuse(format!(in rt.alloc(); "a word is no UTF-8\n")?);
         return told_of(rt, &fault, width, rules, made);
     };
-    told_of_words(rt, &words, width, rules, made)
+    let request = request_in(rt.alloc(), &words, width)?;
+    told_of(rt, &request, width, rules, made)
 }

@@ -1,5 +1,5 @@
 //! Worked texts: trees and their order, over each allocator, lines and places, what descriptions say as rules, and what people are told of
-//! them; what writers are flushed; and the word that names a file of rules.
+//! them; and what writers are flushed.
 #![tactic(auto)]
 
 #[cfg(test)]
@@ -16,7 +16,5 @@ mod links;
 mod notices;
 #[cfg(test)]
 mod orders;
-#[cfg(test)]
-mod sources;
 #[cfg(test)]
 mod texts;

@@ -2,6 +2,7 @@
 use serving::main_program;
 use std::alloc::{AllocError, Global};
 use std::thread::Threads;
+use words::asked_of;
 
 /// The words of a command with a bar between each two, what is written, what the errors are told, and the exit status.
 type Row<'a> = (&'a str, &'a [u8], &'a [u8], u8);
@@ -219,7 +220,10 @@ fn is_told<T: Threads + Sync + AllocGlobal>(rt: &T, text: &[u8], row: Row) -> bo
     let mut input = text;
     let mut output = Vec::new(rt.alloc());
     let mut errors = Vec::new(rt.alloc());
-    let status = main_program(rt, &words, &mut input, &mut output, &mut errors);
+    let Ok(asked) = asked_of(rt.alloc(), &words) else {
+        return false;
+    };
+    let status = main_program(rt, &asked.request, &mut input, &mut output, &mut errors);
     status == exit && output.as_slice() == want && errors.as_slice() == why
 }
 

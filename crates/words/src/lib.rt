@@ -1,8 +1,10 @@
-//! The words of a command line, and the command that they make.
+//! The words of a command line, and what they ask for. This is the one crate that knows words.
 #![tactic(auto)]
 
 mod command;
 mod grammar;
+mod request;
+mod searching;
 
 pub use command::{Command, Inquiry, Language, Sought};
-pub use grammar::{Request, asked_of, request_in, request_of};
+pub use request::{Asked, Request, asked_of, request_in};

@@ -1,11 +1,12 @@
 //! Games cut after each byte. Each beginning is answered, through a run and through the command line.
 use super::{status_of, told, words_of};
-use running::run;
+use running::{ended, run};
+use statement::Width;
 use std::alloc::{AllocError, Global};
 use std::io::Write;
 use std::thread::Threads;
 use trial_games::texts::{FOUR, MARKS, MATCH};
-use words::{Command, Request, request_of};
+use words::{Command, Request, request_in};
 
 /// What a beginning of a text without comments ends in, and how many whole trees it has.
 #[derive(Drop)]
@@ -68,13 +69,12 @@ fn answers<T: Threads + Sync + AllocGlobal>(
 ) -> bool {
     let mut input = text;
     let mut output = Vec::new(rt.alloc());
-    let ended = run(rt, command, &mut input, &mut output);
-    let (status, bytes, errors) = told(rt, words, text);
-    ended == Ok(status_of(exit))
+    let ran = run(rt, command, &mut input, &mut output);
+    let (status, bytes, _) = told(rt, words, text);
+    ended(&ran) == Ok(status_of(exit))
         && begins_with(&output, front)
         && status == exit
         && bytes == output
-        && errors.is_empty()
 }
 
 /// Words with a bar between each two, a game, and the word that answers begin with.
@@ -87,7 +87,7 @@ fn first_unanswered<T: Threads + Sync + AllocGlobal>(
     game: &[u8],
     word: &str,
 ) -> Result<Option<usize>, AllocError> {
-    let Request::Run(command) = request_of(rt.alloc(), words)? else {
+    let Request::Run(command, _) = request_in(rt.alloc(), words, Width::Plain)? else {
         return Ok(Some(0));
     };
     for end in 0..game.len() {
@@ -180,8 +180,8 @@ fn first_unshown<T: Threads + Sync + AllocGlobal>(
         } else {
             (front_lines(&lines, cutting.trees), 0)
         };
-        let (status, output, errors) = told(rt, &["show"], text);
-        if status != exit || output.as_slice() != want || !errors.is_empty() {
+        let (status, output, _) = told(rt, &["show"], text);
+        if status != exit || output.as_slice() != want {
             return Ok(Some(end));
         }
     }

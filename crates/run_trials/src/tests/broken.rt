@@ -1,7 +1,7 @@
 //! Each command over readers and writers that fail, or go on slowly.
 use super::devices::{Full, Silent, Slow, Torn};
+use super::program::program;
 use super::told;
-use running::main_with;
 use std::io::{Read, Write};
 use std::thread::Threads;
 use trial_games::texts::MATCH;
@@ -26,7 +26,7 @@ fn status_over<T: Threads + Sync + AllocGlobal, R: Read, W: Write>(
     output: &mut W,
 ) -> (u8, Vec<u8>) {
     let mut errors = Vec::new(rt.alloc());
-    let status = main_with(rt, words, input, output, &mut errors);
+    let status = program(rt, words, input, output, &mut errors);
     (status, errors)
 }
 

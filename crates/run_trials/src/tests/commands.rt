@@ -3,11 +3,11 @@ use cut::Cut;
 use game::{AtBound, Worth};
 use statement::{Width, Window};
 use std::alloc::{AllocError, Global};
-use words::{Command, Inquiry, Request, Sought, request_of};
+use words::{Command, Inquiry, Request, Sought, request_in};
 
 /// Whether words make a command.
 fn make(alloc: Global, words: &[&str], command: &Command) -> Result<bool, AllocError> {
-    let Request::Run(made) = request_of(alloc, &*words)? else {
+    let Request::Run(made, _) = request_in(alloc, &*words, Width::Plain)? else {
         return Ok(false);
     };
     Ok(made == *command)

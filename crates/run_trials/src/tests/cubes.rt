@@ -4,8 +4,9 @@ use netgame::NetGame;
 use oracle::RuleGame;
 use replies::reply_alone;
 use rulebook::GroundGame;
+use statement::Width;
 use std::alloc::{AllocError, AllocGlobal};
-use words::{Command, Request, request_of};
+use words::{Command, Request, request_in};
 
 /// Three roles choose a side of a cube at once, and so one of its eight cells. The row gets what the cell is worth, the other two what
 /// is left of 100. Behind a side of the row that does not end the game the layer has no move.
@@ -192,7 +193,7 @@ fn is_told_by<G: GroundGame, T: AllocGlobal>(
 fn is_told<T: AllocGlobal>(rt: &T, rules: &[u8], row: Row) -> Result<bool, AllocError> {
     let (line, want, exit) = row;
     let words = words_of(rt.alloc(), line)?;
-    let Request::Run(command) = request_of(rt.alloc(), &words)? else {
+    let Request::Run(command, _) = request_in(rt.alloc(), &words, Width::Plain)? else {
         return Ok(false);
     };
     Ok(

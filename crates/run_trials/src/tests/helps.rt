@@ -6,7 +6,7 @@ type Row<'a> = (&'a [&'a str], &'a str);
 
 const PROGRAM: &str = "Read the rules of a game on standard input, and answer on standard output
 
-Usage: gdlsolve <COMMAND>
+Usage: gdlsolve [OPTIONS] <COMMAND>
 
 Commands:
   show    Write the canonical text of each tree, one a line
@@ -22,11 +22,9 @@ Commands:
   help    Print this message or the help of the given subcommand(s)
 
 Options:
-  -h, --help     Print help
-  -V, --version  Print version
-
-A file of rules:
-  --rules <FILE>  With any command but serve: read the rules from this file in place of standard input
+      --rules <FILE>  Read the rules in this file in place of standard input
+  -h, --help          Print help
+  -V, --version       Print version
 
 Exit status:
   0  an answer, or help
@@ -44,10 +42,11 @@ Examples:
 
 const SHOW: &str = "Write the canonical text of each tree, one a line
 
-Usage: gdlsolve show
+Usage: gdlsolve show [OPTIONS]
 
 Options:
-  -h, --help  Print help
+      --rules <FILE>  Read the rules in this file in place of standard input
+  -h, --help          Print help
 ";
 
 const CHECK: &str = "Name the first fault of the rules, or count what they have
@@ -55,18 +54,20 @@ const CHECK: &str = "Name the first fault of the rules, or count what they have
 Usage: gdlsolve check [OPTIONS]
 
 Options:
-      --whole    Read a game as it is found, with recursion or without base and input, as unroll writes it out
-      --tighten  With --whole: state only the base propositions and inputs that play can come to
-  -h, --help     Print help
+      --whole         Read a game as it is found, with recursion or without base and input, as unroll writes it out
+      --tighten       With --whole: state only the base propositions and inputs that play can come to
+      --rules <FILE>  Read the rules in this file in place of standard input
+  -h, --help          Print help
 ";
 
 const LINT: &str =
     "Find what is lawful in the rules and most likely wrong, and write a line for each finding
 
-Usage: gdlsolve lint
+Usage: gdlsolve lint [OPTIONS]
 
 Options:
-  -h, --help  Print help
+      --rules <FILE>  Read the rules in this file in place of standard input
+  -h, --help          Print help
 ";
 
 const UNROLL: &str =
@@ -75,8 +76,9 @@ const UNROLL: &str =
 Usage: gdlsolve unroll [OPTIONS]
 
 Options:
-      --tighten  State only the base propositions and inputs that play can come to
-  -h, --help     Print help
+      --tighten       State only the base propositions and inputs that play can come to
+      --rules <FILE>  Read the rules in this file in place of standard input
+  -h, --help          Print help
 ";
 
 const NET: &str =
@@ -85,9 +87,10 @@ const NET: &str =
 Usage: gdlsolve net [OPTIONS]
 
 Options:
-      --whole    Read a game as it is found, with recursion or without base and input, as unroll writes it out
-      --tighten  With --whole: state only the base propositions and inputs that play can come to
-  -h, --help     Print help
+      --whole         Read a game as it is found, with recursion or without base and input, as unroll writes it out
+      --tighten       With --whole: state only the base propositions and inputs that play can come to
+      --rules <FILE>  Read the rules in this file in place of standard input
+  -h, --help          Print help
 ";
 
 const MOVES: &str =
@@ -99,6 +102,7 @@ Options:
       --after <TEXT>  The turns that were played, each a list of a move for each role
       --whole         Read a game as it is found, with recursion or without base and input, as unroll writes it out
       --tighten       With --whole: state only the base propositions and inputs that play can come to
+      --rules <FILE>  Read the rules in this file in place of standard input
   -h, --help          Print help
 
 Example:
@@ -113,6 +117,7 @@ Options:
       --after <TEXT>  The turns that were played, each a list of a move for each role
       --whole         Read a game as it is found, with recursion or without base and input, as unroll writes it out
       --tighten       With --whole: state only the base propositions and inputs that play can come to
+      --rules <FILE>  Read the rules in this file in place of standard input
   -h, --help          Print help
 
 Example:
@@ -134,6 +139,7 @@ Options:
       --after <TEXT>         The turns that were played, each a list of a move for each role
       --whole                Read a game as it is found, with recursion or without base and input, as unroll writes it out
       --tighten              With --whole: state only the base propositions and inputs that play can come to
+      --rules <FILE>         Read the rules in this file in place of standard input
   -h, --help                 Print help
 
 Example:
@@ -143,11 +149,11 @@ Example:
 const SOLVE: &str =
     "Tell what a role can be sure of after a history, the move that makes sure of it, and the line of play
 
-Usage: gdlsolve solve [OPTIONS] --role <ROLE> --depth <TURNS>
+Usage: gdlsolve solve [OPTIONS] --role <ROLE>
 
 Options:
       --role <ROLE>          The role to find a move for
-      --depth <TURNS>        How many turns to look ahead, from 0 to 64
+      --depth <TURNS>        How many turns to look ahead, from 0 to 64; with --deepen it may be left out, and is 64 then
       --at-bound <WORTH>     What a state is worth where these turns are over and play goes on: zero, or its goal [default: zero]
       --unfinished <NUMBER>  A worth for all these states, from 0 to 100, in place of --at-bound
       --window <LOW:HIGH>    Tell the value only where it is between these numbers, from -1 to 101, else which it does not pass
@@ -157,6 +163,7 @@ Options:
       --after <TEXT>         The turns that were played, each a list of a move for each role
       --whole                Read a game as it is found, with recursion or without base and input, as unroll writes it out
       --tighten              With --whole: state only the base propositions and inputs that play can come to
+      --rules <FILE>         Read the rules in this file in place of standard input
   -h, --help                 Print help
 
 Example:

@@ -7,7 +7,7 @@ use trial_games::texts::MATCH;
 /// Words with a bar between each two, and what is written to the errors, where it is a line of the program's own.
 type Misuse<'a> = (&'a str, &'a [u8]);
 
-const MISUSES: [Misuse; 65] = [
+const MISUSES: [Misuse; 67] = [
     // No command, or an option of another.
     ("list", b""),
     ("show|it", b""),
@@ -26,6 +26,8 @@ const MISUSES: [Misuse; 65] = [
     ("solve|--role|a|--depth|-1", b""),
     ("solve|--role|a|--depth|one", b""),
     ("solve|--role|a", b""),
+    ("solve|--role|a|--window|0:1", b""),
+    ("values|--role|a|--lines", b""),
     ("solve|--depth|1", b""),
     ("solve|--role|a|--depth|1|(h h)", b""),
     // Worths of unfinished play.
@@ -99,7 +101,7 @@ fn is_misuse<T: Threads + Sync + AllocGlobal>(rt: &T, words: &[&str], want: &[u8
     let is_said = if want.is_empty() {
         !errors.is_empty()
     } else {
-        errors.as_slice() == want
+        errors.starts_with(want)
     };
     status == 1 && output.is_empty() && is_said
 }

@@ -1,6 +1,6 @@
 //! Each command where all memory is taken, and with more and more of it to take.
+use super::program::program;
 use super::told;
-use running::main_with;
 use std::alloc::{AllocError, Global};
 use std::test::Fail;
 use std::thread::Threads;
@@ -52,7 +52,7 @@ fn ended_within<T: Threads + Sync + AllocGlobal>(
     let mut errors = Vec::with_capacity(rt.alloc(), 4096)?;
     let size = most.saturating_sub(SPARE).saturating_sub(free);
     let taken: Vec<u8> = Vec::with_capacity(rt.alloc(), size)?;
-    let status = main_with(rt, words, &mut input, &mut output, &mut errors);
+    let status = program(rt, words, &mut input, &mut output, &mut errors);
     drop(taken);
     let starved = status == 3
         && output.is_empty()

@@ -1,7 +1,8 @@
 //! Texts and what `show` answers, over readers and writers that go on, go on slowly, or fail.
 use super::devices::{Full, Silent, Slow, Torn};
+use super::program::program;
 use super::{Built, Text, joined};
-use running::{RunFault, main_with, run};
+use running::{RunFault, ended, run};
 use statement::Status;
 use std::alloc::AllocError;
 use std::io::{Read, Write};
@@ -61,7 +62,7 @@ fn show<T: Threads + Sync + AllocGlobal, R: Read, W: Write>(
     input: &mut R,
     output: &mut W,
 ) -> Result<Status, RunFault> {
-    run(rt, &Command::Show, input, output)
+    ended(&run(rt, &Command::Show, input, output))
 }
 
 /// Whether a bracket behind the limit of a text stays unread.
@@ -82,7 +83,7 @@ fn is_torn<T: Threads + Sync + AllocGlobal>(rt: &T, reads: usize) -> bool {
     let mut output = Vec::new(rt.alloc());
     let ended = show(rt, &mut Torn::new(b"(a) (b)", reads), &mut output);
     let mut errors = Vec::new(rt.alloc());
-    let status = main_with(
+    let status = program(
         rt,
         &["show"],
         &mut Torn::new(b"(a) (b)", reads),
@@ -100,7 +101,7 @@ fn is_slow<T: Threads + Sync + AllocGlobal>(rt: &T, row: Text) -> bool {
     let (text, want, exit) = row;
     let mut output = Vec::new(rt.alloc());
     let mut errors = Vec::new(rt.alloc());
-    let status = main_with(rt, &["show"], &mut Slow(text), &mut output, &mut errors);
+    let status = program(rt, &["show"], &mut Slow(text), &mut output, &mut errors);
     status == exit && output.as_slice() == want
 }
 
@@ -124,7 +125,7 @@ fn is_full<T: Threads + Sync + AllocGlobal>(rt: &T, room: usize) -> bool {
     let mut output = Full::new(rt.alloc(), room, false);
     let mut input = b"(a) (b c)".as_slice();
     let mut errors = Vec::new(rt.alloc());
-    let status = main_with(rt, &["show"], &mut input, &mut output, &mut errors);
+    let status = program(rt, &["show"], &mut input, &mut output, &mut errors);
     status == 4
         && errors.as_slice() == b"write fault\n".as_slice()
         && room < LINES.len()
@@ -145,7 +146,7 @@ fn is_unflushed<T: Threads + Sync + AllocGlobal>(rt: &T) -> bool {
     let ended = show(rt, &mut input, &mut Silent);
     let mut input = b"(a)".as_slice();
     let mut errors = Vec::new(rt.alloc());
-    let status = main_with(rt, &["--help"], &mut input, &mut Silent, &mut errors);
+    let status = program(rt, &["--help"], &mut input, &mut Silent, &mut errors);
     ended == Err(RunFault::Write) && status == 4 && errors.as_slice() == b"write fault\n".as_slice()
 }
 

@@ -11,7 +11,7 @@ use std::sync::atomic::{AtomicBool, AtomicUsize, Ordering};
 use std::thread::Threads;
 use trial_games::texts::FOUR;
 use trial_games::watched::{Watch, Watched};
-use words::{Command, Request, request_of};
+use words::{Command, Request, request_in};
 
 /// Steps, each of which waits until so many have begun, at most 2^30 turns.
 #[derive(Drop)]
@@ -51,8 +51,8 @@ fn search_of<T: AllocGlobal>(
     words: &[&str],
     text: &[u8],
 ) -> Result<Search<RuleGame>, AllocError> {
-    let request = request_of(rt.alloc(), &*words)?;
-    let Request::Run(Command::Ask(inquiry, _)) = &request else {
+    let request = request_in(rt.alloc(), &*words, Width::Plain)?;
+    let Request::Run(Command::Ask(inquiry, _), _) = &request else {
         return Err(AllocError);
     };
     let Reading::Rules(rules) = read(rt.alloc(), text)? else {
