@@ -39,6 +39,22 @@ def of_each_crate(seconds: float) -> Weights:
     return Weights({name: {"proof": seconds} for name in weights.crates_named()})
 
 
+class Lanes(unittest.TestCase):
+    def test_a_check_runs_on_each_processor_that_has_memory(self) -> None:
+        of_gigabytes = [(4, 23.0, 4), (2, 23.0, 2), (16, 14.0, 3), (4, 5.0, 1), (4, 0.0, 1), (1, 64.0, 1)]
+        for processors, gigabytes, lanes in of_gigabytes:
+            with self.subTest(processors=processors, gigabytes=gigabytes):
+                self.assertEqual(budget.lanes(processors, int(gigabytes * 1e9)), lanes)
+
+    def test_this_machine_has_memory(self) -> None:
+        self.assertGreater(budget.free_memory(), 1e8)
+
+    def test_the_gate_asks_for_them(self) -> None:
+        told = subprocess.run([TOOLS / "budget", "lanes"], capture_output=True, text=True, check=True).stdout
+        self.assertIn(int(told), range(1, 1025))
+        self.assertIn("RT_JOBS=$(tools/budget lanes)", (TOOLS.parent / ".ci" / "run").read_text())
+
+
 class Sorts(unittest.TestCase):
     def test_commands_have_a_crate_and_a_kind(self) -> None:
         crate = ["/kit/bin/rattle", "build", "--crate-name", "kif", "src/lib.rt"]
