@@ -1,15 +1,14 @@
 //! The program `gdlsolve`: the rules of a game on standard input or in a file, answers on standard output.
 #![tactic(auto)]
 
-use serving::main_program;
-use source::{source_of, tell_unread};
+use program_session::main_program;
+use program_words::{Asked, asked_of, source_of, tell_unread};
 use std::alloc::Global;
 use std::io::{ErrorKind, Read, Write};
 use std::process::ExitCode;
 use std::rt::Files;
 use std::thread::Threads;
 use std::{env, io};
-use words::{Asked, asked_of};
 
 /// The status where the words are no command.
 const MISUSE: u8 = 1;

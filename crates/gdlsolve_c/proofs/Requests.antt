@@ -2,10 +2,10 @@
 use Rattle.std.proofs.Common.{ℕ, List}
 use Rattle.std.specs.Prelude.{Result, Ok, Err, IfOk}
 use Rattle.statement.specs.declared.width.Width.TheVariants.{Plain}
-use Rattle.words.specs.Requests.{IsRequestOver}
-use Rattle.words.specs.declared.request.Request.{Request}
-use Rattle.words.specs.declared.request.Request.TheVariants.{Run, Lint, Unroll, Serve, Help, Misuse}
-use Rattle.words.specs.declared.command.Language.TheVariants.{Profile, Whole, Tightened}
+use Rattle.program_words.specs.Requests.{IsRequestOver}
+use Rattle.program_words.specs.declared.request.Request.{Request}
+use Rattle.program_words.specs.declared.request.Request.TheVariants.{Run, Lint, Unroll, Serve, Help, Misuse}
+use Rattle.program_words.specs.declared.command.Language.TheVariants.{Profile, Whole, Tightened}
 use Rattle.gdlsolve_c.specs.declared.told.Outcome.{Outcome}
 use Rattle.gdlsolve_c.specs.declared.told.Outcome.TheVariants.{Reply, Words}
 use Rattle.gdlsolve_c.specs.Telling.{IsOutcome, IsOutcomeOf}

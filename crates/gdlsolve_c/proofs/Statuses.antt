@@ -4,9 +4,9 @@ use Rattle.statement.specs.declared.status.Status.{Status}
 use Rattle.statement.specs.declared.status.Status.TheVariants.{Answer, Refused}
 use Rattle.statement.specs.declared.width.Width.TheVariants.{Plain}
 use Rattle.statement.specs.Replies.{IsReply}
-use Rattle.words.specs.Asked.{query_of}
-use Rattle.words.specs.Requests.{IsCommandIn}
-use Rattle.words.specs.declared.command.Command.{Command}
+use Rattle.program_words.specs.Asked.{query_of}
+use Rattle.program_words.specs.Requests.{IsCommandIn}
+use Rattle.program_words.specs.declared.command.Command.{Command}
 use Rattle.gdlsolve_c.specs.declared.told.Outcome.{Outcome}
 use Rattle.gdlsolve_c.specs.declared.told.Outcome.TheVariants.{Reply, Words}
 use Rattle.gdlsolve_c.specs.Calls.{Fills, RoomReplied}

@@ -4,9 +4,9 @@ use Rattle.std.specs.Prelude.{ℕ, ◌≡◌, List, ◌++◌, length, take, drop
 use Rattle.statement.specs.declared.status.Status.{Status}
 use Rattle.statement.specs.declared.width.Width.TheVariants.{Plain}
 use Rattle.statement.specs.Replies.{IsReply}
-use Rattle.words.specs.Asked.{query_of}
-use Rattle.words.specs.Requests.{IsCommandIn}
-use Rattle.words.specs.declared.command.Command.{Command}
+use Rattle.program_words.specs.Asked.{query_of}
+use Rattle.program_words.specs.Requests.{IsCommandIn}
+use Rattle.program_words.specs.declared.command.Command.{Command}
 
 -- a room with the bytes at its front, as many as it has place for, and behind them what stood there
 abbrev pub filled : List ℕ → List ℕ → List ℕ

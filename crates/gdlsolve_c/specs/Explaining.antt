@@ -1,7 +1,7 @@
 -- This crate's own: what `run` promises does not rest on it.
 -- What a call that explains leaves in the caller's memory.
 use Rattle.std.specs.Prelude.{ℕ, List}
-use Rattle.reasons.specs.Headed.{IsHeaded}
+use Rattle.diagnose_refusals.specs.Headed.{IsHeaded}
 use Rattle.gdlsolve_c.specs.Calls.{Fills}
 
 -- the room is filled with a text that says what it is about

@@ -6,12 +6,12 @@ use Rattle.std.specs.Ptr.{Ptr, null_ptr}
 use Rattle.std.specs.declared.alloc.Global.{Global}
 use Rattle.std.specs.contracts.impls.GlobalAllocator.TheImpl.{ghosts}
 use base.Fml.{Fml, feq, fex, fsep, ftrue}
-use Rattle.flat_ground.specs.Grounds.{text_at, texts_at}
-use Rattle.flat_ground.specs.GroundView.{roles_of, inputs_of}
-use Rattle.rulebook.specs.RuleState.{rules_of}
-use Rattle.netgame.specs.declared.net_game.NetGame.{NetGame}
+use Rattle.ground_instances.specs.Grounds.{text_at, texts_at}
+use Rattle.ground_instances.specs.GroundView.{roles_of, inputs_of}
+use Rattle.game_rules.specs.RuleState.{rules_of}
+use Rattle.position.specs.declared.net_game.NetGame.{NetGame}
 use Rattle.statement.specs.declared.width.Width.TheVariants.{Plain}
-use Rattle.kept_game.specs.Playing.{PlaysText}
+use Rattle.program_replies.specs.Playing.{PlaysText}
 use Rattle.gdlsolve_c.specs.declared.handle.Handle.{Handle}
 use Rattle.gdlsolve_c.specs.contracts.handle.Handle.{the_row}
 

@@ -4,12 +4,12 @@ use Rattle.std.specs.Prelude.{ℕ, List}
 use Rattle.statement.specs.declared.status.Status.{Status}
 use Rattle.statement.specs.declared.status.Status.TheVariants.{Answer, Refused}
 use Rattle.statement.specs.declared.width.Width.TheVariants.{Plain}
-use Rattle.words.specs.declared.command.Command.{Command}
-use Rattle.words.specs.declared.request.Request.{Request}
-use Rattle.words.specs.declared.request.Request.TheVariants.{Run, Lint, Unroll, Serve, Help, Misuse}
-use Rattle.words.specs.Asked.{query_of}
-use Rattle.words.specs.Requests.{IsCommandIn}
-use Rattle.replies_moves.specs.Replies.{reply_of}
+use Rattle.program_words.specs.declared.command.Command.{Command}
+use Rattle.program_words.specs.declared.request.Request.{Request}
+use Rattle.program_words.specs.declared.request.Request.TheVariants.{Run, Lint, Unroll, Serve, Help, Misuse}
+use Rattle.program_words.specs.Asked.{query_of}
+use Rattle.program_words.specs.Requests.{IsCommandIn}
+use Rattle.program_searches.specs.Replies.{reply_of}
 use Rattle.statement.specs.Replies.{IsReply}
 use Rattle.gdlsolve_c.specs.declared.told.Outcome.{Outcome}
 use Rattle.gdlsolve_c.specs.declared.told.Outcome.TheVariants.{Reply, Words}

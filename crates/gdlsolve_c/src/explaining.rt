@@ -2,14 +2,14 @@
 ghost use Rattle.std.specs.Prelude.{◌≡◌, ◌≤◌, ℕ, List, [], IfOk, IfSome};
 ghost use Rattle.gdlsolve_c.specs.Calls.{Fills};
 ghost use Rattle.gdlsolve_c.specs.Explaining.{RoomExplained};
-ghost use Rattle.reasons.specs.Headed.{IsHeaded};
+ghost use Rattle.diagnose_refusals.specs.Headed.{IsHeaded};
 
 use crate::call::fill;
-use reasons::explanation;
-use rulegame::RuleGame;
+use diagnose_refusals::explanation;
+use game_rules::RuleGame;
+use program_words::{Request, request_in};
 use statement::Width;
 use std::alloc::{AllocError, Global};
-use words::{Request, request_in};
 
 /// The status of an explanation.
 const EXPLAINED: u32 = 0;

@@ -2,7 +2,7 @@
 ghost use Rattle.std.specs.Prelude.{◌≡◌, IfOk};
 ghost use Rattle.gdlsolve_c.specs.Handles.{StandsFor};
 
-use netgame::NetGame;
+use position::NetGame;
 use std::alloc::{AllocError, Global};
 
 /// What a handle leads to: the bytes of rules, and the game of them, which is made when it is first asked for.

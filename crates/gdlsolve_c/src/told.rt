@@ -3,13 +3,12 @@ ghost use Rattle.std.specs.Prelude.{◌≡◌, IfOk};
 ghost use Rattle.gdlsolve_c.specs.Telling.{IsOutcomeOf, IsOutcome, told_bytes, status_of};
 ghost use Rattle.gdlsolve_c.specs.Handles.{IsMadeOf};
 
-use kept_game::replied_alone;
-use netgame::NetGame;
-use replies::{Reply, reply_alone};
-use rulegame::RuleGame;
+use game_rules::RuleGame;
+use position::NetGame;
+use program_replies::{Reply, replied_alone, reply_alone};
+use program_words::{Request, request_in};
 use statement::{Status, Width};
 use std::alloc::{AllocError, Global};
-use words::{Request, request_in};
 
 /// The status of a reply that answers a command.
 const ANSWERED: u32 = 0;

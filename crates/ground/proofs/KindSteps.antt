@@ -5,7 +5,7 @@ use Rattle.statement.specs.Tree.{Tree}
 use Rattle.statement.specs.Clause.{Atom, Alternative, relation_of, tree_of}
 use Rattle.statement.specs.Dependence.{is_fixed}
 use Rattle.statement.specs.declared.kind.Kind.{Kind}
-use Rattle.terms.specs.Keys.{term_at}
+use Rattle.ground_terms.specs.Keys.{term_at}
 use Rattle.statement.specs.Kinds.{kind_of}
 use Rattle.meaning.specs.Marked.{FixedBefore}
 

@@ -28,10 +28,10 @@ use Rattle.std.specs.List.{list_any}
 use Rattle.std.proofs.lemmas.List.{append-nil}
 use Rattle.statement.specs.Tree.{Tree}
 use Rattle.statement.specs.Dependence.{IsAmong}
-use Rattle.profile.proofs.Facts.{IsAmong-append}
-use Rattle.terms.specs.Atoms.{with_numbers}
+use Rattle.rules_profile.proofs.Facts.{IsAmong-append}
+use Rattle.ground_terms.specs.Atoms.{with_numbers}
 use Rattle.meaning.specs.InOrder.{AreDistinct}
-use Rattle.terms.specs.Keys.{term_at}
+use Rattle.ground_terms.specs.Keys.{term_at}
 use Rattle.meaning.proofs.Facts.{among_map_in}
 
 any_none : (n : ℕ) (xs : List ℕ) → (IsAmong n xs → ⊥) → list_any (nat_eq n) xs ≡ false

@@ -4,13 +4,13 @@
 //! list goes to each thread.
 ghost use Rattle.std.specs.Prelude.{◌≡◌, ◌<◌, length, map, nat_eq};
 ghost use Rattle.ground.specs.Finishing.{headed_in, InstancesNumbered};
-ghost use Rattle.kept.specs.Lists.{AreLaid};
+ghost use Rattle.ground_instances.specs.Lists.{AreLaid};
 ghost use Rattle.statement.specs.Printed.{first_place};
 
-use kept::{Entry, FoundList};
-use spread::change_each;
+use ground_instances::{Entry, FoundList};
+use ground_join_plans::change_each;
+use ground_terms::NumberSet;
 use std::thread::Threads;
-use terms::NumberSet;
 
 /// The number of a term's atom; the count of atoms if it has none.
 fn place_of(atoms: &NumberSet, term: usize) -> u32

@@ -4,18 +4,18 @@ ghost use Rattle.statement.specs.Clause.{Alternative};
 ghost use Rattle.rules.specs.RuleSets.{IsNameNumber, AreKeywords};
 ghost use Rattle.rules.specs.declared.rule_set.Keywords.{Keywords};
 ghost use Rattle.statement.specs.Words.{w_init};
-ghost use Rattle.terms.specs.Arena.{Held};
-ghost use Rattle.terms.specs.Dropping.{AreShown, dropped_in};
+ghost use Rattle.ground_terms.specs.Arena.{Held};
+ghost use Rattle.ground_terms.specs.Dropping.{AreShown, dropped_in};
 ghost use Rattle.ground.specs.Finishing.{numbered_in};
 ghost use Rattle.statement.specs.Kept.{Kept, numbered};
-ghost use Rattle.clauses.specs.Marks.{NumbersBelow};
-ghost use Rattle.clauses.specs.Numbers.{NamesDiffer};
-ghost use Rattle.terms.specs.Keys.{term_at, trees};
+ghost use Rattle.rules_clauses.specs.Marks.{NumbersBelow};
+ghost use Rattle.rules_clauses.specs.Numbers.{NamesDiffer};
+ghost use Rattle.ground_terms.specs.Keys.{term_at, trees};
 ghost use Rattle.meaning.specs.Listed.{IsWellFormed};
 ghost use Rattle.statement.specs.Listing.{listing, base_list};
 ghost use Rattle.statement.specs.GoalsAndMoves.{starts, dropped};
-ghost use Rattle.listing_rows.specs.Progress.{IsListed};
-ghost use Rattle.terms.specs.Starting.{starts_in};
+ghost use Rattle.ground_rows.specs.Progress.{IsListed};
+ghost use Rattle.ground_terms.specs.Starting.{starts_in};
 
 /// What the last pass makes of the numbers of terms is what the definitions make of the listing.
 pub fn the_last_pass_is_the_definition()

@@ -2,17 +2,17 @@
 ghost use Rattle.std.specs.Prelude.{List, ◌≡◌, length, map, IfOk};
 ghost use Rattle.statement.specs.Clause.{Atom, tree_of};
 ghost use Rattle.rules.specs.RuleSetView.{lists_of_set, rules_in};
-ghost use Rattle.clauses.specs.Marks.{NumbersBelow};
-ghost use Rattle.terms.specs.Keys.{term_at, trees};
+ghost use Rattle.rules_clauses.specs.Marks.{NumbersBelow};
+ghost use Rattle.ground_terms.specs.Keys.{term_at, trees};
 ghost use Rattle.statement.specs.Kinds.{kind_of};
 ghost use Rattle.meaning.specs.Marked.{FixedBefore};
-ghost use Rattle.terms.specs.Tables.{AreTables};
+ghost use Rattle.ground_terms.specs.Tables.{AreTables};
 
 use crate::tables::Tables;
+use ground_terms::Arena;
 use meaning::Kind;
 use rules::RuleSet;
 use std::alloc::{AllocError, Global};
-use terms::Arena;
 
 /// Where the atoms stand in play, of which the first are those of fixed relations.
 pub fn kinds_of_atoms(

@@ -11,7 +11,7 @@ mod parts_of_ground;
 mod tables;
 
 pub use finishing_laws::the_last_pass_is_the_definition;
-pub use flat_ground::{FlatGround, Ground, Instance, a_ground_fits_together};
+pub use ground_instances::{FlatGround, Ground, Instance, a_ground_fits_together};
+pub use ground_listing::GroundFault;
 pub use instantiating::{instantiate, instantiate_flat, instantiate_flat_alone, limits_of_width};
-pub use listing::GroundFault;
 pub use meaning::{Excess, Kind};

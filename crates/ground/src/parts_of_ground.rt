@@ -1,22 +1,22 @@
 //! The parts of a ground that have no texts.
 ghost use Rattle.std.specs.Prelude.{◌≡◌, map, None, IfOk};
 ghost use Rattle.rules.specs.RuleSetView.{rules_in};
-ghost use Rattle.listing.specs.AllListed.{IsAllListed};
+ghost use Rattle.ground_listing.specs.AllListed.{IsAllListed};
 ghost use Rattle.ground.specs.Parts.{ArePartsOf};
-ghost use Rattle.terms.specs.Vectors.{items_of};
-ghost use Rattle.listing_rows.specs.Contexts.{terms_named};
-ghost use Rattle.kept.specs.Lists.{numbers_of_list};
+ghost use Rattle.ground_terms.specs.Vectors.{items_of};
+ghost use Rattle.ground_rows.specs.Contexts.{terms_named};
+ghost use Rattle.ground_instances.specs.Lists.{numbers_of_list};
 ghost use Rattle.statement.specs.declared.width.Width.TheVariants.{Wide};
 ghost use Rattle.statement.specs.Limits.{excess_in};
-ghost use Rattle.listing_rows.specs.SetWords.{words_of};
+ghost use Rattle.ground_rows.specs.SetWords.{words_of};
 
 use crate::kinds_of_atoms::kinds_of_atoms;
 use crate::tables::Tables;
-use listing::Listed;
+use ground_listing::Listed;
+use ground_terms::{Named, count_dropped, starts_of};
 use meaning::Kind;
 use rules::RuleSet;
 use std::alloc::{AllocError, Global};
-use terms::{Named, count_dropped, starts_of};
 
 /// Which base propositions hold at the start, where the atoms stand in play, and how many atoms have no effect on play.
 #[derive(Drop)]

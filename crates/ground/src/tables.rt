@@ -1,13 +1,13 @@
 //! The roles, base propositions and inputs as sets of terms, and their texts.
 ghost use Rattle.std.specs.Prelude.{◌≡◌, [], map, IfOk};
 ghost use Rattle.rules.specs.RuleSets.{texts_of};
-ghost use Rattle.terms.specs.Vectors.{items_of};
-ghost use Rattle.listing_rows.specs.Contexts.{terms_named, texts_named};
-ghost use Rattle.terms.specs.Atoms.{with_numbers};
+ghost use Rattle.ground_terms.specs.Vectors.{items_of};
+ghost use Rattle.ground_rows.specs.Contexts.{terms_named, texts_named};
+ghost use Rattle.ground_terms.specs.Atoms.{with_numbers};
 
-use listing::ContextTerms;
+use ground_listing::ContextTerms;
+use ground_terms::{Named, NumberSet};
 use std::alloc::{AllocError, Global};
-use terms::{Named, NumberSet};
 
 /// The roles, the base propositions and the inputs of each role, as terms that have the place that they stand
 /// in as their number.

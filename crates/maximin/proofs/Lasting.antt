@@ -8,8 +8,8 @@ use Rattle.game.specs.Value.{Answers}
 use Rattle.statement.specs.declared.at_bound.AtBound.{AtBound}
 use Rattle.statement.specs.Rules.{Rules, State}
 use Rattle.statement.specs.Value.{value, worst, greatest}
-use Rattle.table.specs.declared.bounds.Bounds.{Bounds}
-use Rattle.table.specs.Worths.{AreBoundsOf}
+use Rattle.search_table.specs.declared.bounds.Bounds.{Bounds}
+use Rattle.search_table.specs.Worths.{AreBoundsOf}
 use Rattle.maximin.specs.Answer.{IsAnswer, IsUpperBound}
 use Rattle.maximin.specs.Open.{IsOpen}
 use Rattle.maximin.specs.declared.answer.SearchAnswer.{SearchAnswer}

@@ -4,8 +4,8 @@ use Rattle.std.proofs.lemmas.Int.{ints, clamps}
 use Rattle.std.specs.Prelude.{ℤ, pos, ◌<ℤ◌, ◌≤ℤ◌}
 use Rattle.std.specs.Int.{int_min, int_max}
 use Rattle.game.specs.Value.{Answers}
-use Rattle.table.specs.declared.bounds.Bounds.{Bounds}
-use Rattle.table.specs.Worths.{IsWithin}
+use Rattle.search_table.specs.declared.bounds.Bounds.{Bounds}
+use Rattle.search_table.specs.Worths.{IsWithin}
 use Rattle.maximin.specs.Tools.{IsWindow}
 
 -- where they leave nothing of it, the upper end of what they leave answers, or the lower bound where that is more

@@ -53,8 +53,8 @@ use Rattle.maximin.specs.declared.ahead.Ahead.{Ahead}
 use Rattle.maximin.specs.declared.pack.Pack.{Pack}
 use Rattle.maximin.specs.declared.pack.Part.{Part}
 use Rattle.maximin.specs.declared.run.Run.{Run}
-use Rattle.table.specs.declared.bounds.Bounds.{Bounds}
-use Rattle.table.specs.Worths.{AreBoundsOf}
+use Rattle.search_table.specs.declared.bounds.Bounds.{Bounds}
+use Rattle.search_table.specs.Worths.{AreBoundsOf}
 use Rattle.maximin.specs.Ahead.{IsAheadOf}
 use Rattle.maximin.specs.Alone.{IsAlone}
 use Rattle.maximin.specs.Pack.{picked, packed_after, IsPartOf, IsPackOf}

@@ -5,8 +5,8 @@ use Rattle.statement.specs.declared.at_bound.AtBound.TheVariants.{Zero}
 use Rattle.statement.specs.Rules.{Rules, State}
 use Rattle.game.specs.declared.question.Question.{Question}
 use Rattle.maximin.specs.declared.ahead.Ahead.{Ahead}
-use Rattle.table.specs.declared.bounds.Bounds.{Bounds}
-use Rattle.table.specs.Worths.{AreBoundsOf}
+use Rattle.search_table.specs.declared.bounds.Bounds.{Bounds}
+use Rattle.search_table.specs.Worths.{AreBoundsOf}
 
 -- the bounds that are known are of the worth of their state by depth, at this depth
 pub record IsAheadOf (states : List State) (worth : State → ℕ → ℕ) (depth : ℕ) (ahead : Ahead) : Type 0 where

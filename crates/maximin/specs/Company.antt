@@ -1,7 +1,7 @@
 -- This crate's own: what `run` promises does not rest on it.
 -- Which game workers share the search of.
 use Rattle.std.specs.Arc.{arc_value}
-use Rattle.shared_table.specs.Games.{game_of}
+use Rattle.search_table.specs.Games.{game_of}
 use Rattle.maximin.specs.declared.company.Company.{Company}
 
 -- the game that their tables were made for

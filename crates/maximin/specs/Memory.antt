@@ -3,8 +3,8 @@
 use Rattle.std.specs.Prelude.{◌≡◌, ◌*◌, ℕ, List, [], ◌∷◌, length, vec_capacity}
 use Rattle.std.specs.Arc.{arc_value}
 use Rattle.game.specs.declared.game.Game.{Ghosts}
-use Rattle.table.specs.Tables.{IsTableOf, table_capacity}
-use Rattle.shared_table.specs.Games.{game_of}
+use Rattle.search_table.specs.Tables.{IsTableOf, table_capacity}
+use Rattle.search_table.specs.Games.{game_of}
 use Rattle.maximin.specs.declared.memory.Memory.{Memory}
 use Rattle.maximin.specs.declared.memory.Positions.{Positions}
 use Rattle.maximin.specs.declared.memory.Positions.TheVariants.{Nowhere, Own, Shared}

@@ -2,8 +2,8 @@
 -- A room that shares nothing.
 use Rattle.std.specs.Prelude.{◌≡◌, ℕ, ◌*◌, Option, None, Some, IsSomeAnd, All, length}
 use Rattle.game.specs.declared.game.Game.{Ghosts}
-use Rattle.table.specs.Tables.{IsTableOf}
-use Rattle.table.specs.declared.position_table.PositionTable.{PositionTable}
+use Rattle.search_table.specs.Tables.{IsTableOf}
+use Rattle.search_table.specs.declared.position_table.PositionTable.{PositionTable}
 use Rattle.maximin.specs.declared.plain.PlainParts.{PlainParts}
 use Rattle.maximin.specs.declared.plain.PlainRoom.{PlainRoom}
 use Rattle.maximin.specs.Level.{IsLevelOf}

@@ -15,7 +15,7 @@ ghost use Rattle.maximin.specs.Level.{IsLevelLeft, IsLevelOf, level_capacities};
 ghost use Rattle.maximin.specs.Pack.{picked, packed_after, ArePackable, IsPacked, IsPartOf, IsPackOf, IsPlacedRun};
 ghost use Rattle.maximin.specs.Run.{IsRunOf};
 ghost use Rattle.maximin.specs.Tools.{AreFit, AreKept, AreToolsKept, AreToolsOf};
-ghost use Rattle.table.specs.Worths.{AreBoundsOf};
+ghost use Rattle.search_table.specs.Worths.{AreBoundsOf};
 
 use crate::answer::{SearchAnswer, lesser_lasts};
 use crate::children::Children;
@@ -27,7 +27,7 @@ use crate::run::{LONGEST_RUN, Run};
 use crate::sight::Sight;
 use crate::tools::Tools;
 use game::{AtBound, Game, Question};
-use table::{Bounds, hash_of};
+use search_table::{Bounds, hash_of};
 
 /// What is known of the states of a run before they are searched.
 #[derive(Drop)]

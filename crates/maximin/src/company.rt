@@ -4,8 +4,7 @@ ghost use Rattle.maximin.specs.Company.{company_game};
 
 use crate::history::new_counts;
 use game::{Game, Question};
-use hints::{Marks, SharedHistory};
-use shared_table::SharedTable;
+use search_table::{Marks, SharedHistory, SharedTable};
 use std::alloc::Global;
 use std::sync::Arc;
 

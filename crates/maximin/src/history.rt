@@ -1,6 +1,6 @@
 //! What is remembered of moves: how much search they cut off.
 use game::{Game, Joint};
-use hints::SharedHistory;
+use search_table::SharedHistory;
 use std::alloc::{AllocError, Global};
 use std::sync::Arc;
 

@@ -6,17 +6,16 @@ ghost use Rattle.std.specs.Prelude.{◌≡◌, ◌≤◌, ◌+◌, ◌*◌, ℕ,
 ghost use Rattle.std.specs.Arc.{arc_value};
 ghost use Rattle.game.specs.Keys.{key_at};
 ghost use Rattle.statement.specs.Value.{value};
-ghost use Rattle.table.specs.Tables.{IsTableOf, table_capacity, worth_of};
-ghost use Rattle.table.specs.Worths.{AreBoundsOf};
-ghost use Rattle.shared_table.specs.Games.{game_of};
+ghost use Rattle.search_table.specs.Tables.{IsTableOf, table_capacity, worth_of};
+ghost use Rattle.search_table.specs.Worths.{AreBoundsOf};
+ghost use Rattle.search_table.specs.Games.{game_of};
 ghost use Rattle.maximin.specs.Memory.{ArePositionsOf, IsMemoryOf, memory_capacities, position_capacities};
 
 use crate::run::LONGEST_RUN;
 use game::{AtBound, Game, Question};
-use shared_table::SharedTable;
+use search_table::{Bounds, PositionTable, SharedTable};
 use std::alloc::{AllocError, Global};
 use std::sync::Arc;
-use table::{Bounds, PositionTable};
 
 /// States with fewer turns left are not looked up: to search them costs no more.
 const FEWEST_TURNS: u32 = 2;

@@ -2,12 +2,12 @@
 ghost use Rattle.std.specs.Prelude.{◌≡◌, ◌≤◌, ◌≤ℤ◌, ℕ, pos, true, false, if◌then◌else◌};
 ghost use Rattle.std.specs.Int.{int_min, int_max};
 ghost use Rattle.std.specs.Int.Signed.{lt_z};
-ghost use Rattle.table.specs.Worths.{AreBoundsOf};
+ghost use Rattle.search_table.specs.Worths.{AreBoundsOf};
 ghost use Rattle.maximin.specs.Answer.{IsAnswer};
 
 use crate::answer::{SearchAnswer, both_last};
 use crate::window::SearchWindow;
-use table::Bounds;
+use search_table::Bounds;
 
 /// The part of a window that bounds of a value leave.
 pub fn narrowed(known: Bounds, window: SearchWindow) -> SearchWindow

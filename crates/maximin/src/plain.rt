@@ -14,8 +14,8 @@ use crate::room::{Room, value_in};
 use crate::sight::Sight;
 use crate::tools::Tools;
 use game::{Game, Question};
+use search_table::PositionTable;
 use std::alloc::{AllocError, Global};
-use table::PositionTable;
 
 /// What a room is made of, but for tables of others.
 #[derive(Drop)]

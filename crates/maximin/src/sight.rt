@@ -2,11 +2,10 @@
 use crate::memory::Memory;
 use crate::run::LONGEST_RUN;
 use game::{Game, Question};
-use hints::Marks;
+use search_table::{Marks, hash_of};
 use std::alloc::AllocError;
 use std::sync::Arc;
 use std::sync::atomic::{AtomicU64, Ordering};
-use table::hash_of;
 
 /// States with fewer turns left are not marked in a long search: they are searched too soon.
 const FEWEST_MARKED: u32 = 4;

@@ -7,7 +7,7 @@ use Rattle.statement.specs.Clause.{Atom, Alternative, Relation, relation_of, is_
 use Rattle.statement.specs.Dependence.{IsAmong, Edge, dependences, is_distinct, is_moving, DependsDirectly, DependsIn, IsFixed, is_fixed}
 use Rattle.statement.specs.Items.{is_constant, is_connective, is_atom, atom_in, are_terms, are_literals, is_item, item_head, item_alternatives, head_tree, body_trees, alternatives}
 use Rattle.statement.specs.Profile.{ItemFault, or_item_fault, first_failing, bad_form, bad_keyword, not_safe, recursive, bad_dependence, first_too_many, is_unsafe, is_recursive, depends_badly, rests_on_move, some_body, none_of, roles, misuses_word, uses, heads_well, bodies_stand_well, is_role_well, HasNoFault}
-use Rattle.profile.proofs.Facts.{
+use Rattle.rules_profile.proofs.Facts.{
   or_none,
   none_fails,
   not_not,

@@ -7,7 +7,7 @@ use Rattle.kif.proofs.Facts.{name_eq_yes, name_eq_self}
 use Rattle.statement.specs.Words.{w_true, w_does, w_next, w_legal, w_goal, w_terminal}
 use Rattle.statement.specs.Clause.{Atom, Alternative, Relation, relation_of}
 use Rattle.statement.specs.Dependence.{IsAcyclic, is_moving, is_fixed}
-use Rattle.profile.proofs.Facts.{fixed_tested}
+use Rattle.rules_profile.proofs.Facts.{fixed_tested}
 use Rattle.statement.specs.declared.kind.Kind.{Kind}
 use Rattle.statement.specs.declared.kind.Kind.TheVariants.{Fixed, Now, Does, Next, Legal, Goal, Terminal, Other}
 use Rattle.statement.specs.Meaning.{atom0, atom1, atom2}

@@ -5,7 +5,7 @@ use Rattle.std.proofs.lemmas.List.{append-nil}
 use Rattle.statement.specs.Clause.{Atom, Alternative, Relation, relation_of, relation_eq}
 use Rattle.statement.specs.Dependence.{IsAmong, is_fixed}
 use Rattle.statement.specs.Order.{relations_in_order}
-use Rattle.profile.proofs.Facts.{not_true, not_false, relation_eq_yes, relation_eq_self, IsAmong-append, IsAmong-append_left, IsAmong-append_right}
+use Rattle.rules_profile.proofs.Facts.{not_true, not_false, relation_eq_yes, relation_eq_self, IsAmong-append, IsAmong-append_left, IsAmong-append_right}
 use Rattle.statement.specs.Listing.{Instance, Listing, heads, kept_of_relation, with_atoms, list_relation, list_relations, context_atoms, fixed_listing, listing, fixed_part, other_part}
 use Rattle.statement.specs.Printed.{AreInOrder}
 use Rattle.meaning.specs.InOrder.{AreDistinct}

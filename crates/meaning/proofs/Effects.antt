@@ -5,7 +5,7 @@ use Rattle.kif.proofs.Facts.{both, true_and, name_eq_yes, tree_eq_yes, tree_eq_s
 use Rattle.statement.specs.Words.{w_init, w_next, w_legal}
 use Rattle.statement.specs.Clause.{Atom, Alternative, relation_of, is_word}
 use Rattle.statement.specs.Dependence.{IsAmong}
-use Rattle.profile.proofs.Facts.{or_cases, or_left, or_right, not_true}
+use Rattle.rules_profile.proofs.Facts.{or_cases, or_left, or_right, not_true}
 use Rattle.statement.specs.Meaning.{atom1, IsBase, IsInput}
 use Rattle.statement.specs.Listing.{role_list, base_list, input_list}
 use Rattle.meaning.specs.Listed.{IsWellFormed}

@@ -5,7 +5,7 @@ use Rattle.statement.specs.Tree.{text}
 use Rattle.kif.proofs.Facts.{items_in}
 use Rattle.statement.specs.Clause.{tree_of}
 use Rattle.statement.specs.Items.{alternatives}
-use Rattle.profile.proofs.Facts.{match_text, four_text, tictactoe_text}
+use Rattle.rules_profile.proofs.Facts.{match_text, four_text, tictactoe_text}
 use Rattle.statement.specs.GoalsAndMoves.{dropped}
 use Rattle.statement.specs.Listing.{listing, Instance}
 

@@ -34,7 +34,7 @@ use Rattle.kif.proofs.Facts.{both, name_eq_yes}
 use Rattle.statement.specs.Clause.{Atom, Literal, positive, negative, Alternative, Relation, relation_of, atom_eq, atom_of}
 use Rattle.statement.specs.Words.{w_distinct}
 use Rattle.statement.specs.Dependence.{IsAmong, is_moving, is_distinct, DependsDirectly, DependsIn, IsFixed, is_fixed}
-use Rattle.profile.proofs.Facts.{IsHead, fixed_tested, not_true}
+use Rattle.rules_profile.proofs.Facts.{IsHead, fixed_tested, not_true}
 use Rattle.statement.specs.Substitution.{literal_under}
 use Rattle.statement.specs.Meaning.{StateOfTerms, Joint, Source, now, does, distinct, ordinary, source_of, RightAs, IsRight, Holds, HoldsAlways, nothing, nobody, IsWithinBase, IsWithinInput}
 use Rattle.meaning.specs.Kept.{PossibleAs, Keeps, HeadsKept, PossibleIf, IsPossible}

@@ -5,7 +5,7 @@ use Rattle.kif.proofs.Facts.{name_eq_yes}
 use Rattle.statement.specs.Words.{w_true, w_does, w_distinct}
 use Rattle.statement.specs.Clause.{Atom, Literal, positive, negative, Alternative, Relation, relation_of, count_trees, atom_of}
 use Rattle.statement.specs.Dependence.{is_distinct, is_moving, DependsDirectly, IsAcyclic, IsFixed}
-use Rattle.profile.proofs.Facts.{IsHead, along_dependence}
+use Rattle.rules_profile.proofs.Facts.{IsHead, along_dependence}
 use Rattle.statement.specs.Substitution.{literal_under}
 use Rattle.statement.specs.Meaning.{StateOfTerms, Joint, Source, now, does, distinct, ordinary, source_at, source_of, RightAs, IsRight, IsDerived, Holds, nothing, nobody, IsWithinBase, IsWithinInput}
 use Rattle.meaning.specs.Kept.{PossibleAs, UndecidedAs, Keeps, HeadsKept, HasRightInstance}

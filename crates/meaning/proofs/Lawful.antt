@@ -8,7 +8,7 @@ use Rattle.statement.specs.Clause.{is_variable, Atom, Literal, positive, negativ
 use Rattle.statement.specs.Items.{are_name_bytes, is_name, is_constant, begins_compound, is_term, are_terms}
 use Rattle.statement.specs.Dependence.{IsAmong, is_distinct, DependsDirectly, IsFixed}
 use Rattle.statement.specs.Safety.{variables, variables_in, is_binding}
-use Rattle.profile.proofs.Facts.{not_true, IsAmong-append, IsAmong-append_left, IsAmong-append_right, IsHead, along_dependence}
+use Rattle.rules_profile.proofs.Facts.{not_true, IsAmong-append, IsAmong-append_left, IsAmong-append_right, IsHead, along_dependence}
 use Rattle.statement.specs.Substitution.{Map, is_ground, are_ground, substitute, substitute_all, atom_under, IsLawful, IsLawfulTerm}
 use Rattle.statement.specs.Meaning.{Source, now, does, distinct, ordinary, source_of, atom1, atom2, HoldsAlways, IsRole, IsBase, IsInput, IsDerived, StateOfTerms, Joint, Holds, IsWithinBase, IsWithinInput}
 use Rattle.meaning.specs.Kept.{Keeps, HeadsKept, PossibleIf, IsPossible}

@@ -25,3 +25,18 @@ mod Rising
 mod FixedFirst
 mod Determined
 pub mod Facts
+mod Strata
+mod Heights
+mod Acyclic
+mod Stated
+mod Founding
+mod Together
+mod Rewriting
+mod Reading
+mod Gathered
+mod Chains
+mod Enough
+mod Built
+mod Simple
+mod Downward
+mod Answers

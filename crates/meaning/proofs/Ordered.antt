@@ -28,7 +28,7 @@ use Rattle.std.proofs.Common.{
 }
 use Rattle.std.specs.Prelude.{filter}
 use Rattle.statement.specs.Dependence.{IsAmong}
-use Rattle.profile.proofs.Facts.{IsAmong-append, IsAmong-append_left}
+use Rattle.rules_profile.proofs.Facts.{IsAmong-append, IsAmong-append_left}
 use Rattle.statement.specs.Printed.{AreInOrder, first_place}
 use Rattle.meaning.specs.InOrder.{AreDistinct, IsLess}
 

@@ -5,7 +5,7 @@ use Rattle.statement.specs.Tree.{Tree, name, text, tree_eq}
 use Rattle.kif.proofs.Facts.{items_in}
 use Rattle.statement.specs.Words.{w_true, w_does, w_next, w_legal, w_terminal, w_init}
 use Rattle.statement.specs.Items.{alternatives}
-use Rattle.profile.proofs.Facts.{match_text, tictactoe_text}
+use Rattle.rules_profile.proofs.Facts.{match_text, tictactoe_text}
 use Rattle.statement.specs.declared.kind.Kind.TheVariants.{Fixed, Now, Does, Next, Legal, Terminal, Other}
 use Rattle.statement.specs.Meaning.{atom0, atom1, atom2, nothing}
 use Rattle.statement.specs.Listing.{listing}

@@ -13,7 +13,7 @@ use Rattle.kif.proofs.Facts.{text_once}
 use Rattle.statement.specs.Clause.{Atom, relation_of, is_word}
 use Rattle.statement.specs.Dependence.{IsAmong}
 use Rattle.statement.specs.Order.{is_less}
-use Rattle.profile.proofs.Facts.{IsAmong-append_left}
+use Rattle.rules_profile.proofs.Facts.{IsAmong-append_left}
 use Rattle.statement.specs.Meaning.{atom1, atom2}
 use Rattle.meaning.specs.InOrder.{AreDistinct}
 use Rattle.statement.specs.Listing.{into_printed_order, in_printed_order, one_term, terms_of, second_of, terms_with}

@@ -38,7 +38,7 @@ use Rattle.statement.specs.Items.{item_head, item_alternatives, alternatives, bo
 use Rattle.statement.specs.Order.{relations_in_order}
 use Rattle.statement.specs.Safety.{variables, variables_in}
 use Rattle.statement.specs.Profile.{HasNoFault, is_empty, is_role_well, is_tree_in, first_of, role_in, with_new, roles_from, roles}
-use Rattle.profile.proofs.Facts.{right_if, same_head, fixed_tested, relations_complete, or_cases, or_left, or_right, relation_eq_yes}
+use Rattle.rules_profile.proofs.Facts.{right_if, same_head, fixed_tested, relations_complete, or_cases, or_left, or_right, relation_eq_yes}
 use Rattle.statement.specs.Substitution.{Map, substitute, substitute_all}
 use Rattle.statement.specs.Meaning.{atom1}
 use Rattle.meaning.specs.InOrder.{AreDistinct}

@@ -34,7 +34,7 @@ use Rattle.statement.specs.Tree.{text}
 use Rattle.statement.specs.Clause.{Alternative, Relation, tree_of}
 use Rattle.statement.specs.Dependence.{IsAmong, is_fixed}
 use Rattle.statement.specs.Order.{relations_in_order}
-use Rattle.profile.proofs.Facts.{IsAmong-append, IsAmong-append_left, IsAmong-append_right}
+use Rattle.rules_profile.proofs.Facts.{IsAmong-append, IsAmong-append_left, IsAmong-append_right}
 use Rattle.statement.specs.declared.excess.Excess.{Excess}
 use Rattle.statement.specs.declared.excess.Excess.TheVariants.{Base, Inputs, Instances, Text}
 use Rattle.statement.specs.Listing.{Instance, kept_of_relation, with_atoms, Listing, heads, list_relation, list_relations, context_atoms, fixed_listing, role_list, base_list}

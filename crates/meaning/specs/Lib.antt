@@ -8,3 +8,10 @@ pub mod Kinds
 pub mod Evaluation
 pub mod Effects
 pub mod Marked
+pub mod Derivable
+pub mod Literals
+pub mod Possible
+pub mod Extension
+pub mod Layers
+pub mod Names
+pub mod Stacks

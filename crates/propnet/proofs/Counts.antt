@@ -38,11 +38,11 @@ use Rattle.std.proofs.lemmas.List.{length-map}
 use Rattle.std.proofs.lemmas.List.Sums.{sum_by-cons}
 use Rattle.std.proofs.lemmas.List.FromFn.{length-range_with_len}
 use Rattle.statement.specs.declared.kind.Kind.{Kind}
-use Rattle.flat_ground.specs.declared.flat_ground.FlatGround.{FlatGround}
+use Rattle.ground_instances.specs.declared.flat_ground.FlatGround.{FlatGround}
 use Rattle.statement.specs.Kept.{Kept}
-use Rattle.flat_ground.specs.Fits.{count_all}
+use Rattle.ground_instances.specs.Fits.{count_all}
 use Rattle.statement.specs.Most.{wide_limits}
-use Rattle.flat_ground.specs.GroundView.{base_of, inputs_of, kinds_of, instances_of}
+use Rattle.ground_instances.specs.GroundView.{base_of, inputs_of, kinds_of, instances_of}
 use Rattle.statement.specs.declared.node_name.Name.{Name}
 use Rattle.statement.specs.declared.node_name.Name.TheVariants.{Base, Input, Not, And, View, Transition}
 use Rattle.propnet.specs.NodeNames.{has_gate, gates_from, gates_of_atom, has_view, is_negated, atom_names, base_names, role_names, input_names, node_names}

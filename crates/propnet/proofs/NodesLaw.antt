@@ -22,8 +22,8 @@ use Rattle.meaning.proofs.Facts.{one_number, atom_found, atom_test, place_below,
 use Rattle.propnet.specs.NodeNames.{has_gate, gates_from, gates_of_atom, has_view, is_negated, atom_names, base_names, role_names, input_names, node_names}
 use Rattle.statement.specs.Nodes.{NetNode, base, input, conjunction, view, negation, transition, gated, is_negative_of, is_negated_in, inner_nodes, AreNodesOf}
 use Rattle.propnet.specs.Standing.{no_instance, meant}
-use Rattle.flat_ground.specs.declared.flat_ground.FlatGround.{FlatGround}
-use Rattle.flat_ground.specs.GroundView.{base_of, kinds_of, instances_of, IsGround}
+use Rattle.ground_instances.specs.declared.flat_ground.FlatGround.{FlatGround}
+use Rattle.ground_instances.specs.GroundView.{base_of, kinds_of, instances_of, IsGround}
 use Rattle.propnet.specs.declared.net.Net.{Net}
 use Rattle.propnet.specs.Nets as nets
 use Rattle.propnet.specs.Building.{names_of}

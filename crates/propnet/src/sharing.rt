@@ -4,15 +4,14 @@
 ghost use Rattle.std.specs.Prelude.{◌≡◌, ◌<◌, length, get_or, true, IfSome};
 ghost use Rattle.statement.specs.Kept.{Kept};
 ghost use Rattle.statement.specs.declared.node_name.Name.TheVariants.{And};
-ghost use Rattle.flat_ground.specs.GroundView.{instances_of};
+ghost use Rattle.ground_instances.specs.GroundView.{instances_of};
 ghost use Rattle.propnet.specs.NetView.{gates_at};
 ghost use Rattle.propnet.specs.Building.{Stands};
 ghost use Rattle.propnet.specs.Builders.{gates_made, IsAlike};
 
 use crate::builder::NetBuilder;
 use crate::nodes::Nodes;
-use flat_ground::FlatGround;
-use kept::AtomLiteral;
+use ground_instances::{AtomLiteral, FlatGround};
 use statement::Name;
 use std::alloc::{AllocError, Global};
 

@@ -8,10 +8,10 @@ use Rattle.statement.specs.declared.rule_fault.RuleFault.TheVariants as errors
 use Rattle.rules.specs.declared.rule_set.Keywords.{Keywords}
 use Rattle.statement.specs.RuleFaults.{PassesFirstTests, IsRuleFault}
 use Rattle.statement.specs.Clause as said
-use Rattle.clauses.specs.Adding.{AreDifferentSignatures, HaveNames, StandForEach}
+use Rattle.rules_clauses.specs.Adding.{AreDifferentSignatures, HaveNames, StandForEach}
 use Rattle.statement.specs.Dependence.{dependences, is_fixed}
-use Rattle.clauses.specs.declared.numbered.Alternative.{Alternative}
-use Rattle.clauses.specs.declared.numbered.SharedAlternative.{SharedAlternative}
+use Rattle.rules_clauses.specs.declared.numbered.Alternative.{Alternative}
+use Rattle.rules_clauses.specs.declared.numbered.SharedAlternative.{SharedAlternative}
 use Rattle.rules.specs.Drafts.{Numbered, numbered, shared, alternative_of, AlternativeStandsFor, StandForAlternatives}
 use Rattle.statement.specs.Items.{alternatives}
 use Rattle.rules.specs.Layout.{IsLayoutOf, IsDependenceFault}
@@ -19,10 +19,10 @@ use Rattle.statement.specs.Order.{relations_in_order}
 use Rattle.statement.specs.Profile.{ItemFault, bad_keyword, not_safe, recursive, bad_dependence, or_item_fault, first_failing, first_too_many}
 use Rattle.statement.specs.Profile.{misuses_word, is_unsafe, is_recursive, depends_badly, none_of, roles, item_fault_in}
 use Rattle.rules.specs.RuleSets.{rules_of, AreWhole, AreKeywords, HasItems, IsSound}
-use Rattle.profile.specs.Stated.{AreRolePlaces, roles_at}
-use Rattle.clauses.specs.Numbers.{NamesDiffer}
-use Rattle.clauses.specs.Store.{Data, relation_at, stated_literal}
-use Rattle.clauses.proofs.Facts.{is_inside, are_inside}
+use Rattle.rules_profile.specs.Stated.{AreRolePlaces, roles_at}
+use Rattle.rules_clauses.specs.Numbers.{NamesDiffer}
+use Rattle.rules_clauses.specs.Store.{Data, relation_at, stated_literal}
+use Rattle.rules_clauses.proofs.Facts.{is_inside, are_inside}
 
 -- The tests, each with those behind it.
 

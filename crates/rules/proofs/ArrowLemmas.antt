@@ -6,21 +6,21 @@ use Rattle.statement.specs.Clause as said
 use Rattle.statement.specs.Clause.{relation_of}
 use Rattle.statement.specs.Dependence.{IsAmong}
 use Rattle.statement.specs.Items.{item_head, item_alternatives, alternatives}
-use Rattle.digraph.specs.declared.graph.Arrow.{Arrow}
-use Rattle.digraph.specs.GraphView.{arrows_of, nodes_of}
-use Rattle.digraph.specs.declared.graph.Graph.{Graph}
+use Rattle.util_digraph.specs.declared.graph.Arrow.{Arrow}
+use Rattle.util_digraph.specs.GraphView.{arrows_of, nodes_of}
+use Rattle.util_digraph.specs.declared.graph.Graph.{Graph}
 use Rattle.rules.specs.declared.item_links.Links.{Links}
-use Rattle.clauses.specs.declared.signatures.Signature.{Signature}
-use Rattle.digraph.specs.Graph.{arrow_at, Leads, ReachesIn, Reaches, IsCyclic, IsReachedFrom}
-use Rattle.clauses.specs.Numbers.{NamesDiffer}
-use Rattle.clauses.specs.Signatures.{signature_at}
-use Rattle.clauses.specs.Store.{Data, relation_at}
-use Rattle.clauses.specs.Adding.{AreDifferentSignatures, HaveNames}
+use Rattle.rules_clauses.specs.declared.signatures.Signature.{Signature}
+use Rattle.util_digraph.specs.Graph.{arrow_at, Leads, ReachesIn, Reaches, IsCyclic, IsReachedFrom}
+use Rattle.rules_clauses.specs.Numbers.{NamesDiffer}
+use Rattle.rules_clauses.specs.Signatures.{signature_at}
+use Rattle.rules_clauses.specs.Store.{Data, relation_at}
+use Rattle.rules_clauses.specs.Adding.{AreDifferentSignatures, HaveNames}
 use Rattle.rules.specs.Numbering.{IsGraphOf, IsInBodies}
 use Rattle.rules.specs.Drafts.{LinkStandsFor, StandForItems}
 use Rattle.rules.specs.ItemLinks.{LinksWithin}
 use Rattle.rules.specs.Arrows.{arrows_from, arrows_in}
-use Rattle.profile.proofs.Facts.{IsAmong-append, IsAmong-append_left, IsAmong-append_right, rule_item, same_head}
+use Rattle.rules_profile.proofs.Facts.{IsAmong-append, IsAmong-append_left, IsAmong-append_right, rule_item, same_head}
 
 -- of all numbers of a body, arrows to the rest are still to be added
 pub record Arrowing (start now : Graph) (head : ℕ) (all rest : List ℕ) : Type 0 where

@@ -10,13 +10,13 @@ use Rattle.std.specs.Prelude.{Vec}
 use Rattle.std.specs.List.Sorted.{IsSorted, IsStrictlyIncreasing}
 use Rattle.std.specs.Ordering.{nat_cmp}
 use Rattle.std.proofs.lemmas.Map.Keys.{IsStrictlyIncreasing-dedup}
-use Rattle.clauses.specs.declared.numbered.Span.{Span}
-use Rattle.clauses.specs.Spread.{lists_of, numbers_in}
-use Rattle.clauses.specs.Store.{Data}
-use Rattle.clauses.specs.Marks.{AreInside, AreAllInside}
+use Rattle.rules_clauses.specs.declared.numbered.Span.{Span}
+use Rattle.rules_clauses.specs.Spread.{lists_of, numbers_in}
+use Rattle.rules_clauses.specs.Store.{Data}
+use Rattle.rules_clauses.specs.Marks.{AreInside, AreAllInside}
 use Rattle.rules.specs.Bodies.{named_relations, all_named_relations, HaveSame}
 use Rattle.rules.proofs.ArrowLemmas.{contained, containing}
-use Rattle.profile.proofs.Facts.{IsAmong-append, IsAmong-append_left, IsAmong-append_right}
+use Rattle.rules_profile.proofs.Facts.{IsAmong-append, IsAmong-append_left, IsAmong-append_right}
 
 -- of all literals, those of the rest are still to be named
 pub record Naming (from : ℕ) (d : Data) (start now all rest : List ℕ) : Type 0 where

@@ -5,32 +5,32 @@ use Rattle.std.specs.Prelude.{Vec}
 use Rattle.std.proofs.lemmas.List.{map-append, append-nil}
 use Rattle.statement.specs.Tree.{Tree}
 use Rattle.statement.specs.Clause as said
-use Rattle.clauses.specs.declared.numbered.SharedAlternative.{SharedAlternative}
-use Rattle.clauses.specs.declared.numbered.Atom.{Atom}
-use Rattle.clauses.specs.declared.numbered.Span.{Span}
-use Rattle.clauses.specs.declared.items.Item.{Item}
-use Rattle.clauses.specs.declared.numbered.Literal.{Literal}
+use Rattle.rules_clauses.specs.declared.numbered.SharedAlternative.{SharedAlternative}
+use Rattle.rules_clauses.specs.declared.numbered.Atom.{Atom}
+use Rattle.rules_clauses.specs.declared.numbered.Span.{Span}
+use Rattle.rules_clauses.specs.declared.items.Item.{Item}
+use Rattle.rules_clauses.specs.declared.numbered.Literal.{Literal}
 use Rattle.statement.specs.Dependence.{is_distinct}
 use Rattle.statement.specs.Items.{item_head, item_alternatives, alternatives, body_trees, readings_of_all}
 use Rattle.statement.specs.Profile.{first_failing, not_safe, is_unsafe}
 use Rattle.statement.specs.Safety.{are_safe}
-use Rattle.clauses.specs.Numbers.{NamesDiffer}
-use Rattle.clauses.specs.Spread.{lists_of, numbers_in}
-use Rattle.clauses.specs.Store.{Data, relation_at, no_literal}
-use Rattle.clauses.specs.Adding.{Extends, HasVariables, AtomStandsFor, LiteralStandsFor, StandForEach, StandForLists}
-use Rattle.clauses.specs.ItemView.{ItemStandsFor, ReadsItem}
+use Rattle.rules_clauses.specs.Numbers.{NamesDiffer}
+use Rattle.rules_clauses.specs.Spread.{lists_of, numbers_in}
+use Rattle.rules_clauses.specs.Store.{Data, relation_at, no_literal}
+use Rattle.rules_clauses.specs.Adding.{Extends, HasVariables, AtomStandsFor, LiteralStandsFor, StandForEach, StandForLists}
+use Rattle.rules_clauses.specs.ItemView.{ItemStandsFor, ReadsItem}
 use Rattle.rules.specs.declared.draft.Draft.{Draft}
 use Rattle.rules.specs.declared.item_links.Links.{Links}
-use Rattle.clauses.specs.StoreView.{data_of}
+use Rattle.rules_clauses.specs.StoreView.{data_of}
 use Rattle.rules.specs.Bodies.{named_relation, named_relations, all_named_relations, HaveSame, has_literal}
-use Rattle.clauses.specs.Marks.{literal_in, IsInside, AreAllInside, are_safe_by}
+use Rattle.rules_clauses.specs.Marks.{literal_in, IsInside, AreAllInside, are_safe_by}
 use Rattle.rules.specs.Drafts.{Numbered, shared, numbered_with, numbered_of, AddsSafe, LinksItem, StandForAlternatives, LinkStandsFor}
 use Rattle.rules.specs.Drafts.{StandForItems, some_literal_in, rests_on_any, IsDraftOf, AddsItem}
 use Rattle.kif.specs.View.{tree_of, trees_in}
 use Rattle.kif.specs.declared.expr.Expr.{Expr}
 use Rattle.kif.proofs.Facts.{trees_in_take}
-use Rattle.profile.proofs.Facts.{IsBehind, found_here, found_later}
-use Rattle.clauses.proofs.Facts.{extends_refl, extends_trans, begins_at, AreDistinct, is_inside, are_inside, safe_is, lists_of-append}
+use Rattle.rules_profile.proofs.Facts.{IsBehind, found_here, found_later}
+use Rattle.rules_clauses.proofs.Facts.{extends_refl, extends_trans, begins_at, AreDistinct, is_inside, are_inside, safe_is, lists_of-append}
 use Rattle.rules.proofs.LinkLemmas.{body_numbers, same_body_numbers}
 
 pub numbered_with-append : (variables : Span) (head : Atom) (xs ys : List (List ℕ))

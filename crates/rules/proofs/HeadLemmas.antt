@@ -8,13 +8,13 @@ use Rattle.statement.specs.Clause as said
 use Rattle.statement.specs.Clause.{Relation, relation_of}
 use Rattle.statement.specs.Dependence.{IsAmong, heads_of}
 use Rattle.statement.specs.Items.{item_head, item_alternatives, alternatives, body_trees, readings_of_all}
-use Rattle.clauses.specs.declared.numbered.SharedAlternative.{SharedAlternative}
+use Rattle.rules_clauses.specs.declared.numbered.SharedAlternative.{SharedAlternative}
 use Rattle.rules.specs.declared.item_links.Links.{Links}
-use Rattle.clauses.specs.Store.{Data, relation_at}
+use Rattle.rules_clauses.specs.Store.{Data, relation_at}
 use Rattle.rules.specs.Numbering.{HasBody, AreBodies}
 use Rattle.rules.specs.Drafts.{shared, StandForAlternatives, StandForItems, some_literal_in, rests_on_any}
 use Rattle.rules.specs.Heads.{with_marked_heads, with_passing}
-use Rattle.profile.proofs.Facts.{IsAmong-append, IsAmong-append_left, IsAmong-append_right, same_head}
+use Rattle.rules_profile.proofs.Facts.{IsAmong-append, IsAmong-append_left, IsAmong-append_right, same_head}
 use Rattle.rules.proofs.LinkLemmas.{in_map, of_map}
 
 -- the marks, with those of the alternatives that are left, are those of all

@@ -7,15 +7,15 @@ use Rattle.statement.specs.Clause as said
 use Rattle.statement.specs.Clause.{relation_of}
 use Rattle.statement.specs.Dependence.{IsAmong, is_distinct}
 use Rattle.statement.specs.Items.{item_head, item_alternatives, body_trees, readings_of_all}
-use Rattle.clauses.specs.declared.items.Item.{Item}
-use Rattle.clauses.specs.Spread.{lists_of}
-use Rattle.clauses.specs.Store.{Data, relation_at}
-use Rattle.clauses.specs.Adding.{LiteralStandsFor, StandForEach, StandForLists}
-use Rattle.clauses.specs.ItemView.{ItemStandsFor}
-use Rattle.clauses.specs.Marks.{literal_in}
+use Rattle.rules_clauses.specs.declared.items.Item.{Item}
+use Rattle.rules_clauses.specs.Spread.{lists_of}
+use Rattle.rules_clauses.specs.Store.{Data, relation_at}
+use Rattle.rules_clauses.specs.Adding.{LiteralStandsFor, StandForEach, StandForLists}
+use Rattle.rules_clauses.specs.ItemView.{ItemStandsFor}
+use Rattle.rules_clauses.specs.Marks.{literal_in}
 use Rattle.rules.specs.Bodies.{named_relation, named_relations, all_named_relations, HaveSame}
 use Rattle.rules.specs.Numbering.{IsInBodies, AreBodyNumbers}
-use Rattle.profile.proofs.Facts.{IsAmong-append, IsAmong-append_left, IsAmong-append_right}
+use Rattle.rules_profile.proofs.Facts.{IsAmong-append, IsAmong-append_left, IsAmong-append_right}
 
 -- what a number of a body's relations says
 record Names (d : Data) (r : ℕ) (l : said.Literal) : Type 0 where

@@ -5,8 +5,8 @@ use Rattle.statement.specs.Clause as said
 use Rattle.rules.specs.declared.item_links.Bound.{Bound}
 use Rattle.rules.specs.declared.item_links.Bound.TheVariants.{Free}
 use Rattle.rules.specs.ItemLinks.{bound_of}
-use Rattle.clauses.specs.Store.{Data, relation_at}
-use Rattle.clauses.proofs.Facts.{last_or_before}
+use Rattle.rules_clauses.specs.Store.{Data, relation_at}
+use Rattle.rules_clauses.proofs.Facts.{last_or_before}
 
 -- the tests of the first relations
 pub record Tested (d : Data) (test : said.Relation → Bool) (tests : List Bool) (n : ℕ) : Type 0 where

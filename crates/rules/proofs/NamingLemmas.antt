@@ -2,16 +2,16 @@
 use Rattle.std.proofs.Common.{ℕ, ◌≡◌, ◌<◌, List, [], length, ◌∙◌, subst}
 use Rattle.rules.specs.declared.rule_set.Keywords.{Keywords}
 use Rattle.rules.specs.declared.draft.Draft.{Draft}
-use Rattle.clauses.specs.declared.store.Store.{Store}
+use Rattle.rules_clauses.specs.declared.store.Store.{Store}
 use Rattle.statement.specs.Tree.{Tree}
 use Rattle.statement.specs.Words.{w_role, w_base, w_input, w_init, w_true, w_does, w_next, w_legal, w_goal, w_terminal, w_distinct}
-use Rattle.clauses.specs.Adding.{DataGrows}
+use Rattle.rules_clauses.specs.Adding.{DataGrows}
 use Rattle.rules.specs.Drafts.{IsDraftOf}
 use Rattle.rules.specs.Naming.{NumbersName, NumbersKeywords}
-use Rattle.clauses.specs.Numbers.{word_at, with_word}
-use Rattle.clauses.specs.Store.{Data}
-use Rattle.clauses.specs.StoreView.{data_of}
-use Rattle.clauses.proofs.Facts.{begins_at, begins_less, extends_trans, grows_trans, grows_word}
+use Rattle.rules_clauses.specs.Numbers.{word_at, with_word}
+use Rattle.rules_clauses.specs.Store.{Data}
+use Rattle.rules_clauses.specs.StoreView.{data_of}
+use Rattle.rules_clauses.proofs.Facts.{begins_at, begins_less, extends_trans, grows_trans, grows_word}
 
 numbers_name : (a b : Data) (n : ℕ) (w : List ℕ) → b ≡ record a { words = with_word a.words w } → (n < length b.words) × (word_at b.words n ≡ w)
     → NumbersName a b n w

@@ -16,8 +16,8 @@ use Rattle.statement.specs.Clause.{Alternative, Relation}
 use Rattle.statement.specs.Dependence.{IsAmong, is_fixed}
 use Rattle.statement.specs.Order.{rank, then_by, fixed_place, relation_cmp, sorted, relations_in_order}
 use Rattle.rules.specs.Placing.{entry_cmp, EntriesInOrder, IsEntry, AreEntries}
-use Rattle.profile.proofs.Facts.{Rising, relation_total}
-use Rattle.profile.proofs.Facts.{tied_equal, rising_same, relations_rising, relations_are_heads, heads_are_relations}
+use Rattle.rules_profile.proofs.Facts.{Rising, relation_total}
+use Rattle.rules_profile.proofs.Facts.{tied_equal, rising_same, relations_rising, relations_are_heads, heads_are_relations}
 
 -- Entries are ordered totally.
 

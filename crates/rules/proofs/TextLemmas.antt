@@ -10,8 +10,8 @@ use Rattle.kif.specs.View.{tree_of, trees_in}
 use Rattle.kif.specs.declared.expr.Expr.{Expr}
 use Rattle.statement.specs.Profile.{role_in}
 use Rattle.rules.specs.RuleSets.{texts_of}
-use Rattle.profile.specs.Stated.{roles_at}
-use Rattle.profile.proofs.Facts.{role_stated-here}
+use Rattle.rules_profile.specs.Stated.{roles_at}
+use Rattle.rules_profile.proofs.Facts.{role_stated-here}
 
 -- what was written, and the texts of the roles at the places that are left, are the texts of all roles
 abbrev pub AreWritten : {A : Type 0} → List (List ℕ) → List (Expr A) → List ℕ → ℕ → Type 0

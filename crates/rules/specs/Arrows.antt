@@ -1,7 +1,7 @@
 -- This crate's own: what `run` promises does not rest on it.
 -- The arrows of what items join.
 use Rattle.std.specs.Prelude.{ℕ, List, [], ◌∷◌, ◌++◌}
-use Rattle.digraph.specs.declared.graph.Arrow.{Arrow}
+use Rattle.util_digraph.specs.declared.graph.Arrow.{Arrow}
 use Rattle.rules.specs.declared.item_links.Links.{Links}
 
 abbrev pub arrows_from : ℕ → List ℕ → List Arrow

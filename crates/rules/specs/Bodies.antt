@@ -2,8 +2,8 @@
 -- The relations that bodies name, by number.
 use Rattle.std.specs.Prelude.{ℕ, ◌↔◌, Bool, true, false, cond, ◌||◌, List, [], ◌∷◌, ◌++◌}
 use Rattle.statement.specs.Dependence.{IsAmong, is_distinct}
-use Rattle.clauses.specs.Store.{Data, relation_at}
-use Rattle.clauses.specs.Marks.{literal_in}
+use Rattle.rules_clauses.specs.Store.{Data, relation_at}
+use Rattle.rules_clauses.specs.Marks.{literal_in}
 
 -- the relation of a literal, which is none of `distinct`
 abbrev pub named_relation : Data → ℕ → List ℕ

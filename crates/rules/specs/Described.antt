@@ -3,7 +3,7 @@
 use Rattle.std.specs.Prelude.{◌≡◌, List, map}
 use Rattle.statement.specs.Tree.{Tree, text}
 use Rattle.statement.specs.Profile.{HasNoFault, roles}
-use Rattle.clauses.specs.StoreView.{data_of}
+use Rattle.rules_clauses.specs.StoreView.{data_of}
 use Rattle.rules.specs.declared.check.Described.{Described}
 use Rattle.rules.specs.Drafts.{IsDraftOf}
 use Rattle.rules.specs.Layout.{IsLayoutOf}

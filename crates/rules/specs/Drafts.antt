@@ -2,12 +2,12 @@
 -- What a draft of a rule set holds.
 use Rattle.std.specs.Prelude.{ℕ, ◌≡◌, ◌<◌, Bool, true, false, List, [], ◌∷◌, ◌++◌, map, length, Some}
 use Rattle.statement.specs.Tree.{Tree}
-use Rattle.clauses.specs.declared.numbered.Alternative.{Alternative}
-use Rattle.clauses.specs.declared.numbered.SharedAlternative.{SharedAlternative}
-use Rattle.clauses.specs.declared.numbered.Atom.{Atom}
-use Rattle.clauses.specs.declared.numbered.Span.{Span}
+use Rattle.rules_clauses.specs.declared.numbered.Alternative.{Alternative}
+use Rattle.rules_clauses.specs.declared.numbered.SharedAlternative.{SharedAlternative}
+use Rattle.rules_clauses.specs.declared.numbered.Atom.{Atom}
+use Rattle.rules_clauses.specs.declared.numbered.Span.{Span}
 use Rattle.rules.specs.declared.draft.Draft.{Draft}
-use Rattle.clauses.specs.declared.items.Item.{Item}
+use Rattle.rules_clauses.specs.declared.items.Item.{Item}
 use Rattle.rules.specs.declared.item_links.Links.{Links}
 use Rattle.statement.specs.Clause as said
 use Rattle.statement.specs.Items.{item_head, item_alternatives, alternatives, body_trees, readings_of_all}
@@ -15,12 +15,12 @@ use Rattle.statement.specs.declared.rule_fault.RuleFault.{RuleFault}
 use Rattle.statement.specs.declared.rule_fault.RuleFault.TheVariants as errors
 use Rattle.rules.specs.Numbering.{AreBodyNumbers}
 use Rattle.statement.specs.Profile.{first_failing, not_safe, is_unsafe}
-use Rattle.clauses.specs.Numbers.{NamesDiffer}
-use Rattle.clauses.specs.Spread.{lists_of, numbers_in}
-use Rattle.clauses.specs.Store.{Data, relation_at, stated_atom, stated_literal}
-use Rattle.clauses.specs.StoreView.{data_of}
-use Rattle.clauses.specs.Adding.{Extends, AreDifferentSignatures, HasVariables, HaveNames, AtomStandsFor, StandForEach}
-use Rattle.clauses.specs.ItemView.{ItemStandsFor}
+use Rattle.rules_clauses.specs.Numbers.{NamesDiffer}
+use Rattle.rules_clauses.specs.Spread.{lists_of, numbers_in}
+use Rattle.rules_clauses.specs.Store.{Data, relation_at, stated_atom, stated_literal}
+use Rattle.rules_clauses.specs.StoreView.{data_of}
+use Rattle.rules_clauses.specs.Adding.{Extends, AreDifferentSignatures, HasVariables, HaveNames, AtomStandsFor, StandForEach}
+use Rattle.rules_clauses.specs.ItemView.{ItemStandsFor}
 use Rattle.rules.specs.Bodies.{all_named_relations, HaveSame, has_literal}
 
 -- an alternative as numbers

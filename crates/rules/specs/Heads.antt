@@ -1,7 +1,7 @@
 -- This crate's own: what `run` promises does not rest on it.
 -- Which relations head alternatives, by number.
 use Rattle.std.specs.Prelude.{Bool, true, cond, List, [], ◌∷◌, slice_set}
-use Rattle.clauses.specs.declared.numbered.SharedAlternative.{SharedAlternative}
+use Rattle.rules_clauses.specs.declared.numbered.SharedAlternative.{SharedAlternative}
 use Rattle.rules.specs.declared.item_links.Links.{Links}
 
 -- the marks, and those of the heads of alternatives

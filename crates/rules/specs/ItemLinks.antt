@@ -6,10 +6,10 @@ use Rattle.statement.specs.Tree.{Tree}
 use Rattle.rules.specs.declared.item_links.Links.{Links}
 use Rattle.rules.specs.declared.item_links.Bound.{Bound}
 use Rattle.rules.specs.declared.item_links.Bound.TheVariants.{NoMove, FixedOnly, Free}
-use Rattle.digraph.specs.declared.graph.Arrow.{Arrow}
+use Rattle.util_digraph.specs.declared.graph.Arrow.{Arrow}
 use Rattle.statement.specs.declared.rule_fault.RuleFault.{RuleFault}
 use Rattle.statement.specs.declared.rule_fault.RuleFault.TheVariants as errors
-use Rattle.digraph.specs.Graph.{IsReachedFrom}
+use Rattle.util_digraph.specs.Graph.{IsReachedFrom}
 use Rattle.statement.specs.Words.{w_base, w_input, w_init, w_legal, w_goal, w_terminal}
 use Rattle.statement.specs.Clause.{Relation, relation_of, is_word}
 use Rattle.statement.specs.Items.{item_head, item_alternatives}

@@ -5,16 +5,16 @@ use Rattle.statement.specs.Tree.{Tree}
 use Rattle.rules.specs.declared.draft.Draft.{Draft}
 use Rattle.statement.specs.declared.rule_fault.RuleFault.{RuleFault}
 use Rattle.statement.specs.declared.rule_fault.RuleFault.TheVariants as errors
-use Rattle.digraph.specs.declared.graph.Graph.{Graph}
-use Rattle.digraph.specs.GraphView.{arrows_of, nodes_of}
+use Rattle.util_digraph.specs.declared.graph.Graph.{Graph}
+use Rattle.util_digraph.specs.GraphView.{arrows_of, nodes_of}
 use Rattle.rules.specs.Arrows.{arrows_in}
 use Rattle.statement.specs.Dependence.{IsAcyclic, dependences, is_fixed}
 use Rattle.rules.specs.Drafts.{IsDraftOf}
 use Rattle.statement.specs.Items.{alternatives}
 use Rattle.statement.specs.Order.{rank, relations_in_order}
 use Rattle.statement.specs.Profile.{first_failing, recursive, bad_dependence, is_recursive, depends_badly}
-use Rattle.clauses.specs.Store.{Data, relation_at}
-use Rattle.clauses.specs.StoreView.{data_of}
+use Rattle.rules_clauses.specs.Store.{Data, relation_at}
+use Rattle.rules_clauses.specs.StoreView.{data_of}
 
 -- the items have no fault of dependence, these relations are fixed, and those that head an item stand
 -- in this order

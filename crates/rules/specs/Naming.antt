@@ -2,9 +2,9 @@
 -- Names that were given numbers.
 use Rattle.std.specs.Prelude.{ℕ, List}
 use Rattle.rules.specs.declared.rule_set.Keywords.{Keywords}
-use Rattle.clauses.specs.Adding.{Extends, DataGrows}
+use Rattle.rules_clauses.specs.Adding.{Extends, DataGrows}
 use Rattle.rules.specs.RuleSets.{IsNameNumber, AreKeywords}
-use Rattle.clauses.specs.Store.{Data}
+use Rattle.rules_clauses.specs.Store.{Data}
 
 -- the name has the number, whatever comes behind the names
 pub record NumbersName (old new : Data) (number : ℕ) (word : List ℕ) : Type 0 where

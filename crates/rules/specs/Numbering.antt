@@ -1,10 +1,10 @@
 -- This crate's own: what `run` promises does not rest on it.
 -- Relations by number, and a graph over the numbers that stands for dependence.
 use Rattle.std.specs.Prelude.{ℕ, ◌<◌, ◌≡◌, ◌↔◌, Bool, true, false, List, length, slice_index_or}
-use Rattle.digraph.specs.declared.graph.Arrow.{Arrow}
+use Rattle.util_digraph.specs.declared.graph.Arrow.{Arrow}
 use Rattle.statement.specs.Clause.{Literal, Alternative, Relation, relation_of, atom_of}
 use Rattle.statement.specs.Dependence.{IsAmong, is_distinct, DependsDirectly}
-use Rattle.digraph.specs.Graph.{arrow_at}
+use Rattle.util_digraph.specs.Graph.{arrow_at}
 
 -- an arrow leads from the number of p to the number of q
 pub record LeadsBetween (name : ℕ → Relation) (arrows : List Arrow) (p q : Relation) : Type 0 where

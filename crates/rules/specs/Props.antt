@@ -2,15 +2,15 @@
 -- What a rule set says of its numbers is a proposition, so it may be a ghost field.
 use Rattle.std.specs.Prelude.{ℕ, Bool, List, [], ◌∷◌}
 use denote.Struct.Props as logic
-use Rattle.clauses.specs.declared.numbered.Part.{Part}
-use Rattle.clauses.specs.declared.numbered.Part.TheVariants as parts
-use Rattle.clauses.specs.declared.numbered.Atom.{Atom}
-use Rattle.clauses.specs.declared.numbered.Span.{Span}
+use Rattle.rules_clauses.specs.declared.numbered.Part.{Part}
+use Rattle.rules_clauses.specs.declared.numbered.Part.TheVariants as parts
+use Rattle.rules_clauses.specs.declared.numbered.Atom.{Atom}
+use Rattle.rules_clauses.specs.declared.numbered.Span.{Span}
 use Rattle.rules.specs.declared.rule_set.Keywords.{Keywords}
 use Rattle.statement.specs.Clause as said
-use Rattle.clauses.specs.Store.{Data, AreFull}
-use Rattle.clauses.specs.Adding.{HasVariables, IsSorted, AreSorted}
-use Rattle.clauses.specs.Marks.{IsInside, AreInside}
+use Rattle.rules_clauses.specs.Store.{Data, AreFull}
+use Rattle.rules_clauses.specs.Adding.{HasVariables, IsSorted, AreSorted}
+use Rattle.rules_clauses.specs.Marks.{IsInside, AreInside}
 use Rattle.rules.specs.Drafts.{Numbered}
 use Rattle.rules.specs.RuleSets.{AreWhole, IsSound}
 

@@ -1,14 +1,14 @@
 -- This crate's own: what `run` promises does not rest on it.
 -- What a rule set holds.
 use Rattle.std.specs.Prelude.{ℕ, Bool, List, map}
-use Rattle.clauses.specs.declared.numbered.Alternative as memory
+use Rattle.rules_clauses.specs.declared.numbered.Alternative as memory
 use Rattle.rules.specs.declared.rule_set.Keywords.{Keywords}
 use Rattle.rules.specs.declared.rule_set.RuleSet.{RuleSet}
 use Rattle.statement.specs.Clause as said
 use Rattle.rules.specs.Drafts.{numbered}
 use Rattle.rules.specs.RuleSets.{rules_of, texts_of}
-use Rattle.clauses.specs.Store.{Data}
-use Rattle.clauses.specs.StoreView.{data_of}
+use Rattle.rules_clauses.specs.Store.{Data}
+use Rattle.rules_clauses.specs.StoreView.{data_of}
 
 -- the lists in memory, the alternatives and the texts of the roles of a rule set
 abbrev pub lists_of_set : RuleSet → Data

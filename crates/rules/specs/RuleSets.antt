@@ -6,14 +6,14 @@ use Rattle.rules.specs.declared.rule_set.Keywords.{Keywords}
 use Rattle.statement.specs.Words.{w_role, w_base, w_input, w_init, w_true, w_does, w_next, w_legal, w_goal, w_terminal, w_distinct}
 use Rattle.statement.specs.Dependence.{is_fixed}
 use Rattle.statement.specs.Items.{alternatives}
-use Rattle.clauses.specs.Numbers.{word_at, NamesDiffer}
+use Rattle.rules_clauses.specs.Numbers.{word_at, NamesDiffer}
 use Rattle.statement.specs.Order.{relations_in_order}
 use Rattle.statement.specs.Profile as profile
 use Rattle.statement.specs.Profile.{HasNoFault}
-use Rattle.clauses.specs.Store.{Data, relation_at}
-use Rattle.clauses.specs.Adding.{AreDifferentSignatures, HasVariables, HaveNames}
+use Rattle.rules_clauses.specs.Store.{Data, relation_at}
+use Rattle.rules_clauses.specs.Adding.{AreDifferentSignatures, HasVariables, HaveNames}
 use Rattle.statement.specs.Clause as said
-use Rattle.clauses.specs.Marks.{IsInside, AreInside}
+use Rattle.rules_clauses.specs.Marks.{IsInside, AreInside}
 use Rattle.rules.specs.Drafts.{Numbered, alternative_of}
 
 -- the number is that of the name

@@ -5,12 +5,12 @@ ghost use Rattle.std.specs.Prelude.{◌≡◌, ◌<◌, ◌++◌, ◌∷◌, [],
 ghost use Rattle.std.specs.List.Sorted.{IsStrictlyIncreasing};
 ghost use Rattle.rules.specs.Bodies.{named_relations, all_named_relations, HaveSame, has_literal, is_longer};
 ghost use Rattle.statement.specs.Dependence.{is_distinct};
-ghost use Rattle.clauses.specs.Marks.{literal_in, IsInside, AreInside, AreAllInside};
-ghost use Rattle.clauses.specs.Spread.{lists_of};
-ghost use Rattle.clauses.specs.Store.{relation_at};
-ghost use Rattle.clauses.specs.StoreView.{data_of};
+ghost use Rattle.rules_clauses.specs.Marks.{literal_in, IsInside, AreInside, AreAllInside};
+ghost use Rattle.rules_clauses.specs.Spread.{lists_of};
+ghost use Rattle.rules_clauses.specs.Store.{relation_at};
+ghost use Rattle.rules_clauses.specs.StoreView.{data_of};
 
-use clauses::{Item, Store, numbers_at};
+use rules_clauses::{Item, Store, numbers_at};
 use std::alloc::{AllocError, Global};
 
 /// Adds the relation of a literal, unless it is `distinct`.

@@ -10,7 +10,7 @@ ghost use Rattle.statement.specs.Order.{relations_in_order};
 ghost use Rattle.rules.specs.RuleSets.{AreKeywords, texts_of};
 ghost use Rattle.rules.specs.Described.{IsDescribed};
 ghost use Rattle.rules.specs.RuleSetView.{rules_in, roles_in};
-ghost use Rattle.clauses.specs.StoreView.{data_of};
+ghost use Rattle.rules_clauses.specs.StoreView.{data_of};
 
 use crate::draft::{Draft, each_alone, read_items};
 use crate::keywords::number_keywords;
@@ -18,7 +18,7 @@ use crate::layout::{Layout, layout_of};
 use crate::role_texts::role_texts;
 use crate::rule_set::{Keywords, RuleSet};
 use kif::Expr;
-use profile::{RuleFault, first_tests};
+use rules_profile::{RuleFault, first_tests};
 use std::alloc::{Allocator, Global};
 
 /// Reads the items, if each is safe, and numbers the names that have a meaning in play.

@@ -3,16 +3,18 @@ ghost use Rattle.std.specs.Prelude.{◌≡◌, ◌++◌, true, map, IfOk, IfErr,
 ghost use Rattle.kif.specs.View.{tree_of, trees_in};
 ghost use Rattle.rules.specs.Drafts.{numbered, shared, numbered_of, AddsItem, IsDraftOf, IsSafetyFault};
 ghost use Rattle.statement.specs.Items.{is_item};
-ghost use Rattle.clauses.specs.Numbers.{NamesDiffer};
-ghost use Rattle.profile.specs.Parts.{AreItems};
+ghost use Rattle.rules_clauses.specs.Numbers.{NamesDiffer};
+ghost use Rattle.rules_profile.specs.Parts.{AreItems};
 ghost use Rattle.statement.specs.Profile.{first_failing, not_safe, is_unsafe};
-ghost use Rattle.clauses.specs.StoreView.{data_of};
+ghost use Rattle.rules_clauses.specs.StoreView.{data_of};
 
 use crate::bodies::{is_resting, relations_of};
 use crate::item_links::Links;
-use clauses::{Alternative, Item, SharedAlternative, Store, is_safe_item, numbers_at, read_item};
 use kif::Expr;
-use profile::RuleFault;
+use rules_clauses::{
+    Alternative, Item, SharedAlternative, Store, is_safe_item, numbers_at, read_item,
+};
+use rules_profile::RuleFault;
 use std::alloc::{AllocError, Allocator, Global};
 
 /// What was read so far: names, relations and terms, the alternatives, and for each item what its

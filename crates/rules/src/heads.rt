@@ -4,7 +4,7 @@ ghost use Rattle.rules.specs.Heads.{with_marked_heads, with_passing};
 ghost use Rattle.rules.specs.ItemLinks.{LinksWithin};
 
 use crate::item_links::Links;
-use clauses::SharedAlternative;
+use rules_clauses::SharedAlternative;
 use std::alloc::{AllocError, Global};
 
 /// Marks the heads of alternatives.

@@ -1,12 +1,12 @@
 //! The names that the language gives a meaning in play, by number.
 ghost use Rattle.std.specs.Prelude.{IfOk};
-ghost use Rattle.profile.specs.Uses.{use_in};
+ghost use Rattle.rules_profile.specs.Uses.{use_in};
 ghost use Rattle.rules.specs.Naming.{NumbersName, NumbersKeywords};
-ghost use Rattle.clauses.specs.StoreView.{data_of};
+ghost use Rattle.rules_clauses.specs.StoreView.{data_of};
 
 use crate::rule_set::Keywords;
-use clauses::Store;
-use profile::Word;
+use rules_clauses::Store;
+use rules_profile::Word;
 use std::alloc::AllocError;
 
 /// The number of a word's name, which is the next one if it has none yet.

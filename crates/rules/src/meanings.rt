@@ -1,17 +1,17 @@
 //! What the relations of a description mean to the language.
 ghost use Rattle.std.specs.Prelude.{◌≡◌, ◌<◌, length, IfOk};
-ghost use Rattle.clauses.specs.Adding.{HaveNames};
+ghost use Rattle.rules_clauses.specs.Adding.{HaveNames};
 ghost use Rattle.statement.specs.Dependence.{is_moving};
 ghost use Rattle.statement.specs.Clause.{relation_eq};
 ghost use Rattle.rules.specs.ItemLinks.{bound_of, AreBounds};
 ghost use Rattle.rules.specs.Numbering.{AreTests};
 ghost use Rattle.statement.specs.Profile.{does_relation};
-ghost use Rattle.clauses.specs.Store.{relation_at};
-ghost use Rattle.clauses.specs.StoreView.{data_of};
+ghost use Rattle.rules_clauses.specs.Store.{relation_at};
+ghost use Rattle.rules_clauses.specs.StoreView.{data_of};
 
 use crate::item_links::Bound;
-use clauses::Store;
-use profile::Word;
+use rules_clauses::Store;
+use rules_profile::Word;
 use std::alloc::{AllocError, Global};
 
 /// What the items of a relation may rest on.

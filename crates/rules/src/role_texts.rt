@@ -4,10 +4,10 @@ ghost use Rattle.statement.specs.Tree.{text};
 ghost use Rattle.kif.specs.View.{tree_of, trees_in};
 ghost use Rattle.statement.specs.Profile.{role_in};
 ghost use Rattle.rules.specs.RuleSets.{texts_of};
-ghost use Rattle.profile.specs.Stated.{roles_at};
+ghost use Rattle.rules_profile.specs.Stated.{roles_at};
 
 use kif::Expr;
-use profile::role_of;
+use rules_profile::role_of;
 use std::alloc::{AllocError, Allocator, Global};
 
 /// The canonical text of a tree, in its own memory.

@@ -3,9 +3,9 @@ ghost use Rattle.std.specs.Prelude.{map};
 ghost use Rattle.rules.specs.Drafts.{numbered};
 ghost use Rattle.rules.specs.Props.{rule_props};
 ghost use Rattle.rules.specs.RuleSets.{HasItems, IsSound, rules_of, texts_of};
-ghost use Rattle.clauses.specs.StoreView.{data_of};
+ghost use Rattle.rules_clauses.specs.StoreView.{data_of};
 
-use clauses::{Alternative, Literal, Part, Signature, Span, Store};
+use rules_clauses::{Alternative, Literal, Part, Signature, Span, Store};
 
 /// The numbers of the names that the language gives a meaning in play.
 #[derive(Clone, Copy, Debug, PartialEq, Eq)]
@@ -40,11 +40,11 @@ pub struct RuleSet {
 
 impl RuleSet {
     ghost use Rattle.std.specs.Prelude.{◌≡◌, ◌<◌, ◌≤◌, ◌+◌, false, length, slice_index, slice_index_or, slice_range};
-    ghost use Rattle.clauses.specs.Marks.{literal_in};
-    ghost use Rattle.clauses.specs.Numbers.{word_at};
+    ghost use Rattle.rules_clauses.specs.Marks.{literal_in};
+    ghost use Rattle.rules_clauses.specs.Numbers.{word_at};
     ghost use Rattle.rules.specs.RuleSets.{text_of_role};
     ghost use Rattle.rules.specs.RuleSetView.{alternatives_in, fixed_in, keywords_in, lists_of_set, order_in, roles_in};
-    ghost use Rattle.clauses.specs.Signatures.{signature_at};
+    ghost use Rattle.rules_clauses.specs.Signatures.{signature_at};
 
     /// How many names there are.
     pub fn count_symbols(&self) -> usize

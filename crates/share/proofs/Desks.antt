@@ -5,9 +5,9 @@ use Rattle.std.specs.Prelude.{Some, All, vec_capacity}
 use Rattle.game.specs.declared.game.Game.{Ghosts}
 use Rattle.maximin.specs.Plain.{IsPlainOf, plain_depth}
 use Rattle.maximin.specs.declared.plain.PlainRoom.{PlainRoom}
-use Rattle.tasks.specs.Step.{IsStepOf}
+use Rattle.share.specs.Step.{IsStepOf}
 use Rattle.share.specs.Desk.{IsDeskOf, IsDeskFor, IsOpenOf}
-use Rattle.tasks.specs.declared.step.Step.{Step}
+use Rattle.share.specs.declared.step.Step.{Step}
 use Rattle.share.specs.declared.desk.Desk.{Desk}
 use Rattle.share.specs.declared.desk.OpenDesk.{OpenDesk}
 

@@ -8,8 +8,8 @@ use Rattle.board.specs.Books.{setup}
 use Rattle.board.specs.Seats.{setup_on}
 use Rattle.board.specs.declared.book.Setup.{Setup}
 use Rattle.board.specs.declared.parts.Board.{Board}
-use Rattle.tasks.specs.Tasks.{task_value}
-use Rattle.tasks.specs.declared.plan.Plan.{Plan}
+use Rattle.share.specs.Tasks.{task_value}
+use Rattle.share.specs.declared.plan.Plan.{Plan}
 
 -- how a board for a plan is opened: as many replies to each move
 abbrev pub board_setup : Plan → ℕ → ℕ → ℕ → Setup

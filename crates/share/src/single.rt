@@ -3,11 +3,12 @@ ghost use Rattle.std.specs.Prelude.{◌≡◌, pos, slice_get};
 ghost use Rattle.statement.specs.Value.{value, choice_of};
 ghost use Rattle.share.specs.Desk.{HasRoom};
 
+use crate::alone::answer_in;
 use crate::desk::Desk;
 use crate::gate::Gate;
+use crate::node::Node;
 use game::Game;
 use maximin::open_room;
-use tasks::{Node, answer_in};
 
 /// The value of the node and the place of its first best move, by the calling thread at its desk. All its tasks pass the gate in
 /// their order, also those that are not searched in the end.

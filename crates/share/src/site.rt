@@ -1,7 +1,7 @@
 //! A state and the board of it.
+use crate::node::Node;
 use board::{Board, Values};
 use game::Game;
-use tasks::Node;
 
 /// Where a worker works: a node, and the board that hands out its tasks.
 #[derive(Drop)]

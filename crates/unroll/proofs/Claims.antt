@@ -4,7 +4,7 @@ use Rattle.std.specs.Prelude.{slice_index_or, Result, Ok, Err, IfOk}
 use Rattle.std.specs.Bool.{OnTrue}
 use Rattle.statement.specs.Tree.{Tree}
 use Rattle.statement.specs.Profile.{HasNoFault}
-use Rattle.lawful.specs.Lawful.{IsRecursive}
+use Rattle.unroll_strata.specs.Lawful.{IsRecursive}
 use Rattle.unroll.specs.Written.{shown_line, tested_line, IsShown}
 
 pub on_true_map : (b : Bool) (P Q : Type 0) → (P → Q) → OnTrue b P → OnTrue b Q

@@ -1,3 +1,5 @@
 mod Claims
 mod Transfers
 mod SameRelations
+mod Sometime
+mod ByNumber

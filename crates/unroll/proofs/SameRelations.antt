@@ -2,7 +2,7 @@
 use Rattle.std.proofs.Common.{◌≡◌, List, sym, ◌∙◌}
 use Rattle.statement.specs.Clause.{Alternative, Relation, relation_of, atom_of}
 use Rattle.statement.specs.Dependence.{is_among}
-use Rattle.derivations.specs.Founded.{StandAlone}
+use Rattle.unroll_strata.specs.Founded.{StandAlone}
 
 -- of two lists with the same relations the one stands alone if the other does
 pub alone_as : (own list below : List Relation) (rules out : List Alternative) → ((p : Relation) → is_among p own ≡ is_among p list)

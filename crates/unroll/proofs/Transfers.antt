@@ -5,8 +5,8 @@ use Rattle.statement.specs.Tree.{Tree}
 use Rattle.statement.specs.Clause.{Alternative, Relation, relation_eq}
 use Rattle.statement.specs.Dependence.{IsAmong, is_among}
 use Rattle.statement.specs.Items.{alternatives, item_alternatives}
-use Rattle.profile.proofs.Facts.{IsAmong-append, IsAmong-append_left, IsAmong-append_right}
-use Rattle.whole.specs.Derivable.{IsStratified}
+use Rattle.rules_profile.proofs.Facts.{IsAmong-append, IsAmong-append_left, IsAmong-append_right}
+use Rattle.meaning.specs.Derivable.{IsStratified}
 
 or_again : (a b c : Bool) → (a || (b || c)) ≡ ((a || b) || c)
 or_again true b c = refl

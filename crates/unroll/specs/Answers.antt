@@ -5,7 +5,7 @@ use Rattle.statement.specs.Tree.{Tree}
 use Rattle.statement.specs.Clause.{Relation}
 use Rattle.statement.specs.Dependence.{is_among}
 use Rattle.statement.specs.Items.{alternatives}
-use Rattle.whole.specs.Extension.{IsAnswered}
+use Rattle.meaning.specs.Extension.{IsAnswered}
 
 -- what is written of the relations is what the items derive of them
 abbrev pub AreAnswered : List Tree → List Tree → List Relation → Type 0

@@ -2,10 +2,10 @@
 -- Which items are played.
 use Rattle.std.specs.Prelude.{Bool, not, ◌||◌, List, filter}
 use Rattle.statement.specs.Tree.{Tree}
-use Rattle.outline.specs.Asking.{heads_it}
-use Rattle.whole.specs.Extension.{base_relation, input_relation}
-use Rattle.writing.specs.declared.written.Bounds.{Bounds}
-use Rattle.writing.specs.declared.written.Bounds.TheVariants.{AsStated, Tightened}
+use Rattle.rules_relations.specs.Asking.{heads_it}
+use Rattle.meaning.specs.Extension.{base_relation, input_relation}
+use Rattle.unroll_writer.specs.declared.written.Bounds.{Bounds}
+use Rattle.unroll_writer.specs.declared.written.Bounds.TheVariants.{AsStated, Tightened}
 
 -- the item states which propositions there are, or which moves
 abbrev pub heads_a_range : Tree → Bool

@@ -5,15 +5,15 @@ use Rattle.statement.specs.Tree.{Tree, trees_of, text}
 use Rattle.statement.specs.Reading.{Reads}
 use Rattle.statement.specs.Items.{alternatives}
 use Rattle.statement.specs.Profile.{HasNoFault, roles}
-use Rattle.whole.specs.Extension.{base_relation, input_relation}
-use Rattle.whole.specs.Possible.{IsStated, PlaysAs}
-use Rattle.writing.specs.declared.written.Bounds.{Bounds}
-use Rattle.writing.specs.declared.written.Bounds.TheVariants.{AsStated}
-use Rattle.plain.specs.Plain.{plain_items}
+use Rattle.meaning.specs.Extension.{base_relation, input_relation}
+use Rattle.meaning.specs.Possible.{IsStated, PlaysAs}
+use Rattle.unroll_writer.specs.declared.written.Bounds.{Bounds}
+use Rattle.unroll_writer.specs.declared.written.Bounds.TheVariants.{AsStated}
+use Rattle.unroll_strata.specs.Plain.{plain_items}
 use Rattle.unroll.specs.Played.{played_items}
-use Rattle.lawful.specs.Missing.{AreRangesStated}
-use Rattle.lawful.specs.Lawful.{IsAccepted, IsLawful, IsRefusal, IsUnread}
-use Rattle.lawful.specs.declared.fault.UnrollFault.{UnrollFault}
+use Rattle.unroll_strata.specs.Missing.{AreRangesStated}
+use Rattle.unroll_strata.specs.Lawful.{IsAccepted, IsLawful, IsRefusal, IsUnread}
+use Rattle.unroll_strata.specs.declared.fault.UnrollFault.{UnrollFault}
 
 -- why a text is not written out: it stands for no items, or they are refused in the form of the profile
 abbrev pub IsUnrollFault : List ℕ → UnrollFault → Type 0

@@ -9,21 +9,21 @@ ghost use Rattle.statement.specs.Items.{alternatives};
 ghost use Rattle.statement.specs.Listing.{base_list};
 ghost use Rattle.statement.specs.Profile.{HasNoFault};
 ghost use Rattle.kif.specs.View.{trees_in};
-ghost use Rattle.outline.specs.Relations.{relation_in};
-ghost use Rattle.whole.specs.Extension.{AreFounded};
-ghost use Rattle.derivations.specs.Founded.{IsReached};
+ghost use Rattle.rules_relations.specs.Relations.{relation_in};
+ghost use Rattle.meaning.specs.Extension.{AreFounded};
+ghost use Rattle.unroll_strata.specs.Founded.{IsReached};
 
-use derivations::{
-    stand_alone, step_game, step_games_have_their_rules, what_play_comes_to_is_derived,
-};
+use crate::marking::comes_to_all;
 use ground::{GroundFault, instantiate_flat_alone};
 use kif::Expr;
 use meaning::accepted_items_are_well_formed;
-use outline::{Relation, RelationSet};
-use reached::comes_to_all;
 use rules::RuleSet;
+use rules_relations::{Relation, RelationSet};
 use statement::{RuleFault, Width};
 use std::alloc::{AllocError, AllocGlobal, Global};
+use unroll_strata::{
+    stand_alone, step_game, step_games_have_their_rules, what_play_comes_to_is_derived,
+};
 
 /// Whether a game is accepted, drops nothing, and comes to each of its base propositions by instances that bring one each.
 fn comes_to_its_base<T: AllocGlobal>(rt: &T, game: &[Expr<Global>]) -> Result<bool, AllocError>

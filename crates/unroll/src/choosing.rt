@@ -1,6 +1,6 @@
 //! Of which relations it is shown that what is written of them is derived. No clause says anything of the choice: who takes it tests it.
 use kif::Expr;
-use outline::{Relation, RelationSet, asked_by, head_of};
+use rules_relations::{Relation, RelationSet, asked_by, head_of};
 use std::alloc::{AllocError, Global};
 
 /// How often all items are gone through at most. Where relations rest on each other in longer ways against the order of the items, nothing

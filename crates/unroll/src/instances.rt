@@ -4,28 +4,27 @@ ghost use Rattle.std.specs.Bool.{OnTrue};
 ghost use Rattle.statement.specs.GoalsAndMoves.{dropped};
 ghost use Rattle.statement.specs.Items.{alternatives};
 ghost use Rattle.kif.specs.View.{trees_in};
-ghost use Rattle.outline.specs.Relations.{relation_in};
+ghost use Rattle.rules_relations.specs.Relations.{relation_in};
 ghost use Rattle.statement.specs.Profile.{HasNoFault};
-ghost use Rattle.derivations.specs.Adding.{HasItsRanges};
+ghost use Rattle.unroll_strata.specs.Adding.{HasItsRanges};
 ghost use Rattle.unroll.specs.Answers.{AddsAnswered, AreAnswered};
 ghost use Rattle.rules.specs.RuleSetView.{rules_in};
-ghost use Rattle.flat_ground.specs.GroundView.{IsGround, dropped_of};
+ghost use Rattle.ground_instances.specs.GroundView.{IsGround, dropped_of};
 
-use derivations::states_ranges;
-use flat_ground::FlatGround;
 use ground::{GroundFault, instantiate_flat_alone};
+use ground_instances::FlatGround;
 use kif::Expr;
-use layer_items::{is_layered, is_stacked};
-use layered::{what_is_layered_is_answered, what_is_stacked_is_answered};
-use meaning::accepted_items_are_well_formed;
-use outline::{Relation, head_of};
-use readings::items_by_reading;
+use meaning::{
+    accepted_items_are_well_formed, what_is_answered_apart_is_answered_together,
+    what_is_layered_is_answered, what_is_stacked_is_answered,
+};
 use rules::RuleSet;
-use slots::{is_bounded, is_enough};
+use rules_relations::{Relation, head_of};
 use statement::{RuleFault, Width};
 use std::alloc::{AllocError, AllocGlobal, Global};
-use whole::what_is_answered_apart_is_answered_together;
-use writing::Layers;
+use unroll_layers::{is_bounded, is_enough, is_layered, is_stacked};
+use unroll_strata::{items_by_reading, states_ranges};
+use unroll_writer::Layers;
 
 /// Relations that are written as layers, and their names there.
 #[derive(Drop)]

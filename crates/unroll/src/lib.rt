@@ -6,14 +6,22 @@
 //! the same. Elsewhere that is tested, beside an interpreter of the whole language, and no clause says so.
 #![tactic(auto)]
 
+mod asking;
 mod certifying;
 mod choosing;
 mod instances;
+mod laws;
+mod marking;
+mod ordering;
 mod ranges;
 mod showing;
 mod unrolling;
 
-pub use atoms::Excess;
-pub use lawful::UnrollFault;
+pub use laws::{
+    what_is_reached_by_number_is_reached, where_all_are_reached_by_number_all_terms_are,
+};
+pub use marking::comes_to_all;
+pub use unroll_datalog::Excess;
+pub use unroll_strata::UnrollFault;
+pub use unroll_writer::Bounds;
 pub use unrolling::{SHOWN, TESTED, unrolled};
-pub use writing::Bounds;

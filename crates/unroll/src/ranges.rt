@@ -5,7 +5,7 @@ ghost use Rattle.unroll.specs.Played as play;
 ghost use Rattle.unroll.specs.Played.{unranged};
 
 use kif::{Expr, copy_to};
-use outline::{Relation, heads};
+use rules_relations::{Relation, heads};
 use std::alloc::{AllocError, Global};
 
 /// Whether an item states which propositions there are, or which moves.

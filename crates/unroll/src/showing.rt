@@ -4,9 +4,9 @@ ghost use Rattle.std.specs.Bool.{OnTrue};
 ghost use Rattle.statement.specs.Items.{alternatives};
 ghost use Rattle.statement.specs.Profile.{HasNoFault};
 ghost use Rattle.kif.specs.View.{trees_in};
-ghost use Rattle.outline.specs.Relations.{relation_in};
-ghost use Rattle.whole.specs.Derivable.{IsStratified};
-ghost use Rattle.whole.specs.Possible.{PlaysAs};
+ghost use Rattle.rules_relations.specs.Relations.{relation_in};
+ghost use Rattle.meaning.specs.Derivable.{IsStratified};
+ghost use Rattle.meaning.specs.Possible.{PlaysAs};
 ghost use Rattle.unroll.specs.Answers.{AreAnswered};
 ghost use Rattle.unroll.specs.Played.{played_items};
 
@@ -14,12 +14,12 @@ use crate::certifying::is_founded;
 use crate::choosing::{own_relations, relations_below};
 use crate::instances::{circles_of, look_at_instances};
 use crate::ranges::without_ranges;
-use derivations::{rewrites, set_of, what_is_rewritten_is_played_the_same};
 use kif::Expr;
-use outline::Relation;
+use meaning::{what_is_answered_apart_is_answered_together, what_is_founded_is_answered};
+use rules_relations::Relation;
 use std::alloc::{AllocError, AllocGlobal, Global};
-use whole::{what_is_answered_apart_is_answered_together, what_is_founded_is_answered};
-use writing::{Bounds, Layers};
+use unroll_strata::{rewrites, set_of, what_is_rewritten_is_played_the_same};
+use unroll_writer::{Bounds, Layers};
 
 /// Whether what is written of own relations that are fixed is shown to be what is derived of them.
 fn is_stated_alike<'a, T: AllocGlobal>(

@@ -6,27 +6,24 @@ ghost use Rattle.statement.specs.Items.{alternatives};
 ghost use Rattle.statement.specs.Profile.{HasNoFault};
 ghost use Rattle.statement.specs.Reading.{Reads};
 ghost use Rattle.kif.specs.View.{trees_in};
-ghost use Rattle.whole.specs.Derivable.{IsStratified};
-ghost use Rattle.whole.specs.Extension.{base_relation, input_relation};
-ghost use Rattle.whole.specs.Possible.{IsStated, PlaysAs};
-ghost use Rattle.lawful.specs.Lawful.{IsLawful, IsRecursive, IsRefusal};
+ghost use Rattle.meaning.specs.Derivable.{IsStratified};
+ghost use Rattle.meaning.specs.Extension.{base_relation, input_relation};
+ghost use Rattle.meaning.specs.Possible.{IsStated, PlaysAs};
+ghost use Rattle.unroll_strata.specs.Lawful.{IsLawful, IsRecursive, IsRefusal};
 ghost use Rattle.unroll.specs.Played.{played_items};
 ghost use Rattle.unroll.specs.Written.{IsShown, IsUnrollFault, IsWrittenFor, IsWrittenOut, shown_line, tested_line};
 
 use crate::showing::is_shown;
-use atoms::{Excess, LimitFault};
-use derivations::states_ranges;
 use kif::Expr;
-use lawful::{
-    UnrollFault, accept, found_items, is_recursive, read_back, refuse_crossed, refuse_unstated,
-    role_places,
-};
-use plain::plain_forms;
-use profile::are_same_trees;
+use rules_profile::are_same_trees;
 use statement::RuleFault;
 use std::alloc::{AllocGlobal, Global};
-use stratified::items_that_cross_nothing_are_stratified;
-use writing::{Bounds, Draft, Layers, Written};
+use unroll_datalog::{Excess, LimitFault};
+use unroll_strata::{
+    UnrollFault, accept, found_items, is_recursive, items_that_cross_nothing_are_stratified,
+    plain_forms, read_back, refuse_crossed, refuse_unstated, role_places, states_ranges,
+};
+use unroll_writer::{Bounds, Draft, Layers, Written};
 
 /// The first line of what is shown to be played as what it was written for.
 pub const SHOWN: &[u8] = b"; Shown: played as what it was written for.\n";

@@ -1,6 +1,6 @@
 use Rattle.std.proofs.Common.{ℕ, ◌≡◌, ◌<◌, ◌∙◌, length, get_or, set, ap, sym, nat_eq, rules}
 use Rattle.std.proofs.lemmas.List.Edits.{map_over_more}
-use Rattle.kept.specs.declared.entry.Entry.{Entry}
+use Rattle.ground_instances.specs.declared.entry.Entry.{Entry}
 use Rattle.ground.specs.Finishing.{headed_in}
 use Rattle.statement.specs.Printed.{first_place}
 use Rattle.ground.proofs.FinishLemmas.{same_entry}

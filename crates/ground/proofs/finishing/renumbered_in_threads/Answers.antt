@@ -1,5 +1,5 @@
 use Rattle.std.proofs.Common.{length}
-use Rattle.kept.specs.Lists.{bodies_of}
+use Rattle.ground_instances.specs.Lists.{bodies_of}
 use Rattle.ground.proofs.FinishLemmas.{all_numbered, laid_stay}
 use Rattle.ground.proofs.finishing.renumbered_in_threads.Goals as goal
 

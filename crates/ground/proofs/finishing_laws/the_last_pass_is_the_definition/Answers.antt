@@ -1,6 +1,6 @@
-use Rattle.terms.specs.Keys.{trees}
+use Rattle.ground_terms.specs.Keys.{trees}
 use Rattle.statement.specs.Listing.{listing, base_list}
-use Rattle.terms.proofs.Facts.{dropped_same, different, starts_same}
+use Rattle.ground_terms.proofs.Facts.{dropped_same, different, starts_same}
 use Rattle.ground.proofs.FinishLemmas.{found_numbered}
 use Rattle.ground.proofs.finishing_laws.the_last_pass_is_the_definition.Goals as goal
 

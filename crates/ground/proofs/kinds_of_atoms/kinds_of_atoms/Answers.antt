@@ -1,8 +1,8 @@
 use Rattle.std.proofs.Common.{◌+◌, ℕ, List, drop, get_or, refl, subst}
 use Rattle.rules.specs.RuleSetView.{lists_of_set, rules_in}
-use Rattle.terms.specs.Keys.{trees}
-use Rattle.terms.proofs.Facts.{number_next, at_end}
-use Rattle.matching.proofs.Facts.{below_at}
+use Rattle.ground_terms.specs.Keys.{trees}
+use Rattle.ground_terms.proofs.Facts.{number_next, at_end}
+use Rattle.ground_matching.proofs.Facts.{below_at}
 use Rattle.ground.proofs.KindSteps.{Kinding, kinding_next, kinding_ends}
 use Rattle.ground.proofs.kinds_of_atoms.kinds_of_atoms.Goals as goal
 

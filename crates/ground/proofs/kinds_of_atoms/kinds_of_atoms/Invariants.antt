@@ -1,6 +1,6 @@
 use Rattle.std.proofs.Common.{drop}
 use Rattle.rules.specs.RuleSetView.{lists_of_set, rules_in}
-use Rattle.terms.specs.Keys.{trees}
+use Rattle.ground_terms.specs.Keys.{trees}
 use Rattle.ground.proofs.KindSteps.{Kinding}
 use Rattle.ground.proofs.kinds_of_atoms.kinds_of_atoms.Given as goal
 

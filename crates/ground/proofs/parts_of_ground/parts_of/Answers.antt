@@ -3,11 +3,11 @@ use Rattle.std.proofs.lemmas.List.{length-map}
 use Rattle.rules.specs.RuleSets.{AreKeywords}
 use Rattle.rules.specs.declared.rule_set.Keywords.{Keywords}
 use Rattle.rules.specs.RuleSetView.{rules_in}
-use Rattle.terms.specs.Vectors.{items_of}
-use Rattle.kept.specs.Lists.{numbers_of_list}
-use Rattle.listing_rows.specs.Contexts.{terms_named}
-use Rattle.listing_rows.specs.SetWords.{words_of}
-use Rattle.listing_rows.proofs.Facts.{below_is}
+use Rattle.ground_terms.specs.Vectors.{items_of}
+use Rattle.ground_instances.specs.Lists.{numbers_of_list}
+use Rattle.ground_rows.specs.Contexts.{terms_named}
+use Rattle.ground_rows.specs.SetWords.{words_of}
+use Rattle.ground_rows.proofs.Facts.{below_is}
 use Rattle.ground.proofs.GroundParts.{numbered_here, sizes_here, atoms_here, are_tables, each_role, parts_are}
 use Rattle.ground.proofs.parts_of_ground.parts_of.Goals as goal
 

@@ -1,5 +1,5 @@
 use Rattle.std.proofs.Common.{◌≡◌, ◌++◌, drop}
-use Rattle.listing_rows.specs.Contexts.{terms_named}
+use Rattle.ground_rows.specs.Contexts.{terms_named}
 use Rattle.ground.proofs.parts_of_ground.terms_of.Given as goal
 
 abbrev pub invariant-loop-one : goal.invariant-loop-one

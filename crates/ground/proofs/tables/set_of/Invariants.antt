@@ -1,6 +1,6 @@
 use Rattle.std.proofs.Common.{◌≡◌, [], drop}
-use Rattle.listing_rows.specs.Contexts.{terms_named}
-use Rattle.terms.specs.Atoms.{with_numbers}
+use Rattle.ground_rows.specs.Contexts.{terms_named}
+use Rattle.ground_terms.specs.Atoms.{with_numbers}
 use Rattle.ground.proofs.tables.set_of.Given as goal
 
 abbrev pub invariant-loop-one : goal.invariant-loop-one

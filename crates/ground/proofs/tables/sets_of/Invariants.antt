@@ -1,7 +1,7 @@
 use Rattle.std.proofs.Common.{◌≡◌, [], ◌++◌, map, drop}
-use Rattle.terms.specs.Vectors.{items_of}
-use Rattle.listing_rows.specs.Contexts.{terms_named}
-use Rattle.terms.specs.Atoms.{with_numbers}
+use Rattle.ground_terms.specs.Vectors.{items_of}
+use Rattle.ground_rows.specs.Contexts.{terms_named}
+use Rattle.ground_terms.specs.Atoms.{with_numbers}
 use Rattle.ground.proofs.tables.sets_of.Given as goal
 
 abbrev pub invariant-loop-list : goal.invariant-loop-list

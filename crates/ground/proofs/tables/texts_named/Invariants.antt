@@ -1,5 +1,5 @@
 use Rattle.std.proofs.Common.{◌≡◌, ◌++◌, drop}
-use Rattle.listing_rows.specs.Contexts.{texts_named}
+use Rattle.ground_rows.specs.Contexts.{texts_named}
 use Rattle.rules.specs.RuleSets.{texts_of}
 use Rattle.ground.proofs.tables.texts_named.Given as goal
 

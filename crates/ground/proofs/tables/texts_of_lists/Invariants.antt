@@ -1,7 +1,7 @@
 use Rattle.std.proofs.Common.{◌≡◌, ◌++◌, map, drop}
 use Rattle.rules.specs.RuleSets.{texts_of}
-use Rattle.terms.specs.Vectors.{items_of}
-use Rattle.listing_rows.specs.Contexts.{texts_named}
+use Rattle.ground_terms.specs.Vectors.{items_of}
+use Rattle.ground_rows.specs.Contexts.{texts_named}
 use Rattle.ground.proofs.tables.texts_of_lists.Given as goal
 
 abbrev pub invariant-loop-list : goal.invariant-loop-list

@@ -4,7 +4,7 @@ use Rattle.game.proofs.Facts.{row_fits}
 use Rattle.game.specs.Keys.{key_at}
 use Rattle.statement.specs.Rules.{State}
 use Rattle.statement.specs.Value.{value}
-use Rattle.table.specs.Worths.{AreBoundsOf}
+use Rattle.search_table.specs.Worths.{AreBoundsOf}
 use Rattle.maximin.proofs.Packs.{note_more}
 use Rattle.maximin.proofs.ahead.look_back.Goals as goal
 

@@ -1,7 +1,7 @@
 use Rattle.std.proofs.Common.{[], true, get_or, sym, subst, ◌<◌, arith}
 use Rattle.std.proofs.lemmas.List.{get_or-replicate}
-use Rattle.table.specs.declared.bounds.Bounds.{Bounds}
-use Rattle.table.specs.Worths.{AreBoundsOf}
+use Rattle.search_table.specs.declared.bounds.Bounds.{Bounds}
+use Rattle.search_table.specs.Worths.{AreBoundsOf}
 use Rattle.maximin.proofs.ahead.new_ahead.Goals as goal
 
 pub returns : goal.returns

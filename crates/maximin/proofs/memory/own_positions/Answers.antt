@@ -1,8 +1,8 @@
 use Rattle.std.proofs.Common.{ℕ, List, sym, subst}
 use Rattle.statement.specs.declared.at_bound.AtBound.{AtBound}
 use Rattle.statement.specs.Rules.{Rules, State}
-use Rattle.table.specs.declared.position_table.PositionTable.{PositionTable}
-use Rattle.table.specs.Tables.{IsTableOf}
+use Rattle.search_table.specs.declared.position_table.PositionTable.{PositionTable}
+use Rattle.search_table.specs.Tables.{IsTableOf}
 use Rattle.maximin.proofs.memory.own_positions.Goals as goal
 
 -- a table is of the role and the bound that it says

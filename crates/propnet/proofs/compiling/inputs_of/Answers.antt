@@ -1,6 +1,6 @@
 use Rattle.std.proofs.Common.{◌<◌, ◌∷◌, ◌++◌, [], ℕ, List, length, take, ap, sym, ◌∙◌, arith}
 use Rattle.std.proofs.lemmas.List.{take_more, take_all}
-use Rattle.flat_ground.specs.GroundView.{roles_of}
+use Rattle.ground_instances.specs.GroundView.{roles_of}
 use Rattle.propnet.specs.Builders.{input_counts}
 use Rattle.propnet.proofs.GroundFacts.{role_inputs, same_count}
 use Rattle.propnet.proofs.compiling.inputs_of.Goals as goal

@@ -1,5 +1,5 @@
 use Rattle.std.proofs.Common.{rules, ℕ, ◌≡◌, [], get_or, ap, sym, ◌∙◌}
-use Rattle.flat_ground.specs.GroundView.{bodies_in}
+use Rattle.ground_instances.specs.GroundView.{bodies_in}
 use Rattle.propnet.proofs.sharing.share_body.Goals as goal
 
 pub returns : goal.returns

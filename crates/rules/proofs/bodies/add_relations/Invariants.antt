@@ -1,5 +1,5 @@
 use Rattle.std.proofs.Common.{drop}
-use Rattle.clauses.specs.StoreView.{data_of}
+use Rattle.rules_clauses.specs.StoreView.{data_of}
 use Rattle.rules.proofs.BodyLemmas.{Naming}
 use Rattle.rules.proofs.bodies.add_relations.Given as goal
 

@@ -1,5 +1,5 @@
 use Rattle.std.proofs.Common.{◌≡◌, drop}
-use Rattle.clauses.specs.Spread.{lists_of}
+use Rattle.rules_clauses.specs.Spread.{lists_of}
 use Rattle.rules.specs.Bodies.{has_literal}
 use Rattle.rules.proofs.bodies.is_resting.Given as goal
 

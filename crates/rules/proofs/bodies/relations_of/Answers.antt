@@ -1,6 +1,6 @@
 use Rattle.std.proofs.Common.{ap, ◌∙◌}
-use Rattle.clauses.specs.Spread.{lists_of, numbers_in}
-use Rattle.clauses.specs.StoreView.{data_of}
+use Rattle.rules_clauses.specs.Spread.{lists_of, numbers_in}
+use Rattle.rules_clauses.specs.StoreView.{data_of}
 use Rattle.rules.proofs.BodyLemmas.{next_named, last_named}
 use Rattle.rules.proofs.bodies.relations_of.Goals as goal
 

@@ -1,6 +1,6 @@
 use Rattle.std.proofs.Common.{drop}
-use Rattle.clauses.specs.StoreView.{data_of}
-use Rattle.clauses.specs.Spread.{lists_of}
+use Rattle.rules_clauses.specs.StoreView.{data_of}
+use Rattle.rules_clauses.specs.Spread.{lists_of}
 use Rattle.rules.proofs.BodyLemmas.{NamingAll}
 use Rattle.rules.proofs.bodies.relations_of.Given as goal
 

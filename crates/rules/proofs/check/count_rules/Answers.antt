@@ -1,7 +1,7 @@
 use Rattle.std.proofs.Common.{ap, length, ◌∙◌, sym}
 use Rattle.kif.specs.View.{trees_in}
-use Rattle.clauses.specs.StoreView.{data_of}
-use Rattle.clauses.proofs.Facts.{extends_refl}
+use Rattle.rules_clauses.specs.StoreView.{data_of}
+use Rattle.rules_clauses.proofs.Facts.{extends_refl}
 use Rattle.rules.proofs.AnswerLemmas.{as_many_alternatives, as_many_relations}
 use Rattle.rules.proofs.check.count_rules.Goals as goal
 

@@ -2,9 +2,9 @@ use Rattle.std.proofs.Common.{◌∙◌, sym, subst}
 use Rattle.kif.specs.View.{trees_in}
 use Rattle.statement.specs.declared.rule_fault.RuleFault.{RuleFault}
 use Rattle.statement.specs.RuleFaults.{IsRuleFault}
-use Rattle.clauses.specs.StoreView.{data_of}
+use Rattle.rules_clauses.specs.StoreView.{data_of}
 use Rattle.rules.proofs.AnswerLemmas.{dependence_fault, no_fault, texts_are}
-use Rattle.profile.proofs.Facts.{err_given}
+use Rattle.rules_profile.proofs.Facts.{err_given}
 use Rattle.rules.proofs.TextLemmas.{places_inside}
 use Rattle.rules.proofs.check.describe.Goals as goal
 

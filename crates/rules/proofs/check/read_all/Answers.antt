@@ -1,5 +1,5 @@
-use Rattle.clauses.proofs.Facts.{extends_refl}
-use Rattle.profile.proofs.Facts.{are_items}
+use Rattle.rules_clauses.proofs.Facts.{extends_refl}
+use Rattle.rules_profile.proofs.Facts.{are_items}
 use Rattle.rules.proofs.NamingLemmas.{draft_grown}
 use Rattle.rules.proofs.check.read_all.Goals as goal
 

@@ -1,5 +1,5 @@
 use Rattle.std.proofs.Common.{◌≡◌, ◌++◌, map}
-use Rattle.clauses.specs.Spread.{lists_of}
+use Rattle.rules_clauses.specs.Spread.{lists_of}
 use Rattle.rules.specs.Drafts.{shared, numbered_with}
 use Rattle.rules.proofs.draft.add_alternatives.Given as goal
 

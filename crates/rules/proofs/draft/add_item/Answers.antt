@@ -1,5 +1,5 @@
 use Rattle.std.proofs.Common.{refl, ap, not, ◌∙◌, Bool, ◌++◌, ◌∷◌, []}
-use Rattle.clauses.proofs.Facts.{extends_refl}
+use Rattle.rules_clauses.proofs.Facts.{extends_refl}
 use Rattle.rules.proofs.DraftLemmas.{item_inside, head_inside, not_safe_item, adds_safe}
 use Rattle.rules.proofs.draft.add_item.Goals as goal
 

@@ -1,6 +1,6 @@
 use Rattle.std.proofs.Common.{◌≡◌, true}
 use Rattle.statement.specs.Items.{is_item}
-use Rattle.profile.proofs.Facts.{held_at}
+use Rattle.rules_profile.proofs.Facts.{held_at}
 use Rattle.rules.proofs.DraftLemmas.{read_on, found_unsafe}
 use Rattle.rules.proofs.draft.read_items.Goals as goal
 

@@ -1,4 +1,4 @@
-use Rattle.clauses.specs.StoreView.{data_of}
+use Rattle.rules_clauses.specs.StoreView.{data_of}
 use Rattle.rules.proofs.MeaningLemmas.{bounded_more}
 use Rattle.rules.proofs.meanings.bounds_of.Goals as goal
 

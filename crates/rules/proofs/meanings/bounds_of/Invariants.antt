@@ -1,4 +1,4 @@
-use Rattle.clauses.specs.StoreView.{data_of}
+use Rattle.rules_clauses.specs.StoreView.{data_of}
 use Rattle.rules.proofs.MeaningLemmas.{Bounded}
 use Rattle.rules.proofs.meanings.bounds_of.Given as goal
 

@@ -1,6 +1,6 @@
 use Rattle.statement.specs.Clause.{relation_eq}
 use Rattle.statement.specs.Profile.{does_relation}
-use Rattle.clauses.specs.StoreView.{data_of}
+use Rattle.rules_clauses.specs.StoreView.{data_of}
 use Rattle.rules.proofs.MeaningLemmas.{Tested}
 use Rattle.rules.proofs.meanings.moves_of.Given as goal
 

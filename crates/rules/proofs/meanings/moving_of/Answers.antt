@@ -1,5 +1,5 @@
 use Rattle.statement.specs.Dependence.{is_moving}
-use Rattle.clauses.specs.StoreView.{data_of}
+use Rattle.rules_clauses.specs.StoreView.{data_of}
 use Rattle.rules.proofs.MeaningLemmas.{tested_more}
 use Rattle.rules.proofs.meanings.moving_of.Goals as goal
 

@@ -1,5 +1,5 @@
 use Rattle.statement.specs.Dependence.{is_moving}
-use Rattle.clauses.specs.StoreView.{data_of}
+use Rattle.rules_clauses.specs.StoreView.{data_of}
 use Rattle.rules.proofs.MeaningLemmas.{Tested}
 use Rattle.rules.proofs.meanings.moving_of.Given as goal
 

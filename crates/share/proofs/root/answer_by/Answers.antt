@@ -1,6 +1,6 @@
 use Rattle.std.proofs.Common.{subst, sym}
-use Rattle.cut.specs.Cuts.{IsCut}
-use Rattle.cut.proofs.Facts.{few_of_two, few_of_three}
+use Rattle.search_split.specs.Cuts.{IsCut}
+use Rattle.search_split.proofs.Facts.{few_of_two, few_of_three}
 use Rattle.share.proofs.root.answer_by.Goals as goal
 
 pub answer_middle-requires-clause-few : goal.answer_middle-requires-clause-few

@@ -8,10 +8,10 @@ use Rattle.statement.specs.Items.{alternatives}
 use Rattle.statement.specs.Listing.{base_list}
 use Rattle.statement.specs.Profile.{HasNoFault}
 use Rattle.kif.specs.View.{trees_in}
-use Rattle.outline.specs.Relations.{relation_in}
-use Rattle.profile.proofs.Facts.{if_ok}
-use Rattle.whole.specs.Extension.{AreFounded}
-use Rattle.derivations.specs.Founded.{StandAlone, IsStepGame, IsReached}
+use Rattle.rules_relations.specs.Relations.{relation_in}
+use Rattle.rules_profile.proofs.Facts.{if_ok}
+use Rattle.meaning.specs.Extension.{AreFounded}
+use Rattle.unroll_strata.specs.Founded.{StandAlone, IsStepGame, IsReached}
 use Rattle.unroll.proofs.Claims.{on_true_map, true_on}
 use Rattle.unroll.proofs.SameRelations.{alone_as}
 use Rattle.unroll.proofs.certifying.is_founded.Goals as goal

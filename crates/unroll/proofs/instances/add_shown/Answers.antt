@@ -3,7 +3,7 @@ use Rattle.statement.specs.Clause.{Relation}
 use Rattle.statement.specs.Dependence.{is_among}
 use Rattle.statement.specs.Items.{alternatives}
 use Rattle.kif.specs.View.{trees_in}
-use Rattle.outline.specs.Relations.{relation_in}
+use Rattle.rules_relations.specs.Relations.{relation_in}
 use Rattle.unroll.proofs.Claims.{true_on}
 use Rattle.unroll.proofs.Transfers.{among_both, map_both}
 use Rattle.unroll.proofs.instances.add_shown.Goals as goal

@@ -1,6 +1,6 @@
 use Rattle.std.proofs.Common.{map}
 use Rattle.kif.specs.View.{trees_in}
-use Rattle.outline.specs.Relations.{relation_in}
+use Rattle.rules_relations.specs.Relations.{relation_in}
 use Rattle.unroll.specs.Answers.{AddsAnswered}
 use Rattle.unroll.proofs.instances.are_all_shown.Given as goal
 

@@ -3,10 +3,10 @@ use Rattle.statement.specs.Clause.{Alternative}
 use Rattle.statement.specs.Dependence.{is_among}
 use Rattle.statement.specs.Items.{alternatives}
 use Rattle.kif.specs.View.{trees_in}
-use Rattle.outline.specs.Relations.{relation_in}
-use Rattle.profile.proofs.Facts.{if_ok}
-use Rattle.layered.specs.Stacks.{IsStacked, IsEnough}
-use Rattle.layered.specs.Names.{names_of, word_in}
+use Rattle.rules_relations.specs.Relations.{relation_in}
+use Rattle.rules_profile.proofs.Facts.{if_ok}
+use Rattle.meaning.specs.Stacks.{IsStacked, IsEnough}
+use Rattle.meaning.specs.Names.{names_of, word_in}
 use Rattle.unroll.proofs.Claims.{on_true_map, true_on}
 use Rattle.unroll.proofs.Transfers.{with_one_less}
 use Rattle.unroll.proofs.instances.are_stacks_shown.Goals as goal

@@ -2,10 +2,10 @@ use Rattle.std.proofs.Common.{List, not, ap, subst, sym, ◌∙◌}
 use Rattle.statement.specs.Tree.{Tree}
 use Rattle.statement.specs.Items.{alternatives}
 use Rattle.kif.specs.View.{trees_in}
-use Rattle.profile.proofs.Facts.{if_ok}
-use Rattle.whole.specs.Derivable.{IsStratified}
-use Rattle.whole.specs.Possible.{PlaysAs}
-use Rattle.writing.specs.declared.written.Bounds.{Bounds}
+use Rattle.rules_profile.proofs.Facts.{if_ok}
+use Rattle.meaning.specs.Derivable.{IsStratified}
+use Rattle.meaning.specs.Possible.{PlaysAs}
+use Rattle.unroll_writer.specs.declared.written.Bounds.{Bounds}
 use Rattle.unroll.specs.Played.{heads_a_range, played_items}
 use Rattle.unroll.proofs.Claims.{on_true_map}
 use Rattle.unroll.proofs.Transfers.{still_stratified}

@@ -2,8 +2,8 @@ use Rattle.std.proofs.Common.{map, sym, ◌∙◌}
 use Rattle.statement.specs.Dependence.{is_among}
 use Rattle.statement.specs.Items.{alternatives}
 use Rattle.kif.specs.View.{trees_in}
-use Rattle.outline.specs.Relations.{relation_in}
-use Rattle.profile.proofs.Facts.{if_ok, accepted_acyclic}
+use Rattle.rules_relations.specs.Relations.{relation_in}
+use Rattle.rules_profile.proofs.Facts.{if_ok, accepted_acyclic}
 use Rattle.unroll.proofs.Claims.{on_true_map}
 use Rattle.unroll.proofs.Transfers.{or_twice}
 use Rattle.unroll.proofs.showing.is_stated_alike.Goals as goal

@@ -5,9 +5,9 @@ use Rattle.statement.specs.Items.{alternatives}
 use Rattle.statement.specs.Profile.{HasNoFault, roles}
 use Rattle.statement.specs.Reading.{Reads}
 use Rattle.kif.specs.View.{trees_in}
-use Rattle.whole.specs.Derivable.{IsStratified}
-use Rattle.whole.specs.Possible.{PlaysAs}
-use Rattle.lawful.specs.Lawful.{IsAccepted}
+use Rattle.meaning.specs.Derivable.{IsStratified}
+use Rattle.meaning.specs.Possible.{PlaysAs}
+use Rattle.unroll_strata.specs.Lawful.{IsAccepted}
 use Rattle.unroll.specs.Played.{played_items}
 use Rattle.unroll.specs.Written.{IsShown}
 use Rattle.unroll.proofs.Claims.{if_both, true_on, shown_if, says_if, no_rest}

@@ -2,7 +2,7 @@ use Rattle.std.proofs.Common.{ℕ, true, ◌≡◌, List, rules, sym, ap, subst,
 use Rattle.statement.specs.Tree.{Tree, trees_of}
 use Rattle.statement.specs.Reading.{Reads}
 use Rattle.kif.specs.View.{trees_in}
-use Rattle.derivations.proofs.Facts.{one_same}
+use Rattle.unroll_strata.proofs.Facts.{one_same}
 use Rattle.unroll.proofs.Claims.{claimed}
 use Rattle.unroll.proofs.unrolling.with_claim.Goals as goal
 

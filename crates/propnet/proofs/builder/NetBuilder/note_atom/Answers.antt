@@ -1,5 +1,5 @@
 use Rattle.std.proofs.Common.{length}
-use Rattle.flat_ground.specs.GroundView.{base_of, kinds_of, instances_of}
+use Rattle.ground_instances.specs.GroundView.{base_of, kinds_of, instances_of}
 use Rattle.propnet.specs.Builders.{input_counts, gates_made}
 use Rattle.propnet.proofs.AtomLemmas.{atom_noted}
 use Rattle.propnet.proofs.BuildLemmas.{pushed_count}

@@ -1,5 +1,5 @@
 use Rattle.std.proofs.Common.{ℕ, ◌≡◌, Bool, List, length, map, sym, subst, ◌∙◌, arith}
-use Rattle.flat_ground.specs.GroundView.{base_of, kinds_of, instances_of}
+use Rattle.ground_instances.specs.GroundView.{base_of, kinds_of, instances_of}
 use Rattle.statement.specs.declared.node_name.Name.TheVariants.{And}
 use Rattle.propnet.specs.Names.{read_name, body_at}
 use Rattle.propnet.specs.Building.{NodesStandFor}

@@ -2,8 +2,8 @@ use Rattle.std.proofs.Common.{List, sym, subst, map}
 use Rattle.kif.specs.View.{trees_in}
 use Rattle.statement.specs.Items.{alternatives}
 use Rattle.rules.specs.Drafts.{Numbered, StandForAlternatives}
-use Rattle.clauses.specs.StoreView.{data_of}
-use Rattle.clauses.proofs.Facts.{extends_refl}
+use Rattle.rules_clauses.specs.StoreView.{data_of}
+use Rattle.rules_clauses.proofs.Facts.{extends_refl}
 use Rattle.rules.proofs.AnswerLemmas.{has_items, is_sound, rules_stand, each_own}
 use Rattle.rules.proofs.rule_set.RuleSet.check.Goals as goal
 

@@ -1,7 +1,7 @@
 use Rattle.std.proofs.Common.{◌≡◌, [], ◌∷◌, ◌++◌, length, length-append, ap, subst, sym, arith}
 use Rattle.std.proofs.lemmas.List.Elements.{All-push}
 use Rattle.std.specs.Prelude.{All}
-use Rattle.tasks.specs.Step.{IsStepOf}
+use Rattle.share.specs.Step.{IsStepOf}
 use Rattle.share.proofs.desk.Desk.new.Goals as goal
 
 pub loop-preserved : goal.loop-preserved

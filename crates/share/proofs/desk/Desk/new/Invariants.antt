@@ -1,6 +1,6 @@
 use Rattle.std.proofs.Common.{◌≡◌, ◌≤◌, length}
 use Rattle.std.specs.Prelude.{All, vec_capacity}
-use Rattle.tasks.specs.Step.{IsStepOf}
+use Rattle.share.specs.Step.{IsStepOf}
 use Rattle.share.proofs.desk.Desk.new.Given as goal
 
 abbrev pub invariant-loop : goal.invariant-loop

@@ -1,6 +1,0 @@
-use Rattle.std.proofs.Common.{◌≡◌, ◌++◌}
-use Rattle.clauses.specs.Spread.{lists_of}
-use Rattle.clauses.proofs.spread.add_all.Given as goal
-
-abbrev pub invariant-loop-list : goal.invariant-loop-list
-invariant-loop-list l = lists_of l.all.items ≡ lists_of l.fn.all.items ++ lists_of l.yielded

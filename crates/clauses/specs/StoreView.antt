@@ -1,7 +1,0 @@
--- This crate's own: what `run` promises does not rest on it.
--- The lists of a store.
-use Rattle.clauses.specs.declared.store.Store.{Store}
-use Rattle.clauses.specs.Store.{Data}
-
-abbrev pub data_of : Store → Data
-data_of s = record { words = s.symbols; signatures = s.signatures; variables = s.variables.items; parts = s.parts.items; literals = s.literals.items }

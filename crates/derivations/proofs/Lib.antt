@@ -1,9 +1,0 @@
-mod Readings
-mod AddedItems
-mod RangeLemmas
-mod StepLemmas
-mod TreeLemmas
-mod StepGames
-mod MadeGames
-mod AloneTests
-pub mod Facts

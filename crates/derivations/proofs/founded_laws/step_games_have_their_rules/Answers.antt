@@ -1,6 +1,0 @@
-use Rattle.derivations.proofs.MadeGames.{rules_of_game}
-use Rattle.derivations.proofs.founded_laws.step_games_have_their_rules.Goals as goal
-
-pub returns : goal.returns
-returns c = λ own below found written.
-    rules_of_game own below found written (λ t. c.stepped_items_say_the_steps.ensures own t) (λ t. c.based_items_say_what_can_be.ensures t)

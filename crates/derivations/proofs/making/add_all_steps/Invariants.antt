@@ -1,9 +1,0 @@
-use Rattle.std.proofs.Common.{◌≡◌, ◌++◌, drop, filter, map}
-use Rattle.kif.specs.View.{trees_in}
-use Rattle.derivations.specs.Steps.{heads_one, step_item}
-use Rattle.derivations.proofs.making.add_all_steps.Given as goal
-
-abbrev pub invariant-loop-item : goal.invariant-loop-item
-invariant-loop-item l =
-    trees_in l.made.items ++ map (step_item l.own) (filter (heads_one l.own) (trees_in (drop l.item-index l.items)))
-    ≡ trees_in l.initial.made.items ++ map (step_item l.own) (filter (heads_one l.own) (trees_in l.items))

@@ -1,5 +1,0 @@
-use Rattle.derivations.proofs.StepLemmas.{step_alternatives}
-use Rattle.derivations.proofs.step_laws.stepped_items_say_the_steps.Goals as goal
-
-pub returns : goal.returns
-returns c = step_alternatives

@@ -1,0 +1,9 @@
+mod Notes
+mod Values
+mod FindingLists
+mod KeptHeads
+mod KeyedLacks
+mod OwnerLists
+mod TellingLists
+mod InputLists
+mod Starting

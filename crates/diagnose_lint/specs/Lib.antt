@@ -1,0 +1,10 @@
+pub mod Names
+pub mod Findings
+pub mod Wholes
+pub mod Pointing
+pub mod Effects
+pub mod Keyed
+pub mod Owners
+pub mod Telling
+pub mod DroppedFindings
+pub mod Openings

@@ -1,5 +1,0 @@
-use Rattle.digraph.proofs.GroupLemmas.{NumberedTo}
-use Rattle.digraph.proofs.components.number_from.Given as goal
-
-abbrev pub invariant-loop-place : goal.invariant-loop-place
-invariant-loop-place l = NumberedTo l.initial.numbers.items l.numbers.items l.nodes l.from l.place l.number

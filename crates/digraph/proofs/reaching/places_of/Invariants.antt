@@ -1,5 +1,0 @@
-use Rattle.digraph.proofs.Turning.{Placing}
-use Rattle.digraph.proofs.reaching.places_of.Given as goal
-
-abbrev pub invariant-loop-place : goal.invariant-loop-place
-invariant-loop-place l = Placing l.marks l.place l.places.items

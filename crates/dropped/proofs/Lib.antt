@@ -1,6 +1,0 @@
-mod FindingLists
-mod KeptHeads
-mod KeyedLacks
-mod OwnerLists
-mod TellingLists
-mod InputLists

@@ -1,6 +1,0 @@
-use Rattle.rules.specs.RuleSetView.{rules_in}
-use Rattle.dropped.specs.Findings.{AreFindings}
-use Rattle.dropped.proofs.dropping.findings_of.Given as goal
-
-abbrev pub invariant-loop-candidate : goal.invariant-loop-candidate
-invariant-loop-candidate l = AreFindings (rules_in l.rules) l.owners l.findings.next l.findings.found.items

@@ -1,0 +1,10 @@
+pub mod Marks
+pub mod RuleRoom
+pub mod Plans
+pub mod RuleMany
+pub mod RulePlay
+pub mod RuleState
+pub mod GroundFacts
+pub mod RuleLaws
+pub mod RuleMeaning
+pub mod Standings

@@ -1,7 +1,0 @@
-mod Passes
-mod Lanes
-mod Literals
-mod Folds
-mod Factors
-mod GroupLemmas
-pub mod Facts

@@ -1,0 +1,5 @@
+mod Fitting
+pub mod Facts
+mod RunLemmas
+mod Lists
+pub mod KeptFacts

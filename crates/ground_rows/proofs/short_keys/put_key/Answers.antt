@@ -1,0 +1,9 @@
+use Rattle.std.proofs.Common.{drop, refl}
+use Rattle.ground_terms.proofs.Facts.{at_end}
+use Rattle.ground_rows.proofs.Facts.{key_ends}
+use Rattle.ground_rows.proofs.short_keys.put_key.Goals as goal
+
+pub returns : goal.returns
+returns c = λ t.
+    key_ends c.args.values.now c.args.word c.args.parts.now (drop c.loop-part.part-index c.args.parts.now) c.loop-part.key.items
+    (at_end c.args.parts.now c.args.parts.now c.loop-part.part-index refl c.loop-part-test.false) c.loop-part.invariant.there

@@ -1,2 +1,0 @@
-pub mod Errand
-pub mod Found

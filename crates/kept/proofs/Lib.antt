@@ -1,3 +1,0 @@
-mod RunLemmas
-mod Lists
-pub mod Facts

@@ -1,2 +1,0 @@
-mod Plays
-pub mod Facts

@@ -1,8 +1,0 @@
-use Rattle.keys.specs.KeyTables.{number_bits}
-use Rattle.keys.proofs.TableLemmas.{tabled_more}
-use Rattle.keys.proofs.key_table.add.Goals as goal
-
-pub returns-clause-kept : goal.returns-clause-kept
-returns-clause-kept c =
-    tabled_more number_bits c.args.table.now.buckets _ _ _ c.args.keys.now c.push.new.self c.args.key.now c.args.table.now.slots.items _
-    c.requires.kept c.end_of_walk-slot.ensures c.in_ok-push.ensures.added c.len-number.ensures c.in-Ok.ensures.buckets c.in-Ok.ensures.slots

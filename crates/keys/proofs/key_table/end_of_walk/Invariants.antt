@@ -1,6 +1,0 @@
-use Rattle.keys.specs.KeyTables.{number_bits, turn_of, bucket_of}
-use Rattle.keys.proofs.TableLemmas.{Walking}
-use Rattle.keys.proofs.key_table.end_of_walk.Given as goal
-
-abbrev pub invariant-loop-step : goal.invariant-loop-step
-invariant-loop-step l = Walking l.table.slots.items l.table.buckets (turn_of number_bits l.key) (bucket_of l.key l.table.buckets) l.wanted l.step l.slot

@@ -1,6 +1,0 @@
-use Rattle.keys.specs.KeyTables.{byte_bits}
-use Rattle.keys.proofs.TableLemmas.{Finding}
-use Rattle.keys.proofs.name_table.find_name.Given as goal
-
-abbrev pub invariant-loop-step : goal.invariant-loop-step
-invariant-loop-step l = Finding byte_bits l.names l.name l.table.slots.items l.table.buckets l.step l.slot

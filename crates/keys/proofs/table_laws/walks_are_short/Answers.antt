@@ -1,9 +1,0 @@
-use Rattle.keys.specs.KeyTables.{number_bits, byte_bits}
-use Rattle.keys.proofs.WalkLengths.{short}
-use Rattle.keys.proofs.table_laws.walks_are_short.Goals as goal
-
-pub returns-clause-keys : goal.returns-clause-keys
-returns-clause-keys c = short number_bits
-
-pub returns-clause-names : goal.returns-clause-names
-returns-clause-names c = short byte_bits

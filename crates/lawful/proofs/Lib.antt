@@ -1,2 +1,0 @@
-mod LawfulLemmas
-mod FirstItem

@@ -1,5 +1,0 @@
-use Rattle.kif.specs.View.{trees_in}
-use Rattle.lawful.proofs.accepted.accept.Goals as goal
-
-pub returns-in-Err-clause-fault : goal.returns-in-Err-clause-fault
-returns-in-Err-clause-fault c = c.in-Err.ensures.fault (trees_in c.args.items.now)

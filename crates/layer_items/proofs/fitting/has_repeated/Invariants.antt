@@ -1,9 +1,0 @@
-use Rattle.std.proofs.Common.{◌≡◌, false, map, drop}
-use Rattle.statement.specs.Dependence.{is_among}
-use Rattle.outline.specs.Relations.{relation_in}
-use Rattle.layer_items.specs.Naming.{repeats}
-use Rattle.layer_items.proofs.fitting.has_repeated.Given as goal
-
-abbrev pub invariant-loop-relation : goal.invariant-loop-relation
-invariant-loop-relation l =
-    repeats (λ p. false) (map relation_in l.relations) ≡ repeats (λ p. is_among p l.known) (map relation_in (drop l.relation-index l.relations))

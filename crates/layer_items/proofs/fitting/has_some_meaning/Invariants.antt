@@ -1,9 +1,0 @@
-use Rattle.std.proofs.Common.{◌≡◌, map, drop}
-use Rattle.std.specs.List.{list_any}
-use Rattle.outline.specs.Relations.{relation_in}
-use Rattle.layer_items.specs.Naming.{has_meaning}
-use Rattle.layer_items.proofs.fitting.has_some_meaning.Given as goal
-
-abbrev pub invariant-loop-relation : goal.invariant-loop-relation
-invariant-loop-relation l =
-    list_any has_meaning (map relation_in l.relations) ≡ list_any has_meaning (map relation_in (drop l.relation-index l.relations))

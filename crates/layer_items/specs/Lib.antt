@@ -1,4 +1,0 @@
-pub mod Naming
-pub mod Kinds
-pub mod Layering
-pub mod Listing

@@ -1,8 +1,0 @@
-mod Reading
-mod Gathered
-mod Chains
-mod Enough
-mod Built
-mod Simple
-mod Downward
-mod Answers

@@ -1,4 +1,0 @@
-pub mod Names
-pub mod Findings
-pub mod Wholes
-pub mod Pointing

@@ -1,6 +1,0 @@
-use Rattle.std.proofs.Common.{ℕ, List, drop}
-use Rattle.listing_rows.specs.Pairs.{HaveSameValues}
-use Rattle.listing.proofs.sharing.have_no_variables.Given as goal
-
-abbrev pub invariant-loop-part : goal.invariant-loop-part
-invariant-loop-part l = (xs ys : List ℕ) → HaveSameValues xs ys (drop l.part-index l.parts) → HaveSameValues xs ys l.parts

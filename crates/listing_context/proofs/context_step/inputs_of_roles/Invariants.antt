@@ -1,8 +1,0 @@
-use Rattle.std.proofs.Common.{◌≡◌, ◌++◌, drop}
-use Rattle.terms.specs.Vectors.{items_of}
-use Rattle.listing_rows.specs.Contexts.{inputs_of_roles}
-use Rattle.listing_context.proofs.context_step.inputs_of_roles.Given as goal
-
-abbrev pub invariant-loop-role : goal.invariant-loop-role
-invariant-loop-role l = items_of l.inputs.items ++ inputs_of_roles l.arena.keys l.word l.atoms (drop l.role-index l.roles) ≡ inputs_of_roles
-    l.fn.arena.keys l.fn.word l.fn.atoms l.fn.roles

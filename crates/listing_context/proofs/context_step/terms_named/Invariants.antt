@@ -1,6 +1,0 @@
-use Rattle.std.proofs.Common.{◌≡◌, ◌++◌, drop}
-use Rattle.listing_rows.specs.Contexts.{terms_named}
-use Rattle.listing_context.proofs.context_step.terms_named.Given as goal
-
-abbrev pub invariant-loop-one : goal.invariant-loop-one
-invariant-loop-one l = l.terms.items ++ terms_named (drop l.one-index l.named) ≡ terms_named l.fn.named

@@ -1,5 +1,0 @@
-use Rattle.listing_rows.proofs.Facts.{Building}
-use Rattle.listing_keys.proofs.sought.blank_key.Given as goal
-
-abbrev pub invariant-loop-index : goal.invariant-loop-index
-invariant-loop-index l = Building l.word l.parts l.index l.blanks.items l.key.items

@@ -1,7 +1,0 @@
-use Rattle.std.proofs.Common.{◌≤◌, arith}
-use Rattle.listing_rows.proofs.Facts.{full}
-use Rattle.listing_rows.proofs.Facts.{come_to}
-use Rattle.listing_keys.proofs.sought.more_from.Goals as goal
-
-pub returns : goal.returns
-returns c = let fits : c.args.before ≤ full = omega arith in come_to c.args.after c.args.before full fits

@@ -1,4 +1,0 @@
-use Rattle.net_trials.proofs.networks.judged.add_taken.Given as goal
-
-abbrev pub invariant-loop-place : goal.invariant-loop-place
-invariant-loop-place g l = record { child : g.G.Game.fits l.game l.child }

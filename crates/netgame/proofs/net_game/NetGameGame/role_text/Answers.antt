@@ -1,6 +1,0 @@
-use Rattle.std.proofs.Common.{arith}
-use Rattle.rulebook.specs.GroundFacts.{fits}
-use Rattle.netgame.proofs.net_game.NetGameGame.role_text.Goals as goal
-
-pub role_text-requires : goal.role_text-requires
-role_text-requires c = let fit = (fits c.args.self.now.played).inputs_fit in let below = c.requires in omega arith

@@ -1,8 +1,0 @@
-use Rattle.std.proofs.Common.{◌≡◌, take, map}
-use Rattle.std.specs.Prelude.{slice_index}
-use Rattle.rulebook.specs.declared.standing.Standing.{Standing}
-use Rattle.netgame.proofs.net_planning.list_ends.Given as goal
-
--- the places of the atoms before this one are listed
-abbrev pub invariant-loop-place : goal.invariant-loop-place
-invariant-loop-place l = l.list.items ≡ map (λ (p : Standing). slice_index l.places p.atom) (take l.place l.atoms.items)

@@ -1,6 +1,0 @@
-use Rattle.std.proofs.Common.{arith}
-use Rattle.netgame.proofs.Words.{lane_marked}
-use Rattle.netgame.proofs.net_playing.write_start.Goals as goal
-
-pub returns : goal.returns
-returns c = lane_marked c.loop-p.states c.args.ground.now.starts.items (λ p lt. c.loop-p.invariant p (omega arith))

@@ -1,5 +1,0 @@
-use Rattle.netgame.proofs.SourceLemmas.{AreGathered}
-use Rattle.netgame.proofs.net_sources.word_from.Given as goal
-
-abbrev pub invariant-loop-k : goal.invariant-loop-k
-invariant-loop-k l = AreGathered l.places l.word l.k l.lanes

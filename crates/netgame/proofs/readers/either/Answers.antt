@@ -1,5 +1,0 @@
-use Rattle.netgame.proofs.LaneLemmas.{either_on}
-use Rattle.netgame.proofs.readers.either.Goals as goal
-
-pub returns : goal.returns
-returns c = λ k. either_on c.args.word c.args.other k

@@ -1,7 +1,0 @@
-use Rattle.std.proofs.Common.{◌≡◌, ℕ, Bool, take}
-use Rattle.netgame.specs.NetLanes.{Tells, goal_on}
-use Rattle.netgame.proofs.readers.read_goal.Given as goal
-
--- the greatest value of those before this place that hold
-abbrev pub invariant-loop-i : goal.invariant-loop-i
-invariant-loop-i l = (on : ℕ → Bool) → Tells l.tape l.room l.k on → l.best ≡ goal_on on (take l.i l.goals)

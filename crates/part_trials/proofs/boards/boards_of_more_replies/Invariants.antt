@@ -1,6 +1,0 @@
-use Rattle.std.proofs.Common.{◌+◌, ◌*◌, pos, false, slice_index}
-use Rattle.part_trials.proofs.boards.boards_of_more_replies.Given as goal
-
--- the values are those of the bytes
-abbrev pub ghosts-play : goal.ghosts-play
-ghosts-play g a = record { value = λ i j. pos (slice_index a.values.now (2 * i + j)); narrows = false }

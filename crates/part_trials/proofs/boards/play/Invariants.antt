@@ -1,7 +1,0 @@
-use Rattle.std.proofs.Common.{◌≡◌, []}
-use Rattle.board.specs.Books.{all_shares}
-use Rattle.board.specs.Seats.{book, IsSeatOf}
-use Rattle.part_trials.proofs.boards.play.Given as goal
-
-abbrev pub invariant-steps : goal.invariant-steps
-invariant-steps g l = IsSeatOf l.board l.seat × ((book l.seat).hand ≡ []) × ((book l.seat).shares ≡ all_shares)

@@ -1,6 +1,0 @@
-use Rattle.std.proofs.Common.{◌≡◌}
-use Rattle.digraph.specs.GraphView.{nodes_of}
-use Rattle.part_trials.proofs.graphs.graph_of.Given as goal
-
-abbrev pub invariant-loop-arrow : goal.invariant-loop-arrow
-invariant-loop-arrow l = nodes_of l.graph ≡ l.nodes

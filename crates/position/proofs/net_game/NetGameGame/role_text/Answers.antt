@@ -1,0 +1,6 @@
+use Rattle.std.proofs.Common.{arith}
+use Rattle.game_rules.specs.GroundFacts.{fits}
+use Rattle.position.proofs.net_game.NetGameGame.role_text.Goals as goal
+
+pub role_text-requires : goal.role_text-requires
+role_text-requires c = let fit = (fits c.args.self.now.played).inputs_fit in let below = c.requires in omega arith

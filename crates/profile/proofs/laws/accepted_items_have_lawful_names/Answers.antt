@@ -1,5 +1,0 @@
-use Rattle.profile.proofs.ListLaws.{names_law}
-use Rattle.profile.proofs.laws.accepted_items_have_lawful_names.Goals as goal
-
-pub returns : goal.returns
-returns c = names_law

@@ -1,6 +1,0 @@
-use Rattle.profile.proofs.Accepted.{fixed_tested, rank_below, relations_complete}
-use Rattle.profile.proofs.ListLaws.{rank_equation}
-use Rattle.profile.proofs.laws.acyclic_sets_are_ranked.Goals as goal
-
-pub returns : goal.returns
-returns c = record { fixed = fixed_tested; rank = rank_below; equation = rank_equation; listed = relations_complete }

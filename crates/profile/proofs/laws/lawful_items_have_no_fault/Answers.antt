@@ -1,5 +1,0 @@
-use Rattle.profile.proofs.Lawfulness.{law_said, law_found}
-use Rattle.profile.proofs.laws.lawful_items_have_no_fault.Goals as goal
-
-pub returns : goal.returns
-returns c = λ items. (law_said items, law_found items)

@@ -1,5 +1,0 @@
-use Rattle.profile.proofs.ListLaws.{order_law}
-use Rattle.profile.proofs.laws.relations_stand_in_order.Goals as goal
-
-pub returns : goal.returns
-returns c = order_law

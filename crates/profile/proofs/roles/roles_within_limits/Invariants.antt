@@ -1,5 +1,0 @@
-use Rattle.profile.proofs.RoleLists.{IsListedTo}
-use Rattle.profile.proofs.roles.roles_within_limits.Given as goal
-
-abbrev pub invariant-loop-index : goal.invariant-loop-index
-invariant-loop-index g l = IsListedTo l.items l.index l.places.items

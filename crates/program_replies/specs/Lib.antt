@@ -1,0 +1,5 @@
+pub mod Games
+pub mod Asking
+pub mod Readings
+pub mod Standing
+pub mod Playing

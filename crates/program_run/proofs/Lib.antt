@@ -1,0 +1,5 @@
+mod LintRuns
+mod Telling
+mod Findings
+mod Works
+pub mod Facts

@@ -1,0 +1,13 @@
+pub mod Doing
+pub mod Found
+pub mod Telling
+pub mod Kept
+pub mod Turns
+pub mod Serving
+pub mod Feeds
+pub mod Sizes
+pub mod Lines
+pub mod Texts
+pub mod Frames
+pub mod Sessions
+pub mod Desks

@@ -1,0 +1,14 @@
+use Rattle.propnet_tape.proofs.Tapes.{plain_tape, tape_then}
+use Rattle.propnet_tape.proofs.tape.Tape.new.Goals as goal
+
+pub sources_of-requires : goal.sources_of-requires
+sources_of-requires c = rw c.as_slice-marks.ensures.value c.in_ok-cones.ensures.closed.count
+
+pub made-requires-clause-marked : goal.made-requires-clause-marked
+made-requires-clause-marked c = rw c.as_slice-marks.ensures.value c.in_ok-cones.ensures.kept
+
+pub made-requires-clause-closed : goal.made-requires-clause-closed
+made-requires-clause-closed c = rw c.as_slice-marks.ensures.value c.in_ok-cones.ensures.closed
+
+pub returns : goal.returns
+returns c = tape_then c.made.result _ _ (λ t h. plain_tape c.args.net.now c.args.kept.now _ _ t h c.new.ensures.items) c.made.ensures

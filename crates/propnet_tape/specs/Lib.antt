@@ -1,0 +1,10 @@
+pub mod Grouping
+pub mod Marks
+pub mod Sources
+pub mod Tapes
+pub mod Translating
+pub mod Values
+pub mod Props
+pub mod Building
+pub mod Terms
+pub mod GateGrouping

@@ -1,2 +1,0 @@
-mod Sometime
-mod ByNumber

@@ -1,7 +1,0 @@
-use Rattle.std.specs.List.{AllWithin}
-use Rattle.flat_ground.specs.GroundView.{kinds_of}
-use Rattle.reached.specs.Marks.{AsksMarked}
-use Rattle.reached.proofs.marking.all_ask_marked.Given as goal
-
-abbrev pub invariant-loop-literal : goal.invariant-loop-literal
-invariant-loop-literal l = AllWithin (AsksMarked (kinds_of l.ground) l.marks) l.body 0 l.literal-index

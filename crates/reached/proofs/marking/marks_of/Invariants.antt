@@ -1,6 +1,0 @@
-use Rattle.flat_ground.specs.GroundView.{instances_of, kinds_of}
-use Rattle.reached.specs.Marks.{AreReached}
-use Rattle.reached.proofs.marking.marks_of.Given as goal
-
-abbrev pub invariant-loop-place : goal.invariant-loop-place
-invariant-loop-place l = AreReached (kinds_of l.ground) (instances_of l.ground) l.marks.items

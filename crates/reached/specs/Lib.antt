@@ -1,2 +1,0 @@
-pub mod ReachedByNumber
-pub mod Marks

@@ -1,2 +1,0 @@
-mod WayLemmas
-mod SameLemmas

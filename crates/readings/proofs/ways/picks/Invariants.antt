@@ -1,9 +1,0 @@
-use Rattle.std.proofs.Common.{◌≡◌, ◌++◌, drop}
-use Rattle.readings.specs.Readings.{way_picks}
-use Rattle.readings.specs.Listing.{ways_at}
-use Rattle.readings.proofs.ways.picks.Given as goal
-
-abbrev pub invariant-loop-first : goal.invariant-loop-first
-invariant-loop-first l =
-    ways_at l.made.items ++ way_picks (ways_at (drop l.first-index l.firsts)) (ways_at l.seconds)
-    ≡ way_picks (ways_at l.firsts) (ways_at l.seconds)

@@ -1,7 +1,0 @@
-//! Items by the readings of their bodies.
-#![tactic(auto)]
-
-mod items;
-mod ways;
-
-pub use items::items_by_reading;

@@ -1,7 +1,0 @@
-use Rattle.std.proofs.Common.{◌≡◌, take}
-use Rattle.flat_ground.specs.Fits.{count_all}
-use Rattle.flat_ground.specs.GroundView.{inputs_of}
-use Rattle.replies.proofs.sizes.inputs_in.Given as goal
-
-abbrev pub invariant-loop-role : goal.invariant-loop-role
-invariant-loop-role l = l.count ≡ count_all (take l.role (inputs_of l.ground))

@@ -1,4 +1,0 @@
-pub mod Games
-pub mod Asking
-pub mod Readings
-pub mod Standing

@@ -1,6 +1,0 @@
-mod Leading
-mod Lines
-mod OneText
-mod OneTree
-mod Ranges
-pub mod Facts

@@ -1,8 +1,0 @@
-use Rattle.replies_moves.specs.Histories.{named}
-use Rattle.replies_moves.proofs.OneTree.{no_role}
-use Rattle.replies_moves.proofs.roles.role_of.Goals as goal
-
-pub returns-then-trees-ne1-clause-found : goal.returns-then-trees-ne1-clause-found
-returns-then-trees-ne1-clause-found g c =
-    no_role (named (g.G.Game.rules c.args.game.now) (g.G.Game.role_name c.args.game.now) (g.G.Game.move_name c.args.game.now)) c.args.trees.now
-    c.if-trees-ne1.true

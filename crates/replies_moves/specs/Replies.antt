@@ -1,8 +1,0 @@
--- This crate's own: what `run` promises does not rest on it.
--- A reply in memory.
-use Rattle.replies_moves.specs.declared.reply.Reply as made
-use Rattle.statement.specs.Answers.{Reply}
-
--- its bytes and its status
-abbrev pub reply_of : made.Reply → Reply
-reply_of reply = record { output = reply.output.items; status = reply.status }

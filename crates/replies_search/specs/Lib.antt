@@ -1,6 +1,0 @@
-pub mod Play
-pub mod Searching
-pub mod Windows
-pub mod Settling
-pub mod Ready
-pub mod Kept

@@ -1,5 +1,0 @@
-use Rattle.rulebook.proofs.GameRules.{ended_by_rules}
-use Rattle.rulebook.proofs.rule_laws.the_rules_end_the_game.Goals as goal
-
-pub returns : goal.returns
-returns c = ended_by_rules

@@ -1,5 +1,0 @@
-use Rattle.rulebook.proofs.GameRules.{after_by_rules}
-use Rattle.rulebook.proofs.rule_laws.the_rules_give_the_next_state.Goals as goal
-
-pub returns : goal.returns
-returns c = after_by_rules

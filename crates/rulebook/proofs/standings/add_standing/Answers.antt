@@ -1,6 +1,0 @@
-use Rattle.std.proofs.Common.{arith}
-use Rattle.rulebook.specs.GroundFacts.{few_atoms}
-use Rattle.rulebook.proofs.standings.add_standing.Goals as goal
-
-pub overflow_cast-atom : goal.overflow_cast-atom
-overflow_cast-atom c = let few = few_atoms c.args.ground.now in omega arith

@@ -1,4 +1,0 @@
-mod Marks
-mod States
-mod PlanLemmas
-mod RuleRooms

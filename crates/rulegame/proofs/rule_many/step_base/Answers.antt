@@ -1,9 +1,0 @@
-use Rattle.std.proofs.Common.{Bool, List, ap, ◌∙◌}
-use Rattle.rulebook.specs.RulePlay.{marked}
-use Rattle.rulebook.specs.RuleState.{rules_of}
-use Rattle.rulegame.proofs.rule_many.step_base.Goals as goal
-
-pub returns-clause-after : goal.returns-clause-after
-returns-clause-after c =
-    c.mark_next.ensures.after
-    ∙ ap (λ (bs : List Bool). (rules_of c.args.game.now.played).after (marked bs) c.args.joint.now) c.deref.ensures.value

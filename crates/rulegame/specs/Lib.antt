@@ -1,4 +1,0 @@
-pub mod Marks
-pub mod RuleRoom
-pub mod Plans
-pub mod RuleMany

@@ -1,2 +1,0 @@
-mod LintRuns
-mod Telling

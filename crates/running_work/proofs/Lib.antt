@@ -1,2 +1,0 @@
-mod Works
-pub mod Facts

@@ -1,7 +1,0 @@
-use Rattle.std.proofs.Common.{◌≡◌, ◌<◌, ℕ, length}
-use Rattle.flat_ground.specs.Grounds.{texts_at}
-use Rattle.flat_ground.specs.GroundView.{inputs_of}
-use Rattle.running_work.proofs.sizes.has_inputs.Given as goal
-
-abbrev pub invariant-loop-role : goal.invariant-loop-role
-invariant-loop-role l = (r : ℕ) → r < l.role → length (texts_at (inputs_of l.made) r) ≡ 0

@@ -1,0 +1,4 @@
+mod RowLemmas
+mod Worths
+mod Tables
+mod Steps

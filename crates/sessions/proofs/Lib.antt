@@ -1,7 +1,0 @@
-mod FrameTexts
-mod Requests
-mod FoundTexts
-mod Standing
-mod Turning
-mod Holding
-mod Keeping

@@ -1,4 +1,0 @@
-pub mod Telling
-pub mod Kept
-pub mod Turns
-pub mod Serving

@@ -1,9 +1,0 @@
-mod Chains
-mod Numbers
-mod Layered
-mod Heads
-mod Growing
-mod Owned
-mod Marked
-mod Stacked
-mod Carried

@@ -1,7 +1,0 @@
-use Rattle.std.proofs.Common.{map, take}
-use Rattle.outline.specs.Relations.{relation_in}
-use Rattle.slots.specs.ByNumber.{IsPartOf}
-use Rattle.slots.proofs.asking.are_all_in.Given as goal
-
-abbrev pub invariant-loop-relation : goal.invariant-loop-relation
-invariant-loop-relation l = IsPartOf (map relation_in (take l.relation-index l.relations)) l.set

@@ -1,6 +1,0 @@
-use Rattle.flat_ground.specs.GroundView.{instances_of}
-use Rattle.slots.proofs.Layered.{bounded}
-use Rattle.slots.proofs.laws.what_is_slotted_is_bounded.Goals as goal
-
-pub returns : goal.returns
-returns c = λ found out own word n g is layered by. bounded found out own word n is.well_formed layered (instances_of g) is.kept_are by

@@ -1,4 +1,0 @@
-pub mod Slotted
-pub mod Owners
-pub mod ByNumber
-pub mod Carried

@@ -1,4 +1,0 @@
-mod Changing
-mod Counting
-mod Pieces
-pub mod Facts

@@ -1,7 +1,0 @@
-mod StrataLemmas
-mod RelationLemmas
-mod NumberLemmas
-mod ChainLemmas
-mod CrossedLemmas
-mod NegatedLemmas
-mod WalkLemmas

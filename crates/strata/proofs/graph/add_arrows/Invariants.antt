@@ -1,6 +1,0 @@
-use Rattle.rules.proofs.ArrowLemmas.{Arrowing}
-use Rattle.std.proofs.Common.{drop}
-use Rattle.strata.proofs.graph.add_arrows.Given as goal
-
-abbrev pub invariant-loop-number : goal.invariant-loop-number
-invariant-loop-number l = Arrowing l.fn.graph l.graph l.head l.body (drop l.number-index l.body)

@@ -1,3 +1,0 @@
-pub mod Strata
-pub mod Numbering
-pub mod Resting

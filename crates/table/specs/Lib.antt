@@ -1,4 +1,0 @@
-pub mod Worths
-pub mod Says
-pub mod Rows
-pub mod Tables

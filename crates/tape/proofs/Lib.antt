@@ -1,4 +1,0 @@
-pub mod GroupLemmas
-pub mod Marks
-pub mod Meaning
-pub mod Tapes

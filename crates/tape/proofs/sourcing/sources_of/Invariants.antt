@@ -1,6 +1,0 @@
-use Rattle.propnet.specs.Nets.{gates_of}
-use Rattle.tape.specs.Sources.{AreSourcesOf}
-use Rattle.tape.proofs.sourcing.sources_of.Given as goal
-
-abbrev pub invariant-loop-n : goal.invariant-loop-n
-invariant-loop-n l = AreSourcesOf (gates_of l.net) l.marks l.n l.sources.words.items l.sources.literals.items

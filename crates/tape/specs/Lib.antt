@@ -1,5 +1,0 @@
-pub mod Grouping
-pub mod Marks
-pub mod Sources
-pub mod Tapes
-pub mod Translating

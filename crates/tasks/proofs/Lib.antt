@@ -1,3 +1,0 @@
-mod Picks
-mod Plans
-pub mod Facts

@@ -1,4 +1,0 @@
-pub mod Tasks
-pub mod Plan
-pub mod Step
-pub mod Node

@@ -1,6 +1,0 @@
-use Rattle.rules.specs.RuleSetView.{lists_of_set}
-use Rattle.terms.proofs.Lengths.{Begun}
-use Rattle.terms.proofs.arena.Arena.new.Given as goal
-
-abbrev pub invariant-loop-symbol : goal.invariant-loop-symbol
-invariant-loop-symbol l = Begun (lists_of_set l.rules).words l.symbol l.lengths.items l.terms

@@ -1,0 +1,4 @@
+use Rattle.test_net.proofs.networks.course.Given as goal
+
+abbrev pub invariant-loop-place : goal.invariant-loop-place
+invariant-loop-place g l = record { here : g.G.Game.fits l.game l.here; next : g.G.Game.fits l.game l.next }

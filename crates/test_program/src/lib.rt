@@ -1,0 +1,12 @@
+//! Worked texts, each by `run`, by `run_rules` and by words, over readers and writers in memory; and the replies of a single thread.
+//!
+//! `run_rules` is a second opinion: the game of the rules is played over their kept instances, and told of over their network where nothing is
+//! searched, each the other way round than in the program. Nothing of the program stands on it.
+#![tactic(auto)]
+
+mod second;
+#[cfg(test)]
+mod tests;
+
+pub use game_rules::RuleGame;
+pub use second::run_rules;

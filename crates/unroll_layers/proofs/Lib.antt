@@ -1,0 +1,16 @@
+mod TestLemmas
+mod Bodies
+mod ItemLaws
+mod NameLaws
+mod Passed
+mod Layered
+mod Stacked
+mod Chains
+mod Numbers
+mod LayeredSlots
+mod Heads
+mod Growing
+mod Owned
+mod Marked
+mod StackedSlots
+mod Carried

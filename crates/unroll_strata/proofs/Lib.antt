@@ -1,0 +1,24 @@
+mod StrataLemmas
+mod RelationLemmas
+mod NumberLemmas
+mod ChainLemmas
+mod CrossedLemmas
+mod NegatedLemmas
+mod WalkLemmas
+mod Counts
+mod ItemStrata
+mod PlainLemmas
+mod WholeLemmas
+mod LawfulLemmas
+mod FirstItem
+mod WayLemmas
+mod SameLemmas
+mod Readings
+mod AddedItems
+mod RangeLemmas
+mod StepLemmas
+mod TreeLemmas
+mod StepGames
+mod MadeGames
+mod AloneTests
+pub mod Facts

@@ -1,0 +1,10 @@
+use Rattle.std.proofs.Common.{◌≡◌, map, drop}
+use Rattle.std.specs.List.{list_any}
+use Rattle.rules_relations.specs.Relations.{relation_in}
+use Rattle.unroll_strata.specs.Alone.{is_unfit}
+use Rattle.unroll_strata.proofs.relations.is_some_unfit.Given as goal
+
+abbrev pub invariant-loop-relation : goal.invariant-loop-relation
+invariant-loop-relation l =
+    list_any (is_unfit l.below) (map relation_in l.relations)
+    ≡ list_any (is_unfit l.below) (map relation_in (drop l.relation-index l.relations))

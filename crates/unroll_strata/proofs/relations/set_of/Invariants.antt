@@ -1,0 +1,10 @@
+use Rattle.std.proofs.Common.{◌≡◌, map, drop}
+use Rattle.std.specs.Prelude.{◌||◌}
+use Rattle.statement.specs.Clause.{Relation}
+use Rattle.statement.specs.Dependence.{is_among}
+use Rattle.rules_relations.specs.Relations.{relation_in}
+use Rattle.unroll_strata.proofs.relations.set_of.Given as goal
+
+abbrev pub invariant-loop-relation : goal.invariant-loop-relation
+invariant-loop-relation l =
+    (p : Relation) → (is_among p l.set || is_among p (map relation_in (drop l.relation-index l.relations))) ≡ is_among p (map relation_in l.relations)

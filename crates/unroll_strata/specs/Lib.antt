@@ -1,0 +1,14 @@
+pub mod Strata
+pub mod Numbering
+pub mod Resting
+pub mod Plain
+pub mod Missing
+pub mod Lawful
+pub mod FaultTexts
+pub mod Readings
+pub mod Listing
+pub mod Adding
+pub mod Ranges
+pub mod Steps
+pub mod Founded
+pub mod Alone

@@ -1,7 +1,0 @@
-mod Strata
-mod Heights
-mod Acyclic
-mod Stated
-mod Founding
-mod Together
-mod Rewriting

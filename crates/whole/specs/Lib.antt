@@ -1,4 +1,0 @@
-pub mod Derivable
-pub mod Literals
-pub mod Possible
-pub mod Extension
