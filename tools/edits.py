@@ -273,32 +273,60 @@ def files_of(folder: Path, parts: Iterable[str]) -> Iterator[tuple[str, Path]]:
 
 
 @cache
+def crates_beside(folder: Path) -> re.Pattern[str]:
+    """What names a crate that stands beside this one, or this one, at the beginning of a path."""
+    names = "|".join(sorted(re.escape(each.name) for each in folder.parent.iterdir() if each.is_dir()))
+    return re.compile(rf"(?<![\w:.])(?:crate|{names})::(?:[a-z_]\w*::)*(?=[\w{{])|\bRattle\.(?:{names})\.(?:[\w-]+\.)+(?=[^\s.}}])")
+
+
+# What hands names on or lists modules; and what takes names, in code and in definitions and proofs.
+LISTED = re.compile(r"^ *(?:pub )?mod \w+;?$|^ *pub use [^;{]*(?:\{[^}]*\})?;$", re.MULTILINE)
+TAKEN = re.compile(r"^ *(?:ghost )?use ([^;]*);$", re.MULTILINE)
+TAKEN_BY_PROOFS = re.compile(r"^(?:unfoldable |pub )*use ([^\n]*(?:\n[ \t}][^\n]*)*)$", re.MULTILINE)
+COMMA_AT_END = re.compile(r",(?= [)}\]>])")
+
+
+def names_taken(words: str) -> list[str]:
+    """What one `use` takes, each with the path in front of it."""
+    front, _, names = words.partition("{")
+    return [front + " ".join(name.split()) for name in names.rstrip("} \n").split(",") if name.strip()] or [front]
+
+
+def without_places(path: str, text: str, crates: re.Pattern[str]) -> str:
+    """A file without what says in which crate and module things stand: which names it takes is left, and not from where. So a crate can be
+    renamed or moved into another, and what was refused above it stays so. How lines are broken is left out as well."""
+    taking = TAKEN if path.endswith(".rt") else TAKEN_BY_PROOFS
+    text = crates.sub("", LISTED.sub("", text))
+    taken = {name for found in taking.finditer(text) for name in names_taken(found[1])}
+    words = " ".join(taking.sub("", text).split())
+    return f"{' '.join(sorted(taken))}\n{COMMA_AT_END.sub('', words)}"
+
+
+@cache
 def sum_of_files(folder: Path) -> bytes:
-    """A sum of all that a crate is proved from."""
-    made = hashlib.sha256()
+    """A sum of all that a crate is proved from, without the names of crates."""
+    made, crates = hashlib.sha256(), crates_beside(folder)
     for path, file in files_of(folder, PARTS):
-        content = file.read_bytes()
+        content = without_places(path, file.read_bytes().decode(), crates).encode()
         made.update(f"{path}\0{len(content)}\0".encode() + content)
     return made.digest()
 
 
 @cache
-def sum_of_contracts(folder: Path) -> bytes:
-    """A sum of what the crates above can see of a crate: its definitions, and the contracts of its code."""
-    made = hashlib.sha256()
+def sums_of_contracts(folder: Path) -> tuple[bytes, ...]:
+    """The sums of what the crates above can see of each file of a crate: its definitions, or the contracts of its code."""
+    found, crates = list[bytes](), crates_beside(folder)
     for path, file in files_of(folder, ["src", "specs"]):
-        content = file.read_bytes()
-        if path.endswith(".rt"):
-            content = contracts(content.decode()).encode()
-        made.update(f"{path}\0{len(content)}\0".encode() + content)
-    return made.digest()
+        text = file.read_bytes().decode()
+        found.append(hashlib.sha256(without_places(path, contracts(text) if path.endswith(".rt") else text, crates).encode()).digest())
+    return tuple(found)
 
 
 def sum_of_edit(edit: Edit, folder: Path, below: Iterable[Path], kit: bytes) -> str:
     """The sum of all that the verdict on an edit rests on: the kit's line, the crate, the contracts of those below it, and the edit."""
     made = hashlib.sha256(kit + sum_of_files(folder))
-    for each in sorted(below, key=lambda each: each.name):
-        made.update(f"{each.name}\0".encode() + sum_of_contracts(each))
+    for each in sorted({one for crate in below for one in sums_of_contracts(crate)}):
+        made.update(each)
     made.update(edit.text.encode())
     return made.hexdigest()
 

@@ -2,6 +2,7 @@
 
 from __future__ import annotations
 
+import re
 import sys
 import tempfile
 import unittest
@@ -18,6 +19,7 @@ from edits import (  # noqa: E402
     Texts,
     companions,
     contracts,
+    crates_beside,
     function_at,
     functions_of,
     is_of,
@@ -27,9 +29,10 @@ from edits import (  # noqa: E402
     reason_of,
     spans,
     strangers,
-    sum_of_contracts,
     sum_of_edit,
     sum_of_files,
+    sums_of_contracts,
+    without_places,
 )
 
 CODE = """//! Counts.
@@ -113,7 +116,7 @@ class InACrate(unittest.TestCase):
         (self.folder / "src" / "tally.rt").write_text(CODE)
         (self.folder / "src" / "other.rt").write_text(LEAF)
         sum_of_files.cache_clear()
-        sum_of_contracts.cache_clear()
+        sums_of_contracts.cache_clear()
 
 
 class Applying(InACrate):
@@ -246,7 +249,7 @@ class Sums(InACrate):
 
         def made(text: str = ADD, kit: bytes = b"kit") -> str:
             sum_of_files.cache_clear()
-            sum_of_contracts.cache_clear()
+            sums_of_contracts.cache_clear()
             return sum_of_edit(Edit("add", text), self.folder, [below], kit)
 
         first = made()
@@ -260,6 +263,28 @@ class Sums(InACrate):
         self.assertNotEqual(made(kit=b"other"), first)
         (self.folder / "src" / "other.rt").write_text(LEAF.replace("1", "2"))
         self.assertNotEqual(made(), first)
+
+    def test_a_sum_does_not_rest_on_the_places_of_things(self) -> None:
+        def made(crate: str, module: str, code: str, listed: str) -> str:
+            with tempfile.TemporaryDirectory() as room:
+                for name, text in {"low/src/lib.rt": listed, f"{crate}/src/{module}.rt": "pub fn two() -> u32 { 2 }\n", "up/src/one.rt": code}.items():
+                    file = Path(room, name)
+                    file.parent.mkdir(parents=True, exist_ok=True)
+                    file.write_text(text)
+                crates_beside.cache_clear()
+                return sum_of_edit(Edit("add", ADD), Path(room, "up"), [Path(room, each) for each in {"low", crate}], b"kit")
+
+        head, body = "ghost use Rattle.{}.specs.Counts.{{fits}};\n", "use {}{{least, two}};\n\nfn one() -> u32 {{ {}two() - 1 }}\n"
+        first = made("low", "two", (head + body).format("low", "low::", "low::"), "mod two;\n\npub use two::{least, two};\n")
+        self.assertEqual(made("base", "pair", (head + body).format("base", "base::", "base::"), ""), first)
+        self.assertEqual(made("low", "two", head.format("low") + "use low::two;\nuse low::least;\nfn one() -> u32 {\n    two() - 1\n}\n", ""), first)
+        self.assertNotEqual(made("low", "two", (head + body).format("low", "low::", "low::").replace("fits", "most"), ""), first)
+        self.assertNotEqual(made("low", "two", (head + body).format("low", "low::", "low::").replace("- 1", "- 2"), ""), first)
+
+    def test_what_proofs_take_is_told_without_its_places(self) -> None:
+        proof = "use Rattle.std.specs.Prelude.{ℕ}\nuse Rattle.low.proofs.Facts.{two,\n  one}\nuse Rattle.low.proofs.two.Goals as goal\n\nreturns c = one\n"
+        crates = re.compile(r"(?<![\w:.])crate::(?:[a-z_]\w*::)*(?=[\w{])|\bRattle\.low\.(?:[\w-]+\.)+(?=[^\s.}])")
+        self.assertEqual(without_places("proofs/two/Answers.antt", proof, crates), "Goals as goal Rattle.std.specs.Prelude.ℕ one two\nreturns c = one")
 
 
 class Judging(unittest.TestCase):

@@ -8,5 +8,4 @@ mod second;
 #[cfg(test)]
 mod tests;
 
-pub use game_rules::RuleGame;
 pub use second::run_rules;
