@@ -3,3 +3,4 @@ mod Transfers
 mod SameRelations
 mod Sometime
 mod ByNumber
+mod FirstLines

@@ -1,7 +1,7 @@
 //! From the text of a found description to one that is accepted.
 ghost use Rattle.std.specs.Prelude.{◌≡◌, ◌++◌, true, false, cond, List, IfOk, IfErr, OnOk};
 ghost use Rattle.std.specs.Bool.{OnTrue};
-ghost use Rattle.statement.specs.Tree.{Tree, trees_of};
+ghost use Rattle.statement.specs.Tree.{Tree, Trees, trees_of};
 ghost use Rattle.statement.specs.Items.{alternatives};
 ghost use Rattle.statement.specs.Profile.{HasNoFault};
 ghost use Rattle.statement.specs.Reading.{Reads};
@@ -14,8 +14,7 @@ ghost use Rattle.unroll.specs.Played.{played_items};
 ghost use Rattle.unroll.specs.Written.{IsShown, IsUnrollFault, IsWrittenFor, IsWrittenOut, shown_line, tested_line};
 
 use crate::showing::is_shown;
-use kif::Expr;
-use rules_profile::are_same_trees;
+use kif::{Expr, TEXT_LIMIT};
 use statement::RuleFault;
 use std::alloc::{AllocGlobal, Global};
 use unroll_datalog::{Excess, LimitFault};
@@ -144,21 +143,20 @@ fn joined(
     Ok(out)
 }
 
-/// A text that stands for what is written for items, behind the line that says whether it is shown to be played as these.
+/// A text behind the line that says whether it is shown to be played as items. The line is a comment, so the text stands for what it stood
+/// for, unless it is too long now.
 fn with_claim(
     alloc: Global,
     items: &[Expr<Global>],
-    written: &[Expr<Global>],
     text: &[u8],
     is_shown: bool,
 ) -> Result<Vec<u8>, UnrollFault>
-    ensures reads { IfOk result (λ out. Reads out.items (trees_of (trees_in written.now))) }
+    ensures reads { IfOk result (λ out. (written : Trees) → Reads text.now written → Reads out.items written) }
     ensures said { IfOk result (λ out. cond is_shown (IsShown out.items) (IsShown out.items → ⊥)) }
     ensures fault { IfErr result (IsRefusal (trees_in items.now)) }
 {
     let out = joined(alloc, items, first_line(is_shown), text)?;
-    let again = items_written(alloc, items, &out)?;
-    if !are_same_trees(&again, written) {
+    if out.len() > TEXT_LIMIT {
         return Err(UnrollFault::TooMany(Excess::Text));
     }
     Ok(out)
@@ -232,7 +230,7 @@ fn rewritten<T: AllocGlobal>(
         has_to_be,
     )?;
     items_that_cross_nothing_are_stratified();
-    with_claim(alloc, items, &written, text, is_shown)
+    with_claim(alloc, items, text, is_shown)
 }
 
 /// The text of a description without recursion and with `base` and `input`, in which each state and each value is that of the
