@@ -1,5 +1,5 @@
 # Completion of gdlsolve's words in bash: source this file, or put it among the files of bash-completion under the name gdlsolve.
-# Where it offers no word, as behind a <, bash completes the names of files. tools/help_pages writes it from the help of the program.
+# Where it offers no word, as behind a <, bash completes the names of files. tools/lint/help_pages writes it from the help of the program.
 
 # The command: the first word behind the name of the program that is no <, no > and no --rules, nor the file behind one. --proved is a word of the
 # script ./gdlsolve alone, and stands before the command.

@@ -32,7 +32,7 @@ def scripts(folder: Path) -> list[str]:
 class Types(unittest.TestCase):
     def test_all_of_python(self) -> None:
         own = [str(TOP / "python" / part) for part in ("gdlsolve", "tests", "tests/run", "setup.py")]
-        others = [file for folder in ("examples", "bench", "tools", "tools/tests") for file in scripts(TOP / folder)]
+        others = [file for folder in ("examples", "bench", "tools", "tools/lint", "tools/tests") for file in scripts(TOP / folder)]
         with tempfile.TemporaryDirectory() as kept:
             words = [str(MYPY), "--strict", "--scripts-are-modules", "--cache-dir", kept, *own, *others]
             env = {**os.environ, "MYPYPATH": f"{TOP / 'python'}:{TOP / 'bench'}:{TOP / 'tools'}"}

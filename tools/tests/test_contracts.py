@@ -1,4 +1,4 @@
-"""Tests of what tools/contracts reads and writes: python3 -m unittest discover tools/tests"""
+"""Tests of what tools/lint/contracts reads and writes: python3 -m unittest discover tools/tests"""
 
 from __future__ import annotations
 
@@ -13,14 +13,13 @@ from pathlib import Path
 from types import ModuleType
 from unittest import mock
 
-TOOLS = Path(__file__).resolve().parent.parent
-sys.path.insert(0, str(TOOLS))
+LINT = Path(__file__).resolve().parent.parent / "lint"
 sys.dont_write_bytecode = True
 
 
 def script(name: str) -> ModuleType:
-    """A script of tools/ as a module."""
-    loader = importlib.machinery.SourceFileLoader(name, str(TOOLS / name))
+    """A script of tools/lint/ as a module."""
+    loader = importlib.machinery.SourceFileLoader(name, str(LINT / name))
     spec = importlib.util.spec_from_loader(name, loader)
     assert spec
     made = importlib.util.module_from_spec(spec)

@@ -1,4 +1,4 @@
-"""What `tools/sentences` takes for a sentence, how it counts words, and which pages it refuses."""
+"""What `tools/lint/sentences` takes for a sentence, how it counts words, and which pages it refuses."""
 
 from __future__ import annotations
 
@@ -12,12 +12,13 @@ from pathlib import Path
 from types import ModuleType
 
 TOOLS = Path(__file__).resolve().parent.parent
+LINT = TOOLS / "lint"
 sys.dont_write_bytecode = True
 
 
 def script(name: str) -> ModuleType:
-    """A script of tools/ as a module."""
-    loader = importlib.machinery.SourceFileLoader(name, str(TOOLS / name))
+    """A script of tools/lint/ as a module."""
+    loader = importlib.machinery.SourceFileLoader(name, str(LINT / name))
     spec = importlib.util.spec_from_loader(name, loader)
     assert spec
     made = importlib.util.module_from_spec(spec)
@@ -82,10 +83,10 @@ class Pages(unittest.TestCase):
             for text, status in [(WELL, 0), (LONG, 1)]:
                 page = Path(folder) / "page.md"
                 page.write_text(text)
-                self.assertEqual(subprocess.run([TOOLS / "sentences", page], capture_output=True, check=False).returncode, status)
+                self.assertEqual(subprocess.run([LINT / "sentences", page], capture_output=True, check=False).returncode, status)
 
     def test_the_gate_asks_for_them(self) -> None:
-        self.assertIn("tools/sentences", (TOOLS.parent / ".ci" / "run").read_text())
+        self.assertIn("tools/lint/sentences", (TOOLS.parent / ".ci" / "run").read_text())
 
 
 if __name__ == "__main__":
