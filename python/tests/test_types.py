@@ -1,4 +1,4 @@
-"""The types of the package, its tests, and the scripts of bench/, tools/ and examples/, by mypy where it is there."""
+"""The types of the package, its tests, and the scripts of bench/, tests/, tools/ and examples/, by mypy where it is there."""
 
 import importlib.util
 import os
@@ -32,10 +32,10 @@ def scripts(folder: Path) -> list[str]:
 class Types(unittest.TestCase):
     def test_all_of_python(self) -> None:
         own = [str(TOP / "python" / part) for part in ("gdlsolve", "tests", "tests/run", "setup.py")]
-        others = [file for folder in ("examples", "bench", "tools", "tools/lint", "tools/tests") for file in scripts(TOP / folder)]
+        others = [file for folder in ("examples", "bench", "tests", "tools", "tools/lint", "tools/tests") for file in scripts(TOP / folder)]
         with tempfile.TemporaryDirectory() as kept:
             words = [str(MYPY), "--strict", "--scripts-are-modules", "--cache-dir", kept, *own, *others]
-            env = {**os.environ, "MYPYPATH": f"{TOP / 'python'}:{TOP / 'bench'}:{TOP / 'tools'}"}
+            env = {**os.environ, "MYPYPATH": f"{TOP / 'python'}:{TOP / 'bench'}:{TOP / 'tests'}:{TOP / 'tools'}"}
             done = subprocess.run(words, cwd=TOP, env=env, capture_output=True, text=True)
         self.assertEqual(done.returncode, 0, done.stdout + done.stderr)
 

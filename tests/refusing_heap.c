@@ -1,5 +1,5 @@
 // The heap of a built program that counts its growths and refuses some of them, and counts and refuses threads in the
-// same way. bench/refuse links it in the place of the heap that the program stands on.
+// same way. tests/refuse links it in the place of the heap that the program stands on.
 //   REFUSE=N, REFUSE_THREAD=N    the Nth is refused; N+: the Nth and all behind it
 //   REFUSE_MARKED=1              only what is asked for between two marks is counted and refused; a mark is a growth of
 //                                MARK bytes, which tests of single calls ask for and give back

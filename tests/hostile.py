@@ -11,8 +11,7 @@ from collections.abc import Callable
 from dataclasses import dataclass
 from pathlib import Path
 
-from timing import TOP
-
+TOP = Path(__file__).resolve().parent.parent
 STATUSES = {"answer": 0, "misuse": 1, "refusal": 2, "memory": 3, "device": 4}
 TEXT_LIMIT = 1_048_576
 OPEN_LIMIT = 100
@@ -101,7 +100,7 @@ def linked(objects: Path, folder: Path) -> Path:
     """The program of these objects over the heap that counts and refuses, in a folder."""
     kit = Path(subprocess.run(["rt", "doc"], stdout=subprocess.PIPE, text=True, check=True).stdout.strip()).parent
     made = folder / "program"
-    heap = TOP / "bench" / "refusing_heap.c"
+    heap = TOP / "tests" / "refusing_heap.c"
     wraps = "-Wl,--wrap=pthread_create,--wrap=_exit"
     words = ["cc", "-O1", wraps, "-o", str(made), str(objects), str(heap), f"{kit}/c/libos_c.a", "-lpthread"]
     subprocess.run(words, check=True)
