@@ -27,16 +27,26 @@ class Timed:
     processor: float = 0.0
 
 
+def add_program(words: argparse.ArgumentParser) -> None:
+    """The option that names the program."""
+    words.add_argument("--program", metavar="COMMAND", help="the program to run, in place of the proved one")
+
+
+def add_games(words: argparse.ArgumentParser) -> None:
+    """The option that names the folder of descriptions."""
+    words.add_argument("--games", metavar="DIR", type=Path, default=TOP / "games", help="the folder of descriptions")
+
+
 def options(about: str) -> argparse.ArgumentParser:
     """The options that each script has; a script adds its own."""
     words = argparse.ArgumentParser(description=about)
-    words.add_argument("--program", metavar="COMMAND", help="the program to run, in place of the proved one")
-    words.add_argument("--games", metavar="DIR", type=Path, default=TOP / "games", help="the folder of descriptions")
+    add_program(words)
+    add_games(words)
     return words
 
 
 def add_beside(words: argparse.ArgumentParser, runs: int) -> None:
-    """The options of the scripts that can time another program beside the first."""
+    """The options of what can time another program beside the first."""
     words.add_argument("--beside", metavar="COMMAND", help="another program, timed turn about with the first")
     words.add_argument("--runs", metavar="N", type=int, default=runs, help="how often each row is run")
     words.add_argument("--limit", metavar="SECONDS", type=float, default=60, help="a longer run is given up")
