@@ -16,12 +16,13 @@ import time
 from pathlib import Path
 
 import gdlsolve
-from gdlsolve import Position, State, whole
-from gdlsolve.calls import answer
-from gdlsolve.engine import Children, Engine, Turn
-from gdlsolve.simulation import Question
-from gdlsolve.streams import hush
-from gdlsolve.thinking import Choice, Thinking
+from gdlsolve import Position, State
+from gdlsolve.console.streams import hush
+from gdlsolve.player.thinking import Choice, Thinking
+from gdlsolve.player.tree_search import Question
+from gdlsolve.solver import unrolled
+from gdlsolve.solver.calls import answer
+from gdlsolve.solver.engine import Children, Engine, Turn
 
 # A move of the solver takes no longer, in seconds: a day.
 LONGEST = 86_400
@@ -126,7 +127,7 @@ def told(choice: Choice) -> str:
 def main() -> None:
     given = options()
     # A game as it is found is written out first, and in comments any byte may stand.
-    rules = whole.playable(given.rules.read_bytes(), answer).decode(errors="replace")
+    rules = unrolled.playable(given.rules.read_bytes(), answer).decode(errors="replace")
     here = Table(rules, given.role, given.time).play()
     if here.state is State.STUCK:
         print("stuck: some role has no legal move")

@@ -9,8 +9,9 @@ import argparse
 import random
 from pathlib import Path
 
-from gdlsolve import Misuse, Position, Refusal, Session, State, whole
-from gdlsolve.calls import answer
+from gdlsolve import Misuse, Position, Refusal, Session, State
+from gdlsolve.solver import unrolled
+from gdlsolve.solver.calls import answer
 
 Turn = tuple[str, ...]
 
@@ -54,7 +55,7 @@ def print_table(rows: list[list[str]]) -> None:
 
 def main() -> None:
     given = options()
-    with Session(whole.playable(given.rules.read_bytes(), answer)) as session:
+    with Session(unrolled.playable(given.rules.read_bytes(), answer)) as session:
         roles = session.check().roles
         given.role = given.role or roles[0]
         if given.role not in roles:

@@ -15,12 +15,12 @@ as `MemoryError`, an answer that is not there in time as `TimedOut`, and a progr
 {'a': 0, 'b': 100}
 """
 # This one first, so that a key ends a command in silence also while the others are read.
-from gdlsolve import keys as keys
-from gdlsolve.asking import reply
-from gdlsolve.calls import Cancelled, Ended, Misuse, Refusal, Reply, Status, TimedOut
-from gdlsolve.commands import Bound, History, check, moves, net, show, solve, solve_within, state, unroll, values
-from gdlsolve.replies import Description, Network, Outside, Position, Solution, Standing, State, Values
-from gdlsolve.session import Session
+from gdlsolve.console import keys as keys
+from gdlsolve.solver.answers import Description, Network, Outside, Position, Solution, Standing, State, Values
+from gdlsolve.solver.calls import Cancelled, Ended, Misuse, Refusal, Reply, Status, TimedOut
+from gdlsolve.solver.commands import Bound, History, check, moves, net, show, solve, solve_within, state, unroll, values
+from gdlsolve.solver.session import Session
+from gdlsolve.solver.timed import reply
 
 __version__ = "0.1.0"
 

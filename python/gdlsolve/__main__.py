@@ -18,15 +18,16 @@ from enum import Enum
 from pathlib import Path
 from typing import Any, NoReturn
 
-from gdlsolve import keys, program, whole
-from gdlsolve.asking import SEARCHES, reply
-from gdlsolve.calls import ASKS_FOR_HELP, Ended, Misuse, Refusal, Reply, Status, lines_of
-from gdlsolve.deepening import Deepest, deepen
-from gdlsolve.engine import Broken, readable
-from gdlsolve.progress import progress
-from gdlsolve.replies import Description, Network, Outside, Position, Solution, Standing, Values
-from gdlsolve.streams import StreamFault, on_input, put, say
-from gdlsolve.terms import terms
+from gdlsolve.console import keys
+from gdlsolve.console.progress import progress
+from gdlsolve.console.streams import StreamFault, on_input, put, say
+from gdlsolve.solver import program, unrolled
+from gdlsolve.solver.answers import Description, Network, Outside, Position, Solution, Standing, Values
+from gdlsolve.solver.calls import ASKS_FOR_HELP, Ended, Misuse, Refusal, Reply, Status, lines_of
+from gdlsolve.solver.deepening import Deepest, deepen
+from gdlsolve.solver.engine import Broken, readable
+from gdlsolve.solver.terms import terms
+from gdlsolve.solver.timed import SEARCHES, reply
 
 USAGE = """
 With this package a file of rules may stand among the words, also without --rules, else they are read on standard input. Further options:
@@ -236,7 +237,7 @@ def written_out(line: Line, rules: bytes) -> tuple[Line, Reply]:
     if not OVER_RULES & set(command):
         raise Misuse(f"--whole does not go with {' '.join(command) or 'no command'}")
     left = [word for word in line.words if word != "--tighten"]
-    return replace(line, words=left, whole=False), whole.reply(rules, len(left) < len(line.words))
+    return replace(line, words=left, whole=False), unrolled.reply(rules, len(left) < len(line.words))
 
 
 def serve(line: Line) -> NoReturn:

@@ -12,7 +12,7 @@ import unittest
 from collections.abc import Sequence
 from pathlib import Path
 
-from gdlsolve import calls, program
+from gdlsolve.solver import calls, program
 
 TOP = Path(__file__).resolve().parent.parent.parent
 GAMES = sorted((TOP / "games").glob("*.kif"))

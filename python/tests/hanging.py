@@ -13,8 +13,8 @@ from pathlib import Path
 
 sys.path.insert(0, str(Path(__file__).resolve().parent.parent))
 
-from gdlsolve.answering import Answers, run
-from gdlsolve.calls import Ended, Reply
+from gdlsolve.solver.calls import Ended, Reply
+from gdlsolve.solver.child import Answers, run
 
 
 class Hanging(Answers):

@@ -16,10 +16,10 @@ from pathlib import Path
 from typing import Any
 from unittest import SkipTest, TestCase
 
-from gdlsolve.door import Door
-from gdlsolve.engine import SESSION_COMMAND, Broken, Children, Engine, Limit
-from gdlsolve.match import Options
-from gdlsolve.player import Player
+from gdlsolve.player.access import Door
+from gdlsolve.player.match import Options
+from gdlsolve.player.player import Player
+from gdlsolve.solver.engine import SESSION_COMMAND, Broken, Children, Engine, Limit
 from tests import ENDLESS, ENDLESS_RULES, PROGRAM, TOP
 
 HANGING = Path(__file__).with_name("hanging.py")
@@ -134,7 +134,7 @@ class Served:
 
     def __init__(self, test: TestCase, command: Sequence[str] | None = None, door: Door = Door(), **options: Any):
         try:
-            from gdlsolve.listening import Server
+            from gdlsolve.player.server import Server
         except ModuleNotFoundError as fault:
             raise SkipTest(f"there is no {fault.name} (python3-{fault.name})") from None
         self.player = Player(Options(is_quiet=True, **options), command or SESSIONS)

@@ -14,7 +14,8 @@ from pathlib import Path
 from unittest.mock import patch
 
 import gdlsolve
-from gdlsolve import Cancelled, Ended, Session, TimedOut, asking, program
+from gdlsolve import Cancelled, Ended, Session, TimedOut
+from gdlsolve.solver import program, timed
 from tests import ENDLESS_RULES, NO_LIBRARY, PROGRAM, TOP, known, needs_library
 from tests.serving import LONG, all_started_by, processor_time, until, wait_for_end
 
@@ -246,7 +247,7 @@ class Children(unittest.TestCase):
             self.skipTest("no library answers here")
         for rules in (MARKS, MARKS + " ", MARKS):
             gdlsolve.solve(rules, "xplayer", 1)
-        standing = asking.of_library(self.file())
+        standing = timed.of_library(self.file())
         self.assertEqual([child.rules for child in standing.idle].count(MARKS.encode()), 1)
 
     @needs_library
@@ -257,7 +258,7 @@ class Children(unittest.TestCase):
 
     def file(self) -> Path:
         """The file of the library."""
-        found = gdlsolve.calls.library()
+        found = gdlsolve.solver.calls.library()
         assert found is not None
         return found
 

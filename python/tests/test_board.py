@@ -2,8 +2,8 @@
 
 import unittest
 
-from gdlsolve import board
-from gdlsolve.board import Style
+from gdlsolve.page import board
+from gdlsolve.page.board import Style
 
 CELLS = [f"(cell {x} {y} {mark})" for x in "123" for y in "123" for mark in "bxo"]
 CONTROL = ["(control xplayer)", "(control oplayer)"]

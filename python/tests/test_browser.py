@@ -22,9 +22,9 @@ from pathlib import Path
 from typing import Any
 from unittest.mock import patch
 
-from gdlsolve.engine import OWN_COMMAND, Pool
 from gdlsolve.page.desk import Desk
 from gdlsolve.page.server import QUESTIONS, Server
+from gdlsolve.solver.engine import OWN_COMMAND, Pool
 from tests import ENDLESS, ENDLESS_RULES, PROGRAM, TOP, needs_program
 from tests.found import FOUND, LISTED
 from tests.serving import until

@@ -5,7 +5,8 @@ import unittest
 from concurrent.futures import ThreadPoolExecutor
 
 import gdlsolve
-from gdlsolve import Misuse, Refusal, State, Status, calls, reply
+from gdlsolve import Misuse, Refusal, State, Status, reply
+from gdlsolve.solver import calls
 from tests import PROGRAM, TOP, needs_library, needs_program, ran
 
 PENNIES = (TOP / "games/matching_pennies.kif").read_bytes()

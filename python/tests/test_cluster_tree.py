@@ -10,7 +10,6 @@ from pathlib import Path
 from typing import Any
 from unittest.mock import patch
 
-from gdlsolve.calls import Misuse, Refusal
 from gdlsolve.cluster import Contradiction, Failed, Lost, OtherProgram, command, driver, sought, task
 from gdlsolve.cluster.driver import Driver, Engine, Manner, Sought, Submits, reading
 from gdlsolve.cluster.engines import Share
@@ -18,6 +17,7 @@ from gdlsolve.cluster.journal import Journal, Known
 from gdlsolve.cluster.program import Ran
 from gdlsolve.cluster.task import End, Outcome, Question
 from gdlsolve.cluster.tree import Node, goals, widest
+from gdlsolve.solver.calls import Misuse, Refusal
 from tests import toy
 
 SEEDS = range(60)

@@ -12,7 +12,7 @@ from pathlib import Path
 
 import gdlsolve
 from gdlsolve import Misuse, Refusal
-from gdlsolve.engine import Broken, Child, Children, Engine, Late, Limit
+from gdlsolve.solver.engine import Broken, Child, Children, Engine, Late, Limit
 from tests import ENDLESS_RULES, GAMES, TOP, known, needs_program
 from tests.serving import HANGING, LONG, SESSIONS, Asking, is_alive, started_by, wait_for_end
 
@@ -173,7 +173,7 @@ class Processes(unittest.TestCase):
     def test_children_end_with_who_asked_also_in_the_midst_of_an_answer(self) -> None:
         text = (
             "import sys, threading, time\n"
-            "from gdlsolve.engine import Children, Engine, Limit\n"
+            "from gdlsolve.solver.engine import Children, Engine, Limit\n"
             "children = Children(1, [sys.executable, *sys.argv[1:]], spare=0)\n"
             "engine = Engine('(role a)', children)\n"
             "engine.check(Limit(time.monotonic() + 60))\n"
@@ -199,7 +199,7 @@ class Processes(unittest.TestCase):
     def test_a_program_that_searches_ends_with_who_asked(self) -> None:
         text = (
             "import sys, time\n"
-            "from gdlsolve.engine import Children, Engine, Limit\n"
+            "from gdlsolve.solver.engine import Children, Engine, Limit\n"
             "engine = Engine(sys.stdin.read(), Children(1, sys.argv[1:], spare=0))\n"
             "engine.check(Limit(time.monotonic() + 60))\n"
             "print(engine.child.process.pid, flush=True)\n"

@@ -4,8 +4,9 @@ import unittest
 from pathlib import Path
 
 import gdlsolve
-from gdlsolve import Solution, Status, calls, reply
-from gdlsolve.commands import Bound
+from gdlsolve import Solution, Status, reply
+from gdlsolve.solver import calls
+from gdlsolve.solver.commands import Bound
 from tests import GAMES, needs_library, needs_program, ran
 
 

@@ -11,7 +11,8 @@ from collections.abc import Sequence
 from pathlib import Path
 from unittest.mock import patch
 
-from gdlsolve import __version__, keys
+from gdlsolve import __version__
+from gdlsolve.console import keys
 from tests import TOP, known, package
 from tests.serving import LONG, until
 

@@ -6,10 +6,10 @@ import unittest
 
 import gdlsolve
 from gdlsolve import Misuse, Position, State, Status
-from gdlsolve.engine import Limit, Playouts, Turn
-from gdlsolve.gates import Gates
-from gdlsolve.grounding import Grounding, TooLarge
-from gdlsolve.lanes import NOT_YET, TOO_LARGE, Lanes, Rehearsal
+from gdlsolve.player.gates import Gates
+from gdlsolve.solver.engine import Limit, Playouts, Turn
+from gdlsolve.solver.grounding import Grounding, TooLarge
+from gdlsolve.solver.propnet import NOT_YET, TOO_LARGE, Lanes, Rehearsal
 from tests import GAMES, TOP
 from tests.serving import LONG, Asking
 

@@ -3,7 +3,7 @@
 import ctypes
 import unittest
 
-from gdlsolve import calls
+from gdlsolve.solver import calls
 from tests import needs_library
 
 # Two roles choose at once. The first wins where they choose the same, and the second where they do not.

@@ -18,9 +18,9 @@ from typing import Any
 
 import gdlsolve
 from gdlsolve import State
-from gdlsolve.manager import Record, Referee, made, options, resumed
+from gdlsolve.manager.client import post
+from gdlsolve.manager.referee import Record, Referee, made, options, resumed
 from gdlsolve.page import records
-from gdlsolve.posting import post
 from tests import TOP, known, package
 from tests.serving import LONG, PACE, Served
 

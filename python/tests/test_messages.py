@@ -9,9 +9,9 @@ import unittest
 from concurrent.futures import ThreadPoolExecutor
 from unittest.mock import patch
 
-from gdlsolve.messages import Message, clock, parts_of, tree, turn
-from gdlsolve.notes import note, shown
-from gdlsolve.terms import Malformed, trees
+from gdlsolve.console.notes import note, shown
+from gdlsolve.player.messages import Message, clock, parts_of, tree, turn
+from gdlsolve.solver.terms import Malformed, trees
 
 
 class Reading(unittest.TestCase):

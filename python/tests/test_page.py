@@ -18,12 +18,12 @@ from pathlib import Path
 from typing import Any
 from unittest.mock import patch
 
-from gdlsolve.calls import Refusal, Reply
-from gdlsolve.engine import Child, Children, Engine, Limit, Pool
 from gdlsolve.page import looks, places, records, server, sessions, state
 from gdlsolve.page.desk import MOST_LOOKS, Desk
 from gdlsolve.page.server import Server
-from gdlsolve.replies import Worth
+from gdlsolve.solver.answers import Worth
+from gdlsolve.solver.calls import Refusal, Reply
+from gdlsolve.solver.engine import Child, Children, Engine, Limit, Pool
 from tests import ENDLESS, ENDLESS_RULES, TOP, known, package
 from tests.serving import Held, processor_time, until
 

@@ -22,11 +22,11 @@ from typing import Any
 from unittest.mock import patch
 
 import gdlsolve
-from gdlsolve import program
-from gdlsolve.door import Door
-from gdlsolve.match import MOST_WAITING, TARDY
-from gdlsolve.player import MOST_LONG
-from gdlsolve.thinking import Thinking
+from gdlsolve.player.access import Door
+from gdlsolve.player.match import MOST_WAITING, TARDY
+from gdlsolve.player.player import MOST_LONG
+from gdlsolve.player.thinking import Thinking
+from gdlsolve.solver import program
 from tests import ENDLESS, ENDLESS_RULES, LONG_TESTS, TOP, known, package
 from tests.serving import LONG, PACE, Held, Served, all_started_by, clocks, post, processor_time, rules_of, started_by, until, wait_for_end
 
@@ -438,7 +438,7 @@ class Strangers(unittest.TestCase):
 
     def test_messages_that_do_not_end_take_no_more_than_so_much(self) -> None:
         served = Served(self)
-        with patch("gdlsolve.listening.MOST_HELD", 1 << 20), ExitStack() as held:
+        with patch("gdlsolve.player.server.MOST_HELD", 1 << 20), ExitStack() as held:
             for _ in range(24):
                 link = held.enter_context(socket.create_connection(("127.0.0.1", served.port), LONG))
                 with suppress(ConnectionError):

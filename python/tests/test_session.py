@@ -8,10 +8,11 @@ from pathlib import Path
 from unittest import mock
 
 import gdlsolve
-from gdlsolve import Misuse, Refusal, Session, calls, program
-from gdlsolve.handles import Handle, has_handles
-from gdlsolve.session import ByLibrary, ByProgram
-from gdlsolve.standing import AT_ONCE, ByHandle, Process, line_of
+from gdlsolve import Misuse, Refusal, Session
+from gdlsolve.solver import calls, program
+from gdlsolve.solver.handles import Handle, has_handles
+from gdlsolve.solver.serve import AT_ONCE, ByHandle, Process, line_of
+from gdlsolve.solver.session import ByLibrary, ByProgram
 from tests import GAMES, NO_LIBRARY, PROGRAM, TOP, needs_program, ran
 
 PENNIES = (TOP / "games/matching_pennies.kif").read_bytes()

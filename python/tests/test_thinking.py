@@ -7,10 +7,10 @@ from collections.abc import Callable
 from unittest.mock import patch
 
 import gdlsolve
-from gdlsolve.engine import Children, Engine, Playouts, Turn
-from gdlsolve.gates import Gates
-from gdlsolve.simulation import Question
-from gdlsolve.thinking import Choice, Thinking
+from gdlsolve.player.gates import Gates
+from gdlsolve.player.thinking import Choice, Thinking
+from gdlsolve.player.tree_search import Question
+from gdlsolve.solver.engine import Children, Engine, Playouts, Turn
 from tests import ENDLESS_RULES, TOP
 from tests.serving import LONG, Asking, until
 
@@ -153,7 +153,7 @@ class Choices(Asking):
     def test_gates_are_built_from_question_to_question(self) -> None:
         rules = (TOP / "games/tic_tac_toe.kif").read_text() + SLOW
         gates, deep, quick, here = Gates(self.engine(rules)), self.engine(rules), self.engine(rules), gdlsolve.moves(rules)
-        with patch("gdlsolve.gates.PIECE", 0.02):
+        with patch("gdlsolve.player.gates.PIECE", 0.02):
             gates.build()
             child = gates.engine.child
             self.assertTrue(gates.are_wanted())

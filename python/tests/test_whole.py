@@ -10,11 +10,12 @@ from pathlib import Path
 from unittest.mock import patch
 
 import gdlsolve
-from gdlsolve import Misuse, Refusal, Session, State, program, whole
-from gdlsolve.engine import Engine, Limit, Pool
-from gdlsolve.gates import Gates
-from gdlsolve.manager import Record, Referee, made, options, resumed
+from gdlsolve import Misuse, Refusal, Session, State
+from gdlsolve.manager.referee import Record, Referee, made, options, resumed
 from gdlsolve.page.desk import SHOWN as PROVED, TESTED, WRITTEN, Desk
+from gdlsolve.player.gates import Gates
+from gdlsolve.solver import program, unrolled
+from gdlsolve.solver.engine import Engine, Limit, Pool
 from tests import GAMES, PROGRAM, TOP, known, needs_library, needs_program, package, ran
 from tests.found import BEGINS, FOUND, LISTED, NEVER
 from tests.serving import LONG, Asking, Served, clocks
@@ -66,17 +67,17 @@ class Texts(unittest.TestCase):
             ("(base", True),
         ):
             with self.subTest(text=text[:30]):
-                self.assertIs(whole.states_all(text.encode()), want)
-        self.assertTrue(all(whole.states_all(game.read_bytes()) for game in GAMES))
+                self.assertIs(unrolled.states_all(text.encode()), want)
+        self.assertTrue(all(unrolled.states_all(game.read_bytes()) for game in GAMES))
 
     def test_what_is_played(self) -> None:
         stands = GAMES[0].read_bytes()
-        self.assertIs(whole.playable(stands, gdlsolve.calls.answer), stands)
+        self.assertIs(unrolled.playable(stands, gdlsolve.solver.calls.answer), stands)
         for text in (FOUND, LISTED):
-            self.assertEqual(whole.playable(text.encode(), gdlsolve.calls.answer), gdlsolve.unroll(text).encode())
+            self.assertEqual(unrolled.playable(text.encode(), gdlsolve.solver.calls.answer), gdlsolve.unroll(text).encode())
         for text, code in ((NEVER, "U1"), ("(role a", "K4"), ("", "G6")):
             with self.subTest(text=text), self.assertRaises(Refusal) as caught:
-                whole.playable(text.encode(), gdlsolve.calls.answer)
+                unrolled.playable(text.encode(), gdlsolve.solver.calls.answer)
             self.assertEqual(caught.exception.code, code)
 
     def test_the_first_line_says_what_is_shown(self) -> None:
@@ -84,13 +85,13 @@ class Texts(unittest.TestCase):
         self.assertEqual(len(games), 10)
         for game in games:
             with self.subTest(game=game.stem):
-                self.assertTrue(whole.is_shown(gdlsolve.unroll(game.read_bytes()).encode()))
+                self.assertTrue(unrolled.is_shown(gdlsolve.unroll(game.read_bytes()).encode()))
         for text in (JOINED, EITHER):
-            self.assertTrue(whole.is_shown(gdlsolve.unroll(text).encode()))
-            self.assertTrue(whole.is_shown(gdlsolve.unroll(text, tighten=True).encode()))
+            self.assertTrue(unrolled.is_shown(gdlsolve.unroll(text).encode()))
+            self.assertTrue(unrolled.is_shown(gdlsolve.unroll(text, tighten=True).encode()))
         written = gdlsolve.unroll(FAR)
         self.assertTrue(written.startswith("; Tested and not shown: "))
-        self.assertFalse(whole.is_shown(written.encode()))
+        self.assertFalse(unrolled.is_shown(written.encode()))
 
     def test_what_is_written_out_may_have_more_inputs(self) -> None:
         written = gdlsolve.unroll(QUEEN)
@@ -116,13 +117,13 @@ class Texts(unittest.TestCase):
         with self.assertRaises(Refusal) as caught:
             gdlsolve.moves(rules)
         self.assertEqual(caught.exception.code, "N1")
-        played = whole.playable(rules.encode(), gdlsolve.calls.answer)
+        played = unrolled.playable(rules.encode(), gdlsolve.solver.calls.answer)
         self.assertEqual(len(gdlsolve.moves(played).legal["a"]), 70)
 
     def test_without_a_program_rules_stand_as_they_are(self) -> None:
-        self.assertEqual(whole.playable(LISTED.encode(), asked), LISTED.encode())
+        self.assertEqual(unrolled.playable(LISTED.encode(), asked), LISTED.encode())
         with self.assertRaises(Refusal) as caught:
-            whole.playable(FOUND.encode(), asked)
+            unrolled.playable(FOUND.encode(), asked)
         self.assertEqual(str(caught.exception), RECURSIVE)
 
 

@@ -13,11 +13,11 @@ from collections.abc import Callable, Sequence
 from concurrent.futures import Executor
 from pathlib import Path
 
-from gdlsolve.calls import Misuse, Refusal, Status, lines_of
 from gdlsolve.cluster.driver import Driver, Engine, Manner, Sought, written_out
 from gdlsolve.cluster.faults import ClusterFault, Contradiction, Failed, Lost, OtherProgram
-from gdlsolve.commands import Bound, History
-from gdlsolve.replies import Solution
+from gdlsolve.solver.answers import Solution
+from gdlsolve.solver.calls import Misuse, Refusal, Status, lines_of
+from gdlsolve.solver.commands import Bound, History
 
 __all__ = [
     "ClusterFault",

@@ -18,14 +18,15 @@ from contextlib import AbstractContextManager
 from dataclasses import asdict
 from pathlib import Path
 
-from gdlsolve import __version__, keys
-from gdlsolve.calls import Misuse, Refusal, Status
+from gdlsolve import __version__
 from gdlsolve.cluster import MOST_TURNS, engines, nodes, sought
 from gdlsolve.cluster.driver import Driver, Engine, Manner
 from gdlsolve.cluster.engines import Share
 from gdlsolve.cluster.faults import ClusterFault
 from gdlsolve.cluster.options import Parser, add_tls, one, processors, tls_of
-from gdlsolve.streams import StreamFault, on_input, put, say
+from gdlsolve.console import keys
+from gdlsolve.console.streams import StreamFault, on_input, put, say
+from gdlsolve.solver.calls import Misuse, Refusal, Status
 
 STREAM_FAILED = 4
 NO_ANSWER = 69

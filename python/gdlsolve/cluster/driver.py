@@ -14,7 +14,6 @@ from itertools import product
 from pathlib import Path
 from typing import Protocol
 
-from gdlsolve.calls import Misuse, Refusal, Reply, Status, is_too_wide, lines_of
 from gdlsolve.cluster import program, task
 from gdlsolve.cluster.faults import Contradiction, Failed, Lost, OtherProgram
 from gdlsolve.cluster.journal import Journal, Known, key_of
@@ -31,9 +30,10 @@ from gdlsolve.cluster.tree import (
     value_needs,
     widest,
 )
-from gdlsolve.replies import Position, State
-from gdlsolve.terms import terms
-from gdlsolve.whole import words as whole_words
+from gdlsolve.solver.answers import Position, State
+from gdlsolve.solver.calls import Misuse, Refusal, Reply, Status, is_too_wide, lines_of
+from gdlsolve.solver.terms import terms
+from gdlsolve.solver.unrolled import words as whole_words
 
 # So often a question is asked of a program or an engine that fails.
 TRIES = 3

@@ -27,10 +27,12 @@ from importlib.util import find_spec
 from pathlib import Path
 from typing import Any
 
-from gdlsolve import __version__, keys, program
-from gdlsolve.calls import Misuse
+from gdlsolve import __version__
 from gdlsolve.cluster.options import Parser, above_0, add_tls, one, processors, tls_of
-from gdlsolve.streams import say
+from gdlsolve.console import keys
+from gdlsolve.console.streams import say
+from gdlsolve.solver import program
+from gdlsolve.solver.calls import Misuse
 
 PARTS = ("scheduler", "worker")
 PORT = 8786

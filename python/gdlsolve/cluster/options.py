@@ -11,7 +11,7 @@ from importlib import import_module
 from pathlib import Path
 from typing import Any, NoReturn, TypeVar
 
-from gdlsolve.calls import Misuse
+from gdlsolve.solver.calls import Misuse
 
 Found = TypeVar("Found")
 

@@ -13,9 +13,9 @@ from collections.abc import Callable, Sequence
 from functools import lru_cache
 from pathlib import Path
 
-from gdlsolve import program
-from gdlsolve.calls import answers
-from gdlsolve.program import VARIABLE, Ran, Stopped
+from gdlsolve.solver import program
+from gdlsolve.solver.calls import answers
+from gdlsolve.solver.program import VARIABLE, Ran, Stopped
 
 __all__ = ["VARIABLE", "Ran", "Stopped", "digest", "run"]
 

@@ -14,9 +14,9 @@ from collections.abc import Callable
 from dataclasses import dataclass
 from enum import Enum
 
-from gdlsolve.calls import Status, lines_of
 from gdlsolve.cluster import program
-from gdlsolve.program import ORPHANED
+from gdlsolve.solver.calls import Status, lines_of
+from gdlsolve.solver.program import ORPHANED
 
 # No value is outside.
 OPEN = (-1, 101)

@@ -15,12 +15,13 @@ from pathlib import Path
 from typing import Any
 
 import gdlsolve
-from gdlsolve import board, whole
-from gdlsolve.calls import Refusal, Reply
-from gdlsolve.engine import Children, Engine, Late, Limit, Pool
+from gdlsolve.page import board
 from gdlsolve.page import looks, places, records, state
 from gdlsolve.page.sessions import Sessions
-from gdlsolve.replies import Description
+from gdlsolve.solver import unrolled
+from gdlsolve.solver.answers import Description
+from gdlsolve.solver.calls import Refusal, Reply
+from gdlsolve.solver.engine import Children, Engine, Late, Limit, Pool
 
 MOST_GAMES = 32
 MOST_LOOKS = 8
@@ -90,7 +91,7 @@ class Desk:
         """The lines of a short answer."""
         return self.reply(words, rules).lines()
 
-    def _over(self, game: Opened, engine: Engine) -> whole.Ask:
+    def _over(self, game: Opened, engine: Engine) -> unrolled.Ask:
         """What tells the lines of a short answer: a session where it is over the rules of its game."""
 
         def ask(words: Sequence[str], rules: bytes) -> list[str]:
@@ -149,7 +150,7 @@ class Desk:
             return once(tuple(words), rules).lines()
 
         try:
-            rules = whole.playable(found, ask) if path or told.get("whole") else found
+            rules = unrolled.playable(found, ask) if path or told.get("whole") else found
             roles = Description.of(ask(["check"], rules)).roles
             ask(["moves"], rules)
         except Refusal as refused:
@@ -158,10 +159,10 @@ class Desk:
         base = state.base(rules, roles[0], self._ask) if style.draw else []
         name = path.stem if path else "pasted"
         key = self._remember(Opened(name, rules, roles, style, board.frames(base, style)))
-        written = [] if rules is found else [WRITTEN, SHOWN if whole.is_shown(rules) else TESTED]
+        written = [] if rules is found else [WRITTEN, SHOWN if unrolled.is_shown(rules) else TESTED]
         notes = [note, *written, once(("moves",), rules).errors.decode(errors="replace").strip()]
         return {"id": key, "name": name, "text": text, "roles": roles, "about": about(text),
-                "notes": [each for each in notes if each], "whole": not (written or whole.states_all(found))}
+                "notes": [each for each in notes if each], "whole": not (written or unrolled.states_all(found))}
 
     def _remember(self, opened: Opened) -> str:
         """Keeps a game, and tells by what it is asked for. Where it was open its sessions go on."""

@@ -22,15 +22,15 @@ from dataclasses import asdict, dataclass, field
 from functools import partial
 from typing import Any, TypeVar
 
-from gdlsolve.calls import Misuse
-from gdlsolve.deepening import MOST_TURNS
-from gdlsolve.engine import Broken, Engine, Late, Limit, Turn, behind, readable
-from gdlsolve.gates import Gates
 from gdlsolve.page.sessions import Sessions
-from gdlsolve.replies import Position, Solution, State, Worth
-from gdlsolve.simulation import Question
-from gdlsolve.thinking import Thinking
-from gdlsolve.thinking import Choice as Chosen
+from gdlsolve.player.gates import Gates
+from gdlsolve.player.thinking import Thinking
+from gdlsolve.player.thinking import Choice as Chosen
+from gdlsolve.player.tree_search import Question
+from gdlsolve.solver.answers import Position, Solution, State, Worth
+from gdlsolve.solver.calls import Misuse
+from gdlsolve.solver.deepening import MOST_TURNS
+from gdlsolve.solver.engine import Broken, Engine, Late, Limit, Turn, behind, readable
 
 # So long nobody may ask for a look before it is given up, in seconds.
 FORGOTTEN = 30.0

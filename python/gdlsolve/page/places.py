@@ -11,8 +11,8 @@ from collections.abc import Iterator
 from dataclasses import dataclass
 from typing import Any
 
-from gdlsolve import whole
-from gdlsolve.calls import Refusal
+from gdlsolve.solver import unrolled
+from gdlsolve.solver.calls import Refusal
 
 EXPLAINED = re.compile(r"^[^\n]*?:(\d+):(\d+): ", re.MULTILINE)
 TOKEN = re.compile(rb";[^\n]*|[()]|[^\t-\r ();]+")
@@ -110,7 +110,7 @@ def refusal(refused: Refusal, text: bytes) -> dict[str, Any]:
         "told": str(refused),
         "explanation": refused.explanation.strip(),
         "cause": {**CAUSES, **WHOLE_CAUSES}.get(refused.code, ""),
-        "whole": whole.is_helped(refused),
+        "whole": unrolled.is_helped(refused),
         "line": place.line if place else None,
         "column": place.column if place else None,
     }

@@ -14,7 +14,7 @@ from dataclasses import dataclass
 from pathlib import PurePosixPath
 from typing import Any
 
-from gdlsolve.terms import Malformed, terms, trees
+from gdlsolve.solver.terms import Malformed, terms, trees
 
 VERSION = re.compile(r"v\d+")
 

@@ -7,7 +7,7 @@ import time
 from collections.abc import Iterator
 from contextlib import contextmanager
 
-from gdlsolve.engine import Children, Engine
+from gdlsolve.solver.engine import Children, Engine
 
 # So many are kept, and each so long after its last question, in seconds.
 MOST_KEPT = 12

@@ -8,9 +8,9 @@ from __future__ import annotations
 
 from collections.abc import Callable, Sequence
 
-from gdlsolve.calls import Misuse, Refusal
-from gdlsolve.engine import Turn, behind
-from gdlsolve.terms import terms, tokens
+from gdlsolve.solver.calls import Misuse, Refusal
+from gdlsolve.solver.engine import Turn, behind
+from gdlsolve.solver.terms import terms, tokens
 
 Ask = Callable[[Sequence[str], bytes], list[str]]
 

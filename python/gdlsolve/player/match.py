@@ -15,17 +15,17 @@ from dataclasses import dataclass, replace
 from functools import partial
 from typing import Any
 
-from gdlsolve import whole
-from gdlsolve.aside import begun
-from gdlsolve.calls import Misuse, Refusal
-from gdlsolve.engine import Broken, Children, Engine, Late, Limit, Turn
-from gdlsolve.gates import Gates
-from gdlsolve.messages import LONGEST_NAME, clock, parts_of
-from gdlsolve.notes import note
-from gdlsolve.replies import Position, State
-from gdlsolve.simulation import MOST_DEPTH, Node, Question
-from gdlsolve.terms import Malformed
-from gdlsolve.thinking import Choice, Thinking
+from gdlsolve.console.notes import note
+from gdlsolve.player.background import begun
+from gdlsolve.player.gates import Gates
+from gdlsolve.player.messages import LONGEST_NAME, clock, parts_of
+from gdlsolve.player.thinking import Choice, Thinking
+from gdlsolve.player.tree_search import MOST_DEPTH, Node, Question
+from gdlsolve.solver import unrolled
+from gdlsolve.solver.answers import Position, State
+from gdlsolve.solver.calls import Misuse, Refusal
+from gdlsolve.solver.engine import Broken, Children, Engine, Late, Limit, Turn
+from gdlsolve.solver.terms import Malformed
 
 # This part of the time in which a solver that seems to hang is asked again is left for what is
 # worked out without it.
@@ -119,7 +119,7 @@ class Match:
             return self.quick.ask(words, limit)
 
         told = self.quick.rules
-        written = whole.written_out(told, ask) if self.options.whole else whole.playable(told, ask)
+        written = unrolled.written_out(told, ask) if self.options.whole else unrolled.playable(told, ask)
         for engine in (self.quick, self.deep, self.gates.engine):
             engine.rules = written
 

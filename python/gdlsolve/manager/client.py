@@ -9,7 +9,7 @@ from http import HTTPStatus
 from importlib import import_module
 from urllib.parse import urlsplit
 
-from gdlsolve.notes import shown
+from gdlsolve.console.notes import shown
 
 # So many bytes of an answer are kept.
 MOST_BYTES = 1 << 16

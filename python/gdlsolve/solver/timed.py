@@ -14,9 +14,9 @@ from contextlib import contextmanager
 from functools import cache
 from pathlib import Path
 
-from gdlsolve import calls, program
-from gdlsolve.calls import Ended, Reply, Status, TimedOut, bytes_of, check_words, is_of_program, told_by_library
-from gdlsolve.engine import OWN_COMMAND, Broken, Children, Late, Limit
+from gdlsolve.solver import calls, program
+from gdlsolve.solver.calls import Ended, Reply, Status, TimedOut, bytes_of, check_words, is_of_program, told_by_library
+from gdlsolve.solver.engine import OWN_COMMAND, Broken, Children, Late, Limit
 
 # Commands that may take long.
 SEARCHES = (["solve"], ["values"])

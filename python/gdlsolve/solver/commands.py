@@ -5,10 +5,10 @@ from __future__ import annotations
 from collections.abc import Sequence
 from typing import Literal
 
-from gdlsolve import asking
-from gdlsolve import whole as found
-from gdlsolve.engine import Limit
-from gdlsolve.replies import Description, Network, Outside, Position, Solution, Standing, Values
+from gdlsolve.solver import timed
+from gdlsolve.solver import unrolled as found
+from gdlsolve.solver.answers import Description, Network, Outside, Position, Solution, Standing, Values
+from gdlsolve.solver.engine import Limit
 
 History = str | Sequence[Sequence[str]]
 Bound = Literal["zero", "goal"]
@@ -21,19 +21,19 @@ def history_text(after: History) -> str:
 
 def _written(rules: bytes | str, tighten: bool, limit: Limit) -> str:
     """A game as it is found, written out."""
-    return "".join(f"{line}\n" for line in found.reply(rules, tighten, asking.stops(limit)).lines())
+    return "".join(f"{line}\n" for line in found.reply(rules, tighten, timed.stops(limit)).lines())
 
 
 def unroll(rules: bytes | str, *, tighten: bool = False, timeout: float | None = None) -> str:
     """A game as it is found, written out as rules that every command takes. With `tighten` only what play can come to is stated."""
-    with asking.in_time(timeout) as limit:
+    with timed.in_time(timeout) as limit:
         return _written(rules, tighten, limit)
 
 
 def _answer(words: Sequence[str], rules: bytes | str, whole: bool, timeout: float | None) -> list[str]:
     """The lines of the answer to a command, over the rules or over what is written out of them."""
-    with asking.in_time(timeout) as limit:
-        return asking.within(words, _written(rules, False, limit) if whole else rules, limit).lines()
+    with timed.in_time(timeout) as limit:
+        return timed.within(words, _written(rules, False, limit) if whole else rules, limit).lines()
 
 
 def show(rules: bytes | str, *, timeout: float | None = None) -> tuple[str, ...]:

@@ -1,4 +1,4 @@
-"""The rules as gates over integers, each bit of which is a match of its own.
+"""The rules as a propositional network: gates over integers, each bit of which is a match of its own.
 
 So many matches are played at random at once, and the legal moves are known where the solver hangs.
 What it tells is held against the program in the tests, and not proved.
@@ -12,10 +12,10 @@ import time
 from collections.abc import Callable, Mapping, Sequence
 from dataclasses import dataclass
 
-from gdlsolve.calls import Reply, Status
-from gdlsolve.grounding import DOES, TRUE, Atom, Grounding, Instance, Term, TooLarge, ignore, key_of, text_of
-from gdlsolve.replies import Position, State
-from gdlsolve.terms import terms, trees
+from gdlsolve.solver.answers import Position, State
+from gdlsolve.solver.calls import Reply, Status
+from gdlsolve.solver.grounding import DOES, TRUE, Atom, Grounding, Instance, Term, TooLarge, ignore, key_of, text_of
+from gdlsolve.solver.terms import terms, trees
 
 Turn = tuple[str, ...]
 # The bits of a state: for each base proposition in which matches it holds.

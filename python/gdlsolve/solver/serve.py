@@ -8,10 +8,10 @@ from itertools import pairwise
 from pathlib import Path
 from typing import IO
 
-from gdlsolve.calls import Misuse, Reply, Status, command_of, is_of_program, is_too_wide, reply, told_by_library
-from gdlsolve.commands import History, history_text
-from gdlsolve.handles import Handle
-from gdlsolve.terms import COMMENT, Malformed, trees
+from gdlsolve.solver.calls import Misuse, Reply, Status, command_of, is_of_program, is_too_wide, reply, told_by_library
+from gdlsolve.solver.commands import History, history_text
+from gdlsolve.solver.handles import Handle
+from gdlsolve.solver.terms import COMMENT, Malformed, trees
 
 # So many bytes of requests are written before a frame is read; a pipe takes twice as many.
 AT_ONCE = 1 << 15

@@ -19,16 +19,18 @@ import time
 from collections.abc import Callable, Sequence
 from functools import partial
 
-from gdlsolve import __version__, bounded, keys
-from gdlsolve.calls import Ended, Refusal, is_own, reply
-from gdlsolve.door import Door, Network
-from gdlsolve.engine import Children, Turn
-from gdlsolve.match import NO_ANSWER, Match, Options, Start
-from gdlsolve.messages import LONGEST_CLOCK, Crowded, Message, turn
-from gdlsolve.notes import missing, note
-from gdlsolve.simulation import MOST_DEPTH
-from gdlsolve.streams import StreamFault, put_line, say
-from gdlsolve.terms import Malformed
+from gdlsolve import __version__
+from gdlsolve.console import keys
+from gdlsolve.console.notes import missing, note
+from gdlsolve.console.streams import StreamFault, put_line, say
+from gdlsolve.player import child
+from gdlsolve.player.access import Door, Network
+from gdlsolve.player.match import NO_ANSWER, Match, Options, Start
+from gdlsolve.player.messages import LONGEST_CLOCK, Crowded, Message, turn
+from gdlsolve.player.tree_search import MOST_DEPTH
+from gdlsolve.solver.calls import Ended, Refusal, is_own, reply
+from gdlsolve.solver.engine import Children, Turn
+from gdlsolve.solver.terms import Malformed
 
 MOST_PORT = 65_535
 # So many matches at once, and so many connections, are the most that can be asked for.
@@ -45,7 +47,7 @@ class Player:
 
     def __init__(self, options: Options, command: Sequence[str] | None = None):
         self.options = options
-        self.children = Children(2 * options.matches + 2, command or bounded.command(options.memory, options.nice))
+        self.children = Children(2 * options.matches + 2, command or child.command(options.memory, options.nice))
         self.matches: dict[str, Match] = {}
         self.lock = threading.Lock()
         self.reading = threading.Lock()
@@ -213,7 +215,7 @@ def options(words: Sequence[str] | None) -> argparse.Namespace:
 
 def served(player: Player, door: Door, is_quiet: bool) -> int:
     """Serves until a key or a signal ends it. The exit status."""
-    from gdlsolve.listening import Server
+    from gdlsolve.player.server import Server
 
     def told(fault: dict[str, str]) -> None:
         if not is_quiet:
@@ -263,7 +265,3 @@ def main(words: Sequence[str] | None = None) -> int:
         return 1
     finally:
         player.close()
-
-
-if __name__ == "__main__":
-    sys.exit(main())

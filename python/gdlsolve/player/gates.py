@@ -5,11 +5,11 @@ from __future__ import annotations
 import time
 from collections.abc import Sequence
 
-from gdlsolve.calls import Misuse
-from gdlsolve.engine import Engine, Limit, Playouts, Turn, behind, readable
-from gdlsolve.lanes import NOT_YET
-from gdlsolve.replies import Position
-from gdlsolve.terms import terms
+from gdlsolve.solver.answers import Position
+from gdlsolve.solver.calls import Misuse
+from gdlsolve.solver.engine import Engine, Limit, Playouts, Turn, behind, readable
+from gdlsolve.solver.propnet import NOT_YET
+from gdlsolve.solver.terms import terms
 
 # They are built for so long at a time, in seconds.
 PIECE = 0.1

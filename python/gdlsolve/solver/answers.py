@@ -2,7 +2,7 @@
 from dataclasses import dataclass
 from enum import Enum
 
-from gdlsolve.terms import terms
+from gdlsolve.solver.terms import terms
 
 
 @dataclass(frozen=True)

@@ -22,10 +22,10 @@ from typing import Any
 
 from aiohttp import StreamReader, web
 
-from gdlsolve.aside import begun
-from gdlsolve.door import Door
-from gdlsolve.messages import MOST_BYTES, Crowded
-from gdlsolve.terms import Malformed
+from gdlsolve.player.access import Door
+from gdlsolve.player.background import begun
+from gdlsolve.player.messages import MOST_BYTES, Crowded
+from gdlsolve.solver.terms import Malformed
 
 # So many connections are taken in a row before others are looked at, and so many wait to be taken.
 AT_ONCE = 16
@@ -35,7 +35,7 @@ MOST_OF_HEAD, END_OF_HEAD = 1 << 14, re.compile(rb"\n\r?\n")
 # So many bytes of messages that have not come yet are held in all.
 MOST_HELD = 32 << 20
 # What strangers send that is no message is told to nobody but them.
-QUIET = logging.Logger("gdlsolve.listening", logging.CRITICAL + 1)
+QUIET = logging.Logger("gdlsolve.player.server", logging.CRITICAL + 1)
 # For so long a message that is refused is read on, so that its sender hears why, in seconds; and so long a connection takes to end.
 LINGER, FAREWELL = 2.0, 1.0
 

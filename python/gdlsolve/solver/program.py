@@ -20,6 +20,9 @@ from pathlib import Path
 
 VARIABLE = "GDLSOLVE_PROGRAM"
 NAME = "gdlsolve"
+# The folder of the package, and the clone that it may stand in.
+PACKAGE = Path(__file__).resolve().parent.parent
+CLONE = PACKAGE.parent.parent
 # How long a child is waited for before it is asked again whether its answer is still wanted: at
 # first, and at most, in seconds.
 FIRST_BEAT = 0.01
@@ -71,8 +74,7 @@ def named() -> list[str]:
 
 def own() -> Path | None:
     """The program inside of the package, or that of the clone in which the package stands."""
-    package = Path(__file__).resolve().parent
-    places = (package / "bin" / NAME, package.parent.parent / "out" / NAME)
+    places = (PACKAGE / "bin" / NAME, CLONE / "out" / NAME)
     return next((file for file in places if os.access(file, os.X_OK)), None)
 
 
@@ -84,9 +86,8 @@ def words() -> list[str]:
 
 def environment() -> dict[str, str]:
     """The environment, in which this package is found. Nothing in it stands for the current folder."""
-    package = str(Path(__file__).resolve().parent.parent)
     further = [os.path.abspath(folder) for folder in os.environ.get("PYTHONPATH", "").split(os.pathsep) if folder]
-    path = os.pathsep.join([package, *further])
+    path = os.pathsep.join([str(PACKAGE.parent), *further])
     return {**os.environ, "PYTHONPATH": path}
 
 

@@ -11,9 +11,9 @@ import time
 from collections.abc import Iterator, Sequence
 from dataclasses import dataclass, replace
 
-from gdlsolve.calls import Misuse, Reply, Status
-from gdlsolve.engine import Broken, Late, Limit, Pool
-from gdlsolve.progress import progress
+from gdlsolve.console.progress import progress
+from gdlsolve.solver.calls import Misuse, Reply, Status
+from gdlsolve.solver.engine import Broken, Late, Limit, Pool
 
 # The greatest depth that the program takes.
 MOST_TURNS = 64

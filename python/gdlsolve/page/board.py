@@ -23,7 +23,7 @@ from collections.abc import Iterable, Mapping, Sequence
 from dataclasses import dataclass, field
 from typing import Any
 
-from gdlsolve.terms import terms
+from gdlsolve.solver.terms import terms
 
 # What descriptions write into an empty cell.
 BLANKS = frozenset({"b", "blank", "empty", "none", "off"})

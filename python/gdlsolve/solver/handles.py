@@ -10,7 +10,7 @@ from functools import cache
 from pathlib import Path
 from typing import cast
 
-from gdlsolve.calls import Status, in_room
+from gdlsolve.solver.calls import Status, in_room
 
 
 @dataclass(frozen=True)

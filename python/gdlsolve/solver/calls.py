@@ -13,10 +13,12 @@ from functools import cache, cached_property
 from pathlib import Path
 from typing import cast
 
-from gdlsolve import program
-from gdlsolve.terms import terms
+from gdlsolve.solver import program
+from gdlsolve.solver.terms import terms
 
 LIBRARY = "libgdlsolve.so"
+# Where it stands: in the package, or where the clone builds it.
+FOLDERS = (program.PACKAGE, program.CLONE / "c/out")
 # What may tell that an answer is not wanted any more.
 Stops = Callable[[], bool] | None
 # So many bytes of a reply are taken at once. Of a longer one the call is made again.
@@ -138,19 +140,12 @@ def lines_of(output: bytes) -> list[str]:
     return output.decode().splitlines()
 
 
-def _places() -> tuple[Path, Path]:
-    """The folder of the package, and the clone that it may stand in."""
-    here = Path(__file__).resolve().parent
-    return here, here.parent.parent
-
-
 def library() -> Path | None:
     """The file of the library: the one that `GDLSOLVE_LIBRARY` names, else that of the package, else that of the clone."""
     named = os.environ.get("GDLSOLVE_LIBRARY")
     if named:
         return Path(named).absolute()
-    here, clone = _places()
-    return next((file for file in (here / LIBRARY, clone / "c/out" / LIBRARY) if file.exists()), None)
+    return next((folder / LIBRARY for folder in FOLDERS if (folder / LIBRARY).exists()), None)
 
 
 def answers() -> Path | list[str]:
@@ -159,8 +154,8 @@ def answers() -> Path | list[str]:
     found = program.named() or library() or program.words()
     if found:
         return found
-    here, clone = _places()
-    places = f"{LIBRARY} is neither in {here} nor in {clone / 'c/out'}: c/build builds it"
+    package, built = FOLDERS
+    places = f"{LIBRARY} is neither in {package} nor in {built}: c/build builds it"
     raise ImportError(f"{places}; or let {program.VARIABLE} name a program")
 
 
@@ -261,7 +256,7 @@ def bytes_of(rules: bytes | str) -> bytes:
 
 
 def reply(words: Sequence[str], rules: bytes | str, stopped: Stops = None) -> Reply:
-    """The reply to the words of the program, over these rules, in the calling thread; `asking.reply` is for searches. It raises `MemoryError`
+    """The reply to the words of the program, over these rules, in the calling thread; `timed.reply` is for searches. It raises `MemoryError`
     for want of memory alone. The library has no `lint`, no `unroll` and no `--whole`, which the program of the package or of the clone answers
     in its place. Of rules that were written out there may be as many inputs as `--whole` takes. A program may be stopped, a call of the library
     may not; `program.Stopped` tells it."""

@@ -15,11 +15,11 @@ from collections.abc import Callable, Iterator
 from contextlib import contextmanager
 from dataclasses import dataclass, replace
 
-from gdlsolve.calls import Misuse, Refusal
-from gdlsolve.engine import Broken, Engine, Late, behind, readable
-from gdlsolve.gates import Gates
-from gdlsolve.replies import Solution, State, Values
-from gdlsolve.simulation import UNFINISHED, Node, Question, Simulation, Stop
+from gdlsolve.player.gates import Gates
+from gdlsolve.player.tree_search import UNFINISHED, Node, Question, Simulation, Stop
+from gdlsolve.solver.answers import Solution, State, Values
+from gdlsolve.solver.calls import Misuse, Refusal
+from gdlsolve.solver.engine import Broken, Engine, Late, behind, readable
 
 # So often it is seen whether an answer is still waited for, in seconds.
 BEAT = 0.1

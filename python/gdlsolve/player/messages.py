@@ -8,7 +8,7 @@ from __future__ import annotations
 import re
 from dataclasses import dataclass
 
-from gdlsolve.terms import Malformed, terms, trees
+from gdlsolve.solver.terms import Malformed, terms, trees
 
 # No message is longer: the solver takes no longer rules, and the other words are few.
 MOST_BYTES = 2 << 20

@@ -10,15 +10,15 @@ from pathlib import Path
 from types import TracebackType
 from typing import Protocol
 
-from gdlsolve import asking, program
-from gdlsolve.calls import WRITTEN_OUT, Cancelled, Ended, Reply, Status, TimedOut, by_program, bytes_of, check_words, library
-from gdlsolve.commands import Bound, History, history_text, question
-from gdlsolve.engine import BEAT, Broken, Child, Children, Late, Limit
-from gdlsolve.handles import has_handles
-from gdlsolve.replies import Description, Network, Outside, Position, Solution, Standing, Values
-from gdlsolve.standing import one_line
-from gdlsolve.whole import reply as written_reply
-from gdlsolve.whole import words as whole_words
+from gdlsolve.solver import program, timed
+from gdlsolve.solver.answers import Description, Network, Outside, Position, Solution, Standing, Values
+from gdlsolve.solver.calls import WRITTEN_OUT, Cancelled, Ended, Reply, Status, TimedOut, by_program, bytes_of, check_words, library
+from gdlsolve.solver.commands import Bound, History, history_text, question
+from gdlsolve.solver.engine import BEAT, Broken, Child, Children, Late, Limit
+from gdlsolve.solver.handles import has_handles
+from gdlsolve.solver.serve import one_line
+from gdlsolve.solver.unrolled import reply as written_reply
+from gdlsolve.solver.unrolled import words as whole_words
 
 # So many seconds a child has to give back what its rules took, at the end of a session.
 FORGETS = 1.0
@@ -65,7 +65,7 @@ class _ByChild:
         check_words(words)
         child, self._child = self._child, None
         self._child, [told] = self._children.ask(child, [words], self._rules, limit)
-        return asking.checked(told)
+        return timed.checked(told)
 
     def close(self) -> None:
         """Gives the child back to others, without the memory that its rules took."""
@@ -88,7 +88,7 @@ class ByProgram(_ByChild):
         self._command = program.absolute(command)
         if program.found(self._command[0]) is None:
             raise FileNotFoundError(errno.ENOENT, "there is no such program", self._command[0])
-        super().__init__(asking.children("--session", *self._command))
+        super().__init__(timed.children("--session", *self._command))
 
     def reply(self, words: Sequence[str], limit: Limit) -> Reply:
         """The reply to words, over the rules that stand. Rules that were written out may have more inputs."""
@@ -110,11 +110,11 @@ class ByLibrary(_ByChild):
 
     def __init__(self, file: Path):
         self._file = file
-        super().__init__(asking.of_library(file))
+        super().__init__(timed.of_library(file))
 
     def reply(self, words: Sequence[str], limit: Limit) -> Reply:
         """The reply to words, over the rules that stand."""
-        return asking.explained(self._file, words, self._rules, super().reply(words, limit))
+        return timed.explained(self._file, words, self._rules, super().reply(words, limit))
 
     def history(self, after: History) -> str:
         """The text of a history."""
@@ -141,7 +141,7 @@ class Whole:
 
     def stand(self, rules: bytes, limit: Limit) -> None:
         """Takes another game, which stands from then on."""
-        stopped = asking.stops(limit)
+        stopped = timed.stops(limit)
         written = by_program([str(self._named)], whole_words(), rules, stopped) if self._named else written_reply(rules, stopped=stopped)
         refused = None if written.status == Status.ANSWER else written
         self._asked.stand(rules if refused else written.output, limit)

@@ -1,9 +1,9 @@
 """The child process of an engine, within limits:
 
-    python -P -m gdlsolve.bounded MIB NICE [--session] [PROGRAM WORDS..]
+    python -P -m gdlsolve.player.child MIB NICE [--session] [PROGRAM WORDS..]
 
 It takes no more than so many MiB of addresses, and no more does a program that it starts; 0 sets no limit. Both run at a priority that is
-lower by so much than that of the process that started it. It answers as `gdlsolve.answering` does.
+lower by so much than that of the process that started it. It answers as `gdlsolve.solver.child` does.
 """
 
 from __future__ import annotations
@@ -12,12 +12,12 @@ import os
 import resource
 import sys
 
-from gdlsolve.answering import Answers, run
+from gdlsolve.solver.child import Answers, run
 
 
 def command(mebibytes: int, nice: int) -> list[str]:
     """The words that start such a process, which has the solver read rules once."""
-    return [sys.executable, "-P", "-m", "gdlsolve.bounded", str(mebibytes), str(nice), "--session"]
+    return [sys.executable, "-P", "-m", "gdlsolve.player.child", str(mebibytes), str(nice), "--session"]
 
 
 def bound(mebibytes: int, nice: int) -> None:

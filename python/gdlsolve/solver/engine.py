@@ -20,14 +20,14 @@ from collections.abc import Iterator, Sequence
 from contextlib import contextmanager
 from dataclasses import asdict, dataclass
 
-from gdlsolve.calls import NO_REPLY, Misuse, Reply, Status
-from gdlsolve.program import environment
-from gdlsolve.replies import Description, Position, Solution
-from gdlsolve.terms import terms
+from gdlsolve.solver.answers import Description, Position, Solution
+from gdlsolve.solver.calls import NO_REPLY, Misuse, Reply, Status
+from gdlsolve.solver.program import environment
+from gdlsolve.solver.terms import terms
 
 Turn = tuple[str, ...]
 # What starts a child process, and what starts one that reads rules once where it can. No module of the current folder is read.
-OWN_COMMAND = (sys.executable, "-P", "-m", "gdlsolve.answering")
+OWN_COMMAND = (sys.executable, "-P", "-m", "gdlsolve.solver.child")
 SESSION_COMMAND = (*OWN_COMMAND, "--session")
 # So often a question that is waited for looks whether it has been given up, in seconds.
 BEAT = 0.02

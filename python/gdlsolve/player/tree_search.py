@@ -1,4 +1,4 @@
-"""Matches at random, led by those before them.
+"""Matches at random, led by those before them: Monte Carlo tree search.
 
 A tree of positions grows by one at a time. In it each role goes for what brought it much, and for
 what it knows little of; behind it some matches are played at once, with all moves at random. So the
@@ -15,9 +15,9 @@ import time
 from collections.abc import Mapping, Sequence
 from dataclasses import dataclass, field
 
-from gdlsolve.engine import Broken, Engine, Late, Limit, Playouts, Turn
-from gdlsolve.gates import Gates
-from gdlsolve.replies import Position, State
+from gdlsolve.player.gates import Gates
+from gdlsolve.solver.answers import Position, State
+from gdlsolve.solver.engine import Broken, Engine, Late, Limit, Playouts, Turn
 
 # The goals of a match that is broken off, and after so many turns one is.
 UNFINISHED = 50

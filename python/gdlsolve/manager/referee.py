@@ -26,16 +26,17 @@ from pathlib import Path
 from typing import NoReturn
 
 import gdlsolve
-from gdlsolve import keys, whole
-from gdlsolve.aside import begun
-from gdlsolve.calls import Ended, Refusal, answer
-from gdlsolve.engine import Broken, Turn, history, readable
-from gdlsolve.messages import tree
-from gdlsolve.notes import missing, shown
-from gdlsolve.posting import NOTHING, Told, post
-from gdlsolve.replies import Position, State
-from gdlsolve.streams import StreamFault, put, say
-from gdlsolve.terms import Malformed, trees
+from gdlsolve.console import keys
+from gdlsolve.console.notes import missing, shown
+from gdlsolve.console.streams import StreamFault, put, say
+from gdlsolve.manager.client import NOTHING, Told, post
+from gdlsolve.player.background import begun
+from gdlsolve.player.messages import tree
+from gdlsolve.solver import unrolled
+from gdlsolve.solver.answers import Position, State
+from gdlsolve.solver.calls import Ended, Refusal, answer
+from gdlsolve.solver.engine import Broken, Turn, history, readable
+from gdlsolve.solver.terms import Malformed, trees
 
 RANDOM = "random"
 # These end a match as a key does.
@@ -121,7 +122,7 @@ class Referee:
     def __init__(self, record: Record, dice: random.Random, slack: float, file: Path | None):
         self.record, self.dice, self.slack, self.file = record, dice, slack, file
         # Players are told the rules as they are, also where these have to be written out to be played.
-        self.rules = whole.playable(record.rules.encode(), answer)
+        self.rules = unrolled.playable(record.rules.encode(), answer)
         self.here: Position = gdlsolve.moves(self.rules, self.turns)
         # The players that were not ready, and why.
         self.failed: list[str] = []
@@ -241,7 +242,7 @@ class Referee:
 
 def roles_of(rules: str) -> list[str]:
     """The roles of a game, also of one that has to be written out."""
-    played = whole.playable(rules.encode(), answer)
+    played = unrolled.playable(rules.encode(), answer)
     with readable():
         return list(gdlsolve.check(played).roles)
 
@@ -352,7 +353,3 @@ def main(words: Sequence[str] | None = None) -> int:
         say(f"{fault.filename}: {fault.strerror}\n" if fault.filename else f"{fault}\n")
         return 1
     return 0
-
-
-if __name__ == "__main__":
-    sys.exit(main())

@@ -1,7 +1,7 @@
 """The child process of an engine: it answers questions on its standard input, which is a socket.
 
-    python -m gdlsolve.answering [--session] [PROGRAM WORDS..]
-    python -m gdlsolve.answering --library FILE
+    python -m gdlsolve.solver.child [--session] [PROGRAM WORDS..]
+    python -m gdlsolve.solver.child --library FILE
 
 A request is a line `rules N` and then N bytes of rules, or a line `words N` and then N bytes, which
 are the words of a command with a byte 0 behind each. The reply to words, over the last rules, is a
@@ -25,11 +25,11 @@ from dataclasses import replace
 from pathlib import Path
 from typing import IO
 
-from gdlsolve import program
-from gdlsolve.calls import NO_REPLY, WRITTEN_OUT, Ended, Misuse, Reply, Status, by_program, library, reply
-from gdlsolve.handles import has_handles
-from gdlsolve.lanes import Rehearsal
-from gdlsolve.standing import ByHandle, Process, line_of
+from gdlsolve.solver import program
+from gdlsolve.solver.calls import NO_REPLY, WRITTEN_OUT, Ended, Misuse, Reply, Status, by_program, library, reply
+from gdlsolve.solver.handles import has_handles
+from gdlsolve.solver.propnet import Rehearsal
+from gdlsolve.solver.serve import ByHandle, Process, line_of
 
 # So often it is looked whether the one who asks is still there, in milliseconds, where the end of the socket does not tell.
 LOOK = 1000

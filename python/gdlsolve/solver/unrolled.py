@@ -10,9 +10,9 @@ from dataclasses import dataclass, field
 from functools import lru_cache
 from pathlib import Path
 
-from gdlsolve import calls
-from gdlsolve.calls import WRITTEN_OUT, Misuse, Refusal, Reply
-from gdlsolve.terms import Malformed, trees
+from gdlsolve.solver import calls
+from gdlsolve.solver.calls import WRITTEN_OUT, Misuse, Refusal, Reply
+from gdlsolve.solver.terms import Malformed, trees
 
 # What gives the lines of the answer to a command over rules.
 Ask = Callable[[Sequence[str], bytes], list[str]]
