@@ -22,7 +22,8 @@ from gdlsolve.player.thinking import Choice, Thinking
 from gdlsolve.player.tree_search import Question
 from gdlsolve.solver import unrolled
 from gdlsolve.solver.calls import answer
-from gdlsolve.solver.engine import Children, Engine, Turn
+from gdlsolve.solver.engine import Children, Engine
+from gdlsolve.solver.history import Turn
 
 # A move of the solver takes no longer, in seconds: a day.
 LONGEST = 86_400

@@ -17,8 +17,10 @@ as `MemoryError`, an answer that is not there in time as `TimedOut`, and a progr
 # This one first, so that a key ends a command in silence also while the others are read.
 from gdlsolve.console import keys as keys
 from gdlsolve.solver.answers import Description, Network, Outside, Position, Solution, Standing, State, Values
-from gdlsolve.solver.calls import Cancelled, Ended, Misuse, Refusal, Reply, Status, TimedOut
-from gdlsolve.solver.commands import Bound, History, check, moves, net, show, solve, solve_within, state, unroll, values
+from gdlsolve.solver.commands import Bound, check, moves, net, show, solve, solve_within, state, unroll, values
+from gdlsolve.solver.faults import Cancelled, Ended, Misuse, Refusal, TimedOut
+from gdlsolve.solver.history import History
+from gdlsolve.solver.replies import Reply, Status
 from gdlsolve.solver.session import Session
 from gdlsolve.solver.timed import reply
 

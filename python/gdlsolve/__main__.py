@@ -23,9 +23,11 @@ from gdlsolve.console.progress import progress
 from gdlsolve.console.streams import StreamFault, on_input, put, say
 from gdlsolve.solver import program, unrolled
 from gdlsolve.solver.answers import Description, Network, Outside, Position, Solution, Standing, Values
-from gdlsolve.solver.calls import ASKS_FOR_HELP, Ended, Misuse, Refusal, Reply, Status, lines_of
 from gdlsolve.solver.deepening import Deepest, deepen
 from gdlsolve.solver.engine import Broken, readable
+from gdlsolve.solver.faults import Ended, Misuse, Refusal
+from gdlsolve.solver.program import ASKS_FOR_HELP
+from gdlsolve.solver.replies import Reply, Status, lines_of
 from gdlsolve.solver.terms import terms
 from gdlsolve.solver.timed import SEARCHES, reply
 

@@ -12,7 +12,7 @@ import unittest
 from collections.abc import Sequence
 from pathlib import Path
 
-from gdlsolve.solver import calls, program
+from gdlsolve.solver import library, program
 
 TOP = Path(__file__).resolve().parent.parent.parent
 GAMES = sorted((TOP / "games").glob("*.kif"))
@@ -32,11 +32,11 @@ def _program() -> list[str]:
 
 def _no_library() -> str:
     """Why there is no library; empty where there is one."""
-    file = calls.library()
+    file = library.file()
     if file is None:
-        return f"{calls.LIBRARY} is not built: c/build builds it"
+        return f"{library.NAME} is not built: c/build builds it"
     try:
-        calls.by_library(file, ["--version"], b"")
+        library.by_library(file, ["--version"], b"")
     except (OSError, AttributeError) as fault:
         return f"{file}: {fault}"
     return ""

@@ -13,8 +13,9 @@ from pathlib import Path
 
 sys.path.insert(0, str(Path(__file__).resolve().parent.parent))
 
-from gdlsolve.solver.calls import Ended, Reply
 from gdlsolve.solver.child import Answers, run
+from gdlsolve.solver.faults import Ended
+from gdlsolve.solver.replies import Reply
 
 
 class Hanging(Answers):

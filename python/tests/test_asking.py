@@ -15,7 +15,7 @@ from unittest.mock import patch
 
 import gdlsolve
 from gdlsolve import Cancelled, Ended, Session, TimedOut
-from gdlsolve.solver import program, timed
+from gdlsolve.solver import library, program, timed
 from tests import ENDLESS_RULES, NO_LIBRARY, PROGRAM, TOP, known, needs_library
 from tests.serving import LONG, all_started_by, processor_time, until, wait_for_end
 
@@ -258,7 +258,7 @@ class Children(unittest.TestCase):
 
     def file(self) -> Path:
         """The file of the library."""
-        found = gdlsolve.solver.calls.library()
+        found = library.file()
         assert found is not None
         return found
 

@@ -5,8 +5,10 @@ import unittest
 from concurrent.futures import ThreadPoolExecutor
 
 import gdlsolve
-from gdlsolve import Misuse, Refusal, State, Status, reply
-from gdlsolve.solver import calls
+from gdlsolve import Ended, Misuse, Refusal, Reply, State, Status, reply
+from gdlsolve.solver import library
+from gdlsolve.solver.calls import answer
+from gdlsolve.solver.program import by_program
 from tests import PROGRAM, TOP, needs_library, needs_program, ran
 
 PENNIES = (TOP / "games/matching_pennies.kif").read_bytes()
@@ -96,7 +98,7 @@ class Faults(unittest.TestCase):
         for words, rules, code, name, values in REFUSED:
             with self.subTest(words=words, code=code):
                 with self.assertRaises(Refusal) as caught:
-                    calls.answer(words, rules)
+                    answer(words, rules)
                 self.assertEqual((caught.exception.code, caught.exception.name, caught.exception.values), (code, name, values))
                 told = reply(words, rules)
                 self.assertEqual((told.status, told.output.decode()), (Status.REFUSED, f"{caught.exception}\n"))
@@ -125,7 +127,7 @@ class Faults(unittest.TestCase):
             with self.subTest(words=words):
                 self.assertEqual(reply(words, PENNIES).status, Status.MISUSE)
                 with self.assertRaises(Misuse):
-                    calls.answer(words, PENNIES)
+                    answer(words, PENNIES)
 
     def test_help_is_no_answer(self) -> None:
         for words in HELP:
@@ -148,10 +150,10 @@ OPTION = re.compile(rb"--[a-z][a-z-]*")
 class Both(unittest.TestCase):
     """The library and the program say the same."""
 
-    def library(self, words: list[str], rules: bytes) -> calls.Reply:
-        file = calls.library()
+    def library(self, words: list[str], rules: bytes) -> Reply:
+        file = library.file()
         assert file is not None
-        return calls.by_library(file, words, rules)
+        return library.by_library(file, words, rules)
 
     def test_refusals(self) -> None:
         for words, rules, *_ in REFUSED:
@@ -189,45 +191,45 @@ class ByProgram(unittest.TestCase):
     def test_replies(self) -> None:
         for words, rules in [(["moves"], PENNIES), (["check"], b"(role a"), (["net"], b"(role a)")]:
             with self.subTest(words=words):
-                found = calls.by_program(PROGRAM, words, rules)
+                found = by_program(PROGRAM, words, rules)
                 self.assertEqual((found.status, found.output, found.errors), ran(words, rules))
 
     def test_a_refusal_is_explained(self) -> None:
         with self.assertRaises(Refusal) as caught:
-            calls.by_program(PROGRAM, ["check"], b"(role a)(<= p q)(<= r p)(<= q p)").lines()
+            by_program(PROGRAM, ["check"], b"(role a)(<= p q)(<= r p)(<= q p)").lines()
         self.assertEqual(str(caught.exception), "refused G4 Recursive 2")
         self.assertIn("p > q > p", caught.exception.explanation)
 
     def test_words_that_are_no_command(self) -> None:
         for words in MISUSED:
             with self.subTest(words=words):
-                found = calls.by_program(PROGRAM, words, PENNIES)
-                self.assertEqual(found, calls.Reply(Status.MISUSE, ran(words, PENNIES)[2]))
+                found = by_program(PROGRAM, words, PENNIES)
+                self.assertEqual(found, Reply(Status.MISUSE, ran(words, PENNIES)[2]))
         for words in HELP:
             with self.subTest(words=words):
-                found = calls.by_program(PROGRAM, words, b"(")
-                self.assertEqual(found, calls.Reply(Status.MISUSE, ran(words, b"(")[1]))
+                found = by_program(PROGRAM, words, b"(")
+                self.assertEqual(found, Reply(Status.MISUSE, ran(words, b"(")[1]))
 
     def test_a_program_that_gives_no_reply(self) -> None:
         for command in (["false", "x"], ["sh", "-c", "exit 4"], ["sh", "-c", "kill -9 $$"]):
             if command[0] == "false":
                 # The status 1 is that of words that are no command.
-                self.assertEqual(calls.by_program(command, [], b"").status, Status.MISUSE)
+                self.assertEqual(by_program(command, [], b"").status, Status.MISUSE)
                 continue
-            with self.subTest(command=command), self.assertRaises(calls.Ended):
-                calls.by_program(command, [], b"")
+            with self.subTest(command=command), self.assertRaises(Ended):
+                by_program(command, [], b"")
         with self.assertRaises(MemoryError):
-            calls.by_program(["sh", "-c", "exit 3"], [], b"")
+            by_program(["sh", "-c", "exit 3"], [], b"")
         with self.assertRaises(FileNotFoundError):
-            calls.by_program(["/no/such/program"], [], b"")
+            by_program(["/no/such/program"], [], b"")
 
 
 class Rooms(unittest.TestCase):
     @needs_library
     def test_a_room_gets_what_it_has_place_for(self) -> None:
-        file = calls.library()
+        file = library.file()
         assert file is not None
-        call, words, whole = calls._call(file, "gdlsolve_reply", 2), b"moves\0", reply(["moves"], MARKS).output
+        call, words, whole = library._call(file, "gdlsolve_reply", 2), b"moves\0", reply(["moves"], MARKS).output
         for place in [*range(8), len(whole) - 1, len(whole), len(whole) + 1]:
             room, size = ctypes.create_string_buffer(b"~" * (len(whole) + 2)), ctypes.c_size_t()
             status = call(words, len(words), MARKS, len(MARKS), room, place, ctypes.byref(size))

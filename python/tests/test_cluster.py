@@ -29,6 +29,7 @@ T = TypeVar("T")
 MARKS = TOP / "games/tic_tac_toe.kif"
 FOUND_GAMES = sorted((TOP / "games/found").glob("*.kif"))
 WORKERS = 3
+NO_DASK = "there is no Dask: Debian has it as python3-distributed"
 # So long a test waits for what has to happen at some time, in seconds.
 PATIENCE = 180.0
 # What stands for all addresses of a machine, or for none.
@@ -75,14 +76,15 @@ def stored(game: Path) -> tuple[list[str], bytes]:
     return shlex.split(first.decode())[1:], answer
 
 
-def with_package(name: str) -> str | None:
-    """A Python that has a package, where there is one."""
+def with_package(name: str, why_not: str, *commands: str) -> str:
+    """A Python that has a package, where there is one, and these commands too. Else the test is left out, and why is told."""
     seek = f"import importlib.util as u, sys; sys.exit(u.find_spec({name!r}) is None)"
-    for python in dict.fromkeys([sys.executable, "/usr/bin/python3"]):
-        there = Path(python).exists()
-        if there and not subprocess.run([python, "-c", seek], check=False).returncode:
-            return python
-    return None
+    if all(map(shutil.which, commands)):
+        for python in dict.fromkeys([sys.executable, "/usr/bin/python3"]):
+            there = Path(python).exists()
+            if there and not subprocess.run([python, "-c", seek], check=False).returncode:
+                return python
+    raise unittest.SkipTest(why_not)
 
 
 def environment(**more: str) -> dict[str, str]:
@@ -313,9 +315,7 @@ class Here(unittest.TestCase):
                     self.assertEqual(done.stderr.count("\n"), 1)
 
     def test_a_scheduler_that_is_not_there_is_told_in_a_line(self) -> None:
-        python = with_package("distributed")
-        if python is None:
-            self.skipTest("there is no Dask: Debian has it as python3-distributed")
+        python = with_package("distributed", NO_DASK)
         with tempfile.TemporaryDirectory() as room:
             none, part = Path(room) / "none.json", Path(room) / "part.json"
             part.write_text('{"address": ')
@@ -452,10 +452,7 @@ class OverDask(Slow):
 
     @classmethod
     def setUpClass(cls) -> None:
-        python = with_package("distributed")
-        if python is None:
-            raise unittest.SkipTest("there is no Dask: Debian has it as python3-distributed")
-        cls.begin(python)
+        cls.begin(with_package("distributed", NO_DASK))
         port = free_port()
         cls.address = f"tcp://127.0.0.1:{port}"
         file = ["--scheduler-file", str(cls.room / "scheduler.json")]
@@ -587,10 +584,7 @@ class OverTls(Slow):
 
     @classmethod
     def setUpClass(cls) -> None:
-        python = with_package("distributed")
-        if python is None or shutil.which("openssl") is None:
-            raise unittest.SkipTest("there is no Dask or no openssl: Debian has them as python3-distributed and openssl")
-        cls.begin(python)
+        cls.begin(with_package("distributed", "there is no Dask or no openssl: Debian has them as python3-distributed and openssl", "openssl"))
         cls.read = plant(cls.room)
         makes = CERTIFICATE.search((TOP / "docs/CLUSTER.md").read_text())
         assert makes is not None
@@ -679,10 +673,7 @@ class OverMpi(Slow):
 
     @classmethod
     def setUpClass(cls) -> None:
-        python = with_package("mpi4py")
-        if python is None or shutil.which("mpiexec") is None:
-            raise unittest.SkipTest("there is no MPI: Debian has it as python3-mpi4py")
-        cls.begin(python)
+        cls.begin(with_package("mpi4py", "there is no MPI: Debian has it as python3-mpi4py", "mpiexec"))
 
     def command(self, *more: object) -> tuple[subprocess.Popen[bytes], IO[bytes]]:
         """Starts the command for tic-tac-toe, and what it has told of."""

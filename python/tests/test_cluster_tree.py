@@ -17,7 +17,7 @@ from gdlsolve.cluster.journal import Journal, Known
 from gdlsolve.cluster.program import Ran
 from gdlsolve.cluster.task import End, Outcome, Question
 from gdlsolve.cluster.tree import Node, goals, widest
-from gdlsolve.solver.calls import Misuse, Refusal
+from gdlsolve.solver.faults import Misuse, Refusal
 from tests import toy
 
 SEEDS = range(60)

@@ -5,7 +5,7 @@ from pathlib import Path
 
 import gdlsolve
 from gdlsolve import Solution, Status, reply
-from gdlsolve.solver import calls
+from gdlsolve.solver import library
 from gdlsolve.solver.commands import Bound
 from tests import GAMES, needs_library, needs_program, ran
 
@@ -37,14 +37,14 @@ class Games(unittest.TestCase):
     @needs_library
     @needs_program
     def test_the_program_writes_the_same_bytes(self) -> None:
-        library = calls.library()
-        assert library is not None
+        file = library.file()
+        assert file is not None
         for game in GAMES:
             rules = game.read_bytes()
             words, _ = stored(game)
             for command in (words, ["show"], ["check"], ["net"], ["moves"], ["solve", "--role", "no one", "--depth", "1"]):
                 with self.subTest(game=game.stem, command=command):
-                    told = calls.by_library(library, command, rules)
+                    told = library.by_library(file, command, rules)
                     self.assertEqual((told.status, told.output), ran(command, rules)[:2])
 
     def test_solutions_say_what_the_answers_say(self) -> None:

@@ -7,8 +7,9 @@ import unittest
 import gdlsolve
 from gdlsolve import Misuse, Position, State, Status
 from gdlsolve.player.gates import Gates
-from gdlsolve.solver.engine import Limit, Playouts, Turn
+from gdlsolve.solver.engine import Limit, Playouts
 from gdlsolve.solver.grounding import Grounding, TooLarge
+from gdlsolve.solver.history import Turn
 from gdlsolve.solver.propnet import NOT_YET, TOO_LARGE, Lanes, Rehearsal
 from tests import GAMES, TOP
 from tests.serving import LONG, Asking

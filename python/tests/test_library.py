@@ -3,7 +3,7 @@
 import ctypes
 import unittest
 
-from gdlsolve.solver import calls
+from gdlsolve.solver import library
 from tests import needs_library
 
 # Two roles choose at once. The first wins where they choose the same, and the second where they do not.
@@ -75,11 +75,11 @@ FAULTY = [
 class Told(unittest.TestCase):
     def told(self, name: str, texts: list[bytes], place: int) -> tuple[int, int, bytes]:
         """What a call of the library tells over these texts: its status, its size, and a room with so much place, which was full of `~`."""
-        file = calls.library()
+        file = library.file()
         assert file is not None
         room, size = (ctypes.c_char * (place + 1)).from_buffer_copy(b"~" * (place + 1)), ctypes.c_size_t(7_777)
         given = [part for text in texts for part in (text, len(text))]
-        status = calls._call(file, name, len(texts))(*given, room, place, ctypes.byref(size))
+        status = library._call(file, name, len(texts))(*given, room, place, ctypes.byref(size))
         return status, size.value, room.raw
 
     def tells(self, row: Row, place: int) -> None:

@@ -19,7 +19,9 @@ from typing import Any
 import gdlsolve
 from gdlsolve import State
 from gdlsolve.manager.client import post
-from gdlsolve.manager.referee import Record, Referee, made, options, resumed
+from gdlsolve.manager.command import made, options, resumed
+from gdlsolve.manager.record import Record
+from gdlsolve.manager.referee import Referee
 from gdlsolve.page import records
 from tests import TOP, known, package
 from tests.serving import LONG, PACE, Served

@@ -22,8 +22,9 @@ from gdlsolve.page import looks, places, records, server, sessions, state
 from gdlsolve.page.desk import MOST_LOOKS, Desk
 from gdlsolve.page.server import Server
 from gdlsolve.solver.answers import Worth
-from gdlsolve.solver.calls import Refusal, Reply
 from gdlsolve.solver.engine import Child, Children, Engine, Limit, Pool
+from gdlsolve.solver.faults import Refusal
+from gdlsolve.solver.replies import Reply
 from tests import ENDLESS, ENDLESS_RULES, TOP, known, package
 from tests.serving import Held, processor_time, until
 

@@ -9,9 +9,9 @@ from unittest import mock
 
 import gdlsolve
 from gdlsolve import Misuse, Refusal, Session
-from gdlsolve.solver import calls, program
-from gdlsolve.solver.handles import Handle, has_handles
-from gdlsolve.solver.serve import AT_ONCE, ByHandle, Process, line_of
+from gdlsolve.solver import library, program
+from gdlsolve.solver.handles import ByHandle, Handle, has_handles
+from gdlsolve.solver.serve import AT_ONCE, Process, line_of
 from gdlsolve.solver.session import ByLibrary, ByProgram
 from tests import GAMES, NO_LIBRARY, PROGRAM, TOP, needs_program, ran
 
@@ -54,7 +54,7 @@ class Lines(unittest.TestCase):
 
 def file() -> Path:
     """The file of the library."""
-    found = calls.library()
+    found = library.file()
     assert found is not None
     return found
 
@@ -148,7 +148,7 @@ class OverProgram(Sessions.Each):
     def test_words_that_no_line_has_are_asked_of_a_process_of_their_own(self) -> None:
         with self.begun(PENNIES) as session:
             for words in NO_LINES:
-                found, want = session.reply(words), calls.by_program(PROGRAM, words, PENNIES)
+                found, want = session.reply(words), program.by_program(PROGRAM, words, PENNIES)
                 self.assertEqual((found.status, found.output), (want.status, want.output), words)
 
     def test_many_requests_at_once(self) -> None:
@@ -176,7 +176,7 @@ class OverLibrary(Sessions.Each):
     def test_words_that_no_line_has(self) -> None:
         with self.begun(PENNIES) as session:
             for words in NO_LINES:
-                found, want = session.reply(words), calls.by_library(file(), words, PENNIES)
+                found, want = session.reply(words), library.by_library(file(), words, PENNIES)
                 self.assertEqual((found, found.told()), (want, want.told()), words)
 
     def test_a_handle_asks_over_its_own_rules(self) -> None:

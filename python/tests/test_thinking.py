@@ -10,7 +10,8 @@ import gdlsolve
 from gdlsolve.player.gates import Gates
 from gdlsolve.player.thinking import Choice, Thinking
 from gdlsolve.player.tree_search import Question
-from gdlsolve.solver.engine import Children, Engine, Playouts, Turn
+from gdlsolve.solver.engine import Children, Engine, Playouts
+from gdlsolve.solver.history import Turn
 from tests import ENDLESS_RULES, TOP
 from tests.serving import LONG, Asking, until
 

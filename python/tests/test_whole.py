@@ -11,10 +11,13 @@ from unittest.mock import patch
 
 import gdlsolve
 from gdlsolve import Misuse, Refusal, Session, State
-from gdlsolve.manager.referee import Record, Referee, made, options, resumed
+from gdlsolve.manager.command import made, options, resumed
+from gdlsolve.manager.record import Record
+from gdlsolve.manager.referee import Referee
 from gdlsolve.page.desk import SHOWN as PROVED, TESTED, WRITTEN, Desk
 from gdlsolve.player.gates import Gates
 from gdlsolve.solver import program, unrolled
+from gdlsolve.solver.calls import answer
 from gdlsolve.solver.engine import Engine, Limit, Pool
 from tests import GAMES, PROGRAM, TOP, known, needs_library, needs_program, package, ran
 from tests.found import BEGINS, FOUND, LISTED, NEVER
@@ -72,12 +75,12 @@ class Texts(unittest.TestCase):
 
     def test_what_is_played(self) -> None:
         stands = GAMES[0].read_bytes()
-        self.assertIs(unrolled.playable(stands, gdlsolve.solver.calls.answer), stands)
+        self.assertIs(unrolled.playable(stands, answer), stands)
         for text in (FOUND, LISTED):
-            self.assertEqual(unrolled.playable(text.encode(), gdlsolve.solver.calls.answer), gdlsolve.unroll(text).encode())
+            self.assertEqual(unrolled.playable(text.encode(), answer), gdlsolve.unroll(text).encode())
         for text, code in ((NEVER, "U1"), ("(role a", "K4"), ("", "G6")):
             with self.subTest(text=text), self.assertRaises(Refusal) as caught:
-                unrolled.playable(text.encode(), gdlsolve.solver.calls.answer)
+                unrolled.playable(text.encode(), answer)
             self.assertEqual(caught.exception.code, code)
 
     def test_the_first_line_says_what_is_shown(self) -> None:
@@ -117,7 +120,7 @@ class Texts(unittest.TestCase):
         with self.assertRaises(Refusal) as caught:
             gdlsolve.moves(rules)
         self.assertEqual(caught.exception.code, "N1")
-        played = unrolled.playable(rules.encode(), gdlsolve.solver.calls.answer)
+        played = unrolled.playable(rules.encode(), answer)
         self.assertEqual(len(gdlsolve.moves(played).legal["a"]), 70)
 
     def test_without_a_program_rules_stand_as_they_are(self) -> None:

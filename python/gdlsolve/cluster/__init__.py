@@ -16,8 +16,10 @@ from pathlib import Path
 from gdlsolve.cluster.driver import Driver, Engine, Manner, Sought, written_out
 from gdlsolve.cluster.faults import ClusterFault, Contradiction, Failed, Lost, OtherProgram
 from gdlsolve.solver.answers import Solution
-from gdlsolve.solver.calls import Misuse, Refusal, Status, lines_of
-from gdlsolve.solver.commands import Bound, History
+from gdlsolve.solver.commands import Bound
+from gdlsolve.solver.faults import Misuse, Refusal
+from gdlsolve.solver.history import History, history_text
+from gdlsolve.solver.replies import Status, lines_of
 
 __all__ = [
     "ClusterFault",
@@ -33,13 +35,6 @@ __all__ = [
 ]
 
 MOST_TURNS = 64
-
-
-def _text(after: History) -> str:
-    """The text of a history."""
-    if isinstance(after, str):
-        return after
-    return " ".join("(" + " ".join(turn) + ")" for turn in after)
 
 
 def _room(width: int | Callable[[], int]) -> Callable[[], int]:
@@ -65,7 +60,7 @@ def sought(
         raise Misuse(f"the depth is a whole number from 0 to {MOST_TURNS}, and not {depth}")
     text = rules.encode() if isinstance(rules, str) else bytes(rules)
     text = written_out(text, tighten) if whole else text
-    return Sought(text, role, depth, tuple(worth), _text(after))
+    return Sought(text, role, depth, tuple(worth), history_text(after))
 
 
 def solve(

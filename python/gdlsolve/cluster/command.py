@@ -26,7 +26,8 @@ from gdlsolve.cluster.faults import ClusterFault
 from gdlsolve.cluster.options import Parser, add_tls, one, processors, tls_of
 from gdlsolve.console import keys
 from gdlsolve.console.streams import StreamFault, on_input, put, say
-from gdlsolve.solver.calls import Misuse, Refusal, Status
+from gdlsolve.solver.faults import Misuse, Refusal
+from gdlsolve.solver.replies import Status
 
 STREAM_FAILED = 4
 NO_ANSWER = 69

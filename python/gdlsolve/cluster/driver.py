@@ -18,20 +18,11 @@ from gdlsolve.cluster import program, task
 from gdlsolve.cluster.faults import Contradiction, Failed, Lost, OtherProgram
 from gdlsolve.cluster.journal import Journal, Known, key_of
 from gdlsolve.cluster.task import OPEN, End, Outcome, Question
-from gdlsolve.cluster.tree import (
-    Move,
-    Need,
-    Node,
-    Turn,
-    goals,
-    line_needs,
-    text,
-    turn_of,
-    value_needs,
-    widest,
-)
+from gdlsolve.cluster.tree import Move, Need, Node, goals, line_needs, turn_of, value_needs, widest
 from gdlsolve.solver.answers import Position, State
-from gdlsolve.solver.calls import Misuse, Refusal, Reply, Status, is_too_wide, lines_of
+from gdlsolve.solver.faults import Misuse, Refusal
+from gdlsolve.solver.history import Turn, history_text
+from gdlsolve.solver.replies import Reply, Status, is_too_wide, lines_of
 from gdlsolve.solver.terms import terms
 from gdlsolve.solver.unrolled import words as whole_words
 
@@ -80,7 +71,7 @@ class Sought:
 
     def history(self, turns: tuple[Turn, ...]) -> str:
         """The text of the history and the turns behind it."""
-        return f"{self.after} {text(turns)}".strip()
+        return f"{self.after} {history_text(turns)}".strip()
 
 
 @dataclass(frozen=True)
@@ -310,7 +301,7 @@ class Driver:
         ]
         if begun:
             node = min(begun)[2]
-            self.manner.log(f"split {text(node.turns)}")
+            self.manner.log(f"split {history_text(node.turns)}")
             self._look_at(node)
 
     def _send(self, need: Need) -> bool:
@@ -360,9 +351,9 @@ class Driver:
         """Notes that a question failed, and gives up at the third time."""
         self.counts.failed += 1
         self._failures[node] += 1
-        self.manner.log(f"failed: {text(node.turns)}: {what}")
+        self.manner.log(f"failed: {history_text(node.turns)}: {what}")
         if self._failures[node] >= TRIES:
-            raise Failed(f"{text(node.turns)}: {what}")
+            raise Failed(f"{history_text(node.turns)}: {what}")
 
     def _take(self, future: Future[Outcome]) -> None:
         """Takes in what became of a question."""
@@ -378,7 +369,7 @@ class Driver:
             case End.ANSWERED:
                 self._learn(asked, outcome)
             case End.STOPPED:
-                self._lose(f"lost: {text(asked.node.turns)}")
+                self._lose(f"lost: {history_text(asked.node.turns)}")
             case End.FAILED:
                 self._fail(asked.node, " ".join(outcome.lines))
             case End.REFUSED:
@@ -395,7 +386,7 @@ class Driver:
         node = asked.node
         window = (asked.low, asked.high) if outcome.processors == 1 else OPEN
         found = reading(outcome.lines, *window)
-        self.manner.log(f"{outcome.seconds:.3f} s {text(node.turns)}: {outcome.lines[0]}")
+        self.manner.log(f"{outcome.seconds:.3f} s {history_text(node.turns)}: {outcome.lines[0]}")
         node.told = node.told or found.told
         node.narrow(found.low, found.high)
         self._journal.note(self._key(node), found)

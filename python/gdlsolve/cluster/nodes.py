@@ -32,7 +32,7 @@ from gdlsolve.cluster.options import Parser, above_0, add_tls, one, processors, 
 from gdlsolve.console import keys
 from gdlsolve.console.streams import say
 from gdlsolve.solver import program
-from gdlsolve.solver.calls import Misuse
+from gdlsolve.solver.faults import Misuse
 
 PARTS = ("scheduler", "worker")
 PORT = 8786

@@ -11,7 +11,7 @@ from importlib import import_module
 from pathlib import Path
 from typing import Any, NoReturn, TypeVar
 
-from gdlsolve.solver.calls import Misuse
+from gdlsolve.solver.faults import Misuse
 
 Found = TypeVar("Found")
 

@@ -15,8 +15,8 @@ from dataclasses import dataclass
 from enum import Enum
 
 from gdlsolve.cluster import program
-from gdlsolve.solver.calls import Status, lines_of
 from gdlsolve.solver.program import ORPHANED
+from gdlsolve.solver.replies import Status, lines_of
 
 # No value is outside.
 OPEN = (-1, 101)

@@ -14,8 +14,8 @@ from dataclasses import dataclass, field
 
 from gdlsolve.cluster.faults import Contradiction
 from gdlsolve.cluster.task import OPEN
+from gdlsolve.solver.history import Turn, history_text
 
-Turn = tuple[str, ...]
 LEAST, GREATEST = 0, 100
 
 
@@ -44,7 +44,7 @@ class Node:
             return
         self.low, self.high = max(self.low, low), min(self.high, high)
         if self.low > self.high:
-            raise Contradiction(f"no value is left for {text(self.turns) or 'the start'}")
+            raise Contradiction(f"no value is left for {history_text(self.turns) or 'the start'}")
         if self.before is not None:
             self.before.refresh()
 
@@ -80,11 +80,6 @@ class Need:
     low: int
     high: int
     group: int | None
-
-
-def text(turns: tuple[Turn, ...]) -> str:
-    """The text of a history."""
-    return " ".join("(" + " ".join(turn) + ")" for turn in turns)
 
 
 def goals(rules: bytes) -> list[int]:
@@ -209,5 +204,5 @@ def turn_of(node: Node, value: int) -> tuple[Move, Node]:
     move = choice(node, value)
     reply = None if move is None else answer_to(move, value)
     if move is None or reply is None:
-        raise Contradiction(f"no line is left behind {text(node.turns) or 'the start'}")
+        raise Contradiction(f"no line is left behind {history_text(node.turns) or 'the start'}")
     return move, reply

@@ -4,6 +4,7 @@ from __future__ import annotations
 
 import os
 import sys
+from collections.abc import Callable
 from typing import TextIO
 
 
@@ -43,6 +44,19 @@ def say(text: str) -> None:
         sys.stderr.flush()
     except OSError:
         hush(sys.stderr)
+
+
+def served(place: str, serve: Callable[[], None]) -> int:
+    """Writes a line that tells the place of a server, and has it serve until a key ends it. Gives the exit status."""
+    try:
+        put_line(place)
+        serve()
+    except StreamFault as fault:
+        say(f"{fault}\n")
+        return 1
+    except KeyboardInterrupt:
+        pass
+    return 0
 
 
 def on_input() -> bytes:

@@ -2,7 +2,7 @@
 
 import sys
 
-from gdlsolve.manager.referee import main
+from gdlsolve.manager.command import main
 
 if __name__ == "__main__":
     sys.exit(main())

@@ -1,6 +1,4 @@
-"""A referee of matches for players over HTTP.
-
-    python -P -m gdlsolve.manager GAME.kif --player http://127.0.0.1:9147 --player random
+"""A referee, who leads a match for players over HTTP.
 
 Each player has the start clock to get ready, and the play clock for each move. For one that fails,
 and for a role that is `random`, a legal move is chosen at random. The record of the match is JSON;
@@ -9,104 +7,31 @@ it is written behind each turn, and a match that was broken off goes on from it.
 
 from __future__ import annotations
 
-import argparse
-import json
-import math
 import random
-import re
-import signal
-import sys
-import time
 from collections.abc import Callable, Sequence
 from concurrent.futures import Future, wait
 from contextlib import suppress
-from dataclasses import asdict, dataclass, field
 from functools import partial
 from pathlib import Path
-from typing import NoReturn
 
 import gdlsolve
-from gdlsolve.console import keys
-from gdlsolve.console.notes import missing, shown
-from gdlsolve.console.streams import StreamFault, put, say
+from gdlsolve.console.notes import shown
 from gdlsolve.manager.client import NOTHING, Told, post
+from gdlsolve.manager.record import Record, now
 from gdlsolve.player.background import begun
 from gdlsolve.player.messages import tree
 from gdlsolve.solver import unrolled
 from gdlsolve.solver.answers import Position, State
-from gdlsolve.solver.calls import Ended, Refusal, answer
-from gdlsolve.solver.engine import Broken, Turn, history, readable
+from gdlsolve.solver.calls import answer
+from gdlsolve.solver.engine import readable
+from gdlsolve.solver.history import Turn, history_text
 from gdlsolve.solver.terms import Malformed, trees
 
 RANDOM = "random"
-# These end a match as a key does.
-SIGNALS = (signal.SIGTERM, signal.SIGHUP)
 # For so many seconds a wait lasts at most, before it is begun again.
 BEAT = 0.5
 # So long a player may take for what ends a match, in seconds.
 FAREWELL = 5.0
-
-
-def is_of(value: object, kind: str) -> bool:
-    """Whether a value is of the kind that a field of a record is declared with. A number of seconds is at least 0, and finite."""
-    if kind.startswith("list["):
-        return isinstance(value, list) and all(is_of(each, kind[len("list[") : -1]) for each in value)
-    if kind == "float":
-        return isinstance(value, (int, float)) and not isinstance(value, bool) and 0 <= value < math.inf
-    return type(value).__name__ == kind
-
-
-@dataclass
-class Record:
-    """A match as JSON tells it, with the names that the repository of GGP matches has for them. Errors are texts, empty where the role's
-    own move was played. Each state is the text of what holds there, and there is one more than turns; times are milliseconds."""
-
-    matchId: str
-    game: str
-    rules: str
-    roles: list[str]
-    players: list[str]
-    startClock: float
-    playClock: float
-    startTime: int
-    moves: list[list[str]] = field(default_factory=list)
-    errors: list[list[str]] = field(default_factory=list)
-    seconds: list[list[float]] = field(default_factory=list)
-    states: list[str] = field(default_factory=list)
-    stateTimes: list[int] = field(default_factory=list)
-    playerNamesFromHost: list[str] = field(default_factory=list)
-    isCompleted: bool = False
-    isAborted: bool = False
-    state: str = State.OPEN.value
-    goalValues: list[int] = field(default_factory=list)
-
-    def write(self, file: Path | None) -> None:
-        """Puts the record in place of the last one, whole or not at all."""
-        if file is not None:
-            new = file.with_name(file.name + ".new")
-            new.write_text(json.dumps(asdict(self), indent=1) + "\n")
-            new.replace(file)
-
-    @classmethod
-    def read(cls, file: Path) -> Record:
-        """The record in a file."""
-        try:
-            told = json.loads(file.read_text())
-            found = cls(**{name: told[name] for name in cls.__dataclass_fields__ if name in told})
-        except (KeyError, TypeError, ValueError, RecursionError) as fault:
-            raise ValueError(f"{file} is no record of a match: {fault!r}") from None
-        for name, each in cls.__dataclass_fields__.items():
-            if not is_of(getattr(found, name), str(each.type)):
-                raise ValueError(f"{file} is no record of a match: {name} has something else than {each.type}")
-        lengths = {len(found.moves), len(found.errors), len(found.seconds)}
-        if len(lengths) != 1 or len(found.players) != len(found.roles):
-            raise ValueError(f"{file} is no record of a match: its lists differ in length")
-        return found
-
-
-def now() -> int:
-    """Milliseconds since 1970."""
-    return time.time_ns() // 1_000_000
 
 
 def told_by(found: Future[Told]) -> Told:
@@ -154,7 +79,7 @@ class Referee:
 
     def tell_turn(self, word: str, last: Sequence[Turn], seconds: float) -> list[Told]:
         """What each player says to a message with the last of these turns."""
-        text = f"({word} {self.record.matchId} {history(last[-1:]) or 'NIL'})"
+        text = f"({word} {self.record.matchId} {history_text(last[-1:]) or 'NIL'})"
         return self.tell(lambda role: text, seconds)
 
     def start(self) -> list[str]:
@@ -245,111 +170,3 @@ def roles_of(rules: str) -> list[str]:
     played = unrolled.playable(rules.encode(), answer)
     with readable():
         return list(gdlsolve.check(played).roles)
-
-
-def name_of(text: str) -> str:
-    """A text as one name: with a space or a bracket in it messages would be others."""
-    return re.sub(r"[^A-Za-z0-9_.+-]", "_", text)
-
-
-def made(given: argparse.Namespace) -> Record:
-    """The record of a new match."""
-    rules = given.rules.read_bytes().decode(errors="replace")
-    roles = roles_of(rules)
-    if len(given.player) > len(roles):
-        raise ValueError(f"there are {len(given.player)} players, and {len(roles)} roles")
-    players = given.player + [RANDOM] * (len(roles) - len(given.player))
-    begun = now()
-    name = given.id or f"{name_of(given.rules.stem)}.{begun}"
-    clocks = float(given.start), float(given.play)
-    return Record(name, given.rules.name, rules, roles, players, *clocks, begun, playerNamesFromHost=list(players))
-
-
-def resumed(given: argparse.Namespace) -> Record:
-    """The record of a match that goes on. It has another name, since players may know the old one
-    with other turns; at those it is ended."""
-    record = Record.read(given.resume)
-    if record.roles != roles_of(record.rules):
-        raise ValueError(f"{given.resume} is no record of a match: its roles are not those of its rules")
-    for player in dict.fromkeys(record.players):
-        if player != RANDOM:
-            post(player, f"(ABORT {record.matchId})", FAREWELL)
-    if given.player:
-        if len(given.player) != len(record.roles):
-            raise ValueError(f"there are {len(record.roles)} roles: name a player for each")
-        record.players = given.player
-        record.playerNamesFromHost = list(given.player)
-    record.matchId = given.id or f"{name_of(record.matchId)}.{len(record.moves)}"
-    return record
-
-
-def options(words: Sequence[str] | None) -> argparse.Namespace:
-    """What the command line asks for."""
-    own = keys.name("gdlsolve-manager", "gdlsolve.manager")
-    known = argparse.ArgumentParser(prog=own, description="Referees a match.")
-    known.add_argument("--version", action="version", version=f"gdlsolve {gdlsolve.__version__}")
-    known.add_argument("rules", type=Path, nargs="?", help="the rules of the game")
-    known.add_argument("--resume", type=Path, help="go on with the match of this record")
-    known.add_argument(
-        "--player", action="append", default=[], help="a URL or random, for each role in order"
-    )
-    known.add_argument("--start", type=float, default=10.0, help="the start clock, in seconds")
-    known.add_argument("--play", type=float, default=5.0, help="the play clock, in seconds")
-    known.add_argument("--slack", type=float, default=0.5, help="seconds beyond a clock")
-    known.add_argument("--turns", type=int, default=200, help="break off after so many")
-    known.add_argument("--seed", help="what moves at random come from")
-    known.add_argument("--id", help="the name of the match")
-    known.add_argument("--record", type=Path, help="where the record is written")
-    found = known.parse_args(words)
-    if (found.rules is None) == (found.resume is None):
-        known.error("either rules or a record to go on with")
-    if found.id is not None and (not found.id or name_of(found.id) != found.id):
-        known.error("--id is one name of letters, digits, and the signs _ . + -")
-    if not all(0 <= clock < math.inf for clock in (found.start, found.play, found.slack)):
-        known.error("a clock is no number of seconds from 0 on")
-    if found.turns < 0:
-        known.error("--turns is a number from 0 on")
-    return found
-
-
-def told(record: Record) -> str:
-    """How a match stands, for people."""
-    wrong = sum(1 for turn in record.errors for error in turn if error)
-    count = f"{len(record.moves)} turns, {wrong} failed moves"
-    goals = [f"{role} {goal}\n" for role, goal in zip(record.roles, record.goalValues)]
-    return "".join([f"{record.matchId}: {record.state} after {count}\n", *goals])
-
-
-def end(number: int, frame: object) -> NoReturn:
-    """Ends the match as a key would, with the status of this signal."""
-    raise SystemExit(128 + number)
-
-
-@keys.quiet
-def main(words: Sequence[str] | None = None) -> int:
-    """The command `gdlsolve-manager`."""
-    given = options(words)
-    for number in SIGNALS:
-        # What nohup starts goes on.
-        if signal.getsignal(number) is signal.SIG_DFL:
-            signal.signal(number, end)
-    try:
-        record = resumed(given) if given.resume else made(given)
-        file = given.record or given.resume
-        referee = Referee(record, random.Random(given.seed), given.slack, file)
-        referee.play(given.turns)
-        say("".join(f"not ready: {failed}\n" for failed in referee.failed))
-        put(told(record).encode())
-    except Refusal as refusal:
-        say(f"{given.resume or given.rules}: {refusal}\n{refusal.explanation}")
-        return 1
-    except ModuleNotFoundError as fault:
-        say(missing(fault))
-        return 1
-    except (StreamFault, ValueError, ImportError, Ended, Broken) as fault:
-        say(f"{fault}\n")
-        return 1
-    except OSError as fault:
-        say(f"{fault.filename}: {fault.strerror}\n" if fault.filename else f"{fault}\n")
-        return 1
-    return 0

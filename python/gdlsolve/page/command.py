@@ -13,7 +13,7 @@ from pathlib import Path
 
 from gdlsolve import __version__
 from gdlsolve.console import keys
-from gdlsolve.console.streams import StreamFault, put_line, say
+from gdlsolve.console.streams import say, served
 from gdlsolve.page.desk import Desk
 from gdlsolve.page.server import Server
 from gdlsolve.solver import program
@@ -83,18 +83,15 @@ def main() -> int:
         return 1
     signal.signal(signal.SIGTERM, end)
     address = f"http://127.0.0.1:{server.server_address[1]}/"
-    try:
-        put_line(f"The page is at {address}")
+
+    def serve() -> None:
         if given.open:
             webbrowser.open(address)
         server.serve_forever()
-    except StreamFault as fault:
-        say(f"{fault}\n")
-        return 1
-    except KeyboardInterrupt:
-        pass
+
+    try:
+        return served(f"The page is at {address}", serve)
     finally:
         desk.close()
         server.server_close()
-    return 0
 

@@ -15,13 +15,13 @@ from pathlib import Path
 from typing import Any
 
 import gdlsolve
-from gdlsolve.page import board
-from gdlsolve.page import looks, places, records, state
+from gdlsolve.page import board, looks, places, records, state
 from gdlsolve.page.sessions import Sessions
 from gdlsolve.solver import unrolled
 from gdlsolve.solver.answers import Description
-from gdlsolve.solver.calls import Refusal, Reply
 from gdlsolve.solver.engine import Children, Engine, Late, Limit, Pool
+from gdlsolve.solver.faults import Refusal
+from gdlsolve.solver.replies import Reply
 
 MOST_GAMES = 32
 MOST_LOOKS = 8

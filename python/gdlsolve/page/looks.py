@@ -28,9 +28,10 @@ from gdlsolve.player.thinking import Thinking
 from gdlsolve.player.thinking import Choice as Chosen
 from gdlsolve.player.tree_search import Question
 from gdlsolve.solver.answers import Position, Solution, State, Worth
-from gdlsolve.solver.calls import Misuse
 from gdlsolve.solver.deepening import MOST_TURNS
-from gdlsolve.solver.engine import Broken, Engine, Late, Limit, Turn, behind, readable
+from gdlsolve.solver.engine import Broken, Engine, Late, Limit, readable
+from gdlsolve.solver.faults import Misuse
+from gdlsolve.solver.history import Turn, behind
 
 # So long nobody may ask for a look before it is given up, in seconds.
 FORGOTTEN = 30.0

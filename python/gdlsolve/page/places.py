@@ -12,7 +12,7 @@ from dataclasses import dataclass
 from typing import Any
 
 from gdlsolve.solver import unrolled
-from gdlsolve.solver.calls import Refusal
+from gdlsolve.solver.faults import Refusal
 
 EXPLAINED = re.compile(r"^[^\n]*?:(\d+):(\d+): ", re.MULTILINE)
 TOKEN = re.compile(rb";[^\n]*|[()]|[^\t-\r ();]+")

@@ -20,8 +20,8 @@ from typing import Any, cast
 
 from gdlsolve.page import looks
 from gdlsolve.page.desk import BadQuestion, Desk
-from gdlsolve.solver.calls import Misuse, Refusal
 from gdlsolve.solver.engine import Broken, Late
+from gdlsolve.solver.faults import Misuse, Refusal
 
 MOST_BYTES = 4 << 20
 # So many connections are there at once. One more takes the place of the one whose request has been waited for longest, which may take so

@@ -8,8 +8,8 @@ from __future__ import annotations
 
 from collections.abc import Callable, Sequence
 
-from gdlsolve.solver.calls import Misuse, Refusal
-from gdlsolve.solver.engine import Turn, behind
+from gdlsolve.solver.faults import Misuse, Refusal
+from gdlsolve.solver.history import Turn, behind
 from gdlsolve.solver.terms import terms, tokens
 
 Ask = Callable[[Sequence[str], bytes], list[str]]

@@ -2,7 +2,7 @@
 
 import sys
 
-from gdlsolve.player.player import main
+from gdlsolve.player.command import main
 
 if __name__ == "__main__":
     sys.exit(main())

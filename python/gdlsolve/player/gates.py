@@ -6,8 +6,9 @@ import time
 from collections.abc import Sequence
 
 from gdlsolve.solver.answers import Position
-from gdlsolve.solver.calls import Misuse
-from gdlsolve.solver.engine import Engine, Limit, Playouts, Turn, behind, readable
+from gdlsolve.solver.engine import Engine, Limit, Playouts, readable
+from gdlsolve.solver.faults import Misuse
+from gdlsolve.solver.history import Turn, behind
 from gdlsolve.solver.propnet import NOT_YET
 from gdlsolve.solver.terms import terms
 

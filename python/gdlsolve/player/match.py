@@ -23,8 +23,9 @@ from gdlsolve.player.thinking import Choice, Thinking
 from gdlsolve.player.tree_search import MOST_DEPTH, Node, Question
 from gdlsolve.solver import unrolled
 from gdlsolve.solver.answers import Position, State
-from gdlsolve.solver.calls import Misuse, Refusal
-from gdlsolve.solver.engine import Broken, Children, Engine, Late, Limit, Turn
+from gdlsolve.solver.engine import Broken, Children, Engine, Late, Limit
+from gdlsolve.solver.faults import Misuse, Refusal
+from gdlsolve.solver.history import Turn
 from gdlsolve.solver.terms import Malformed
 
 # This part of the time in which a solver that seems to hang is asked again is left for what is

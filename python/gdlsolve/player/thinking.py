@@ -18,8 +18,9 @@ from dataclasses import dataclass, replace
 from gdlsolve.player.gates import Gates
 from gdlsolve.player.tree_search import UNFINISHED, Node, Question, Simulation, Stop
 from gdlsolve.solver.answers import Solution, State, Values
-from gdlsolve.solver.calls import Misuse, Refusal
-from gdlsolve.solver.engine import Broken, Engine, Late, behind, readable
+from gdlsolve.solver.engine import Broken, Engine, Late, readable
+from gdlsolve.solver.faults import Misuse, Refusal
+from gdlsolve.solver.history import behind
 
 # So often it is seen whether an answer is still waited for, in seconds.
 BEAT = 0.1

@@ -17,7 +17,8 @@ from dataclasses import dataclass, field
 
 from gdlsolve.player.gates import Gates
 from gdlsolve.solver.answers import Position, State
-from gdlsolve.solver.engine import Broken, Engine, Late, Limit, Playouts, Turn
+from gdlsolve.solver.engine import Broken, Engine, Late, Limit, Playouts
+from gdlsolve.solver.history import Turn
 
 # The goals of a match that is broken off, and after so many turns one is.
 UNFINISHED = 50

@@ -25,11 +25,14 @@ from dataclasses import replace
 from pathlib import Path
 from typing import IO
 
-from gdlsolve.solver import program
-from gdlsolve.solver.calls import NO_REPLY, WRITTEN_OUT, Ended, Misuse, Reply, Status, by_program, library, reply
-from gdlsolve.solver.handles import has_handles
+from gdlsolve.solver import library, program
+from gdlsolve.solver.calls import reply
+from gdlsolve.solver.faults import Ended, Misuse
+from gdlsolve.solver.handles import ByHandle, has_handles
+from gdlsolve.solver.program import by_program
 from gdlsolve.solver.propnet import Rehearsal
-from gdlsolve.solver.serve import ByHandle, Process, line_of
+from gdlsolve.solver.replies import NO_REPLY, WRITTEN_OUT, Reply, Status
+from gdlsolve.solver.serve import Process, line_of
 
 # So often it is looked whether the one who asks is still there, in milliseconds, where the end of the socket does not tell.
 LOOK = 1000
@@ -109,7 +112,7 @@ def session_of(command: Sequence[str]) -> InSession | InHandle | None:
     known = command or program.words()
     if known:
         return InSession(known)
-    file = library()
+    file = library.file()
     return InHandle(file) if file and has_handles(file) else None
 
 

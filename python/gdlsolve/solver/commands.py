@@ -1,27 +1,59 @@
-"""The commands of the program as functions. With `whole` they are over a game as it is found, which is written out first. With `timeout` they
-raise `TimedOut` where there is no answer within so many seconds."""
+"""The commands of the program, and these as functions. With `whole` they are over a game as it is found, which is written out first. With
+`timeout` they raise `TimedOut` where there is no answer within so many seconds."""
 from __future__ import annotations
 
-from collections.abc import Sequence
-from typing import Literal
+from collections.abc import Callable
+from dataclasses import dataclass
+from typing import Generic, Literal, TypeVar
 
-from gdlsolve.solver import timed
-from gdlsolve.solver import unrolled as found
+from gdlsolve.solver import timed, unrolled
 from gdlsolve.solver.answers import Description, Network, Outside, Position, Solution, Standing, Values
 from gdlsolve.solver.engine import Limit
+from gdlsolve.solver.history import History, history_text
 
-History = str | Sequence[Sequence[str]]
 Bound = Literal["zero", "goal"]
+Told = TypeVar("Told")
 
 
-def history_text(after: History) -> str:
-    """The text of a history."""
-    return after if isinstance(after, str) else " ".join("(" + " ".join(turn) + ")" for turn in after)
+@dataclass(frozen=True)
+class Command(Generic[Told]):
+    """A command: its words but for a history, and what reads the lines of its answer."""
+
+    words: list[str]
+    read: Callable[[list[str]], Told]
+
+
+SHOW: Command[tuple[str, ...]] = Command(["show"], tuple)
+CHECK = Command(["check"], Description.of)
+NET = Command(["net"], Network.of)
+MOVES = Command(["moves"], Position.of)
+STATE = Command(["state"], Standing.of)
+
+
+def _of_role(role: str, depth: int, at_bound: Bound, unfinished: int | None) -> list[str]:
+    """The options of a question for a role."""
+    worth = ["--at-bound", at_bound] if unfinished is None else ["--unfinished", str(unfinished)]
+    return ["--role", role, "--depth", str(depth), *worth]
+
+
+def solving(role: str, depth: int, at_bound: Bound, unfinished: int | None) -> Command[Solution]:
+    """The command that tells what a role can be sure of."""
+    return Command(["solve", *_of_role(role, depth, at_bound, unfinished)], Solution.of)
+
+
+def solving_within(role: str, depth: int, low: int, high: int, at_bound: Bound, unfinished: int | None) -> Command[Solution | Outside]:
+    """The same between two bounds."""
+    return Command(["solve", "--window", f"{low}:{high}", *_of_role(role, depth, at_bound, unfinished)], Outside.of)
+
+
+def valuing(role: str, depth: int, at_bound: Bound, unfinished: int | None) -> Command[Values]:
+    """The command that tells what each move of a role makes sure of."""
+    return Command(["values", *_of_role(role, depth, at_bound, unfinished)], Values.of)
 
 
 def _written(rules: bytes | str, tighten: bool, limit: Limit) -> str:
     """A game as it is found, written out."""
-    return "".join(f"{line}\n" for line in found.reply(rules, tighten, timed.stops(limit)).lines())
+    return "".join(f"{line}\n" for line in unrolled.reply(rules, tighten, timed.stops(limit)).lines())
 
 
 def unroll(rules: bytes | str, *, tighten: bool = False, timeout: float | None = None) -> str:
@@ -30,92 +62,59 @@ def unroll(rules: bytes | str, *, tighten: bool = False, timeout: float | None =
         return _written(rules, tighten, limit)
 
 
-def _answer(words: Sequence[str], rules: bytes | str, whole: bool, timeout: float | None) -> list[str]:
-    """The lines of the answer to a command, over the rules or over what is written out of them."""
+def _told(command: Command[Told], rules: bytes | str, whole: bool, timeout: float | None, after: History | None = None) -> Told:
+    """What the answer to a command says, over the rules or over what is written out of them."""
+    words = command.words if after is None else [*command.words, "--after", history_text(after)]
     with timed.in_time(timeout) as limit:
-        return timed.within(words, _written(rules, False, limit) if whole else rules, limit).lines()
+        lines = timed.within(words, _written(rules, False, limit) if whole else rules, limit).lines()
+    return command.read(lines)
 
 
 def show(rules: bytes | str, *, timeout: float | None = None) -> tuple[str, ...]:
     """The canonical text of each tree of a text, which need be no rules."""
-    return tuple(_answer(["show"], rules, False, timeout))
+    return _told(SHOW, rules, False, timeout)
 
 
 def check(rules: bytes | str, *, whole: bool = False, timeout: float | None = None) -> Description:
     """What the rules have."""
-    return Description.of(_answer(["check"], rules, whole, timeout))
+    return _told(CHECK, rules, whole, timeout)
 
 
 def net(rules: bytes | str, *, whole: bool = False, timeout: float | None = None) -> Network:
     """How large the network of the rules is."""
-    return Network.of(_answer(["net"], rules, whole, timeout))
+    return _told(NET, rules, whole, timeout)
 
 
 def moves(rules: bytes | str, after: History = "", *, whole: bool = False, timeout: float | None = None) -> Position:
     """How play stands after a history."""
-    return Position.of(_answer(["moves", "--after", history_text(after)], rules, whole, timeout))
+    return _told(MOVES, rules, whole, timeout, after)
 
 
 def state(rules: bytes | str, after: History = "", *, whole: bool = False, timeout: float | None = None) -> Standing:
     """How play stands after a history, and which base propositions hold."""
-    return Standing.of(_answer(["state", "--after", history_text(after)], rules, whole, timeout))
-
-
-def question(role: str, depth: int, at_bound: Bound, unfinished: int | None) -> list[str]:
-    """The options of a question for a role, but for its history."""
-    worth = ["--at-bound", at_bound] if unfinished is None else ["--unfinished", str(unfinished)]
-    return ["--role", role, "--depth", str(depth), *worth]
-
-
-def _question(role: str, depth: int, at_bound: Bound, unfinished: int | None, after: History) -> list[str]:
-    """The options of a question for a role."""
-    return [*question(role, depth, at_bound, unfinished), "--after", history_text(after)]
+    return _told(STATE, rules, whole, timeout, after)
 
 
 def solve(
-    rules: bytes | str,
-    role: str,
-    depth: int,
-    *,
-    at_bound: Bound = "zero",
-    unfinished: int | None = None,
-    after: History = "",
-    whole: bool = False,
-    timeout: float | None = None,
+    rules: bytes | str, role: str, depth: int, *, at_bound: Bound = "zero", unfinished: int | None = None, after: History = "",
+    whole: bool = False, timeout: float | None = None,
 ) -> Solution:
     """What a role can be sure of within so many turns behind a history, from 0 to 64. A state in which play goes on there is worth 0,
     or with `at_bound="goal"` its goal value, or with `unfinished` that number, from 0 to 100, whatever `at_bound` says."""
-    return Solution.of(_answer(["solve", *_question(role, depth, at_bound, unfinished, after)], rules, whole, timeout))
+    return _told(solving(role, depth, at_bound, unfinished), rules, whole, timeout, after)
 
 
 def solve_within(
-    rules: bytes | str,
-    role: str,
-    depth: int,
-    low: int,
-    high: int,
-    *,
-    at_bound: Bound = "zero",
-    unfinished: int | None = None,
-    after: History = "",
-    whole: bool = False,
-    timeout: float | None = None,
+    rules: bytes | str, role: str, depth: int, low: int, high: int, *, at_bound: Bound = "zero", unfinished: int | None = None,
+    after: History = "", whole: bool = False, timeout: float | None = None,
 ) -> Solution | Outside:
     """The same where the value is more than `low`, from -1, and less than `high`, up to 101; else which of the two it does not pass."""
-    words = ["solve", "--window", f"{low}:{high}", *_question(role, depth, at_bound, unfinished, after)]
-    return Outside.of(_answer(words, rules, whole, timeout))
+    return _told(solving_within(role, depth, low, high, at_bound, unfinished), rules, whole, timeout, after)
 
 
 def values(
-    rules: bytes | str,
-    role: str,
-    depth: int,
-    *,
-    at_bound: Bound = "zero",
-    unfinished: int | None = None,
-    after: History = "",
-    whole: bool = False,
-    timeout: float | None = None,
+    rules: bytes | str, role: str, depth: int, *, at_bound: Bound = "zero", unfinished: int | None = None, after: History = "",
+    whole: bool = False, timeout: float | None = None,
 ) -> Values:
     """What each legal move of a role makes sure of, by the same options as `solve`."""
-    return Values.of(_answer(["values", *_question(role, depth, at_bound, unfinished, after)], rules, whole, timeout))
+    return _told(valuing(role, depth, at_bound, unfinished), rules, whole, timeout, after)

@@ -12,8 +12,9 @@ from collections.abc import Iterator, Sequence
 from dataclasses import dataclass, replace
 
 from gdlsolve.console.progress import progress
-from gdlsolve.solver.calls import Misuse, Reply, Status
 from gdlsolve.solver.engine import Broken, Late, Limit, Pool
+from gdlsolve.solver.faults import Misuse
+from gdlsolve.solver.replies import Reply, Status
 
 # The greatest depth that the program takes.
 MOST_TURNS = 64

@@ -21,11 +21,12 @@ from contextlib import contextmanager
 from dataclasses import asdict, dataclass
 
 from gdlsolve.solver.answers import Description, Position, Solution
-from gdlsolve.solver.calls import NO_REPLY, Misuse, Reply, Status
+from gdlsolve.solver.faults import Misuse
+from gdlsolve.solver.history import Turn, behind
 from gdlsolve.solver.program import environment
+from gdlsolve.solver.replies import NO_REPLY, Reply, Status
 from gdlsolve.solver.terms import terms
 
-Turn = tuple[str, ...]
 # What starts a child process, and what starts one that reads rules once where it can. No module of the current folder is read.
 OWN_COMMAND = (sys.executable, "-P", "-m", "gdlsolve.solver.child")
 SESSION_COMMAND = (*OWN_COMMAND, "--session")
@@ -96,16 +97,6 @@ class Limit:
         if self.closed is not None and self.closed.is_set():
             self.until = min(self.until, now)
         return self.until - now
-
-
-def history(turns: Sequence[Turn]) -> str:
-    """The text of a history."""
-    return " ".join("(" + " ".join(turn) + ")" for turn in turns)
-
-
-def behind(turns: Sequence[Turn]) -> list[str]:
-    """The option that tells a history, where there is one."""
-    return ["--after", history(turns)] if turns else []
 
 
 class Child:

@@ -4,13 +4,15 @@ from __future__ import annotations
 import ctypes
 import threading
 import weakref
-from collections.abc import Callable
+from collections.abc import Callable, Sequence
 from dataclasses import dataclass
 from functools import cache
 from pathlib import Path
 from typing import cast
 
-from gdlsolve.solver.calls import Status, in_room
+from gdlsolve.solver.calls import is_of_program, reply
+from gdlsolve.solver.library import command_of, in_room, told_by_library
+from gdlsolve.solver.replies import Reply, Status, is_too_wide
 
 
 @dataclass(frozen=True)
@@ -71,3 +73,35 @@ class Handle:
         """Closes it, which does nothing where it is closed."""
         with self._lock:
             self._closing()
+
+
+class ByHandle:
+    """A handle of the library, and what answers in its place what it does not take."""
+
+    def __init__(self, file: Path):
+        self._file = file
+        self._rules = b""
+        self._handle: Handle | None = None
+
+    def stand(self, rules: bytes) -> None:
+        """Takes other rules, which stand from then on."""
+        old, self._handle = self._handle, Handle(self._file, rules)
+        self._rules = rules
+        if old:
+            old.close()
+
+    def reply(self, words: Sequence[str]) -> Reply:
+        """The reply to words, over the rules that stand."""
+        if self._handle is None:
+            raise ProcessLookupError("no rules stand")
+        if is_of_program(words):
+            return reply(words, self._rules)
+        command = command_of(words)
+        told = told_by_library(self._file, command, self._rules, *self._handle.ask(command))
+        return reply(words, self._rules) if is_too_wide(told, words, self._rules) else told
+
+    def close(self) -> None:
+        """Closes the handle."""
+        if self._handle:
+            self._handle.close()
+            self._handle = None

@@ -1,4 +1,4 @@
-"""Runs of the program, as a child process that ends with this one.
+"""The program: its runs, as a child process that ends with this one, and what they reply.
 
 `GDLSOLVE_PROGRAM` names a program that answers in place of the library: its file, or a command.
 """
@@ -18,6 +18,9 @@ from dataclasses import dataclass
 from functools import cache
 from pathlib import Path
 
+from gdlsolve.solver.faults import Ended, Misuse
+from gdlsolve.solver.replies import Reply, Status
+
 VARIABLE = "GDLSOLVE_PROGRAM"
 NAME = "gdlsolve"
 # The folder of the package, and the clone that it may stand in.
@@ -32,6 +35,10 @@ SHORTEST = 0.0002
 SETPRIV = "setpriv"
 PR_SET_PDEATHSIG = 1
 ORPHANED = 70
+# Words that ask for a text, and not for an answer over rules.
+ASKS_FOR_HELP = frozenset({"--help", "-h", "--version", "-V"})
+# What may tell that an answer is not wanted any more.
+Stops = Callable[[], bool] | None
 
 _prctl = getattr(ctypes.CDLL(None), "prctl", None)
 
@@ -142,7 +149,7 @@ def started(command: Sequence[str], known: Mapping[str, str] | None) -> subproce
 
 
 def _outputs(
-    child: subprocess.Popen[bytes], rules: bytes, stopped: Callable[[], bool] | None
+    child: subprocess.Popen[bytes], rules: bytes, stopped: Stops
 ) -> tuple[bytes, bytes]:
     """The outputs of a child, to which the rules are given."""
     if stopped is None:
@@ -162,7 +169,7 @@ def run(
     command: Sequence[str],
     words: Sequence[str],
     rules: bytes,
-    stopped: Callable[[], bool] | None = None,
+    stopped: Stops = None,
     known: Mapping[str, str] | None = None,
 ) -> Ran:
     """A run of a command with these words, in an environment, which ends with this process, or
@@ -175,3 +182,26 @@ def run(
             child.communicate()
             raise
     return Ran(child.returncode, output, errors)
+
+
+def check_words(words: Sequence[str]) -> None:
+    """Holds that no word has a character 0."""
+    for word in words:
+        if "\0" in word:
+            raise Misuse(f"a word has a character 0: {word!r}")
+
+
+def by_program(command: Sequence[str], words: Sequence[str], rules: bytes, stopped: Stops = None) -> Reply:
+    """The reply of a program to words without a character 0. `Stopped` tells that it was stopped before."""
+    ran = run(command, words, rules, stopped)
+    if ran.status == Status.NO_MEMORY:
+        raise MemoryError
+    if ran.status not in set(Status):
+        said = ran.errors.decode(errors="replace").strip()
+        raise Ended(f"{command[0]} ended with status {ran.status}. {said}".rstrip())
+    status = Status(ran.status)
+    if status == Status.MISUSE:
+        return Reply(status, ran.errors)
+    if status == Status.ANSWER and (ASKS_FOR_HELP & set(words) or words[:1] == ["help"]):
+        return Reply(Status.MISUSE, ran.output)
+    return Reply(status, ran.output, ran.errors)

@@ -13,11 +13,11 @@ from collections.abc import Callable, Mapping, Sequence
 from dataclasses import dataclass
 
 from gdlsolve.solver.answers import Position, State
-from gdlsolve.solver.calls import Reply, Status
 from gdlsolve.solver.grounding import DOES, TRUE, Atom, Grounding, Instance, Term, TooLarge, ignore, key_of, text_of
+from gdlsolve.solver.history import Turn
+from gdlsolve.solver.replies import Reply, Status
 from gdlsolve.solver.terms import terms, trees
 
-Turn = tuple[str, ...]
 # The bits of a state: for each base proposition in which matches it holds.
 Bits = tuple[int, ...]
 # So many bits of states behind histories are kept.

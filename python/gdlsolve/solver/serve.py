@@ -1,17 +1,14 @@
-"""What keeps rules from one question to the next, for the process that asks it: a handle of the library, or a process of the program,
-`gdlsolve serve`."""
+"""A process of the program, `gdlsolve serve`, which keeps rules from one question to the next, and the lines that it reads."""
 from __future__ import annotations
 
 import subprocess
 from collections.abc import Callable, Iterator, Sequence
 from itertools import pairwise
-from pathlib import Path
 from typing import IO
 
-from gdlsolve.solver.calls import Misuse, Reply, Status, command_of, is_of_program, is_too_wide, reply, told_by_library
-from gdlsolve.solver.commands import History, history_text
-from gdlsolve.solver.handles import Handle
-from gdlsolve.solver.terms import COMMENT, Malformed, trees
+from gdlsolve.solver.faults import Misuse
+from gdlsolve.solver.replies import Reply, Status
+from gdlsolve.solver.terms import Malformed, trees
 
 # So many bytes of requests are written before a frame is read; a pipe takes twice as many.
 AT_ONCE = 1 << 15
@@ -39,11 +36,6 @@ def line_of(words: Sequence[str]) -> bytes:
     if not all(map(_is_one, words)) or any(_is_list(one) and _is_list(next) for one, next in pairwise(words)):
         raise Misuse(f"no line has these words: {list(words)!r}")
     return " ".join(words).encode() + b"\n"
-
-
-def one_line(after: History) -> str:
-    """The text of a history without its comments and line feeds."""
-    return " ".join(COMMENT.sub(" ", history_text(after)).split())
 
 
 class Process:
@@ -100,35 +92,3 @@ class Process:
         [told] = self.exchange([b"rules %d\n" % len(rules) + rules])
         if told.status == Status.NO_MEMORY:
             raise MemoryError
-
-
-class ByHandle:
-    """A handle of the library, and what answers in its place what it does not take."""
-
-    def __init__(self, file: Path):
-        self._file = file
-        self._rules = b""
-        self._handle: Handle | None = None
-
-    def stand(self, rules: bytes) -> None:
-        """Takes other rules, which stand from then on."""
-        old, self._handle = self._handle, Handle(self._file, rules)
-        self._rules = rules
-        if old:
-            old.close()
-
-    def reply(self, words: Sequence[str]) -> Reply:
-        """The reply to words, over the rules that stand."""
-        if self._handle is None:
-            raise ProcessLookupError("no rules stand")
-        if is_of_program(words):
-            return reply(words, self._rules)
-        command = command_of(words)
-        told = told_by_library(self._file, command, self._rules, *self._handle.ask(command))
-        return reply(words, self._rules) if is_too_wide(told, words, self._rules) else told
-
-    def close(self) -> None:
-        """Closes the handle."""
-        if self._handle:
-            self._handle.close()
-            self._handle = None

@@ -10,13 +10,16 @@ from pathlib import Path
 from types import TracebackType
 from typing import Protocol
 
-from gdlsolve.solver import program, timed
+from gdlsolve.solver import library, program, timed
 from gdlsolve.solver.answers import Description, Network, Outside, Position, Solution, Standing, Values
-from gdlsolve.solver.calls import WRITTEN_OUT, Cancelled, Ended, Reply, Status, TimedOut, by_program, bytes_of, check_words, library
-from gdlsolve.solver.commands import Bound, History, history_text, question
+from gdlsolve.solver.calls import bytes_of
+from gdlsolve.solver.commands import CHECK, MOVES, NET, SHOW, STATE, Bound, Command, Told, solving, solving_within, valuing
 from gdlsolve.solver.engine import BEAT, Broken, Child, Children, Late, Limit
+from gdlsolve.solver.faults import Cancelled, Ended, TimedOut
 from gdlsolve.solver.handles import has_handles
-from gdlsolve.solver.serve import one_line
+from gdlsolve.solver.history import History, behind, history_text, one_line
+from gdlsolve.solver.program import by_program, check_words
+from gdlsolve.solver.replies import WRITTEN_OUT, Reply, Status
 from gdlsolve.solver.unrolled import reply as written_reply
 from gdlsolve.solver.unrolled import words as whole_words
 
@@ -126,7 +129,7 @@ def begun(named: str | Path | None) -> Asked:
     program of the package or of the clone."""
     if named:
         return ByProgram([str(named)])
-    file = None if program.named() else library()
+    file = None if program.named() else library.file()
     if file and has_handles(file):
         return ByLibrary(file)
     return ByProgram(program_words())
@@ -241,73 +244,46 @@ class Session:
         with self._turn(timeout) as limit:
             return self._asked.reply(words, limit)
 
-    def _answer(self, words: Sequence[str], timeout: float | None) -> list[str]:
-        """The lines of the answer to a command, where it is one."""
-        return self.reply(words, timeout=timeout).lines()
+    def _told(self, command: Command[Told], timeout: float | None, after: History = "") -> Told:
+        """What the answer to a command says."""
+        words = [*command.words, *behind(self._asked.history(after))]
+        return command.read(self.reply(words, timeout=timeout).lines())
 
     def show(self, *, timeout: float | None = None) -> tuple[str, ...]:
         """The canonical text of each tree."""
-        return tuple(self._answer(["show"], timeout))
+        return self._told(SHOW, timeout)
 
     def check(self, *, timeout: float | None = None) -> Description:
         """What the rules have."""
-        return Description.of(self._answer(["check"], timeout))
+        return self._told(CHECK, timeout)
 
     def net(self, *, timeout: float | None = None) -> Network:
         """How large the network of the rules is."""
-        return Network.of(self._answer(["net"], timeout))
-
-    def _after(self, words: list[str], after: History, timeout: float | None) -> list[str]:
-        """The lines of the answer to a command after a history."""
-        text = self._asked.history(after)
-        return self._answer([*words, "--after", text] if text else words, timeout)
+        return self._told(NET, timeout)
 
     def moves(self, after: History = "", *, timeout: float | None = None) -> Position:
         """How play stands after a history."""
-        return Position.of(self._after(["moves"], after, timeout))
+        return self._told(MOVES, timeout, after)
 
     def state(self, after: History = "", *, timeout: float | None = None) -> Standing:
         """How play stands after a history, and which base propositions hold."""
-        return Standing.of(self._after(["state"], after, timeout))
+        return self._told(STATE, timeout, after)
 
     def solve(
-        self,
-        role: str,
-        depth: int,
-        *,
-        at_bound: Bound = "zero",
-        unfinished: int | None = None,
-        after: History = "",
-        timeout: float | None = None,
+        self, role: str, depth: int, *, at_bound: Bound = "zero", unfinished: int | None = None, after: History = "", timeout: float | None = None
     ) -> Solution:
         """What a role can be sure of, as `gdlsolve.solve` tells it."""
-        return Solution.of(self._after(["solve", *question(role, depth, at_bound, unfinished)], after, timeout))
+        return self._told(solving(role, depth, at_bound, unfinished), timeout, after)
 
     def solve_within(
-        self,
-        role: str,
-        depth: int,
-        low: int,
-        high: int,
-        *,
-        at_bound: Bound = "zero",
-        unfinished: int | None = None,
-        after: History = "",
+        self, role: str, depth: int, low: int, high: int, *, at_bound: Bound = "zero", unfinished: int | None = None, after: History = "",
         timeout: float | None = None,
     ) -> Solution | Outside:
         """The same between two bounds, as `gdlsolve.solve_within` tells it."""
-        words = ["solve", "--window", f"{low}:{high}", *question(role, depth, at_bound, unfinished)]
-        return Outside.of(self._after(words, after, timeout))
+        return self._told(solving_within(role, depth, low, high, at_bound, unfinished), timeout, after)
 
     def values(
-        self,
-        role: str,
-        depth: int,
-        *,
-        at_bound: Bound = "zero",
-        unfinished: int | None = None,
-        after: History = "",
-        timeout: float | None = None,
+        self, role: str, depth: int, *, at_bound: Bound = "zero", unfinished: int | None = None, after: History = "", timeout: float | None = None
     ) -> Values:
         """What each legal move of a role makes sure of, as `gdlsolve.values` tells it."""
-        return Values.of(self._after(["values", *question(role, depth, at_bound, unfinished)], after, timeout))
+        return self._told(valuing(role, depth, at_bound, unfinished), timeout, after)

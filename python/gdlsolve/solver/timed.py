@@ -15,8 +15,12 @@ from functools import cache
 from pathlib import Path
 
 from gdlsolve.solver import calls, program
-from gdlsolve.solver.calls import Ended, Reply, Status, TimedOut, bytes_of, check_words, is_of_program, told_by_library
+from gdlsolve.solver.calls import bytes_of, is_of_program
 from gdlsolve.solver.engine import OWN_COMMAND, Broken, Children, Late, Limit
+from gdlsolve.solver.faults import Ended, TimedOut
+from gdlsolve.solver.library import command_of, told_by_library
+from gdlsolve.solver.program import check_words
+from gdlsolve.solver.replies import Reply, Status
 
 # Commands that may take long.
 SEARCHES = (["solve"], ["values"])
@@ -72,7 +76,7 @@ def explained(file: Path, words: Sequence[str], rules: bytes, told: Reply) -> Re
     """The same reply, which explains itself where it is a refusal of the library."""
     if told.errors:
         return told
-    return told_by_library(file, calls.command_of(words), rules, told.status, told.output)
+    return told_by_library(file, command_of(words), rules, told.status, told.output)
 
 
 @contextmanager

@@ -11,7 +11,9 @@ from functools import lru_cache
 from pathlib import Path
 
 from gdlsolve.solver import calls
-from gdlsolve.solver.calls import WRITTEN_OUT, Misuse, Refusal, Reply
+from gdlsolve.solver.faults import Misuse, Refusal
+from gdlsolve.solver.program import Stops
+from gdlsolve.solver.replies import WRITTEN_OUT, Reply
 from gdlsolve.solver.terms import Malformed, trees
 
 # What gives the lines of the answer to a command over rules.
@@ -94,7 +96,7 @@ class _Asked:
     answers: Path | tuple[str, ...]
     rules: bytes
     tighten: bool
-    stopped: calls.Stops = field(compare=False)
+    stopped: Stops = field(compare=False)
 
 
 @lru_cache(8)
@@ -103,7 +105,7 @@ def _reply(asked: _Asked) -> Reply:
     return calls.reply(words(asked.tighten), asked.rules, asked.stopped)
 
 
-def reply(rules: bytes | str, tighten: bool = False, stopped: calls.Stops = None) -> Reply:
+def reply(rules: bytes | str, tighten: bool = False, stopped: Stops = None) -> Reply:
     """The reply that has rules written out. It is asked for once, also where many calls are over them."""
     found = calls.answers()
     return _reply(_Asked(found if isinstance(found, Path) else tuple(found), calls.bytes_of(rules), tighten, stopped))

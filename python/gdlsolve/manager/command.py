@@ -1,0 +1,136 @@
+"""The command line of a referee:
+
+    python -P -m gdlsolve.manager GAME.kif --player http://127.0.0.1:9147 --player random
+"""
+
+from __future__ import annotations
+
+import argparse
+import math
+import random
+import re
+import signal
+from collections.abc import Sequence
+from pathlib import Path
+from typing import NoReturn
+
+import gdlsolve
+from gdlsolve.console import keys
+from gdlsolve.console.notes import missing
+from gdlsolve.console.streams import StreamFault, put, say
+from gdlsolve.manager.client import post
+from gdlsolve.manager.record import Record, now
+from gdlsolve.manager.referee import FAREWELL, RANDOM, Referee, roles_of
+from gdlsolve.solver.engine import Broken
+from gdlsolve.solver.faults import Ended, Refusal
+
+# These end a match as a key does.
+SIGNALS = (signal.SIGTERM, signal.SIGHUP)
+
+
+def name_of(text: str) -> str:
+    """A text as one name: with a space or a bracket in it messages would be others."""
+    return re.sub(r"[^A-Za-z0-9_.+-]", "_", text)
+
+
+def made(given: argparse.Namespace) -> Record:
+    """The record of a new match."""
+    rules = given.rules.read_bytes().decode(errors="replace")
+    roles = roles_of(rules)
+    if len(given.player) > len(roles):
+        raise ValueError(f"there are {len(given.player)} players, and {len(roles)} roles")
+    players = given.player + [RANDOM] * (len(roles) - len(given.player))
+    begun = now()
+    name = given.id or f"{name_of(given.rules.stem)}.{begun}"
+    clocks = float(given.start), float(given.play)
+    return Record(name, given.rules.name, rules, roles, players, *clocks, begun, playerNamesFromHost=list(players))
+
+
+def resumed(given: argparse.Namespace) -> Record:
+    """The record of a match that goes on. It has another name, since players may know the old one
+    with other turns; at those it is ended."""
+    record = Record.read(given.resume)
+    if record.roles != roles_of(record.rules):
+        raise ValueError(f"{given.resume} is no record of a match: its roles are not those of its rules")
+    for player in dict.fromkeys(record.players):
+        if player != RANDOM:
+            post(player, f"(ABORT {record.matchId})", FAREWELL)
+    if given.player:
+        if len(given.player) != len(record.roles):
+            raise ValueError(f"there are {len(record.roles)} roles: name a player for each")
+        record.players = given.player
+        record.playerNamesFromHost = list(given.player)
+    record.matchId = given.id or f"{name_of(record.matchId)}.{len(record.moves)}"
+    return record
+
+
+def options(words: Sequence[str] | None) -> argparse.Namespace:
+    """What the command line asks for."""
+    own = keys.name("gdlsolve-manager", "gdlsolve.manager")
+    known = argparse.ArgumentParser(prog=own, description="Referees a match.")
+    known.add_argument("--version", action="version", version=f"gdlsolve {gdlsolve.__version__}")
+    known.add_argument("rules", type=Path, nargs="?", help="the rules of the game")
+    known.add_argument("--resume", type=Path, help="go on with the match of this record")
+    known.add_argument(
+        "--player", action="append", default=[], help="a URL or random, for each role in order"
+    )
+    known.add_argument("--start", type=float, default=10.0, help="the start clock, in seconds")
+    known.add_argument("--play", type=float, default=5.0, help="the play clock, in seconds")
+    known.add_argument("--slack", type=float, default=0.5, help="seconds beyond a clock")
+    known.add_argument("--turns", type=int, default=200, help="break off after so many")
+    known.add_argument("--seed", help="what moves at random come from")
+    known.add_argument("--id", help="the name of the match")
+    known.add_argument("--record", type=Path, help="where the record is written")
+    found = known.parse_args(words)
+    if (found.rules is None) == (found.resume is None):
+        known.error("either rules or a record to go on with")
+    if found.id is not None and (not found.id or name_of(found.id) != found.id):
+        known.error("--id is one name of letters, digits, and the signs _ . + -")
+    if not all(0 <= clock < math.inf for clock in (found.start, found.play, found.slack)):
+        known.error("a clock is no number of seconds from 0 on")
+    if found.turns < 0:
+        known.error("--turns is a number from 0 on")
+    return found
+
+
+def told(record: Record) -> str:
+    """How a match stands, for people."""
+    wrong = sum(1 for turn in record.errors for error in turn if error)
+    count = f"{len(record.moves)} turns, {wrong} failed moves"
+    goals = [f"{role} {goal}\n" for role, goal in zip(record.roles, record.goalValues)]
+    return "".join([f"{record.matchId}: {record.state} after {count}\n", *goals])
+
+
+def end(number: int, frame: object) -> NoReturn:
+    """Ends the match as a key would, with the status of this signal."""
+    raise SystemExit(128 + number)
+
+
+@keys.quiet
+def main(words: Sequence[str] | None = None) -> int:
+    """The command `gdlsolve-manager`."""
+    given = options(words)
+    for number in SIGNALS:
+        # What nohup starts goes on.
+        if signal.getsignal(number) is signal.SIG_DFL:
+            signal.signal(number, end)
+    try:
+        record = resumed(given) if given.resume else made(given)
+        file = given.record or given.resume
+        referee = Referee(record, random.Random(given.seed), given.slack, file)
+        referee.play(given.turns)
+        say("".join(f"not ready: {failed}\n" for failed in referee.failed))
+        put(told(record).encode())
+    except Refusal as refusal:
+        say(f"{given.resume or given.rules}: {refusal}\n{refusal.explanation}")
+        return 1
+    except ModuleNotFoundError as fault:
+        say(missing(fault))
+        return 1
+    except (StreamFault, ValueError, ImportError, Ended, Broken) as fault:
+        say(f"{fault}\n")
+        return 1
+    except OSError as fault:
+        say(f"{fault.filename}: {fault.strerror}\n" if fault.filename else f"{fault}\n")
+        return 1
+    return 0
