@@ -107,8 +107,8 @@ const post = async (kind, mode) => {
 };
 const beacon = () => navigator.sendBeacon(place, new Blob([question], { type: "application/json" })) ? "sent" : "refused";
 const make = (tag, properties) => Object.assign(document.createElement(tag), properties);
-const loaded = (tag, file) => new Promise((told) => {
-  document.body.append(make(tag, { src: base + file, onload: () => told("loaded"), onerror: () => told("refused") }));
+const loaded = (tag, file, more = {}) => new Promise((told) => {
+  document.body.append(make(tag, { ...more, src: base + file, onload: () => told("loaded"), onerror: () => told("refused") }));
 });
 const form = () => new Promise((told) => {
   const frame = make("iframe", { name: "target" });
@@ -126,7 +126,8 @@ const form = () => new Promise((told) => {
   form: await tried(form),
   read: await tried(() => fetch(`${base}/`).then((response) => response.text())),
   picture: await loaded("img", "/icon.svg"),
-  script: await loaded("script", "/page.js"),
+  script: await loaded("script", "/scripts/page.js"),
+  module: await loaded("script", "/scripts/state.js", { type: "module" }),
 }))();
 """
 

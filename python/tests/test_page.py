@@ -4,6 +4,7 @@ import http.client
 import json
 import os
 import random
+import re
 import signal
 import socket
 import subprocess
@@ -448,10 +449,22 @@ class Stops(Served):
 
 class Guards(Served):
     def test_the_files_of_the_page(self) -> None:
-        for path in ("/", "/page.css", "/page.js", "/icon.svg", "/?x=1"):
+        for path in ("/", "/page.css", "/icon.svg", "/?x=1"):
             self.assertEqual(self.request("GET", path)[0], 200)
-        for path in ("/server.py", "/../server.py", "/api/games"):
+        for path in ("/server.py", "/../server.py", "/scripts/", "/scripts/../server.py", "/api/games"):
             self.assertEqual(self.request("GET", path)[0], 404)
+
+    def test_each_script_and_what_it_imports(self) -> None:
+        scripts = {file.name: file.read_text() for file in (TOP / "python/gdlsolve/page/scripts").iterdir()}
+        link = http.client.HTTPConnection("127.0.0.1", self.port, timeout=60)
+        self.addCleanup(link.close)
+        for name, text in scripts.items():
+            link.request("GET", f"/scripts/{name}")
+            answer = link.getresponse()
+            self.assertEqual((answer.status, answer.read().decode()), (200, text))
+            self.assertEqual(answer.getheader("Content-Type"), "text/javascript; charset=utf-8")
+            self.assertIn("script-src 'self';", answer.getheader("Content-Security-Policy", ""))
+            self.assertLessEqual(set(re.findall(r'from "\./([^"]*)"', text)), set(scripts))
 
     def test_other_pages_are_not_heard(self) -> None:
         own = f"127.0.0.1:{self.port}"

@@ -80,8 +80,10 @@ class Wheel(unittest.TestCase):
             metadata = packed.read(f"gdlsolve-{gdlsolve.__version__}.dist-info/METADATA").decode()
         package = TOP / "python/gdlsolve"
         sources = {str(file.relative_to(package.parent)) for file in package.rglob("*.py")}
-        pages = {f"gdlsolve/page/{name}" for name in ("page.html", "page.css", "page.js", "icon.svg")}
-        self.assertLessEqual(sources | pages | {"gdlsolve/py.typed"}, names)
+        pages = {f"gdlsolve/page/{name}" for name in ("page.html", "page.css", "icon.svg")}
+        scripts = {str(file.relative_to(package.parent)) for file in package.rglob("*.js")}
+        self.assertIn("gdlsolve/page/scripts/page.js", scripts)
+        self.assertLessEqual(sources | pages | scripts | {"gdlsolve/py.typed"}, names)
         self.assertEqual("gdlsolve/libgdlsolve.so" in names, LIBRARY.exists())
         for line in (f"Version: {gdlsolve.__version__}", "License: Apache-2.0 OR MIT", "Requires-Python: >=3.11", "Classifier: Typing :: Typed"):
             self.assertIn(line, metadata)

@@ -38,11 +38,12 @@ FULL = b"HTTP/1.1 503 Service Unavailable\r\nContent-Length: 0\r\nConnection: cl
 NO_ANSWER = (ValueError, KeyError, RecursionError, Misuse, Refusal, OSError, Late, Broken, MemoryError)
 STRANGER = "This server answers its own page alone."
 
+SCRIPTS = sorted(script.name for script in (files("gdlsolve.page") / "scripts").iterdir() if script.name.endswith(".js"))
 FILES = {
     "/": ("page.html", "text/html"),
     "/page.css": ("page.css", "text/css"),
-    "/page.js": ("page.js", "text/javascript"),
     "/icon.svg": ("icon.svg", "image/svg+xml"),
+    **{f"/scripts/{name}": (f"scripts/{name}", "text/javascript") for name in SCRIPTS},
 }
 HEADERS = {
     "Content-Security-Policy": "default-src 'none'; script-src 'self'; style-src 'self'; connect-src 'self'; "
