@@ -6,6 +6,8 @@ import subprocess
 import tempfile
 import time
 import unittest
+import warnings
+from collections.abc import Callable
 from pathlib import Path
 from unittest.mock import patch
 
@@ -72,6 +74,39 @@ class Texts(unittest.TestCase):
             with self.subTest(text=text[:30]):
                 self.assertIs(unrolled.states_all(text.encode()), want)
         self.assertTrue(all(unrolled.states_all(game.read_bytes()) for game in GAMES))
+
+    def test_what_is_not_stated_is_warned_of(self) -> None:
+        asked: tuple[Callable[[str], object], ...] = gdlsolve.moves, gdlsolve.state, gdlsolve.net, lambda rules: gdlsolve.solve(rules, "a", 1), lambda rules: Session(rules).close()
+        for ask in asked:
+            for text, missing in (QUEEN, "`base` and `input`"), (PLAIN.replace("(base p)", ""), "`base`"):
+                with self.assertWarns(gdlsolve.RulesWarning) as caught:
+                    ask(text)
+                self.assertTrue(str(caught.warning).startswith(f"no item states {missing}, so"))
+                self.assertEqual(caught.filename, __file__)
+        with warnings.catch_warnings():
+            warnings.simplefilter("error")
+            gdlsolve.check(QUEEN)
+            gdlsolve.moves(QUEEN, whole=True)
+            gdlsolve.moves(PLAIN)
+            Session(QUEEN, tighten=True).close()
+
+    def test_only_what_play_can_come_to_is_stated(self) -> None:
+        # No piece ever stands on the second square.
+        stated = PLAIN + "(base (at 1)) (base (at 2)) (init (at 1)) (<= (next (at ?x)) (true (at ?x)))"
+        self.assertEqual([gdlsolve.net(stated, tighten=tighten).base for tighten in (False, True)], [3, 2])
+        with Session(stated, tighten=True) as session:
+            self.assertEqual(session.net().base, 2)
+
+    def test_a_file_stands_for_its_rules(self) -> None:
+        with tempfile.TemporaryDirectory() as room:
+            file = Path(room, "found.kif")
+            file.write_text(FOUND)
+            self.assertEqual(gdlsolve.moves(file, whole=True), gdlsolve.moves(FOUND, whole=True))
+            self.assertEqual(gdlsolve.unroll(file), gdlsolve.unroll(FOUND))
+            with Session(file, whole=True) as session:
+                self.assertEqual(session.moves(), gdlsolve.moves(FOUND, whole=True))
+            with self.assertRaises(FileNotFoundError):
+                gdlsolve.check(Path(room, "none.kif"))
 
     def test_what_is_played(self) -> None:
         stands = GAMES[0].read_bytes()

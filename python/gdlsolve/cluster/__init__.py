@@ -20,6 +20,7 @@ from gdlsolve.solver.commands import Bound
 from gdlsolve.solver.faults import Misuse, Refusal
 from gdlsolve.solver.history import History, history_text
 from gdlsolve.solver.replies import Status, lines_of
+from gdlsolve.solver.rules import Rules, bytes_of
 
 __all__ = [
     "ClusterFault",
@@ -46,7 +47,7 @@ def _room(width: int | Callable[[], int]) -> Callable[[], int]:
 
 
 def sought(
-    rules: bytes | str,
+    rules: Rules,
     role: str,
     depth: int,
     worth: Sequence[str],
@@ -58,13 +59,13 @@ def sought(
     written out here and once, and the workers are asked about what was written."""
     if not 0 <= depth <= MOST_TURNS:
         raise Misuse(f"the depth is a whole number from 0 to {MOST_TURNS}, and not {depth}")
-    text = rules.encode() if isinstance(rules, str) else bytes(rules)
-    text = written_out(text, tighten) if whole else text
+    given = bytes_of(rules)
+    text = written_out(given, tighten) if whole else given
     return Sought(text, role, depth, tuple(worth), history_text(after))
 
 
 def solve(
-    rules: bytes | str,
+    rules: Rules,
     role: str,
     depth: int,
     *,

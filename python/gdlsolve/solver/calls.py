@@ -10,6 +10,7 @@ from gdlsolve.solver import library, program
 from gdlsolve.solver.library import by_library
 from gdlsolve.solver.program import Stops, by_program, check_words
 from gdlsolve.solver.replies import Reply, Status, is_too_wide
+from gdlsolve.solver.rules import Rules, bytes_of
 
 # Commands that the library does not have.
 OF_PROGRAM = (["lint"], ["unroll"])
@@ -31,12 +32,7 @@ def is_of_program(words: Sequence[str]) -> bool:
     return list(words[:1]) in OF_PROGRAM or "--whole" in words
 
 
-def bytes_of(rules: bytes | str) -> bytes:
-    """Rules as bytes."""
-    return rules.encode() if isinstance(rules, str) else bytes(rules)
-
-
-def reply(words: Sequence[str], rules: bytes | str, stopped: Stops = None) -> Reply:
+def reply(words: Sequence[str], rules: Rules, stopped: Stops = None) -> Reply:
     """The reply to the words of the program, over these rules, in the calling thread; `timed.reply` is for searches. It raises `MemoryError`
     for want of memory alone. The library has no `lint`, no `unroll` and no `--whole`, which the program of the package or of the clone answers
     in its place. Of rules that were written out there may be as many inputs as `--whole` takes. A program may be stopped, a call of the library
@@ -58,6 +54,6 @@ def is_own(version: Reply) -> bool:
     return version.output.startswith(b"gdlsolve ")
 
 
-def answer(words: Sequence[str], rules: bytes | str) -> list[str]:
+def answer(words: Sequence[str], rules: Rules) -> list[str]:
     """The lines of the answer to a command, where it is one."""
     return reply(words, rules).lines()

@@ -12,7 +12,6 @@ from typing import Protocol
 
 from gdlsolve.solver import library, program, timed
 from gdlsolve.solver.answers import Description, Network, Outside, Position, Solution, Standing, Values
-from gdlsolve.solver.calls import bytes_of
 from gdlsolve.solver.commands import CHECK, MOVES, NET, SHOW, STATE, Bound, Command, Told, solving, solving_within, valuing
 from gdlsolve.solver.engine import BEAT, Broken, Child, Children, Late, Limit
 from gdlsolve.solver.faults import Cancelled, Ended, TimedOut
@@ -20,6 +19,7 @@ from gdlsolve.solver.handles import has_handles
 from gdlsolve.solver.history import History, behind, history_text, one_line
 from gdlsolve.solver.program import by_program, check_words
 from gdlsolve.solver.replies import WRITTEN_OUT, Reply, Status
+from gdlsolve.solver.rules import Rules, bytes_of, warn
 from gdlsolve.solver.unrolled import reply as written_reply
 from gdlsolve.solver.unrolled import words as whole_words
 
@@ -138,14 +138,17 @@ def begun(named: str | Path | None) -> Asked:
 class Whole:
     """One of these, over games as they are found: each is written out once, when it comes to stand. Where that is refused, each question is."""
 
-    def __init__(self, asked: Asked, named: str | Path | None):
-        self._asked, self._named = asked, named
+    def __init__(self, asked: Asked, named: str | Path | None, tighten: bool):
+        self._asked, self._named, self._tighten = asked, named, tighten
         self._refused: Reply | None = None
 
     def stand(self, rules: bytes, limit: Limit) -> None:
         """Takes another game, which stands from then on."""
         stopped = timed.stops(limit)
-        written = by_program([str(self._named)], whole_words(), rules, stopped) if self._named else written_reply(rules, stopped=stopped)
+        if self._named:
+            written = by_program([str(self._named)], whole_words(self._tighten), rules, stopped)
+        else:
+            written = written_reply(rules, self._tighten, stopped)
         refused = None if written.status == Status.ANSWER else written
         self._asked.stand(rules if refused else written.output, limit)
         self._refused = refused
@@ -168,21 +171,25 @@ class Session:
 
     The calls are those of the package without their first argument, and several threads may call at once: each waits for those before
     it. `ProcessLookupError` tells that the session has ended. A child process answers, by a handle of the library, or by the program that is
-    named, or where there is no library by that of the package. With `whole` the rules are a game as it is found, which is written out.
+    named, or where there is no library by that of the package. With `whole` the rules are a game as it is found, which is written out, and with
+    `tighten` only what play can come to is stated of it.
 
     A question has so many seconds as its `timeout` says, or else that of the session, from when it is asked; `TimedOut` tells that they were
     over. `cancel` gives up what other threads have asked, which `Cancelled` tells them. Behind both, and behind a key, further questions are
     answered as ever: the child that searched is ended, and another one reads the rules.
     """
 
-    def __init__(self, rules: bytes | str, program: str | Path | None = None, *, whole: bool = False, timeout: float | None = None):
+    def __init__(
+        self, rules: Rules, program: str | Path | None = None, *, whole: bool = False, tighten: bool = False, timeout: float | None = None
+    ):
         self._lock = threading.Lock()
         self._timeout = timeout
         self._given_up, self._closed = threading.Event(), threading.Event()
         asked = begun(program)
-        self._asked: Asked = Whole(asked, program) if whole else asked
+        self._is_whole = whole or tighten
+        self._asked: Asked = Whole(asked, program, tighten) if self._is_whole else asked
         try:
-            self.stand(rules)
+            self._stand(rules, None)
         except BaseException:
             self.close()
             raise
@@ -234,10 +241,17 @@ class Session:
             return ProcessLookupError("the session has ended")
         return Cancelled("the question was given up") if given_up.is_set() else TimedOut(f"no answer within {seconds} s")
 
-    def stand(self, rules: bytes | str, *, timeout: float | None = None) -> None:
+    def stand(self, rules: Rules, *, timeout: float | None = None) -> None:
         """Takes other rules, which stand from then on."""
+        self._stand(rules, timeout)
+
+    def _stand(self, rules: Rules, timeout: float | None) -> None:
+        """The same, called by what somebody else calls."""
+        text = bytes_of(rules)
         with self._turn(timeout) as limit:
-            self._asked.stand(bytes_of(rules), limit)
+            self._asked.stand(text, limit)
+        if not self._is_whole:
+            warn(text, 3)
 
     def reply(self, words: Sequence[str], *, timeout: float | None = None) -> Reply:
         """The reply to the words of the program, over the rules that stand. It raises `MemoryError` for want of memory."""

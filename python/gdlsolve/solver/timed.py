@@ -15,12 +15,13 @@ from functools import cache
 from pathlib import Path
 
 from gdlsolve.solver import calls, program
-from gdlsolve.solver.calls import bytes_of, is_of_program
+from gdlsolve.solver.calls import is_of_program
 from gdlsolve.solver.engine import OWN_COMMAND, Broken, Children, Late, Limit
 from gdlsolve.solver.faults import Ended, TimedOut
 from gdlsolve.solver.library import command_of, told_by_library
 from gdlsolve.solver.program import check_words
 from gdlsolve.solver.replies import Reply, Status
+from gdlsolve.solver.rules import Rules, bytes_of
 
 # Commands that may take long.
 SEARCHES = (["solve"], ["values"])
@@ -90,7 +91,7 @@ def in_time(seconds: float | None) -> Iterator[Limit]:
         raise Ended(str(fault)) from None
 
 
-def within(words: Sequence[str], rules: bytes | str, limit: Limit) -> Reply:
+def within(words: Sequence[str], rules: Rules, limit: Limit) -> Reply:
     """The reply to the words of the program, over these rules, in time."""
     check_words(words)
     if limit.left() <= 0:
@@ -102,7 +103,7 @@ def within(words: Sequence[str], rules: bytes | str, limit: Limit) -> Reply:
     return calls.reply(words, text, stops(limit))
 
 
-def reply(words: Sequence[str], rules: bytes | str, timeout: float | None = None) -> Reply:
+def reply(words: Sequence[str], rules: Rules, timeout: float | None = None) -> Reply:
     """The reply to the words of the program, over these rules. It raises `MemoryError` for want of memory, and `TimedOut` where it is not
     there within so many seconds. What else stands in place of an answer is a reply."""
     with in_time(timeout) as limit:

@@ -4,7 +4,6 @@ The program writes such a game out as rules that every command takes (`unroll`).
 """
 from __future__ import annotations
 
-import re
 from collections.abc import Callable, Sequence
 from dataclasses import dataclass, field
 from functools import lru_cache
@@ -14,14 +13,13 @@ from gdlsolve.solver import calls
 from gdlsolve.solver.faults import Misuse, Refusal
 from gdlsolve.solver.program import Stops
 from gdlsolve.solver.replies import WRITTEN_OUT, Reply
-from gdlsolve.solver.terms import Malformed, trees
+from gdlsolve.solver.rules import Rules, bytes_of, unstated
 
 # What gives the lines of the answer to a command over rules.
 Ask = Callable[[Sequence[str], bytes], list[str]]
 # Refusals of rules against which it may help to write them out.
 HELPED = ("G1", "G3", "G4")
 TOO_MANY = "N1"
-HEAD = re.compile(r"\((?:<= )?\(?([^\s()]+)")
 
 
 def words(tighten: bool = False) -> list[str]:
@@ -36,11 +34,7 @@ def is_helped(refused: Refusal) -> bool:
 
 def states_all(rules: bytes) -> bool:
     """Whether items state `base`, and items state `input`."""
-    try:
-        heads = {found[1] for found in map(HEAD.match, trees(rules.decode("latin-1"))) if found}
-    except Malformed:
-        return True
-    return {"base", "input"} <= heads
+    return not unstated(rules)
 
 
 def written_out(rules: bytes, ask: Ask, tighten: bool = False) -> bytes:
@@ -105,7 +99,7 @@ def _reply(asked: _Asked) -> Reply:
     return calls.reply(words(asked.tighten), asked.rules, asked.stopped)
 
 
-def reply(rules: bytes | str, tighten: bool = False, stopped: Stops = None) -> Reply:
+def reply(rules: Rules, tighten: bool = False, stopped: Stops = None) -> Reply:
     """The reply that has rules written out. It is asked for once, also where many calls are over them."""
     found = calls.answers()
-    return _reply(_Asked(found if isinstance(found, Path) else tuple(found), calls.bytes_of(rules), tighten, stopped))
+    return _reply(_Asked(found if isinstance(found, Path) else tuple(found), bytes_of(rules), tighten, stopped))
