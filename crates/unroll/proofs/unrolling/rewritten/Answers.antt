@@ -1,4 +1,4 @@
-use Rattle.std.proofs.Common.{List, map, subst}
+use Rattle.std.proofs.Common.{ℕ, List, map, subst, sym, ◌∙◌}
 use Rattle.std.specs.Bool.{OnTrue}
 use Rattle.statement.specs.Tree.{trees_of, text}
 use Rattle.statement.specs.Items.{alternatives}
@@ -27,7 +27,7 @@ returns-clause-written g c =
     c.items_that_cross_nothing_are_stratified.ensures found c.in_ok-refuse_crossed.ensures.stratified in
     if_both c.with_claim.result _ _ _ c.with_claim.ensures.reads c.with_claim.ensures.said (λ out reads says. record {
       items = written;
-      reads = subst (λ (es : List _). Reads out.items (trees_of (trees_in es))) c.deref-7.ensures.value reads;
+      reads = reads (trees_of written) (subst (λ (bytes : List ℕ). Reads bytes (trees_of written)) (c.deref.ensures.value ∙ sym c.deref-7.ensures.value) c.in_ok-written.ensures.reads);
       accepted = accepted;
       asked = c.in_ok-refuse_unstated.ensures.stated;
       played = λ shown.
