@@ -303,7 +303,7 @@ class Play(Browser):
         ):
             moves = [{"move": move, "low": low, "high": high, "depth": depth, "line": [["h", "t"]]}
                      for move, (low, high, depth) in zip("ht", bounds)]
-            self.run_js("drawWorth({ moves: arguments[0] })", moves)
+            self.run_js("return import('/scripts/moves.js').then(({ drawWorth }) => drawWorth({ moves: arguments[0] }))", moves)
             with self.subTest(bounds=bounds):
                 self.assertEqual([row.get_dom_attribute("data-move") for row in self.all("#rows tr.best")], best)
 
@@ -341,7 +341,7 @@ class Play(Browser):
         self.element("open").click()
         self.wait(lambda: "Your move, constructor" in self.text("status"))
         self.pick("seat-__proto__", "you")
-        self.wait(lambda: not self.run_js("return now.awaited"))
+        self.wait(lambda: not self.run_js("return import('/scripts/state.js').then(({ now }) => now.awaited)"))
         self.all("#rows button")[0].click()
         self.wait(lambda: "Your move, __proto__" in self.text("status"))
         self.all("#rows button")[1].click()
@@ -448,7 +448,12 @@ class Long(Browser):
     def test_a_solver_that_has_to_move_before_it_knows_anything_makes_any_move(self) -> None:
         self.go("game=nim&you=first,second")
         self.wait(lambda: len(self.all("#rows button")) == 7)
-        self.run_js("look = async () => ({ ended: 'stopped', best: null, moves: [] }); Math.random = () => 0.99;")
+        self.run_js("""
+            const told = { version: 0, ended: 'stopped', best: null, moves: [] };
+            const own = window.fetch;
+            window.fetch = (place, ...more) => place === '/api/news' ? Promise.resolve(Response.json(told)) : own(place, ...more);
+            Math.random = () => 0.99;
+        """)
         self.pick("seat-first", "solver")
         self.wait(lambda: self.text("status").startswith("Turn 1: first (take c 4)."))
 

@@ -31,7 +31,7 @@ export function drawMoves() {
   }));
 }
 
-function drawWorth(told) {
+export function drawWorth(told) {
   const best = bestOf(told.moves);
   const rows = new Map([...$("rows").children].map((each) => [each.dataset.move, each]));
   for (const choice of told.moves) {
