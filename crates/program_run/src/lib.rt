@@ -5,6 +5,7 @@
 
 mod explained;
 mod linting;
+mod over_game;
 mod reporting;
 mod runs;
 mod sizes;
@@ -14,6 +15,7 @@ mod working;
 
 pub use explained::run_explained;
 pub use linting::run_lint;
+pub use over_game::reply_by_game;
 pub use program_streams::RunFault;
 pub use reporting::lint_reply;
 pub use runs::{Ran, ended, run, run_with};

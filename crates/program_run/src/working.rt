@@ -14,7 +14,7 @@ use game::Game;
 use game_rules::GroundGame;
 use ground::instantiate_flat;
 use program_replies::{Asked, Reading, ask, check, read, show};
-use program_searches::{Deepening, Found, Reply, Search, told_alone};
+use program_searches::{Deepening, Found, Reply, Search, Start, answered, told_alone, value_lines};
 use program_words::{Command, Inquiry};
 use share::{Gate, solve_in};
 use statement::Width;
@@ -27,6 +27,33 @@ struct Ungated;
 
 impl Gate for Ungated {
     fn at(&self, _task: usize) {}
+}
+
+/// The reply after a search of a game, which as many workers share as its cut says. The game stays as it is.
+pub(crate) fn told_from_start<T: Threads + Sync + AllocGlobal, G: Game>(
+    rt: &T,
+    game: &G,
+    start: Start<G>,
+) -> Result<Reply, AllocError>
+    requires fits { G.fits game.now start.here }
+    requires role { start.asked.role < (G.rules game.now).roles }
+    ensures { IfOk result (λ reply. reply_of reply ≡ answer (solve_lines
+        (named (G.rules game.now) (G.role_name game.now) (G.move_name game.now))
+        start.asked.role start.asked.depth start.asked.at (G.state game.now start.here))) }
+{
+    let bytes = start.bytes();
+    let Start {
+        here,
+        asked,
+        cut,
+        ..
+    } = start;
+    let (answer, room) = solve_in(rt, game, &here, asked, &cut, &Ungated, bytes)?;
+    let found = Found {
+        value: answer.value,
+        choice: answer.choice,
+    };
+    Ok(answered(value_lines(rt.alloc(), game, asked, found, here, room)?))
 }
 
 /// The reply after a search, which as many workers share as its cut says.
@@ -43,20 +70,20 @@ pub fn told_by_workers<T: Threads + Sync + AllocGlobal, G: Game + Drop>(
     if search.cut.workers() == 1 {
         return told_alone(rt.alloc(), search);
     }
-    let (answer, room) = solve_in(
-        rt,
-        &search.game,
-        &search.here,
-        search.asked,
-        &search.cut,
-        &Ungated,
-        search.bytes(),
-    )?;
-    let found = Found {
-        value: answer.value,
-        choice: answer.choice,
+    let Search {
+        game,
+        here,
+        asked,
+        cut,
+        table,
+    } = search;
+    let start = Start {
+        here,
+        asked,
+        cut,
+        table,
     };
-    search.told_in(rt.alloc(), found, room)
+    told_from_start(rt, &game, start)
 }
 
 /// What a command comes to.

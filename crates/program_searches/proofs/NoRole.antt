@@ -27,10 +27,3 @@ no_role_told g role lines after (Ok reply) none line status =
     let same : reply_of reply ≡ refusal (codes "S1 NoSuchRole") = cc (line, status) in
     inl (none, same)
 no_role_told g role lines after (Err e) none line status = tt
-
-pub role_told : {E : Type 0} (g : NamedRules) (role : List ℕ) (lines : ℕ → State → List ℕ) (after : List ℕ) (r : ℕ) (x : Result shown.Reply E)
-    → IsRoleNamed g role (Some r)
-    → IfOk x (λ reply. (ended : Result State HistoryFault) × IsHistoryOf g after ended × (reply_of reply ≡ history_reply g (lines r) ended))
-    → IfOk x (λ reply. IsRoleReply g role lines after (reply_of reply))
-role_told g role lines after r (Ok reply) named h = inr (r, (named, h.0, h.1, h.2))
-role_told g role lines after r (Err e) named h = tt

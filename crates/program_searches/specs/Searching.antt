@@ -8,6 +8,7 @@ use Rattle.statement.specs.Rules.{State}
 use Rattle.game.specs.declared.game.Game.{Ghosts}
 use Rattle.program_searches.specs.declared.reply.Reply as made
 use Rattle.program_searches.specs.declared.search.Search.{Search}
+use Rattle.program_searches.specs.declared.search.Start.{Start}
 use Rattle.program_searches.specs.Histories.{named}
 use Rattle.program_searches.specs.Replies.{reply_of}
 
@@ -29,3 +30,14 @@ pub record IsSearchFor {G P W M : Type 0} (of : Ghosts G P W M) (lines : LinesOf
 abbrev pub IsSearchOrReply : {G P W M : Type 0} → Ghosts G P W M → LinesOf → (Reply → Type 0) → Result (Search G P W M) made.Reply → Type 0
 IsSearchOrReply of lines is (Ok s) = IsSearchFor of lines is s
 IsSearchOrReply of lines is (Err reply) = is (reply_of reply)
+
+-- where a search of a game begins, for one of the game's roles; what tells such lines of it is the reply
+pub record IsStartFor {G P W M : Type 0} (of : Ghosts G P W M) (game : G) (lines : LinesOf) (is : Reply → Type 0) (s : Start G P W M) : Type 0 where
+  pub fits : of.fits game s.here
+  pub role : s.asked.role < (of.rules game).roles
+  pub reply : is (answer (lines (named_by of game) s.asked.role s.asked.depth s.asked.at (of.state game s.here)))
+
+-- where the search begins after which there is the reply, or the reply
+abbrev pub IsStartOrReply : {G P W M : Type 0} → Ghosts G P W M → G → LinesOf → (Reply → Type 0) → Result (Start G P W M) made.Reply → Type 0
+IsStartOrReply of game lines is (Ok s) = IsStartFor of game lines is s
+IsStartOrReply of game lines is (Err reply) = is (reply_of reply)

@@ -1,9 +1,6 @@
 //! The replies to what is asked for a role and is found by the calling thread alone.
-ghost use Rattle.std.specs.Prelude.{◌≡◌, ◌<◌, IfOk, IfSome, OnOk, Result};
-ghost use Rattle.statement.specs.Rules.{State};
-ghost use Rattle.statement.specs.declared.history_fault.HistoryFault.{HistoryFault};
-ghost use Rattle.statement.specs.Histories.{IsHistoryOf};
-ghost use Rattle.statement.specs.Moving.{history_reply};
+ghost use Rattle.std.specs.Prelude.{◌≡◌, ◌<◌, IfOk, IfSome, OnOk};
+ghost use Rattle.statement.specs.Answers.{answer};
 ghost use Rattle.statement.specs.ForRole.{IsRoleReply};
 ghost use Rattle.program_searches.specs.Histories.{named};
 ghost use Rattle.program_searches.specs.Kept.{IsKeptSearch};
@@ -11,17 +8,16 @@ ghost use Rattle.program_searches.specs.Play.{IsPlayFor, IsPlayKept};
 ghost use Rattle.program_searches.specs.Replies.{reply_of};
 ghost use Rattle.program_searches.specs.Windows.{wanted_lines};
 
+use crate::best_play::start_for;
 use crate::deepening::lines_by_depth;
-use crate::history::{position_after, refused_history};
 use crate::kept_search::{KeptSearch, search_for_question};
 use crate::play::Play;
-use crate::reply::{Reply, answered, refused};
-use crate::roles::role_named;
-use crate::search::bytes_in;
+use crate::reply::{Reply, answered};
+use crate::search::Start;
 use crate::solving::best_lines;
 use crate::windowed::lines_within;
 use crate::worths::{lines_of_moves, moves_with_lines};
-use game::{Game, HistoryFault, Question};
+use game::{Game, Question};
 use program_words::Sought;
 use statement::Window;
 use std::alloc::{AllocError, Global};
@@ -103,32 +99,25 @@ fn lines_of<G: Game>(
     Ok(lines)
 }
 
-/// The reply for a role after a history: the line that names the fault of the history, or what is wanted of the state.
-fn reply_after<G: Game>(
+/// The reply where a search begins: what is wanted of the state, in the memory that is kept.
+fn reply_from<G: Game>(
     alloc: Global,
     game: &G,
-    asked: Question,
+    start: &Start<G>,
     wanted: Wanted,
-    after: &str,
-    bytes: usize,
     kept: &mut Option<KeptSearch<G>>,
 ) -> Result<Reply, AllocError>
-    requires role { asked.role < (G.rules game.now).roles }
+    requires fits { G.fits game.now start.now.here }
+    requires role { start.now.asked.role < (G.rules game.now).roles }
     requires kept { IfSome kept.old (IsKeptSearch G.Game game.now) }
-    ensures reply { IfOk result (λ reply. (ended : Result State HistoryFault)
-        × IsHistoryOf (named (G.rules game.now) (G.role_name game.now) (G.move_name game.now)) after.now ended
-        × (reply_of reply ≡ history_reply (named (G.rules game.now) (G.role_name game.now) (G.move_name game.now))
-        (wanted_lines wanted (named (G.rules game.now) (G.role_name game.now) (G.move_name game.now)) asked.role asked.depth asked.at) ended)) }
+    ensures reply { IfOk result (λ reply. reply_of reply
+        ≡ answer (wanted_lines wanted (named (G.rules game.now) (G.role_name game.now) (G.move_name game.now))
+        start.now.asked.role start.now.asked.depth start.now.asked.at (G.state game.now start.now.here))) }
     ensures kept { IfSome kept.new (IsKeptSearch G.Game game.now) }
 {
-    match position_after(alloc, game, after) {
-        Ok(here) => {
-            let lines = lines_of(alloc, game, asked, wanted, &here, bytes, kept)?;
-            Ok(answered(lines))
-        }
-        Err(HistoryFault::NoMemory) => Err(AllocError),
-        Err(fault) => refused_history(alloc, game, fault),
-    }
+    let bytes = start.bytes();
+    let lines = lines_of(alloc, game, start.asked, wanted, &start.here, bytes, kept)?;
+    Ok(answered(lines))
 }
 
 /// The reply to what is asked for a role: the line that names the fault of the role or else of the history, or what is wanted. The memory of
@@ -146,23 +135,8 @@ pub fn role_reply<G: Game>(
         sought.now.after.now (reply_of reply)) }
     ensures kept { IfSome kept.new (IsKeptSearch G.Game game.now) }
 {
-    match role_named(alloc, game, sought.role)? {
-        Some(role) => {
-            let asked = Question {
-                role,
-                depth: sought.depth,
-                at: sought.at_bound,
-            };
-            reply_after(
-                alloc,
-                game,
-                asked,
-                wanted,
-                sought.after,
-                bytes_in(sought.table),
-                kept,
-            )
-        }
-        None => refused(alloc, &"S1 NoSuchRole"),
+    match start_for(alloc, game, sought)? {
+        Ok(start) => reply_from(alloc, game, &start, wanted, kept),
+        Err(reply) => Ok(reply),
     }
 }

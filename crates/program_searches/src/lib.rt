@@ -21,7 +21,7 @@ mod worths;
 mod writing;
 
 pub use asked_alone::{Wanted, role_reply};
-pub use best_play::search_for;
+pub use best_play::{search_for, start_for};
 pub use deepening::Deepening;
 pub use finding::Found;
 pub use flushing::Flushing;
@@ -29,4 +29,5 @@ pub use history::{position_after, refused_history};
 pub use kept_search::KeptSearch;
 pub use moving::moves_reply;
 pub use reply::{Reply, add_count, answered, refused};
-pub use search::{Search, told_alone};
+pub use search::{Search, Start, told_alone};
+pub use solving::value_lines;

@@ -19,12 +19,31 @@ use std::alloc::{AllocError, Global};
 const MIB: usize = 1 << 20;
 
 /// How many bytes so many MiB are.
-pub(crate) fn bytes_in(mib: u32) -> usize {
+fn bytes_in(mib: u32) -> usize {
     (mib as usize).saturating_mul(MIB)
 }
 
-/// A search for what a role can be sure of: from a state of a game, within so many turns. Who has found the value and the first best
-/// move has the reply by `told`.
+/// Where a search of a game begins, and what it may take. The game is elsewhere.
+#[derive(Drop)]
+pub struct Start<G: Game> {
+    /// The state that is searched.
+    pub here: G::Pos,
+    /// What is asked of the state.
+    pub asked: Question,
+    /// How many workers are to search, and the parts of what. The reply does not depend on it.
+    pub cut: Cut,
+    /// How many MiB may keep what states are worth. The reply does not depend on it.
+    pub table: u32,
+}
+
+impl<G: Game> Start<G> {
+    /// How many bytes may keep what states are worth. The reply does not depend on it.
+    pub fn bytes(&self) -> usize {
+        bytes_in(self.table)
+    }
+}
+
+/// A search for what a role can be sure of: from a state of a game, within so many turns.
 #[derive(Drop)]
 pub struct Search<G: Game + Drop> {
     /// The game.
@@ -49,13 +68,13 @@ impl<G: Game + Drop> Search<G> {
     }
 
     /// How many bytes may keep what states are worth. The reply does not depend on it.
-    pub fn bytes(&self) -> usize {
+    pub(crate) fn bytes(&self) -> usize {
         bytes_in(self.table)
     }
 
     /// The reply that tells the value, the first best move and the line of play behind it, from the first two. The line is found by the
     /// calling thread in the room, and what the room keeps of states is of use to it. It fails only for want of memory.
-    pub fn told_in(self, alloc: Global, found: Found, room: Room<G>) -> Result<Reply, AllocError>
+    fn told_in(self, alloc: Global, found: Found, room: Room<G>) -> Result<Reply, AllocError>
         requires fits { G.fits self.game self.here }
         requires role { self.asked.role < (G.rules self.game).roles }
         requires value { found.value ≡ pos (value (G.rules self.game) self.asked.role self.asked.depth self.asked.at (G.state self.game self.here)) }

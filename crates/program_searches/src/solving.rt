@@ -33,7 +33,7 @@ pub(crate) fn add_choice<G: Game>(
 
 /// The value of a state for a role, the move that makes sure of it, and the line of play, as lines, from the value and the first best
 /// move, with the room of the search.
-pub(crate) fn value_lines<G: Game>(
+pub fn value_lines<G: Game>(
     alloc: Global,
     game: &G,
     asked: Question,

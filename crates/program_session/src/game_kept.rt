@@ -1,4 +1,4 @@
-//! The game of the rules that stand, which is kept from one question to the next, with the memory of the last search.
+//! The game of the rules that stand, which is kept from one question to the next, with the memory of the last search by one worker.
 ghost use Rattle.std.specs.Prelude.{IfOk, IfSome};
 ghost use Rattle.statement.specs.Queries.{asked_in};
 ghost use Rattle.statement.specs.Replies.{IsReply};
@@ -10,15 +10,15 @@ ghost use Rattle.program_session.specs.Kept.{IsKeptGame};
 use game::Game;
 use game_rules::GroundGame;
 use ground::instantiate_flat;
-use program_replies::{Reading, game_over, read, reply_by};
-use program_run::reply_by_workers;
+use program_replies::{Reading, game_over, read};
+use program_run::{reply_by_game, reply_by_workers};
 use program_searches::{KeptSearch, Reply};
 use program_words::{Command, Inquiry};
 use statement::Width;
 use std::alloc::AllocError;
 use std::thread::Threads;
 
-/// The game of the rules, and the memory of the last search of it.
+/// The game of the rules, and the memory of the last search of it that one worker made. Those that several share have memory of their own.
 #[derive(Drop)]
 pub(crate) struct KeptGame<G: Game> {
     game: G,
@@ -55,14 +55,6 @@ fn kept_game_of<G: GroundGame, T: Threads + Sync + AllocGlobal>(
     }
 }
 
-/// Whether several workers are to search.
-fn is_shared(inquiry: &Inquiry) -> bool {
-    match inquiry {
-        Inquiry::Solve(sought) => sought.cut.workers() > 1,
-        _ => false,
-    }
-}
-
 /// The reply to an inquiry by the game that is kept of the rules, which is made first where there is none; none where the rules have no game.
 fn told_over<G: GroundGame, T: Threads + Sync + AllocGlobal>(
     rt: &T,
@@ -80,21 +72,14 @@ fn told_over<G: GroundGame, T: Threads + Sync + AllocGlobal>(
     }
     match made {
         Some(kept) => {
-            let reply = reply_by(
-                rt.alloc(),
-                inquiry,
-                width,
-                rules,
-                &kept.game,
-                &mut kept.search,
-            )?;
+            let reply = reply_by_game(rt, inquiry, width, rules, &kept.game, &mut kept.search)?;
             Ok(Some(reply))
         }
         None => Ok(None),
     }
 }
 
-/// The same, where what is asked by the limits of another width, and what several workers are to search, is not asked of the game that is kept.
+/// The same, where what is asked by the limits of another width is not asked of the game that is kept.
 fn told_within<G: GroundGame, T: Threads + Sync + AllocGlobal>(
     rt: &T,
     inquiry: &Inquiry,
@@ -107,9 +92,6 @@ fn told_within<G: GroundGame, T: Threads + Sync + AllocGlobal>(
     ensures reply { IfOk result (λ told. IfSome told (λ reply. IsReply (asked_in asked (query_about inquiry.now)) rules.now (reply_of reply))) }
     ensures made { IfSome made.new (IsKeptGame G.Game G.source width rules.now) }
 {
-    if is_shared(inquiry) {
-        return Ok(None);
-    }
     match (asked, width) {
         (Width::Plain, Width::Plain) => told_over(rt, inquiry, Width::Plain, rules, made),
         (Width::Wide, Width::Wide) => told_over(rt, inquiry, Width::Wide, rules, made),
@@ -117,8 +99,8 @@ fn told_within<G: GroundGame, T: Threads + Sync + AllocGlobal>(
     }
 }
 
-/// The reply to a command over the rules, of which the game that is kept passes no limit of the width. What one worker answers is asked of the game that is kept of them; what several are to search, and
-/// what refuses rules that have no game, is made anew. It fails only for want of memory.
+/// The reply to a command over the rules, of which the game that is kept passes no limit of the width. What is asked of a game is asked of the
+/// one that is kept of them, whatever the cut; what refuses rules that have no game is made anew. It fails only for want of memory.
 pub(crate) fn replied<G: GroundGame, T: Threads + Sync + AllocGlobal>(
     rt: &T,
     command: &Command,

@@ -1,34 +1,20 @@
-use Rattle.std.proofs.Common.{ℕ, Some, None}
-use Rattle.std.specs.Prelude.{Result, Ok, ◌≡◌}
-use Rattle.statement.specs.Answers.{Reply}
-use Rattle.statement.specs.Rules.{State}
-use Rattle.statement.specs.declared.history_fault.HistoryFault.{HistoryFault}
-use Rattle.statement.specs.Histories.{IsHistoryOf}
-use Rattle.statement.specs.Moving.{history_reply}
-use Rattle.statement.specs.Solving.{IsRoleNamed}
 use Rattle.statement.specs.ForRole.{IsRoleReply}
-use Rattle.program_searches.specs.Searching.{LinesOf}
-use Rattle.program_searches.specs.Histories.{named}
-use Rattle.program_searches.proofs.NoRole.{no_role_told, some_role}
-use Rattle.program_searches.proofs.Searches.{still_asked}
+use Rattle.program_searches.specs.Searching.{IsStartFor, named_by}
+use Rattle.program_searches.proofs.Searches.{start_is, reply_is}
 use Rattle.program_searches.proofs.best_play.search_for.Goals as goal
 
-pub returns-in-Some : goal.returns-in-Some
-returns-in-Some g c =
-    let game = named (g.G.Game.rules c.args.game) (g.G.Game.role_name c.args.game) (g.G.Game.move_name c.args.game) in
+pub returns-in-Ok : goal.returns-in-Ok
+returns-in-Ok g c = λ lines.
+    let game = named_by g.G.Game c.args.game in
     let sought = c.args.sought.now in
-    let role : IsRoleNamed game sought.role.now (Some c.in-Some.role) = rw c.in-Some.is at c.in_ok-role.ensures.named in
-    still_asked g.G.Game
-    (λ (lines : LinesOf) (reply : Reply). (ended : Result State HistoryFault) × IsHistoryOf game sought.after.now ended
-    × (reply ≡ history_reply game (lines game c.in-Some.role sought.depth sought.at_bound) ended))
-    (λ (lines : LinesOf) (reply : Reply). IsRoleReply game sought.role.now (λ r. lines game r sought.depth sought.at_bound) sought.after.now reply)
-    (λ lines reply h. some_role game sought.role.now (λ r. lines game r sought.depth sought.at_bound) sought.after.now c.in-Some.role role reply h)
-    c.search_after.result c.search_after.ensures
+    let is = IsRoleReply game sought.role.now (λ r. lines game r sought.depth sought.at_bound) sought.after.now in
+    let s : IsStartFor g.G.Game c.args.game lines is c.in-Ok.start =
+    start_is g.G.Game c.args.game lines is c.in_ok-start.field-0 (c.in_ok-start.ensures lines) c.in-Ok.start c.in-Ok.is in
+    record { fits = s.fits; role = s.role; reply = s.reply }
 
-pub returns-in_ok-refused-in-None : goal.returns-in_ok-refused-in-None
-returns-in_ok-refused-in-None g c = λ lines.
-    let game = named (g.G.Game.rules c.args.game) (g.G.Game.role_name c.args.game) (g.G.Game.move_name c.args.game) in
+pub returns-in-Err : goal.returns-in-Err
+returns-in-Err g c = λ lines.
+    let game = named_by g.G.Game c.args.game in
     let sought = c.args.sought.now in
-    let none : IsRoleNamed game sought.role.now None = rw c.in-None.is at c.in_ok-role.ensures.named in
-    no_role_told {E = ℕ} game sought.role.now (λ r. lines game r sought.depth sought.at_bound) sought.after.now (Ok c.in_ok-refused-in-None.field-0) none
-    c.in_ok-refused-in-None.ensures.line c.in_ok-refused-in-None.ensures.status
+    let is = IsRoleReply game sought.role.now (λ r. lines game r sought.depth sought.at_bound) sought.after.now in
+    reply_is g.G.Game c.args.game lines is c.in_ok-start.field-0 (c.in_ok-start.ensures lines) c.in-Err.reply c.in-Err.is
