@@ -192,6 +192,14 @@ class Browser(unittest.TestCase):
     def run_js(self, script: str, *given: Any) -> Any:
         return self.browser.execute_script(script, *given)
 
+    def of_module(self, module: str, script: str, *given: Any) -> Any:
+        """What a script gives in which `it` is a module of the page."""
+        with_it = f"import('/scripts/{module}.js').then((it) => (() => {{ {script} }})())"
+        told = self.browser.execute_async_script(
+            f"const done = arguments[arguments.length - 1]; {with_it}.then((told) => done([told, '']), (fault) => done([null, String(fault)]));", *given)
+        self.assertEqual(told[1], "")
+        return told[0]
+
     def pick(self, name: str, value: str) -> None:
         """Takes the option of a list."""
         self.element(name).find_element("css selector", f'option[value="{value}"]').click()
@@ -303,7 +311,7 @@ class Play(Browser):
         ):
             moves = [{"move": move, "low": low, "high": high, "depth": depth, "line": [["h", "t"]]}
                      for move, (low, high, depth) in zip("ht", bounds)]
-            self.run_js("return import('/scripts/moves.js').then(({ drawWorth }) => drawWorth({ moves: arguments[0] }))", moves)
+            self.of_module("moves", "it.drawWorth({ moves: arguments[0] })", moves)
             with self.subTest(bounds=bounds):
                 self.assertEqual([row.get_dom_attribute("data-move") for row in self.all("#rows tr.best")], best)
 
@@ -341,7 +349,7 @@ class Play(Browser):
         self.element("open").click()
         self.wait(lambda: "Your move, constructor" in self.text("status"))
         self.pick("seat-__proto__", "you")
-        self.wait(lambda: not self.run_js("return import('/scripts/state.js').then(({ now }) => now.awaited)"))
+        self.wait(lambda: not self.of_module("state", "return it.now.awaited"))
         self.all("#rows button")[0].click()
         self.wait(lambda: "Your move, __proto__" in self.text("status"))
         self.all("#rows button")[1].click()
@@ -448,14 +456,12 @@ class Long(Browser):
     def test_a_solver_that_has_to_move_before_it_knows_anything_makes_any_move(self) -> None:
         self.go("game=nim&you=first,second")
         self.wait(lambda: len(self.all("#rows button")) == 7)
-        self.run_js("""
-            const told = { version: 0, ended: 'stopped', best: null, moves: [] };
-            const own = window.fetch;
-            window.fetch = (place, ...more) => place === '/api/news' ? Promise.resolve(Response.json(told)) : own(place, ...more);
-            Math.random = () => 0.99;
-        """)
-        self.pick("seat-first", "solver")
-        self.wait(lambda: self.text("status").startswith("Turn 1: first (take c 4)."))
+        self.wait(lambda: ": " in self.text("looked"))
+        self.run_js("Math.random = () => 0.99;")
+        ended = {"version": 0, "depth": 0, "ended": "stopped", "why": "", "best": None, "moves": []}
+        with patch.dict(QUESTIONS, {"/api/choose": lambda desk, told: {"look": 0}}), patch.object(Desk, "news", lambda *_: ended):
+            self.pick("seat-first", "solver")
+            self.wait(lambda: self.text("status").startswith("Turn 1: first (take c 4)."))
 
 
 class Texts(Browser):
