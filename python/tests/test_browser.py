@@ -195,10 +195,10 @@ class Browser(unittest.TestCase):
     def of_module(self, module: str, script: str, *given: Any) -> Any:
         """What a script gives in which `it` is a module of the page."""
         with_it = f"import('/scripts/{module}.js').then((it) => (() => {{ {script} }})())"
-        told = self.browser.execute_async_script(
-            f"const done = arguments[arguments.length - 1]; {with_it}.then((told) => done([told, '']), (fault) => done([null, String(fault)]));", *given)
-        self.assertEqual(told[1], "")
-        return told[0]
+        ends = "(told) => done([told, '']), (fault) => done([null, String(fault)])"
+        told, fault = self.browser.execute_async_script(f"const done = [...arguments].pop(); {with_it}.then({ends});", *given)
+        self.assertEqual(fault, "")
+        return told
 
     def pick(self, name: str, value: str) -> None:
         """Takes the option of a list."""

@@ -19,7 +19,8 @@ function pressable() {
 }
 
 function drawPiece(piece) {
-  if (piece.colour && !piece.mark) return make("span", { class: `disc ${piece.colour}` });
+  if (piece.colour === "tile") return make("span", { class: "piece tile" }, piece.mark);
+  if (piece.colour) return make("span", { class: `disc ${piece.colour}` }, piece.mark);
   const size = piece.mark.length > 2 ? "piece long" : "piece";
   return make("span", { class: `${size} side${piece.side}` }, piece.mark);
 }
@@ -28,7 +29,7 @@ function drawCell(grid, row, column, pieces, actions) {
   const key = `${grid.columns[column]} ${grid.rows[row]}`;
   const names = pieces.map((piece) => piece.name).join(" and ") || "empty";
   const label = `column ${grid.columns[column]}, row ${grid.rows[row]}: ${names}`;
-  const cell = make("td", { class: grid.checkered && (row + column) % 2 ? "shade" : "" });
+  const cell = make("td", { class: grid.checkered && (row + column) % 2 === (grid.phase ?? 1) ? "shade" : "" });
   const action = actions.get(key);
   const drawn = pieces.map(drawPiece);
   if (!action) {
@@ -59,9 +60,12 @@ export function drawBoards() {
     const actions = place === 0 ? pressable() : new Map();
     const size = grid.columns.length > 12 ? "board lots" : grid.columns.length > 6 ? "board many" : "board";
     const head = make("tr", {}, make("td", { hidden: true }), ...[]);
+    const [wide, high] = grid.inner;
     const body = grid.rows.map((row, down) => make("tr", {}, make("th", { scope: "row" }, row),
       ...grid.columns.map((column, across) => {
         const cell = drawCell(grid, down, across, grid.cells[down][across], actions);
+        cell.classList.toggle("cut-left", wide > 0 && across > 0 && across % wide === 0);
+        cell.classList.toggle("cut-top", high > 0 && down > 0 && down % high === 0);
         const was = old?.[place]?.cells?.[down]?.[across];
         if (was && !same(was, grid.cells[down][across])) cell.classList.add("fresh");
         return cell;
