@@ -95,6 +95,15 @@ new MutationObserver(() => {
   window.marks.push(rows.map((row) => [row.dataset.move, row.classList.contains("best"), row.children[1].textContent]));
 }).observe(document, { subtree: true, childList: true, attributes: true, characterData: true });
 """
+# Drops a file on the page: its name, and its text or how many bytes it has.
+DROP = """
+const [name, text] = arguments;
+const data = new DataTransfer();
+data.items.add(new File([typeof text === "number" ? new Uint8Array(text).fill(32) : text], name));
+for (const type of ["dragover", "drop"]) {
+  document.body.dispatchEvent(new DragEvent(type, { dataTransfer: data, bubbles: true, cancelable: true }));
+}
+"""
 # What a page of another origin may try, each with what came of it.
 STRANGER = """
 const [base, done] = arguments;
@@ -490,6 +499,46 @@ class Texts(Browser):
         self.element("open").click()
         self.wait(lambda: "Your move" in self.text("status"))
         self.assertFalse(self.element("refusal").is_displayed())
+
+    def test_a_file_is_opened_by_the_button(self) -> None:
+        self.go("game=tic_tac_toe")
+        self.element("kif").send_keys(str(TOP / "games/matching_pennies.kif"))
+        self.wait(lambda: self.text("title") == "matching pennies (a file)" and "Your move, a" in self.text("status"))
+        self.assertFalse(self.element("rules").is_displayed())
+        self.check_access()
+
+    def test_a_file_that_is_dropped_is_opened_by_its_name(self) -> None:
+        self.go("game=tic_tac_toe")
+        self.run_js(DROP, "my_coins.kif", (TOP / "games/matching_pennies.kif").read_text())
+        self.wait(lambda: self.text("title") == "my coins" and "Your move, a" in self.text("status"))
+        self.assertEqual(self.run_js("return location.hash"), "")
+        self.run_js(DROP, "broken.kif", "(role a)\n(base p")
+        self.wait(lambda: self.element("refusal").is_displayed())
+        self.assertIn("refused K4 Unclosed 9", self.text("refusal-told"))
+
+    def test_a_file_that_is_too_long_or_no_text_is_refused(self) -> None:
+        self.go("game=tic_tac_toe")
+        for name, text, want in (
+            ("long.kif", (1 << 20) + 1, "long.kif has 1,048,577 bytes, and rules have at most 1,048,576."),
+            ("picture.kif", "\x89PNG\0", "picture.kif is no text."),
+        ):
+            self.run_js(DROP, name, text)
+            self.wait(lambda: self.text("status") == want)
+        self.assertEqual(self.text("title"), "tic tac toe")
+        self.assertTrue(self.element("game").is_displayed())
+
+    @needs_program
+    def test_a_file_as_games_are_found_is_written_out_by_itself(self) -> None:
+        # The library writes nothing out.
+        pool = Pool(2, [*OWN_COMMAND, *PROGRAM])
+        self.addCleanup(pool.close)
+        instead = patch.object(self.desk, "pool", pool)
+        instead.start()
+        self.addCleanup(instead.stop)
+        self.go("game=tic_tac_toe")
+        self.run_js(DROP, "five.kif", FOUND)
+        self.wait(lambda: self.text("title") == "five" and "Your move, one" in self.text("status"))
+        self.assertIn("written out", self.text("notes"))
 
     @needs_program
     def test_a_game_as_games_are_found_is_written_out_and_played(self) -> None:

@@ -178,6 +178,13 @@ class Games(Served):
         self.assertEqual(self.ask("open", text=MARKS.decode())["roles"], ["xplayer", "oplayer"])
         self.assertIn("no game", self.ask("open", 400, name="../games/nim")["error"])
 
+    def test_rules_of_ones_own_have_a_name_that_no_game_of_the_folder_has(self) -> None:
+        text = MARKS.decode()
+        self.assertEqual(self.ask("open", text=text)["name"], "pasted")
+        for given, want in ("mine", "mine"), ("nim", "nim (a file)"):
+            with self.subTest(given=given):
+                self.assertEqual(self.ask("open", text=text, name=given)["name"], want)
+
     def test_a_game_is_read_by_few_questions_and_opened_again_goes_on(self) -> None:
         heard = Heard(of_sessions=False)
         with heard.listening():

@@ -122,10 +122,18 @@ class Desk:
 
     def _stored(self, name: str) -> Path:
         """The file of a game of the folder."""
-        known = {path.stem: path for path in self.folder.glob("*.kif")} if self.folder else {}
+        known = self._known()
         if name not in known:
             raise BadQuestion(f"There is no game {name} in the folder.")
         return known[name]
+
+    def _known(self) -> dict[str, Path]:
+        """The files of the games of the folder, by the names of the games."""
+        return {path.stem: path for path in self.folder.glob("*.kif")} if self.folder else {}
+
+    def _own(self, name: str) -> str:
+        """The name of rules of one's own, which is that of no game of the folder."""
+        return f"{name} (a file)" if name in self._known() else name
 
     def _style(self, path: Path | None) -> tuple[board.Style, str]:
         """How a board is drawn, and what is wrong with the file that says it."""
@@ -138,8 +146,8 @@ class Desk:
             return board.Style(), f"{beside.name}: {fault}"
 
     def open(self, told: dict[str, Any]) -> dict[str, Any]:
-        """Opens a game by its name or by its text, or tells its refusal. One of the folder that is as
-        games are found is written out, and of others those for which it is asked."""
+        """Opens a game by its name or by its text, which may have a name too, or tells its refusal. One of
+        the folder that is as games are found is written out, and of others those for which it is asked."""
         path = self._stored(str(told["name"])) if "text" not in told else None
         found = path.read_bytes() if path else str(told["text"]).encode()
         text = found.decode(errors="replace")
@@ -157,7 +165,7 @@ class Desk:
             return {"text": text, "refused": places.refusal(refused, found)}
         style, note = self._style(path)
         base = state.base(rules, roles[0], self._ask) if style.draw else []
-        name = path.stem if path else "pasted"
+        name = path.stem if path else self._own(str(told.get("name", "pasted")))
         key = self._remember(Opened(name, rules, roles, style, board.frames(base, style)))
         written = [] if rules is found else [WRITTEN, SHOWN if unrolled.is_shown(rules) else TESTED]
         notes = [note, *written, once(("moves",), rules).errors.decode(errors="replace").strip()]

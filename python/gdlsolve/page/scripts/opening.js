@@ -66,12 +66,16 @@ export function drawSeats() {
   $("seats").replaceChildren(make("legend", {}, "Who plays"), ...rows);
 }
 
-// Opens the rules of the text, and goes to what came of it.
-export async function openText(whole) {
-  await open({ text: $("text").value, whole });
+// Opens rules of one's own, and goes to what came of it.
+export async function openRules(question) {
+  await open(question);
   const shown = $("refusal").hidden ? $("play") : $("refusal");
   if ($("refusal").hidden) { $("rules").hidden = true; $("play").focus(); }
   shown.scrollIntoView({ block: "nearest" });
+}
+
+export function openText(whole) {
+  return openRules({ text: $("text").value, whole });
 }
 
 function fillSubject() {

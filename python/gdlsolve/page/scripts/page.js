@@ -2,6 +2,7 @@
 import { ask, leave, stopLooks } from "./asking.js";
 import { walkBoard } from "./board.js";
 import { $, make } from "./dom.js";
+import { dragEnds, dragged, dropped, takeFile } from "./files.js";
 import { again, lookAgain, step, takeBack } from "./match.js";
 import { open, openAddress, openSection, openText } from "./opening.js";
 import { takeRecord } from "./records.js";
@@ -37,6 +38,15 @@ function wire() {
     const [file] = $("file").files;
     if (file) { $("record-text").value = await file.text(); await takeRecord(); }
   }, "change");
+  on("open-file", () => $("kif").click());
+  on("kif", async () => {
+    const [file] = $("kif").files;
+    // The same file may be chosen again, once it was mended.
+    try { if (file) await takeFile(file); } finally { $("kif").value = ""; }
+  }, "change");
+  document.addEventListener("dragover", dragged);
+  document.addEventListener("dragleave", dragEnds);
+  document.addEventListener("drop", guarded(dropped));
   on("first", () => step(0));
   on("back", () => step(now.at - 1));
   on("forward", () => step(now.at + 1));

@@ -11,7 +11,7 @@ export async function takeRecord() {
     const told = await ask("record", { text: $("record-text").value });
     const known = now.games.some(({ name }) => name === told.game);
     if (known && (!now.game || now.game.name !== told.game)) await open({ name: told.game });
-    else if (!known && told.rules) await open({ text: told.rules, whole: true });
+    else if (!known && told.rules) await open({ text: told.rules, name: told.game || undefined, whole: true });
     if (!now.game) throw new Error("Open the game of this record first.");
     const end = await ask("position", { game: now.game.id, after: told.turns });
     if (end.refused) throw new Error(`The record does not fit ${now.game.name}: ${end.refused.told}. ${end.refused.cause}`);
