@@ -324,6 +324,71 @@ class Play(Browser):
             with self.subTest(bounds=bounds):
                 self.assertEqual([row.get_dom_attribute("data-move") for row in self.all("#rows tr.best")], best)
 
+    def test_a_hint_marks_the_best_move_and_does_not_play_it(self) -> None:
+        after = "((mark 1 1) noop) (noop (mark 2 2)) ((mark 3 3) noop) (noop (mark 1 2))"
+        self.go(f"game=tic_tac_toe&you=xplayer&after={after}")
+        self.element("tell").click()
+        self.pick("seconds", "60")
+        self.assertFalse(self.element("hint-told").is_displayed())
+        self.element("hint").click()
+        self.wait(lambda: self.text("hint-told") == "Hint: (mark 3 2) is best: 50 to xplayer, settled.")
+        self.assertEqual([row.get_dom_attribute("data-move") for row in self.all("#rows tr.hint")], ["(mark 3 2)"])
+        self.assertEqual([cell.get_dom_attribute("data-at") for cell in self.all(".board td.hinted")], ["2 3"])
+        # Nothing else is told, and nothing is played.
+        self.assertEqual([row for row in self.all("#rows .worth") if row.text], [])
+        self.assertEqual(len(self.all("#list button")), 5)
+        self.check_access()
+        self.all("#rows tr.hint button")[0].click()
+        self.wait(lambda: not self.all("#rows tr.hint") and not self.element("hint-told").is_displayed())
+
+    def test_a_hint_says_what_is_not_settled(self) -> None:
+        self.go("game=matching_pennies&you=a,b")
+        self.element("tell").click()
+        self.wait(lambda: len(self.all("#rows button")) == 2)
+        for bounds, text, marked in (
+            ([(0, 0, 2), (0, 100, 0)], "No best move is known yet.", []),
+            ([(50, 100, 2), (0, 100, 1)], "No best move is known yet.", []),
+            ([(50, 100, 2), (0, 100, 2)], "Hint: h is best as far as 2 turns ahead: 50 to 100 to a, not settled.", ["h"]),
+            ([(50, 50, 2), (0, 100, 3)], "Hint: h is best as far as 3 turns ahead: 50 to a, not settled.", ["h"]),
+            ([(100, 100, 2), (0, 100, 0)], "Hint: h is best: 100 to a, settled.", ["h"]),
+            ([(40, 40, 1), (40, 40, 3)], "Hint: no move is better than another: each is worth 40 to a, settled.", []),
+        ):
+            moves = [{"move": move, "low": low, "high": high, "depth": depth, "line": [["h", "t"]]}
+                     for move, (low, high, depth) in zip("ht", bounds)]
+            self.of_module("state", "Object.assign(it.now, { told: { moves: arguments[0] }, hinted: true })", moves)
+            self.of_module("hint", "it.drawHint()")
+            with self.subTest(bounds=bounds):
+                self.assertEqual(self.text("hint-told"), text)
+                self.assertEqual([row.get_dom_attribute("data-move") for row in self.all("#rows tr.hint")], marked)
+
+    def test_the_board_is_flipped_and_the_address_keeps_it(self) -> None:
+        self.go("game=tic_tac_toe&you=xplayer,oplayer&after=((mark 1 3) noop)")
+        self.wait(lambda: len(self.all(".board button")) == 8)
+        corner = ".board tr:first-child td:last-of-type"
+        self.assertIn("✕", self.all(corner)[0].text)
+        self.browser.find_element("tag name", "body").send_keys("f")
+        self.wait(lambda: "✕" in self.all(".board tr:nth-child(3) td")[0].text)
+        self.assertEqual([head.text for head in self.all(".board th[scope=col]")], ["3", "2", "1"])
+        self.assertIn("flip=1", self.run_js("return location.hash"))
+        # The arrows go as one sees it.
+        self.run_js("document.querySelector('.board button').focus()")
+        self.keys("\ue014")
+        name = self.run_js("return document.activeElement.getAttribute('aria-label')")
+        self.assertEqual(name, "column 2, row 3: empty; play (mark 3 2)")
+        self.run_js("location.reload()")
+        self.wait(lambda: "✕" in self.all(".board tr:nth-child(3) td")[0].text)
+        self.element("flip").click()
+        self.wait(lambda: "✕" in self.all(corner)[0].text)
+        self.assertNotIn("flip", self.run_js("return location.hash"))
+
+    def test_what_the_last_turn_has_changed_is_marked(self) -> None:
+        self.go("game=tic_tac_toe&you=xplayer,oplayer")
+        self.wait(lambda: len(self.all(".board button")) == 9)
+        self.all(".board button")[4].click()
+        self.wait(lambda: [cell.get_dom_attribute("data-at") for cell in self.all(".board td.fresh")] == ["2 2"])
+        self.element("undo").click()
+        self.wait(lambda: len(self.all(".board button")) == 9 and not self.all(".board td.fresh"))
+
     def test_a_move_that_is_pressed_twice_is_one_turn(self) -> None:
         self.go("game=tic_tac_toe&you=xplayer,oplayer")
         self.wait(lambda: len(self.all("#rows button")) == 9)

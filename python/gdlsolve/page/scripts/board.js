@@ -30,6 +30,7 @@ function drawCell(grid, row, column, pieces, actions) {
   const names = pieces.map((piece) => piece.name).join(" and ") || "empty";
   const label = `column ${grid.columns[column]}, row ${grid.rows[row]}: ${names}`;
   const cell = make("td", { class: grid.checkered && (row + column) % 2 === (grid.phase ?? 1) ? "shade" : "" });
+  cell.dataset.at = key;
   const action = actions.get(key);
   const drawn = pieces.map(drawPiece);
   if (!action) {
@@ -53,29 +54,45 @@ function drawCell(grid, row, column, pieces, actions) {
   return cell;
 }
 
+// The places of a line of the board, in the order in which they are drawn.
+function drawnOrder(line) {
+  const places = [...line.keys()];
+  return now.flipped ? places.reverse() : places;
+}
+
+// Marks the cells of a move, or none.
+export function markCells(move) {
+  now.hint = move;
+  const cells = new Set((move === null ? [] : now.position.spots[now.role]?.[move]?.press || []).map((cell) => cell.join(" ")));
+  for (const cell of $("boards").querySelectorAll("table:first-child td[data-at]")) cell.classList.toggle("hinted", cells.has(cell.dataset.at));
+}
+
 export function drawBoards() {
   const held = document.activeElement?.dataset?.cell;
-  const old = now.drawn ? JSON.parse(now.drawn) : null;
   const tables = now.position.boards.map((grid, place) => {
     const actions = place === 0 ? pressable() : new Map();
     const size = grid.columns.length > 12 ? "board lots" : grid.columns.length > 6 ? "board many" : "board";
     const head = make("tr", {}, make("td", { hidden: true }), ...[]);
     const [wide, high] = grid.inner;
-    const body = grid.rows.map((row, down) => make("tr", {}, make("th", { scope: "row" }, row),
-      ...grid.columns.map((column, across) => {
+    const [rows, columns] = [drawnOrder(grid.rows), drawnOrder(grid.columns)];
+    const body = rows.map((down, fromTop) => make("tr", {}, make("th", { scope: "row" }, grid.rows[down]),
+      ...columns.map((across, fromLeft) => {
         const cell = drawCell(grid, down, across, grid.cells[down][across], actions);
-        cell.classList.toggle("cut-left", wide > 0 && across > 0 && across % wide === 0);
-        cell.classList.toggle("cut-top", high > 0 && down > 0 && down % high === 0);
-        const was = old?.[place]?.cells?.[down]?.[across];
+        cell.classList.toggle("cut-left", wide > 0 && fromLeft > 0 && fromLeft % wide === 0);
+        cell.classList.toggle("cut-top", high > 0 && fromTop > 0 && fromTop % high === 0);
+        const was = now.before?.[place]?.cells?.[down]?.[across];
         if (was && !same(was, grid.cells[down][across])) cell.classList.add("fresh");
         return cell;
       })));
     head.replaceChildren(make("th", {}, make("span", { class: "unseen" }, "row")),
-      ...grid.columns.map((column) => make("th", { scope: "col" }, column)));
+      ...columns.map((across) => make("th", { scope: "col" }, grid.columns[across])));
     return make("table", { class: size }, make("caption", { class: "unseen" }, `The board, by ${grid.relation}`),
       make("tbody", {}, ...body, head));
   });
   $("boards").replaceChildren(...tables);
+  $("flip").hidden = !tables.length;
+  $("flip").setAttribute("aria-pressed", String(now.flipped));
+  markCells(now.hint);
   if (held) document.querySelector(`[data-cell="${held}"]`)?.focus();
 }
 
@@ -85,9 +102,10 @@ export function walkBoard(event) {
   if (!step || !from) return;
   event.preventDefault();
   let [row, column] = from.split(" ").map(Number);
+  const way = now.flipped ? -1 : 1;
   for (let tries = 0; tries < 24; tries += 1) {
-    row += step[0];
-    column += step[1];
+    row += way * step[0];
+    column += way * step[1];
     const next = document.querySelector(`[data-cell="${row} ${column}"]`);
     if (next) { next.focus(); return; }
   }

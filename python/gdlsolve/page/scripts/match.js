@@ -25,6 +25,10 @@ export async function show({ auto = false } = {}) {
     throw new Error(`That turn cannot be played: ${told.refused.told}.`);
   }
   now.position = told;
+  // What the last turn has changed is marked, where the one before it was shown.
+  now.before = now.at === now.drawnAt + 1 ? now.drawn : null;
+  now.drawn = told.boards;
+  now.drawnAt = now.at;
   // A role may have any name, also one that each object knows, as `constructor`.
   now.pending = Object.create(null);
   now.source = null;

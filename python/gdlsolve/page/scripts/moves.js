@@ -1,6 +1,7 @@
 // The list of moves, and the looks at what they are worth.
 import { look } from "./asking.js";
 import { $, make } from "./dom.js";
+import { drawHint } from "./hint.js";
 import { choosers, does, now, played, turnsAhead } from "./state.js";
 import { busy, guarded } from "./status.js";
 import { drawTree } from "./tree.js";
@@ -18,6 +19,9 @@ function subject() {
 
 export function drawMoves() {
   now.role = subject();
+  now.told = null;
+  now.hinted = false;
+  now.hint = null;
   const legal = now.position.state === "open" ? now.position.legal[now.role] || [] : [];
   $("moves-title").textContent = legal.length ? `Moves of ${now.role}` : "Moves";
   $("table").hidden = !legal.length;
@@ -29,6 +33,8 @@ export function drawMoves() {
     row.dataset.move = move;
     return row;
   }));
+  $("hint").disabled = !legal.length;
+  $("hint-told").hidden = true;
 }
 
 export function drawWorth(told) {
@@ -47,16 +53,28 @@ export function drawWorth(told) {
   if (best.length) drawTree(best[0]);
 }
 
+// Looks at what the moves are worth, and tells it where that is wanted; else for a hint alone.
 export async function worth() {
-  if (!$("tell").checked || now.position.state !== "open") return;
+  const isTold = $("tell").checked;
+  if (!(isTold || now.hinted) || now.position.state !== "open") return;
   busy(true, "Looking.");
   const told = await look("values", { after: played(), role: now.role, seconds: seconds() }, (news) => {
     $("looked").textContent = news.depth ? `Looking, ${turnsAhead(news.depth)} ahead.` : "Looking.";
-    drawWorth(news);
+    now.told = news;
+    if (isTold) drawWorth(news);
+    drawHint();
   });
   if (told === null) return;
   const deep = told.depth ? `looked ${turnsAhead(told.depth)} ahead` : "nothing is known yet";
   const how = told.ended === "settled" ? "All values are settled" : ENDS[told.ended];
   busy(false, told.ended === "failed" ? told.why : `${how}: ${deep}.`);
   $("heard").textContent = $("looked").textContent;
+}
+
+// Marks a best move, which is looked for where that was not done. It is not played.
+export async function hint() {
+  if (now.awaited || now.position.state !== "open") return;
+  now.hinted = true;
+  drawHint();
+  if (!now.told && !now.looks.size) await worth();
 }

@@ -7,7 +7,7 @@ import { now } from "./state.js";
 import { guarded, say } from "./status.js";
 import { turnsOf } from "./turns.js";
 
-export async function open(question, { turns = [], you = null, at = null } = {}) {
+export async function open(question, { turns = [], you = null, at = null, flip = false } = {}) {
   leave();
   $("game").hidden = true;
   $("opening").textContent = `Opening ${question.name ? question.name.replaceAll("_", " ") : "these rules"} …`;
@@ -27,7 +27,8 @@ export async function open(question, { turns = [], you = null, at = null } = {})
   now.turns = turns;
   now.chosen = turns.map(() => true);
   now.at = at === null ? turns.length : at;
-  now.drawn = "";
+  now.drawn = null;
+  now.flipped = flip;
   now.seats = Object.fromEntries(told.roles.map((role, place) =>
     [role, (you ? you.includes(role) : place === 0) ? "you" : "solver"]));
   $("games").value = now.games.some(({ name }) => name === told.name) ? told.name : "";
@@ -99,7 +100,7 @@ export async function openAddress() {
   if (!name) return openSection("rules", "text");
   const turns = known ? turnsOf(asked.get("after") || "") : [];
   const you = known && asked.has("you") ? asked.get("you").split(",") : null;
-  await open({ name }, { turns, you });
+  await open({ name }, { turns, you, flip: known && asked.get("flip") === "1" });
   if (wanted && !known) say(`There is no game ${wanted} in the folder. This is another one.`, true);
   return undefined;
 }

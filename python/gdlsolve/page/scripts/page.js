@@ -1,22 +1,29 @@
 // The page: a game, its board, its moves with what they are worth, and matches against the solver. This is where it begins.
 import { ask, leave, stopLooks } from "./asking.js";
-import { walkBoard } from "./board.js";
+import { drawBoards, walkBoard } from "./board.js";
 import { $, make } from "./dom.js";
 import { dragEnds, dragged, dropped, takeFile } from "./files.js";
 import { again, lookAgain, step, takeBack } from "./match.js";
+import { hint } from "./moves.js";
 import { open, openAddress, openSection, openText } from "./opening.js";
 import { takeRecord } from "./records.js";
 import { goToFault, tellPlace } from "./refusal.js";
 import { now } from "./state.js";
 import { guarded } from "./status.js";
 import { walkTree } from "./tree.js";
-import { save } from "./turns.js";
+import { remember, save } from "./turns.js";
 
 function key(event) {
   if (event.key === "Escape") { stopLooks(); return; }
   if (/^(INPUT|TEXTAREA|SELECT)$/.test(event.target.tagName) || event.ctrlKey || event.altKey || event.metaKey) return;
-  const id = { ",": "back", ".": "forward", u: "undo" }[event.key];
-  if (id && now.game && !$(id).disabled) { event.preventDefault(); $(id).click(); }
+  const id = { ",": "back", ".": "forward", u: "undo", h: "hint", f: "flip" }[event.key];
+  if (id && !$("game").hidden && !$(id).disabled && !$(id).hidden) { event.preventDefault(); $(id).click(); }
+}
+
+function flip() {
+  now.flipped = !now.flipped;
+  drawBoards();
+  remember();
 }
 
 function wire() {
@@ -53,6 +60,8 @@ function wire() {
   on("last", () => step(now.turns.length));
   on("undo", takeBack);
   on("again", again);
+  on("hint", hint);
+  on("flip", flip);
   on("stop", stopLooks);
   on("save", save);
   for (const id of ["subject", "seconds", "tell"]) {

@@ -5,7 +5,8 @@ const IDLE = /^(noop|no_op|wait)$/;
 // drawn is old.
 export const now = {
   games: [], game: null, turns: [], chosen: [], at: 0, position: null, pending: null, seats: {},
-  auto: false, source: null, run: 0, awaited: false, looks: new Set(), role: "", tree: null, drawn: "",
+  auto: false, source: null, run: 0, awaited: false, looks: new Set(), role: "", tree: null, drawn: null, drawnAt: 0, before: null,
+  flipped: false, told: null, hinted: false, hint: null,
 };
 
 // What is done where a move, a turn or a node of the tree is pressed. The course of the match says it, so that what is drawn needs not know it.

@@ -34,7 +34,7 @@ export function remember() {
   if (!now.games.some(({ name }) => name === now.game.name)) return history.replaceState(null, "", "#");
   const you = now.game.roles.filter((role) => now.seats[role] === "you").join(",");
   const after = played().map((turn) => `(${turn.join(" ")})`).join(" ");
-  return history.replaceState(null, "", "#" + new URLSearchParams({ game: now.game.name, you, after }));
+  return history.replaceState(null, "", "#" + new URLSearchParams({ game: now.game.name, you, after, ...(now.flipped ? { flip: "1" } : {}) }));
 }
 
 // The turns of a history's text, which the address tells.
