@@ -176,6 +176,8 @@ class Browser(unittest.TestCase):
         cls.addClassCleanup(cls.browser.quit)
 
     def setUp(self) -> None:
+        self.browser.get(f"http://127.0.0.1:{self.server.server_address[1]}/icon.svg")
+        self.run_js("localStorage.clear()")
         self.browser.get("about:blank")
 
     def tearDown(self) -> None:
@@ -632,6 +634,76 @@ class Texts(Browser):
         self.element("whole-too").click()
         self.wait(lambda: not self.element("whole-too").is_displayed() and len(self.all("#rows button")) == 2)
         self.assertIn("Your move, one", self.text("status"))
+
+    def kept(self) -> list[dict[str, Any]]:
+        """The matches that the browser keeps."""
+        found: list[dict[str, Any]] = json.loads(self.run_js("return localStorage.getItem('gdlsolve.matches') || '[]'"))
+        return found
+
+    def test_a_match_is_kept_opened_again_and_removed(self) -> None:
+        self.go("game=tic_tac_toe&you=xplayer,oplayer&flip=1&after=((mark 2 2) noop) (noop (mark 1 1))")
+        self.element("saved").click()
+        self.assertEqual(self.text("saves-told"), "None yet.")
+        self.element("save-name").send_keys("a corner")
+        self.element("keep").click()
+        self.wait(lambda: self.text("saves-told") == "a corner is kept.")
+        [match] = self.kept()
+        self.assertEqual((match["name"], match["game"], len(match["turns"])), ("a corner", "tic_tac_toe", 2))
+        self.assertIn("tic tac toe, 2 turns, ", self.text("saves-list"))
+        self.check_access()
+        self.go("game=nim")
+        self.wait(lambda: self.text("title") == "nim")
+        self.element("saved").click()
+        self.all("#saves-list button")[0].click()
+        self.wait(lambda: self.text("status").startswith("Turn 2: oplayer (mark 1 1). Your move, xplayer."))
+        self.assertFalse(self.element("saves").is_displayed())
+        self.assertIn("flip=1", self.run_js("return location.hash"))
+        self.element("saved").click()
+        self.all("#saves-list button.away")[0].click()
+        self.wait(lambda: self.text("saves-told") == "a corner is removed.")
+        self.assertEqual((self.kept(), self.all("#saves-list li")), ([], []))
+
+    def test_a_match_over_rules_of_ones_own_is_kept_with_them(self) -> None:
+        self.go("game=tic_tac_toe")
+        self.run_js(DROP, "my_coins.kif", (TOP / "games/matching_pennies.kif").read_text())
+        self.wait(lambda: self.text("title") == "my coins" and len(self.all("#rows button")) == 2)
+        self.element("saved").click()
+        self.element("keep").click()
+        self.wait(lambda: self.text("saves-told") == "my coins, 0 turns is kept.")
+        self.go("game=nim")
+        self.wait(lambda: self.text("title") == "nim")
+        self.element("saved").click()
+        self.all("#saves-list button")[0].click()
+        self.wait(lambda: self.text("title") == "my coins" and len(self.all("#rows button")) == 2)
+
+    def test_the_oldest_of_many_matches_goes_and_what_is_none_is_passed_over(self) -> None:
+        self.go("game=nim")
+        many = [{"name": f"m{number}", "game": "nim", "turns": [], "date": "2020-01-01"} for number in range(50)]
+        self.run_js("localStorage.setItem('gdlsolve.matches', arguments[0])", json.dumps([{"name": 1}, *many]))
+        self.element("saved").click()
+        self.assertEqual(len(self.all("#saves-list li")), 50)
+        self.element("keep").click()
+        self.wait(lambda: self.text("saves-told") == "nim, 0 turns is kept.")
+        self.assertEqual([match["name"] for match in self.kept()], ["nim, 0 turns", *(f"m{number}" for number in range(49))])
+        self.run_js("localStorage.setItem('gdlsolve.matches', '{')")
+        self.element("close-saves").click()
+        self.element("saved").click()
+        self.assertEqual(self.text("saves-told"), "None yet.")
+
+    def test_a_browser_that_keeps_nothing_is_told_of(self) -> None:
+        self.go("game=tic_tac_toe&you=xplayer,oplayer")
+        self.run_js("Storage.prototype.setItem = () => { throw new Error('full'); };")
+        self.element("saved").click()
+        self.element("keep").click()
+        self.wait(lambda: self.text("saves-told").startswith("The browser has no room for this match."))
+        self.run_js("Object.defineProperty(window, 'localStorage', { get() { throw new Error('refused'); } });")
+        self.element("close-saves").click()
+        self.element("saved").click()
+        self.assertEqual(self.text("saves-told"), "The browser keeps nothing for this page. A match can be saved as a record.")
+        self.assertFalse(self.element("keep").is_enabled())
+        self.element("close-saves").click()
+        self.all("#rows button")[0].click()
+        self.wait(lambda: "Your move, oplayer" in self.text("status"))
 
     def test_a_record_is_stepped_through(self) -> None:
         self.go("game=nim")

@@ -8,6 +8,7 @@ import { hint } from "./moves.js";
 import { open, openAddress, openSection, openText } from "./opening.js";
 import { takeRecord } from "./records.js";
 import { goToFault, tellPlace } from "./refusal.js";
+import { drawSaves, keepMatch } from "./saves.js";
 import { now } from "./state.js";
 import { guarded } from "./status.js";
 import { walkTree } from "./tree.js";
@@ -31,6 +32,10 @@ function wire() {
   on("games", () => $("games").value && open({ name: $("games").value }), "change");
   on("write", () => openSection("rules", "text"));
   on("load", () => openSection("record", "record-text"));
+  on("saved", () => { drawSaves(); openSection("saves", "save-name"); });
+  on("close-saves", () => { $("saves").hidden = true; $("saved").focus(); });
+  on("keep", keepMatch);
+  addEventListener("storage", () => { if (!$("saves").hidden) drawSaves(); });
   on("close-rules", () => { $("rules").hidden = true; $("write").focus(); });
   on("close-record", () => { $("record").hidden = true; $("load").focus(); });
   on("open", () => openText(false));
