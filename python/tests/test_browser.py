@@ -322,9 +322,72 @@ class Play(Browser):
         ):
             moves = [{"move": move, "low": low, "high": high, "depth": depth, "line": [["h", "t"]]}
                      for move, (low, high, depth) in zip("ht", bounds)]
-            self.of_module("moves", "it.drawWorth({ moves: arguments[0] })", moves)
+            self.of_module("moves", "it.drawWorth({ moves: arguments[0], depth: 3, seconds: 1 })", moves)
             with self.subTest(bounds=bounds):
                 self.assertEqual([row.get_dom_attribute("data-move") for row in self.all("#rows tr.best")], best)
+
+    def test_the_best_moves_have_their_lines_in_order(self) -> None:
+        self.go("game=four_moves")
+        self.pick("seconds", "60")
+        self.wait(lambda: "settled" in self.text("looked"))
+        self.wait(lambda: len(self.all("#lines-list li")) == 3)
+        told = [item.text.split("\n")[0] for item in self.all("#lines-list li")]
+        self.assertEqual(told, ["y 70 settled 1 turn ahead", "z 70 settled 1 turn ahead", "x 40 settled 1 turn ahead"])
+        self.assertEqual(self.all("#lines-list .line")[0].text, "1 y")
+        want = r"The first 3 of 4 moves of a, by what they are worth: looked 1 turn ahead in \d+\.\d seconds\."
+        self.assertRegex(self.text("lines-told"), want)
+        self.check_access()
+
+    def test_no_move_is_ranked_before_all_were_looked_at(self) -> None:
+        self.go("game=matching_pennies&you=a,b")
+        self.wait(lambda: len(self.all("#rows button")) == 2)
+        self.element("tell").click()
+        for bounds, order in (
+            ([(0, 0, 2), (0, 100, 0)], []),
+            ([(50, 100, 2), (0, 100, 1)], []),
+            ([(0, 100, 2), (50, 100, 2)], ["t", "h"]),
+            ([(50, 50, 1), (50, 100, 2)], ["t", "h"]),
+        ):
+            moves = [{"move": move, "low": low, "high": high, "depth": depth, "line": [["h", "t"]]}
+                     for move, (low, high, depth) in zip("ht", bounds)]
+            self.of_module("lines", "it.drawLines({ moves: arguments[0], depth: 2, seconds: 1 })", moves)
+            with self.subTest(bounds=bounds):
+                self.assertEqual([each.text for each in self.all("#lines-list .move") if each.is_displayed()], order)
+
+    def graph(self) -> list[str]:
+        """What the graph says of each turn."""
+        found: list[str] = self.run_js("return [...document.querySelectorAll('#graph .place title')].map((each) => each.textContent)")
+        return found
+
+    def test_the_worth_of_a_match_is_drawn_turn_by_turn(self) -> None:
+        after = "((mark 1 1) noop) (noop (mark 2 2)) ((mark 3 3) noop) (noop (mark 1 2))"
+        self.go(f"game=tic_tac_toe&you=xplayer,oplayer&after={after}")
+        self.pick("seconds", "60")
+        self.wait(lambda: "settled" in self.text("looked"))
+        self.wait(lambda: self.graph() == ["start: not looked at", *(f"turn {number}: not looked at" for number in (1, 2, 3)), "turn 4: 50 settled"])
+        self.assertEqual((len(self.all("#graph .point")), len(self.all("#graph .settled"))), (1, 0))
+        self.element("back").click()
+        self.element("back").click()
+        # Nobody else has a choice at a turn of xplayer: so what is behind each of its moves is known too.
+        self.wait(lambda: self.graph()[2:] == ["turn 2: 50 settled", "turn 3: 50 settled", "turn 4: 50 settled"])
+        self.assertEqual(len(self.all("#graph .settled")), 2)
+        self.check_access()
+        self.assertEqual(self.all("#graph svg")[0].get_dom_attribute("aria-label"),
+                         "What the match is worth to xplayer: turn 2 50 settled, turn 3 50 settled, turn 4 50 settled")
+        self.all("#graph .place")[4].click()
+        self.wait(lambda: self.text("status").startswith("Turn 4: oplayer (mark 1 2)."))
+
+    def test_bounds_are_drawn_as_a_band_and_an_end_as_what_it_is_worth(self) -> None:
+        self.go("game=matching_pennies&you=a,b&after=(h h)")
+        self.wait(lambda: self.graph() == ["start: not looked at", "turn 1: 100 settled"])
+        note = "it.noteWorth('a', [], [{ move: 'h', low: 20, high: 90, depth: 3, line: [['h', 'h']] }]); it.drawGraph();"
+        self.of_module("graph", note)
+        self.assertEqual(self.graph(), ["start: 20 to 90 within 3 turns", "turn 1: 100 settled"])
+        self.assertEqual([len(self.all(f"#graph .{kind}")) for kind in ("band", "bounds", "point")], [1, 1, 1])
+        self.element("tell").click()
+        self.element("first").click()
+        self.pick("subject", "b")
+        self.wait(lambda: self.graph() == ["start: not looked at", "turn 1: 0 settled"])
 
     def test_a_hint_marks_the_best_move_and_does_not_play_it(self) -> None:
         after = "((mark 1 1) noop) (noop (mark 2 2)) ((mark 3 3) noop) (noop (mark 1 2))"

@@ -294,6 +294,13 @@ class Looks(Served):
         self.assertEqual(told["ended"], "settled")
         self.assertEqual(held, {"(mark 1 2)", "(mark 2 1)", "(mark 2 3)", "(mark 3 2)"})
 
+    def test_a_look_tells_how_long_it_was_at_it(self) -> None:
+        told = self.looked("values", ENDLESS, "red", [], 1)
+        self.assertEqual(told["ended"], "time")
+        self.assertGreaterEqual(told["seconds"], 1)
+        told = self.looked("values", "four_moves", "a", [])
+        self.assertTrue(0 < told["seconds"] < 60, told["seconds"])
+
     def test_a_look_asks_two_questions_a_depth_for_all_moves(self) -> None:
         heard = Heard()
         with heard.listening():

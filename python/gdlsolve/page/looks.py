@@ -110,6 +110,9 @@ class Look:
     seen: float = field(default_factory=time.monotonic)
     # When its time is over; nothing before the rules are read.
     until: float | None = None
+    # When its time began, and how long it was at it when what is known was found.
+    begun: float | None = None
+    took: float = 0.0
 
     def start(self, work: Callable[[Look], str]) -> None:
         """Begins the work, which says at its end how it ended."""
@@ -127,8 +130,7 @@ class Look:
         self.given_up.set()
         with self.changed:
             self.ended, self.why = ended, why
-            self.version += 1
-            self.changed.notify_all()
+            self._tell()
 
     def _over(self) -> str:
         """Why an answer is not waited for any more."""
@@ -144,8 +146,13 @@ class Look:
         """Something more is known, so deep."""
         with self.changed:
             self.depth = depth
-            self.version += 1
-            self.changed.notify_all()
+            self._tell()
+
+    def _tell(self) -> None:
+        """Wakes those who wait for news."""
+        self.took = time.monotonic() - self.begun if self.begun is not None else 0.0
+        self.version += 1
+        self.changed.notify_all()
 
     def wait(self, seen: int, longest: float, is_gone: Callable[[], bool]) -> None:
         """Waits until more is known than what was seen, so long at most. Where the one who asks goes
@@ -167,6 +174,7 @@ class Look:
             return {
                 "version": self.version,
                 "depth": self.depth,
+                "seconds": self.took,
                 "ended": self.ended,
                 "why": self.why,
                 "moves": [asdict(choice) for choice in self.choices],
@@ -201,7 +209,8 @@ class Look:
             both = zip(kinds.values(), made)
             here, *_ = self.at_once(*[partial(read, engine, self.asked.after, self.limit()) for read, engine in both])
             seconds = FOREVER if self.asked.seconds is None else self.asked.seconds
-            self.until = time.monotonic() + seconds
+            self.begun = time.monotonic()
+            self.until = self.begun + seconds
             yield here, made
 
     def learn(self, depth: int, sure: Known, hoped: Known) -> None:

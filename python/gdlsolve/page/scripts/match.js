@@ -2,6 +2,7 @@
 import { ask, leave, look } from "./asking.js";
 import { drawBoards, drawFacts, drawGoals } from "./board.js";
 import { $ } from "./dom.js";
+import { drawGraph, noteEnd } from "./graph.js";
 import { drawMoves, seconds, worth } from "./moves.js";
 import { choosers, does, long, now, played, turnsAhead } from "./state.js";
 import { busy, guarded, say } from "./status.js";
@@ -32,9 +33,11 @@ export async function show({ auto = false } = {}) {
   // A role may have any name, also one that each object knows, as `constructor`.
   now.pending = Object.create(null);
   now.source = null;
+  noteEnd(played(), told);
   remember();
   drawAll();
   $("game").hidden = false;
+  drawGraph();
   now.auto = auto;
   onward();
 }
@@ -161,6 +164,7 @@ export function lookAgain() {
   drawMoves();
   drawBoards();
   drawTree(null);
+  drawGraph();
   onward();
 }
 

@@ -1,7 +1,9 @@
 // The list of moves, and the looks at what they are worth.
 import { look } from "./asking.js";
 import { $, make } from "./dom.js";
+import { drawGraph, noteWorth } from "./graph.js";
 import { drawHint } from "./hint.js";
+import { drawLines } from "./lines.js";
 import { choosers, does, now, played, turnsAhead } from "./state.js";
 import { busy, guarded } from "./status.js";
 import { drawTree } from "./tree.js";
@@ -35,6 +37,7 @@ export function drawMoves() {
   }));
   $("hint").disabled = !legal.length;
   $("hint-told").hidden = true;
+  drawLines(null);
 }
 
 export function drawWorth(told) {
@@ -50,6 +53,7 @@ export function drawWorth(told) {
       make("b", {}, value), " ", make("span", { class: "kind" }, isBest ? `${kind}, best` : kind));
     row.children[2].replaceChildren(...(choice.depth ? drawPlies(choice.line) : []));
   }
+  drawLines(told);
   if (best.length) drawTree(best[0]);
 }
 
@@ -61,7 +65,11 @@ export async function worth() {
   const told = await look("values", { after: played(), role: now.role, seconds: seconds() }, (news) => {
     $("looked").textContent = news.depth ? `Looking, ${turnsAhead(news.depth)} ahead.` : "Looking.";
     now.told = news;
-    if (isTold) drawWorth(news);
+    if (isTold) {
+      drawWorth(news);
+      noteWorth(now.role, played(), news.moves);
+      drawGraph();
+    }
     drawHint();
   });
   if (told === null) return;

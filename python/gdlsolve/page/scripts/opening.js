@@ -29,6 +29,7 @@ export async function open(question, { turns = [], you = null, at = null, flip =
   now.at = at === null ? turns.length : at;
   now.drawn = null;
   now.flipped = flip;
+  now.known = new Map();
   now.seats = Object.fromEntries(told.roles.map((role, place) =>
     [role, (you ? you.includes(role) : place === 0) ? "you" : "solver"]));
   $("games").value = now.games.some(({ name }) => name === told.name) ? told.name : "";

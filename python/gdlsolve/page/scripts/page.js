@@ -3,6 +3,7 @@ import { ask, leave, stopLooks } from "./asking.js";
 import { drawBoards, walkBoard } from "./board.js";
 import { $, make } from "./dom.js";
 import { dragEnds, dragged, dropped, takeFile } from "./files.js";
+import { drawGraph } from "./graph.js";
 import { again, lookAgain, step, takeBack } from "./match.js";
 import { hint } from "./moves.js";
 import { open, openAddress, openSection, openText } from "./opening.js";
@@ -76,6 +77,7 @@ function wire() {
   $("tree").addEventListener("keydown", walkTree);
   document.addEventListener("keydown", key);
   addEventListener("pagehide", leave);
+  addEventListener("resize", () => !$("game").hidden && drawGraph());
   // Another address that is put in where the page is open changes this part alone.
   addEventListener("hashchange", guarded(openAddress));
 }

@@ -6,7 +6,7 @@ const IDLE = /^(noop|no_op|wait)$/;
 export const now = {
   games: [], game: null, turns: [], chosen: [], at: 0, position: null, pending: null, seats: {},
   auto: false, source: null, run: 0, awaited: false, looks: new Set(), role: "", tree: null, drawn: null, drawnAt: 0, before: null,
-  flipped: false, told: null, hinted: false, hint: null,
+  flipped: false, told: null, hinted: false, hint: null, known: new Map(),
 };
 
 // What is done where a move, a turn or a node of the tree is pressed. The course of the match says it, so that what is drawn needs not know it.
