@@ -15,7 +15,7 @@ def drawn(facts: list[str], base: list[str], style: Style | None = None) -> list
     grids, rest = board.boards(facts, board.frames(base, style), style)
     lines = grids[0].told()["cells"] if grids else []
     marks = [
-        ["".join(piece["mark"] or piece["colour"] for piece in cell) for cell in line]
+        ["no cell" if cell is None else "".join(piece["mark"] or piece["colour"] for piece in cell) for cell in line]
         for line in lines
     ]
     return [*marks, rest]
@@ -125,6 +125,11 @@ class Cells(unittest.TestCase):
         told = board.boards([], [frame], Style())[0][0].told()
         self.assertEqual((told["checkered"], told["phase"]), (True, 1))
         self.assertEqual(board.frames([f"(cell {n} {n + 2} man)" for n in range(1, 5)], Style()), [])
+
+    def test_where_nothing_can_ever_stand_is_no_cell(self) -> None:
+        base = [f"(peg {x} {y})" for x in "abc" for y in "123" if f"{x}{y}" not in ("a1", "c3")]
+        want = [["", "", "no cell"], ["", "●", ""], ["no cell", "", ""], []]
+        self.assertEqual(drawn(["(peg b 2)"], base), want)
 
     def test_counts_and_blocks_are_no_board(self) -> None:
         heaps = [f"(held {name} {count})" for name in "abc" for count in range(4)]

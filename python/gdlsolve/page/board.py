@@ -34,7 +34,7 @@ from itertools import pairwise
 from math import isqrt
 from typing import Any
 
-from gdlsolve.page.pieces import COLOURS, Piece, is_chess, look
+from gdlsolve.page.pieces import COLOURS, NO_SIDE, Piece, is_chess, look
 from gdlsolve.solver.terms import terms
 
 # What descriptions write into an empty cell.
@@ -155,10 +155,10 @@ class Grid:
     cells: dict[Cell, list[Piece]]
 
     def told(self) -> dict[str, Any]:
-        """The grid as what JSON can tell: a list of pieces for each cell, row by row."""
+        """The grid as what JSON can tell: a list of pieces for each cell, row by row, or nothing where there is no cell."""
         frame = self.frame
         lines = [
-            [[vars(piece) for piece in self.cells.get((column, row), [])]
+            [[vars(piece) for piece in self.cells.get((column, row), [])] if frame.has((column, row)) else None
              for column in frame.columns]
             for row in frame.rows
         ]
@@ -226,7 +226,7 @@ def _found_parts(names: Iterable[str]) -> tuple[tuple[str, ...], ...]:
 @dataclass(frozen=True)
 class Frame:
     """Where a board has its cells: what all facts that can ever hold tell of it. Where every other
-    cell is used alone, `phase` tells which, and `inner` how large its parts are."""
+    cell is used alone, `phase` tells which."""
 
     relation: str
     arguments: int
@@ -234,7 +234,12 @@ class Frame:
     rows: tuple[str, ...]
     contents: tuple[str, ...]
     way: Way
+    used: frozenset[Cell]
     phase: int | None = None
+
+    def has(self, cell: Cell) -> bool:
+        """Whether something can ever stand there. Where every other cell is used alone, the others are there too."""
+        return self.phase is not None or cell in self.used
 
     @property
     def inner(self) -> tuple[int, int]:
@@ -296,7 +301,7 @@ def _frame(relation: str, facts: list[list[str]], way: Way, style: Style) -> Fra
     phase = _phase(cells, columns, ordered)
     if len(cells) < FILLED * len(columns) * len(rows) / (1 if phase is None else 2):
         return None
-    frame = Frame(relation, len(facts[0]), columns, ordered, (), way, phase)
+    frame = Frame(relation, len(facts[0]), columns, ordered, (), way, frozenset(cells), phase)
     return replace(frame, contents=tuple(dict.fromkeys(map(frame.content, facts))))
 
 
@@ -362,7 +367,7 @@ def _piece(name: str, frame: Frame, style: Style) -> Piece:
     """How a content, or a relation without one, is drawn. What is solid is drawn so, whosever it is."""
     contents = [each for each in frame.contents if each not in style.empty]
     if frame.relation in SOLID and name not in style.marks:
-        return look("", frame.relation, contents, {}, {})
+        return replace(look("", frame.relation, contents, {}, {}), side=NO_SIDE)
     return look(name, frame.relation, contents, style.marks, style.discs)
 
 

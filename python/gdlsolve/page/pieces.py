@@ -8,7 +8,7 @@ from dataclasses import dataclass
 
 # Contents that are colours are drawn as discs.
 COLOURS = frozenset({"red", "black", "white", "yellow", "green", "blue", "orange", "purple"})
-SIDES = 6
+SIDES, NO_SIDE = 6, -1
 BLOCK, DOT, CROWN = "■", "●", "♛"
 MARKS = {
     **{"x": "✕", "o": "◯", "crossed": "✕", "used": "•", "visited": "•"},

@@ -25,7 +25,8 @@ function drawPiece(piece) {
   return make("span", { class: `${size} side${piece.side}` }, piece.mark);
 }
 
-function drawCell(grid, row, column, pieces, actions) {
+function drawCell(grid, row, column, actions) {
+  const pieces = grid.cells[row][column] || [];
   const key = `${grid.columns[column]} ${grid.rows[row]}`;
   const names = pieces.map((piece) => piece.name).join(" and ") || "empty";
   const label = `column ${grid.columns[column]}, row ${grid.rows[row]}: ${names}`;
@@ -33,6 +34,10 @@ function drawCell(grid, row, column, pieces, actions) {
   cell.dataset.at = key;
   const action = actions.get(key);
   const drawn = pieces.map(drawPiece);
+  if (!action && !grid.cells[row][column]) {
+    cell.className = "void";
+    return cell;
+  }
   if (!action) {
     drawn.forEach((piece) => piece.setAttribute("aria-hidden", "true"));
     cell.append(...drawn, make("span", { class: "unseen" }, names));
@@ -77,7 +82,7 @@ export function drawBoards() {
     const [rows, columns] = [drawnOrder(grid.rows), drawnOrder(grid.columns)];
     const body = rows.map((down, fromTop) => make("tr", {}, make("th", { scope: "row" }, grid.rows[down]),
       ...columns.map((across, fromLeft) => {
-        const cell = drawCell(grid, down, across, grid.cells[down][across], actions);
+        const cell = drawCell(grid, down, across, actions);
         cell.classList.toggle("cut-left", wide > 0 && fromLeft > 0 && fromLeft % wide === 0);
         cell.classList.toggle("cut-top", high > 0 && fromTop > 0 && fromTop % high === 0);
         const was = now.before?.[place]?.cells?.[down]?.[across];
