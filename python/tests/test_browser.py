@@ -176,8 +176,6 @@ class Browser(unittest.TestCase):
         cls.addClassCleanup(cls.browser.quit)
 
     def setUp(self) -> None:
-        self.browser.get(f"http://127.0.0.1:{self.server.server_address[1]}/icon.svg")
-        self.run_js("localStorage.clear()")
         self.browser.get("about:blank")
 
     def tearDown(self) -> None:
@@ -432,7 +430,7 @@ class Play(Browser):
         corner = ".board tr:first-child td:last-of-type"
         self.assertIn("✕", self.all(corner)[0].text)
         self.browser.find_element("tag name", "body").send_keys("f")
-        self.wait(lambda: "✕" in self.all(".board tr:nth-child(3) td")[0].text)
+        self.wait(lambda: [cell for cell in self.all(".board tr:nth-child(3) td")[:1] if "✕" in cell.text])
         self.assertEqual([head.text for head in self.all(".board th[scope=col]")], ["3", "2", "1"])
         self.assertIn("flip=1", self.run_js("return location.hash"))
         # The arrows go as one sees it.
@@ -441,9 +439,9 @@ class Play(Browser):
         name = self.run_js("return document.activeElement.getAttribute('aria-label')")
         self.assertEqual(name, "column 2, row 3: empty; play (mark 3 2)")
         self.run_js("location.reload()")
-        self.wait(lambda: "✕" in self.all(".board tr:nth-child(3) td")[0].text)
+        self.wait(lambda: [cell for cell in self.all(".board tr:nth-child(3) td")[:1] if "✕" in cell.text])
         self.element("flip").click()
-        self.wait(lambda: "✕" in self.all(corner)[0].text)
+        self.wait(lambda: [cell for cell in self.all(corner) if "✕" in cell.text])
         self.assertNotIn("flip", self.run_js("return location.hash"))
 
     def test_what_the_last_turn_has_changed_is_marked(self) -> None:
@@ -556,8 +554,29 @@ class Long(Browser):
             with self.subTest(name=name):
                 self.browser.get("about:blank")
                 self.browser.get(f"http://127.0.0.1:{self.server.server_address[1]}/#game={name}")
+                self.wait(lambda: self.text("status"))
+                self.pick("seconds", "60")
                 self.wait(lambda: self.all("#rows .bar"))
                 self.assertLessEqual(self.run_js("return document.documentElement.scrollWidth"), 360)
+
+    def test_moves_stand_below_the_board_and_above_the_fold_of_a_phone(self) -> None:
+        phone = {"width": 360, "height": 740, "deviceScaleFactor": 1, "mobile": False}
+        self.browser.execute_cdp_cmd("Emulation.setDeviceMetricsOverride", phone)
+        self.addCleanup(self.browser.execute_cdp_cmd, "Emulation.clearDeviceMetricsOverride", {})
+        ends = "const { top, bottom } = document.querySelector(arguments[0]).getBoundingClientRect(); return [top, bottom]"
+        beyond = "const { scrollWidth, clientWidth } = document.getElementById('boards'); return scrollWidth - clientWidth"
+        for name in "tic_tac_toe", "hexapawn", "connect_four_5x4", ENDLESS:
+            with self.subTest(name=name):
+                self.browser.get("about:blank")
+                self.browser.get(f"http://127.0.0.1:{self.server.server_address[1]}/#game={name}")
+                self.wait(lambda: self.text("status"))
+                self.pick("seconds", "60")
+                self.wait(lambda: self.all("#rows .bar"))
+                board, move = self.run_js(ends, "#boards"), self.run_js(ends, "#rows button")
+                self.assertLess(board[1], move[0])
+                self.assertLessEqual(move[1], 740)
+                # All of the board is there without going sideways.
+                self.assertEqual(self.run_js(beyond), 0)
 
     def test_a_long_look_is_cancelled(self) -> None:
         self.go(f"game={ENDLESS}")
@@ -705,6 +724,7 @@ class Texts(Browser):
 
     def test_a_match_is_kept_opened_again_and_removed(self) -> None:
         self.go("game=tic_tac_toe&you=xplayer,oplayer&flip=1&after=((mark 2 2) noop) (noop (mark 1 1))")
+        self.run_js("localStorage.clear()")
         self.element("saved").click()
         self.assertEqual(self.text("saves-told"), "None yet.")
         self.element("save-name").send_keys("a corner")
@@ -728,6 +748,7 @@ class Texts(Browser):
 
     def test_a_match_over_rules_of_ones_own_is_kept_with_them(self) -> None:
         self.go("game=tic_tac_toe")
+        self.run_js("localStorage.clear()")
         self.run_js(DROP, "my_coins.kif", (TOP / "games/matching_pennies.kif").read_text())
         self.wait(lambda: self.text("title") == "my coins" and len(self.all("#rows button")) == 2)
         self.element("saved").click()

@@ -32,6 +32,7 @@ function drawCell(grid, row, column, actions) {
   const label = `column ${grid.columns[column]}, row ${grid.rows[row]}: ${names}`;
   const cell = make("td", { class: grid.checkered && (row + column) % 2 === (grid.phase ?? 1) ? "shade" : "" });
   cell.dataset.at = key;
+  cell.classList.toggle("several", pieces.length > 1);
   const action = actions.get(key);
   const drawn = pieces.map(drawPiece);
   if (!action && !grid.cells[row][column]) {
@@ -76,7 +77,7 @@ export function drawBoards() {
   const held = document.activeElement?.dataset?.cell;
   const tables = now.position.boards.map((grid, place) => {
     const actions = place === 0 ? pressable() : new Map();
-    const size = grid.columns.length > 12 ? "board lots" : grid.columns.length > 6 ? "board many" : "board";
+    const size = grid.columns.length > 12 ? "board lots" : "board";
     const head = make("tr", {}, make("td", { hidden: true }), ...[]);
     const [wide, high] = grid.inner;
     const [rows, columns] = [drawnOrder(grid.rows), drawnOrder(grid.columns)];
@@ -91,8 +92,11 @@ export function drawBoards() {
       })));
     head.replaceChildren(make("th", {}, make("span", { class: "unseen" }, "row")),
       ...columns.map((across) => make("th", { scope: "col" }, grid.columns[across])));
-    return make("table", { class: size }, make("caption", { class: "unseen" }, `The board, by ${grid.relation}`),
+    const table = make("table", { class: size }, make("caption", { class: "unseen" }, `The board, by ${grid.relation}`),
       make("tbody", {}, ...body, head));
+    table.style.setProperty("--columns", String(columns.length));
+    table.style.setProperty("--rows", String(rows.length));
+    return table;
   });
   $("boards").replaceChildren(...tables);
   $("flip").hidden = !tables.length;
