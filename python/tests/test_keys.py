@@ -24,6 +24,7 @@ COMMANDS = {
     "gdlsolve-manager": ("gdlsolve.manager", [NIM], "random"),
     "gdlsolve-page": ("gdlsolve.page", ["--port", "0"], "webbrowser"),
     "gdlsolve-player": ("gdlsolve.player", ["--port", "0"], "hmac"),
+    "gdlsolve-tournament": ("gdlsolve.manager.tournament", [NIM, "--player", "a=random", "--player", "b=random", "--archive", "/dev/null"], "sqlite3"),
 }
 SCRIPTS = tomllib.loads((TOP / "python/pyproject.toml").read_text())["project"]["scripts"]
 # What pip writes for a script.

@@ -13,7 +13,7 @@ from pathlib import Path
 import gdlsolve
 from tests import PROGRAM, TOP
 
-COMMANDS = ("gdlsolve", "gdlsolve-cluster", "gdlsolve-manager", "gdlsolve-page", "gdlsolve-player")
+COMMANDS = ("gdlsolve", "gdlsolve-cluster", "gdlsolve-manager", "gdlsolve-page", "gdlsolve-player", "gdlsolve-tournament")
 NEEDED = ("pip", "setuptools", "wheel")
 LIBRARY = TOP / "c/out/libgdlsolve.so"
 

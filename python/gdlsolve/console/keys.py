@@ -16,7 +16,7 @@ from typing import NoReturn, ParamSpec
 Given = ParamSpec("Given")
 # The exit status of what a key has ended.
 STOPPED = 130
-COMMANDS = ("gdlsolve", "gdlsolve-cluster", "gdlsolve-manager", "gdlsolve-page", "gdlsolve-player")
+COMMANDS = ("gdlsolve", "gdlsolve-cluster", "gdlsolve-manager", "gdlsolve-page", "gdlsolve-player", "gdlsolve-tournament")
 
 
 def is_command() -> bool:

@@ -8,7 +8,6 @@ from __future__ import annotations
 import argparse
 import math
 import random
-import re
 import signal
 from collections.abc import Sequence
 from pathlib import Path
@@ -19,18 +18,15 @@ from gdlsolve.console import keys
 from gdlsolve.console.notes import missing
 from gdlsolve.console.streams import StreamFault, put, say
 from gdlsolve.manager.client import post
-from gdlsolve.manager.record import Record, now
+from gdlsolve.manager.record import Record, name_of, now
 from gdlsolve.manager.referee import FAREWELL, RANDOM, Referee, roles_of
 from gdlsolve.solver.engine import Broken
 from gdlsolve.solver.faults import Ended, Refusal
 
 # These end a match as a key does.
 SIGNALS = (signal.SIGTERM, signal.SIGHUP)
-
-
-def name_of(text: str) -> str:
-    """A text as one name: with a space or a bracket in it messages would be others."""
-    return re.sub(r"[^A-Za-z0-9_.+-]", "_", text)
+# These are told in a line.
+FAULTS = (Refusal, StreamFault, ValueError, ImportError, Ended, Broken, OSError)
 
 
 def made(given: argparse.Namespace) -> Record:
@@ -106,31 +102,37 @@ def end(number: int, frame: object) -> NoReturn:
     raise SystemExit(128 + number)
 
 
+def hear_signals() -> None:
+    """Has each of the signals end what goes on. What nohup starts goes on."""
+    for number in SIGNALS:
+        if signal.getsignal(number) is signal.SIG_DFL:
+            signal.signal(number, end)
+
+
+def line_of(fault: Exception, file: object) -> str:
+    """What people are told of a fault; of rules that are refused, with their file."""
+    if isinstance(fault, Refusal):
+        return f"{file}: {fault}\n{fault.explanation}"
+    if isinstance(fault, ModuleNotFoundError):
+        return missing(fault)
+    if isinstance(fault, OSError) and fault.filename:
+        return f"{fault.filename}: {fault.strerror}\n"
+    return f"{fault}\n"
+
+
 @keys.quiet
 def main(words: Sequence[str] | None = None) -> int:
     """The command `gdlsolve-manager`."""
     given = options(words)
-    for number in SIGNALS:
-        # What nohup starts goes on.
-        if signal.getsignal(number) is signal.SIG_DFL:
-            signal.signal(number, end)
+    hear_signals()
     try:
         record = resumed(given) if given.resume else made(given)
         file = given.record or given.resume
         referee = Referee(record, random.Random(given.seed), given.slack, file)
         referee.play(given.turns)
-        say("".join(f"not ready: {failed}\n" for failed in referee.failed))
+        say("".join(f"not ready: {role}: {why}\n" for role, why in referee.failed.items()))
         put(told(record).encode())
-    except Refusal as refusal:
-        say(f"{given.resume or given.rules}: {refusal}\n{refusal.explanation}")
-        return 1
-    except ModuleNotFoundError as fault:
-        say(missing(fault))
-        return 1
-    except (StreamFault, ValueError, ImportError, Ended, Broken) as fault:
-        say(f"{fault}\n")
-        return 1
-    except OSError as fault:
-        say(f"{fault.filename}: {fault.strerror}\n" if fault.filename else f"{fault}\n")
+    except FAULTS as fault:
+        say(line_of(fault, given.resume or given.rules))
         return 1
     return 0

@@ -4,6 +4,7 @@ from __future__ import annotations
 
 import json
 import math
+import re
 import time
 from dataclasses import asdict, dataclass, field
 from pathlib import Path
@@ -66,6 +67,11 @@ class Record:
         if len(lengths) != 1 or len(found.players) != len(found.roles):
             raise ValueError(f"{file} is no record of a match: its lists differ in length")
         return found
+
+
+def name_of(text: str) -> str:
+    """A text as one name: with a space or a bracket in it messages would be others."""
+    return re.sub(r"[^A-Za-z0-9_.+-]", "_", text)
 
 
 def now() -> int:

@@ -8,6 +8,7 @@ it is written behind each turn, and a match that was broken off goes on from it.
 from __future__ import annotations
 
 import random
+import threading
 from collections.abc import Callable, Sequence
 from concurrent.futures import Future, wait
 from contextlib import suppress
@@ -34,23 +35,29 @@ BEAT = 0.5
 FAREWELL = 5.0
 
 
-def told_by(found: Future[Told]) -> Told:
-    """What was told, once it is. A key that is struck just before a wait begins is seen at its end, so none is long."""
-    while not wait([found], BEAT).done:
-        pass
-    return found.result()
+class Stopped(Exception):
+    """The match was given up by who has it led."""
+
+
+def told_by(found: Future[Told], stopped: threading.Event) -> Told:
+    """What was told, once it is, or `Stopped`. A key that is struck just before a wait begins is seen at its end, so none is long."""
+    while not stopped.is_set():
+        if wait([found], BEAT).done:
+            return found.result()
+    raise Stopped
 
 
 class Referee:
-    """Leads a match: tells the players, takes their moves, and keeps the record."""
+    """Leads a match: tells the players, takes their moves, and keeps the record. Another thread may stop it."""
 
-    def __init__(self, record: Record, dice: random.Random, slack: float, file: Path | None):
+    def __init__(self, record: Record, dice: random.Random, slack: float, file: Path | None, stopped: threading.Event | None = None):
         self.record, self.dice, self.slack, self.file = record, dice, slack, file
+        self.stopped = stopped or threading.Event()
         # Players are told the rules as they are, also where these have to be written out to be played.
         self.rules = unrolled.playable(record.rules.encode(), answer)
         self.here: Position = gdlsolve.moves(self.rules, self.turns)
-        # The players that were not ready, and why.
-        self.failed: list[str] = []
+        # The roles whose players were not ready, and why.
+        self.failed: dict[str, str] = {}
         self.observe()
 
     @property
@@ -68,6 +75,8 @@ class Referee:
 
     def tell(self, message: Callable[[str], str], seconds: float) -> list[Told]:
         """What each player says to the message to its role; those at random are not asked."""
+        if self.stopped.is_set():
+            raise Stopped
 
         def one(role: str, player: str) -> Told:
             if player == RANDOM:
@@ -75,14 +84,14 @@ class Referee:
             return post(player, message(role), seconds)
 
         both = zip(self.record.roles, self.record.players)
-        return [told_by(found) for found in [begun(partial(one, *each)) for each in both]]
+        return [told_by(found, self.stopped) for found in [begun(partial(one, *each)) for each in both]]
 
     def tell_turn(self, word: str, last: Sequence[Turn], seconds: float) -> list[Told]:
         """What each player says to a message with the last of these turns."""
         text = f"({word} {self.record.matchId} {history_text(last[-1:]) or 'NIL'})"
         return self.tell(lambda role: text, seconds)
 
-    def start(self) -> list[str]:
+    def start(self) -> dict[str, str]:
         """Begins the match at each player, and tells it the turns so far. Gives what failed."""
         record = self.record
         rules = "(" + " ".join(trees(record.rules)) + ")"
@@ -94,11 +103,11 @@ class Referee:
         turns = self.turns
         for done in range(len(turns)):
             self.tell_turn("PLAY", turns[:done], record.playClock + self.slack)
-        return [
-            f"{role}: {shown(one.error or one.text or '')}"
+        return {
+            role: shown(one.error or one.text or "no answer")
             for role, player, one in zip(record.roles, record.players, told)
             if player != RANDOM and (one.text or "").lower() != "ready"
-        ]
+        }
 
     def move(self, role: str, told: Told) -> tuple[str, str]:
         """The move of a role, and what was wrong with its own."""
@@ -146,6 +155,8 @@ class Referee:
     def break_off(self) -> None:
         """Ends the match at its players, who would else wait for turns, and says so in the record."""
         self.record.isAborted = True
+        # The players are told, also where it was stopped.
+        self.stopped = threading.Event()
         with suppress(OSError):
             self.note()
         with suppress(ValueError, ImportError):
