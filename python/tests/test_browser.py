@@ -22,7 +22,10 @@ from pathlib import Path
 from typing import Any
 from unittest.mock import patch
 
+from gdlsolve.manager.archive import Archive, Game
+from gdlsolve.manager.schedule import Pairing
 from gdlsolve.page.desk import Desk
+from gdlsolve.page.matches import Matches
 from gdlsolve.page.server import QUESTIONS, Server
 from gdlsolve.solver.engine import OWN_COMMAND, Pool
 from tests import ENDLESS, ENDLESS_RULES, PROGRAM, TOP, needs_program
@@ -801,6 +804,29 @@ class Texts(Browser):
         self.put("record-text", "((mark 1 1) noop)")
         self.element("take").click()
         self.wait(lambda: "does not fit" in self.text("record-fault"))
+
+    def test_a_match_of_an_archive_is_stepped_through(self) -> None:
+        self.go("game=nim")
+        self.assertFalse(self.element("archive").is_displayed())
+        self.browser.get("about:blank")
+        with tempfile.TemporaryDirectory() as room, patch.object(self.desk, "matches", Matches(Path(room) / "archive")) as matches:
+            assert matches.file is not None
+            with Archive(matches.file, writes=True) as archive:
+                rules = (TOP / "games/matching_pennies.kif").read_text()
+                pairings = [Pairing(0, 0, ("ann", "bob"))]
+                archive.add([Game("matching_pennies.kif", rules, ("a", "b"))], {"ann": "random", "bob": "random"}, pairings, "1")
+                record = archive.begin(1, 1000, (1.0, 1.0)).record
+                record.moves, record.errors, record.seconds = [["h", "t"]], [["", "late"]], [[0.1, 1.0]]
+                record.state, record.isCompleted, record.goalValues = "ended", True, [0, 100]
+                archive.note(1, record, {})
+            self.go("game=nim")
+            self.wait(lambda: "ann as a 0, bob as b 100" in self.text("matches"))
+            self.assertIn("1 failed moves", self.text("matches"))
+            self.check_access()
+            self.all("#matches button")[0].click()
+            self.wait(lambda: self.text("title") == "matching pennies" and self.element("forward").is_enabled())
+            self.element("forward").click()
+            self.wait(lambda: "The game has ended: a 0, b 100" in self.text("status"))
 
     def test_a_record_of_pasted_rules_has_the_rules(self) -> None:
         self.go("game=nim")

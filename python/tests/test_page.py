@@ -19,8 +19,11 @@ from pathlib import Path
 from typing import Any
 from unittest.mock import patch
 
+from gdlsolve.manager.archive import Archive, Game
+from gdlsolve.manager.schedule import Pairing
 from gdlsolve.page import looks, places, records, server, sessions, state
 from gdlsolve.page.desk import MOST_LOOKS, Desk
+from gdlsolve.page.matches import Matches
 from gdlsolve.page.server import Server
 from gdlsolve.solver.answers import Worth
 from gdlsolve.solver.engine import Child, Children, Engine, Limit, Pool
@@ -459,6 +462,32 @@ class Stops(Served):
         processes = self.hung()
         desk.close()
         self.assertTrue(until(lambda: not alive(processes), SOON), alive(processes))
+
+
+class Archived(Served):
+    def test_matches_of_an_archive_are_listed_and_opened(self) -> None:
+        self.assertEqual(self.ask("matches"), {"matches": []})
+        self.assertIn("no archive", self.ask("match", 400, match=1)["error"])
+        with tempfile.TemporaryDirectory() as room, patch.object(self.desk, "matches", Matches(Path(room) / "archive")) as matches:
+            assert matches.file is not None
+            with Archive(matches.file, writes=True) as archive:
+                rules = (TOP / "games/matching_pennies.kif").read_text()
+                pairings = [Pairing(0, 0, ("ann", "bob")), Pairing(0, 0, ("bob", "ann"))]
+                archive.add([Game("matching_pennies.kif", rules, ("a", "b"))], {"ann": "random", "bob": "random"}, pairings, "1")
+                record = archive.begin(2, 1000, (1.0, 1.0)).record
+                record.moves, record.errors, record.seconds = [["h", "t"]], [["", "late"]], [[0.1, 1.0]]
+                record.state, record.isCompleted, record.goalValues = "ended", True, [0, 100]
+                archive.note(2, record, {})
+            seats = [{"role": "a", "player": "bob", "goal": 0}, {"role": "b", "player": "ann", "goal": 100}]
+            told = {"number": 2, "game": "matching_pennies.kif", "begun": 1000, "seats": seats, "failed": 1}
+            self.assertEqual(self.ask("matches"), {"matches": [told]})
+            found = self.ask("record", text=self.ask("match", match=2)["text"])
+            self.assertEqual((found["game"], found["turns"]), ("matching_pennies", [["h", "t"]]))
+            for number in 1, 3, 0, -1, "2", None, 1 << 70:
+                with self.subTest(number=number):
+                    self.ask("match", 400, match=number)
+            matches.file.write_text("no base" * 1000)
+            self.assertIn("is no archive of matches", self.ask("matches", 400)["error"])
 
 
 class Guards(Served):

@@ -14,6 +14,7 @@ from pathlib import Path
 from gdlsolve import __version__
 from gdlsolve.console import keys
 from gdlsolve.console.streams import say, served
+from gdlsolve.manager.archive import Archive
 from gdlsolve.page.desk import Desk
 from gdlsolve.page.server import Server
 from gdlsolve.solver import program
@@ -39,10 +40,16 @@ def options() -> argparse.Namespace:
                        help="how many positions and how many rules are read at once")
     words.add_argument("--allow-host", action="append", default=[], metavar="NAME[:PORT]",
                        help="another name by which a browser may call it, as behind a tunnel; may be given again")
+    words.add_argument("--archive", type=Path, metavar="FILE", help="list the matches of this archive of a tournament")
     words.add_argument("--open", action="store_true", help="open the page in a browser")
     given = words.parse_args()
     if given.folder is not None and not given.folder.is_dir():
         words.error(f"{given.folder} is no folder")
+    try:
+        if given.archive is not None:
+            Archive(given.archive).base.close()
+    except (OSError, ValueError) as fault:
+        words.error(f"--archive: {fault}")
     try:
         given.program = shlex.split(given.program)
     except ValueError as fault:
@@ -67,7 +74,7 @@ def main() -> int:
     given = options()
     folder = given.folder or (GAMES if GAMES.is_dir() else None)
     pool = Pool(given.workers, [*OWN_COMMAND, *given.program], spare=1)
-    desk = Desk(pool, folder, [*SESSION_COMMAND, *given.program])
+    desk = Desk(pool, folder, [*SESSION_COMMAND, *given.program], given.archive)
     try:
         if not is_own(desk.reply(["--version"], b"")):
             raise Broken("the program that is named is another one")

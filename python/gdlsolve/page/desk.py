@@ -16,6 +16,7 @@ from typing import Any
 
 import gdlsolve
 from gdlsolve.page import board, looks, places, records, state
+from gdlsolve.page.matches import Matches
 from gdlsolve.page.sessions import Sessions
 from gdlsolve.solver import unrolled
 from gdlsolve.solver.answers import Description
@@ -74,8 +75,8 @@ class Desk:
     """All that the server keeps: what answers over any rules, sessions over the games that are open, and the
     looks that go on."""
 
-    def __init__(self, pool: Pool, folder: Path | None, command: Sequence[str] | None = None) -> None:
-        self.pool, self.folder = pool, folder
+    def __init__(self, pool: Pool, folder: Path | None, command: Sequence[str] | None = None, archive: Path | None = None) -> None:
+        self.pool, self.folder, self.matches = pool, folder, Matches(archive)
         self.sessions = Sessions(Children(SPARE, command, SPARE))
         self._lock = threading.Lock()
         # So many positions are asked for at once. Looks take none of these places.

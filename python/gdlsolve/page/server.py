@@ -62,6 +62,8 @@ QUESTIONS: dict[str, Callable[[Desk, dict[str, Any]], dict[str, Any]]] = {
     "/api/choose": Desk.choose,
     "/api/stop": Desk.stop,
     "/api/record": Desk.record,
+    "/api/matches": lambda desk, told: desk.matches.all(),
+    "/api/match": lambda desk, told: desk.matches.one(told),
 }
 
 
