@@ -2,8 +2,8 @@
 
     hanging.py FILE [--session] [PROGRAM WORDS..]
 
-It hangs at a command whose first word stands in the file, gives no answer where a `!` stands behind the word, and with the word `end`
-there it ends. Before it hangs it makes a file beside that one, whose name ends with its number."""
+It hangs at a command whose first word stands in the file, gives no answer where a `!` stands behind the word, is so many seconds late where `~`
+and their number do, and with the word `end` there it ends. Before it hangs it makes a file beside that one, whose name ends with its number."""
 
 import os
 import sys
@@ -34,6 +34,8 @@ class Hanging(Answers):
         if any(words[0] in held for words in batch):
             self.held.with_suffix(f".{os.getpid()}").touch()
             time.sleep(3600)
+        late = dict(word.split("~") for word in held if "~" in word)
+        time.sleep(max(float(late.get(words[0], 0)) for words in batch))
         return super().replies(batch, rules)
 
 

@@ -13,7 +13,7 @@ from gdlsolve.player.tree_search import Question
 from gdlsolve.solver.engine import Children, Engine, Playouts
 from gdlsolve.solver.history import Turn
 from tests import ENDLESS_RULES, TOP
-from tests.serving import LONG, Asking, until
+from tests.serving import LONG, Asking, Held, until
 
 # One role, which loses at once or one turn later.
 LOST = """
@@ -169,6 +169,22 @@ class Choices(Asking):
         self.assertGreater(questions, 1)
         self.assertIs(gates.engine.child, child)
         self.assertGreater(sum((gates.goals((), Playouts(32, 200, 50, 1)) or {}).values()), 0)
+
+    def test_a_process_that_reads_the_rules_goes_on_with_that(self) -> None:
+        rules, held = (TOP / "games/tic_tac_toe.kif").read_text(), Held(self)
+        children = Children(4, held.command)
+        self.addCleanup(children.close)
+        held.at("moves~2 solve~2")
+        deep, quick = Engine(rules, children), Engine(rules, children)
+        thinking = Thinking(Question("xplayer", (), gdlsolve.moves(rules), later()), deep, quick, random.Random(1))
+        self.assertTrue(until(lambda: len(children.at_work) == 2))
+        reading = set(children.at_work)
+        thinking.stop.set()
+        for thread in thinking.threads:
+            thread.join()
+        self.assertEqual({deep.child, quick.child}, reading)
+        deep.close()
+        quick.close()
 
     def test_a_search_that_never_answers_leaves_random_play(self) -> None:
         rules = (TOP / "games/tic_tac_toe.kif").read_text()

@@ -18,12 +18,14 @@ from dataclasses import dataclass, replace
 from gdlsolve.player.gates import Gates
 from gdlsolve.player.tree_search import UNFINISHED, Node, Question, Simulation, Stop
 from gdlsolve.solver.answers import Solution, State, Values
-from gdlsolve.solver.engine import Broken, Engine, Late, readable
+from gdlsolve.solver.engine import Broken, Engine, Late, Limit, readable
 from gdlsolve.solver.faults import Misuse, Refusal
 from gdlsolve.solver.history import behind
 
 # So often it is seen whether an answer is still waited for, in seconds.
 BEAT = 0.1
+# For so long a process may read the rules, in seconds. What is thought of may change meanwhile: another process would begin from the start.
+READING = 30.0
 
 
 @dataclass(frozen=True)
@@ -159,15 +161,17 @@ class Thinking:
         gates = self.gates or Gates(self.quick)
         self.simulation = Simulation(self.question, self.quick, gates, self.dice, self.root)
         self.search = Search(self.question, self.deep, self.simulation)
-        runs = (self.search.run, self.simulation.run)
-        self.threads = [threading.Thread(target=self.work, args=(run,), daemon=True) for run in runs]
+        runs = (self.search.run, self.deep), (self.simulation.run, self.quick)
+        self.threads = [threading.Thread(target=self.work, args=each, daemon=True) for each in runs]
         for thread in self.threads:
             thread.start()
 
-    def work(self, run: Callable[[Stop], None]) -> None:
-        """Does a part of the work in its thread."""
+    def work(self, run: Callable[[Stop], None], engine: Engine) -> None:
+        """Does a part of the work in its thread, once its process has read the rules."""
         with giving_up():
-            run(self.stop)
+            engine.read(Limit(time.monotonic() + READING))
+            if not self.stop.is_set():
+                run(self.stop)
 
     def goes_on(self) -> bool:
         """Whether more may be found than is."""

@@ -395,6 +395,11 @@ class Engine:
         with readable():
             return Position.of(lines)
 
+    def read(self, limit: Limit) -> None:
+        """Has its process read the rules, where it has not yet."""
+        if self.child is None or self.child.rules != self.rules:
+            self.moves((), limit)
+
     def positions(self, histories: Sequence[Sequence[Turn]], limit: Limit) -> list[Position]:
         """How play stands after each of these histories."""
         told = self.ask_all([["moves", *behind(turns)] for turns in histories], limit)
