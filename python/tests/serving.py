@@ -147,8 +147,8 @@ class Served:
         self.warm()
 
     def warm(self) -> None:
-        """Waits until two processes of the solver stand ready, where they answer at all."""
-        engines = [Engine("(role a)", self.player.children) for _ in range(2)]
+        """Waits until the processes of the solver that stand ready do, where they answer at all."""
+        engines = [Engine("(role a)", pool) for pool in (self.player.children, self.player.children, self.player.umpires)]
         for engine in engines:
             with suppress(Broken):
                 engine.check(Limit(time.monotonic() + LONG))
@@ -183,7 +183,7 @@ class Held:
         self.command = [sys.executable, str(HANGING), str(self.file), "--session", *PROGRAM]
 
     def at(self, words: str) -> None:
-        """From now on it hangs at these commands, or gives no answer where a `!` stands behind one."""
+        """From now on it hangs at these commands, or gives no answer where a `!` stands behind one, or is late where `~` and seconds do."""
         self.file.write_text(words)
 
     def hung(self, least: int = 1) -> set[int]:

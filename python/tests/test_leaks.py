@@ -45,7 +45,7 @@ class Leaks(unittest.TestCase):
 
     def rest(self, served: Served) -> None:
         """Waits until nothing is at work for matches that are over, and threads had time to end."""
-        self.assertTrue(until(lambda: not served.player.children.at_work))
+        self.assertTrue(until(lambda: not served.player.children.at_work and not served.player.umpires.at_work))
         time.sleep(1)
 
     def test_many_short_matches(self) -> None:
@@ -62,7 +62,8 @@ class Leaks(unittest.TestCase):
         self.assertLessEqual(all_threads, 4)
         self.assertLessEqual(files, 8)
         self.assertLessEqual(len(served.player.children.idle), 2 * AT_ONCE + 2)
-        self.assertLessEqual(running(), 2 * AT_ONCE + 4)
+        self.assertLessEqual(len(served.player.umpires.idle), AT_ONCE)
+        self.assertLessEqual(running(), 3 * AT_ONCE + 4)
         self.assertEqual(served.player.matches, {})
 
 

@@ -14,6 +14,7 @@ import tempfile
 import threading
 import time
 import unittest
+from collections import Counter
 from collections.abc import Iterator, Sequence
 from concurrent.futures import ThreadPoolExecutor
 from contextlib import ExitStack, contextmanager, suppress
@@ -23,7 +24,7 @@ from unittest.mock import patch
 
 import gdlsolve
 from gdlsolve.player.access import Door
-from gdlsolve.player.match import MOST_WAITING, TARDY
+from gdlsolve.player.match import MOST_WAITING, TARDY, Match
 from gdlsolve.player.player import MOST_LONG
 from gdlsolve.player.thinking import Thinking
 from gdlsolve.solver import program
@@ -419,16 +420,21 @@ class Strangers(unittest.TestCase):
         with ran_by(package("gdlsolve.player", "--port", 0, "--memory", 300, "--nice", 7, "--quiet")) as (url, player):
             self.assertEqual(post(url, f"(START m a {rules_of('matching_pennies')} 30 5)"), (200, "ready"))
 
+            def nice(process: int) -> int:
+                """By how much the priority of a process is lower than that of this one."""
+                return int(Path(f"/proc/{process}/stat").read_text().rsplit(")", 1)[1].split()[16]) - os.nice(0)
+
             def bounded(process: int) -> bool:
-                """Whether a process has its limits."""
-                words = Path(f"/proc/{process}/stat").read_text().rsplit(")", 1)[1].split()
+                """Whether a process has its limits. One that tells how play stands comes before those that think."""
                 limits = Path(f"/proc/{process}/limits").read_text()
-                return int(words[16]) == min(7 + os.nice(0), 19) and f"Max address space         {300 << 20} " in limits
+                return nice(process) in (2, 7) and f"Max address space         {300 << 20} " in limits
 
             # Its children start the solvers, each in its own time.
             self.assertTrue(until(lambda: len(all_started_by(player.pid)) > len(started_by(player.pid)), LONG))
             # One that has just been started sets them first.
             self.assertTrue(until(lambda: all(map(bounded, all_started_by(player.pid))), LONG))
+            # The one of the match and the one that stands ready, and the three that think with those that stand ready.
+            self.assertTrue(until(lambda: Counter(map(nice, started_by(player.pid)))[2] == 2, LONG))
             # It takes 1,300 MB to hold all instances of this.
             numbers = "".join(f"(n {number})" for number in range(17))
             body = "(n ?a) (n ?b) (n ?c) (n ?d) (m ?a)" + " q" * 2_000
@@ -579,7 +585,7 @@ class Clocks(unittest.TestCase):
         match = served.player.matches["m"]
 
         def kill() -> None:
-            children = [match.quick.child, match.deep.child, *served.player.children.idle]
+            children = [match.umpire.engine.child, match.quick.child, match.deep.child, *served.player.children.idle]
             for child in filter(None, children):
                 os.kill(child.process.pid, signal.SIGKILL)
 
@@ -594,13 +600,59 @@ class Clocks(unittest.TestCase):
         move = served.says(f"(PLAY m (noop {reply}))")
         self.assertIn(move, legal(ENDLESS_RULES, "red", [*turns, ("noop", reply)]))
 
+    def settled(self, play: float) -> tuple[Match, str]:
+        """A match whose value is settled, with a play clock, and the turn behind its first move, of which nothing is known."""
+        self.assertEqual(self.served.start("m", "hexapawn", "white", clocks(60, play)), "ready")
+        match = self.served.player.matches["m"]
+        assert match.thinking is not None and match.tree is not None
+        goes_on, known = match.thinking.goes_on, match.tree.next
+        self.assertTrue(until(lambda: not goes_on(), LONG))
+        turn = self.served.says("(PLAY m NIL)"), "noop"
+        self.assertTrue(until(lambda: turn in known or (turn,) in match.umpire.known, LONG))
+        match.umpire.known.clear()
+        known.clear()
+        return match, f"(PLAY m ({' '.join(turn)}))"
+
+    def test_a_solver_that_is_slow_is_waited_for(self) -> None:
+        _, turn = self.settled(4)
+        # More than half of the time, and less than all of it.
+        self.held.at(f"moves~{2.5 * PACE} legal!")
+        self.assertEqual(self.timed(turn), "noop")
+
+    def test_a_solver_that_is_late_is_not_ended(self) -> None:
+        match, turn = self.settled(4)
+        umpire, gates = match.umpire.engine, match.gates.engine
+        self.assertTrue(until(lambda: umpire.child and gates.child, LONG))
+        known = umpire.child, gates.child
+        self.held.at(f"moves~{5 * PACE} legal~{5 * PACE}")
+        move = self.timed(turn)
+        self.assertIn(move, OPENINGS)
+        # What it finds out in the end counts.
+        self.assertTrue(until(lambda: match.tree, LONG))
+        self.held.at("")
+        self.assertTrue(until(lambda: (umpire.child, gates.child) == known, LONG))
+        assert match.tree is not None
+        self.assertEqual(match.tree.here.legal["white"], ("noop",))
+
+    def test_turns_that_may_come_next_are_gone_through_ahead(self) -> None:
+        # The tree of matches at random keeps none of them.
+        with patch("gdlsolve.simulation.MOST_NODES", 0):
+            self.assertEqual(self.served.start("m", "tic_tac_toe", "oplayer", LONG_CLOCKS), "ready")
+            self.assertEqual(self.served.says("(PLAY m NIL)"), "noop")
+            match, openings = self.served.player.matches["m"], legal(MARKS, "xplayer", [])
+            self.assertTrue(until(lambda: len(match.umpire.known) == len(openings), LONG))
+            self.held.at("moves! legal!")
+            turn = (openings[4], "noop")
+            self.assertIn(self.timed(f"(PLAY m ({' '.join(turn)}))"), legal(MARKS, "oplayer", [turn]))
+
     def check_ended_by(self, message: str, answer: str) -> None:
         """Processes hang, a message ends them, and none is left at work."""
         self.assertTrue(until(self.held.hung))
         processes = self.held.hung()
         self.assertEqual(self.served.says(message), answer)
         self.assertTrue(all(wait_for_end(process, SOON) for process in processes))
-        self.assertTrue(until(lambda: not self.served.player.children.at_work, SOON))
+        both = self.served.player.children, self.served.player.umpires
+        self.assertTrue(until(lambda: not any(each.at_work for each in both), SOON))
 
     def test_the_end_of_a_match_ends_what_is_at_work_for_it(self) -> None:
         for message, answer in ("(STOP m NIL)", "done"), ("(ABORT m)", "aborted"):

@@ -117,12 +117,12 @@ class Asked(Asking):
         return made
 
     def test_legal_moves_without_the_solver(self) -> None:
-        limit, turns = Limit(time.monotonic() + LONG), [("(mark 2 2)", "noop")]
+        until, turns = time.monotonic() + LONG, [("(mark 2 2)", "noop")]
         gates = Gates(self.engine(MARKS))
-        self.assertEqual(gates.legal(turns, limit), gdlsolve.moves(MARKS, turns))
+        self.assertEqual(gates.legal(turns, until), gdlsolve.moves(MARKS, turns))
         for turn in (("(mark 2 2)", "(mark 1 1)"), ("noop",), ("x", "noop")):
             with self.assertRaises(gdlsolve.Refusal):
-                gates.legal([turn], limit)
+                gates.legal([turn], until)
 
     def test_matches_at_random(self) -> None:
         asked, gates = Playouts(32, 200, 50, 1), self.gates()

@@ -303,7 +303,7 @@ class Matches(Asking):
 
     def test_what_is_played_without_the_solver(self) -> None:
         asked = Gates(self.engine(gdlsolve.unroll(FOUND)))
-        self.assertEqual(asked.legal(TURNS, Limit(time.monotonic() + LONG)), gdlsolve.moves(FOUND, TURNS, whole=True))
+        self.assertEqual(asked.legal(TURNS, time.monotonic() + LONG), gdlsolve.moves(FOUND, TURNS, whole=True))
 
     def test_an_engine_has_rules_written_out(self) -> None:
         asked = Engine(FOUND, self.children)

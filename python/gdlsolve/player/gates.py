@@ -2,11 +2,12 @@
 
 from __future__ import annotations
 
+import threading
 import time
 from collections.abc import Sequence
 
 from gdlsolve.solver.answers import Position
-from gdlsolve.solver.engine import Engine, Limit, Playouts, readable
+from gdlsolve.solver.engine import Engine, Late, Limit, Playouts, readable
 from gdlsolve.solver.faults import Misuse
 from gdlsolve.solver.history import Turn, behind
 from gdlsolve.solver.propnet import NOT_YET
@@ -27,6 +28,7 @@ class Gates:
         self.are_none = False
         # So long they were built, in seconds.
         self.spent = 0.0
+        self.rehearsal = threading.Lock()
 
     def are_wanted(self) -> bool:
         """Whether they are still to be built."""
@@ -62,8 +64,15 @@ class Gates:
         with readable():
             return {role: int(goal) for _, role, goal in map(terms, told)}
 
-    def legal(self, turns: Sequence[Turn], limit: Limit) -> Position:
-        """How play stands after a history, without the solver. Half of the time may go into building."""
-        told = self.ask(["legal"], turns, max(limit.left() / 2, 0), limit)
+    def legal(self, turns: Sequence[Turn], until: float) -> Position:
+        """How play stands after a history, without the solver. Half of the time may go into building. A process that is late is not ended, and
+        is asked no more meanwhile."""
+        left = max(until - time.monotonic(), 0)
+        if not self.rehearsal.acquire(timeout=left):
+            raise Late
+        try:
+            told = self.ask(["legal"], turns, left / 2, Limit(until + PATIENCE))
+        finally:
+            self.rehearsal.release()
         with readable():
             return Position.of(told)

@@ -1,11 +1,13 @@
 """A match of a player: what was played, what is known of it, and the engines that work for it.
 
 From START on it is thought of the position that was reached, also where the player has no choice, and behind an answer until the next turn
-comes. It ends where the value is settled, and where no message comes for longer than the clocks allow.
+comes. It ends where the value is settled, and where no message comes for longer than the clocks allow. Which moves are legal is found out
+first, by a process of its own; only then is it thought of.
 """
 
 from __future__ import annotations
 
+import itertools
 import random
 import threading
 import time
@@ -18,25 +20,24 @@ from typing import Any
 from gdlsolve.console.notes import note
 from gdlsolve.player.background import begun
 from gdlsolve.player.gates import Gates
+from gdlsolve.player.guessing import likely
 from gdlsolve.player.messages import LONGEST_NAME, clock, parts_of
 from gdlsolve.player.thinking import Choice, Thinking
 from gdlsolve.player.tree_search import MOST_DEPTH, Node, Question
+from gdlsolve.player.umpire import MOST_AHEAD, PATIENCE, Umpire, first
 from gdlsolve.solver import unrolled
 from gdlsolve.solver.answers import Position, State
-from gdlsolve.solver.engine import Broken, Children, Engine, Late, Limit
-from gdlsolve.solver.faults import Misuse, Refusal
+from gdlsolve.solver.engine import Children, Engine, Limit
+from gdlsolve.solver.faults import Refusal
 from gdlsolve.solver.history import Turn
 from gdlsolve.solver.terms import Malformed
 
-# This part of the time in which a solver that seems to hang is asked again is left for what is
-# worked out without it.
-RESERVE = 0.25
 # A message may come so long behind the clock by which it is due, in seconds. Then the match is idle.
 TARDY = 10.0
 # So many messages of a match may wait for it at once.
 MOST_WAITING = 8
-# What the solver says or does when it gives no answer.
-NO_ANSWER = (Late, Broken, Misuse, MemoryError)
+# The legal moves of so many turns are kept, for a guess.
+MOST_SEEN = 32
 
 
 @dataclass(frozen=True)
@@ -92,8 +93,9 @@ class Answer:
 class Match:
     """A match. One message is answered at a time."""
 
-    def __init__(self, name: str, start: Start, options: Options, children: Children):
+    def __init__(self, name: str, start: Start, options: Options, children: Children, umpires: Children):
         self.name, self.start, self.options = name, start, options
+        self.umpire = Umpire(Engine(start.rules, umpires))
         self.quick = Engine(start.rules, children)
         self.deep = Engine(start.rules, children)
         self.gates = Gates(Engine(start.rules, children))
@@ -106,34 +108,37 @@ class Match:
         self.otherwise: tuple[Turn, ...] | None = None
         # The position behind the turns, with what random play found behind it.
         self.tree: Node | None = None
-        self.last_legal: list[tuple[str, ...]] = []
-        # So long it takes to tell how play stands, in seconds.
-        self.usual = 0.0
+        # The own legal moves in the last turns, and those behind other replies to the turn before the last.
+        self.seen: dict[int, tuple[str, ...]] = {}
+        self.beside: list[tuple[str, ...]] = []
         self.answer: Answer | None = None
         self.thinking: Thinking | None = None
 
+    def engines(self) -> tuple[Engine, ...]:
+        """All that ask for the match."""
+        return self.umpire.engine, self.quick, self.deep, self.gates.engine
+
     def take_rules(self, limit: Limit) -> None:
         """Has a game that is told as games are found written out, and plays what was written."""
+        asked = self.umpire.engine
 
         def ask(words: Sequence[str], rules: bytes) -> list[str]:
-            self.quick.rules = rules
-            return self.quick.ask(words, limit)
+            asked.rules = rules
+            return asked.ask(words, limit)
 
-        told = self.quick.rules
+        told = asked.rules
         written = unrolled.written_out(told, ask) if self.options.whole else unrolled.playable(told, ask)
-        for engine in (self.quick, self.deep, self.gates.engine):
+        for engine in self.engines():
             engine.rules = written
 
     def prepare(self, arrived: float) -> None:
         """Reads the rules, and thinks on the first turn while the start clock runs."""
         until = arrived + self.options.allowed(self.start.start_clock)
         self.take_rules(Limit(until))
-        asked = time.monotonic()
-        self.roles = self.quick.check(Limit(until)).roles
+        self.roles = self.umpire.engine.check(Limit(until)).roles
         if self.start.role not in self.roles:
             raise Malformed(f"{self.start.role[:40]} is no role")
-        here = self.quick.moves((), Limit(until))
-        self.usual = time.monotonic() - asked
+        here = self.umpire.engine.moves((), Limit(until))
         self.tree = Node(here)
         if here.state is State.OPEN:
             # The first turn may be asked for at the end of the start clock.
@@ -206,29 +211,16 @@ class Match:
         self.otherwise = None
         return move
 
-    def rehearse(self, turns: tuple[Turn, ...], until: float) -> Future[Position]:
-        """Begins to work out without the solver how play stands."""
-        return begun(partial(self.gates.legal, turns, Limit(until)))
-
     def position(self, turns: tuple[Turn, ...], until: float) -> Position | None:
-        """How play stands, where that is told in time. A solver that seems to hang is ended at half
-        the time, and another one is asked; one that is known as slow is not. Beside it that is worked
-        out without the solver too."""
+        """How play stands, where that is told in time. It is also worked out without the solver; and where half of the time has not been
+        enough, or the last question has no answer yet, a process that thinks is asked as well."""
         now = time.monotonic()
-        half = until if 4 * self.usual > until - now else (now + until) / 2
-        rehearsed = self.rehearse(turns, until)
-        try:
-            return self.quick.moves(turns, Limit(half))
-        except NO_ANSWER:
-            pass
-        try:
-            return self.quick.moves(turns, Limit(until - RESERVE * (until - half)))
-        except NO_ANSWER:
-            pass
-        try:
-            return rehearsed.result(max(until - time.monotonic(), 0))
-        except (TimeoutError, *NO_ANSWER):
-            return None
+        half = now if self.umpire.is_late() else (now + until) / 2
+        asked = [self.umpire.ask(turns, until), begun(partial(self.gates.legal, turns, until))]
+        here = first(asked[:1], half)
+        if here is None:
+            here = first([*asked, begun(partial(self.quick.moves, turns, Limit(until + PATIENCE)))], until)
+        return here
 
     def reached(self, behind: Turn | None, until: float) -> Position | None:
         """How play stands behind a turn, which from now on is part of the history."""
@@ -237,11 +229,23 @@ class Match:
         if behind is not None:
             if self.thinking is not None:
                 self.thinking.stop.set()
+            self.umpire.ahead_of, self.beside = None, self.replied(node)
             node = node.next.get(behind) if node is not None else None
-        here = self.position(turns, until) if node is None else node.here
+        here = node.here if node is not None else self.umpire.known.get(turns) or self.position(turns, until)
         self.turns = turns
         self.tree = node or (Node(here) if here is not None else None)
         return here
+
+    def replied(self, node: Node | None) -> list[tuple[str, ...]]:
+        """The own legal moves behind the turns that were known as such that might follow a position."""
+        known = [*self.umpire.known.values(), *(each.here for each in list(node.next.values() if node else ()))]
+        return [here.legal[self.start.role] for here in known if here.state is State.OPEN]
+
+    def look_ahead(self, node: Node, move: str) -> None:
+        """Has it found out how play stands behind the turns that may come next, with the move that was chosen."""
+        seats = [(move,) if role == self.start.role else node.here.legal[role] for role in self.roles]
+        replies = (turn for turn in itertools.product(*seats) if turn not in node.next)
+        self.umpire.look_ahead(self.turns, list(itertools.islice(replies, MOST_AHEAD)))
 
     def move(self, behind: Turn | None, arrived: float) -> str:
         """The move behind a turn."""
@@ -249,13 +253,18 @@ class Match:
         idle = arrived + self.start.play_clock + TARDY
         here = self.reached(behind, until)
         if here is None:
-            begun(partial(self.recover, self.turns, idle))
+            begun(partial(self.recover, self.turns, self.umpire.asked, idle))
             return self.guess()
         if here.state is not State.OPEN:
             return "nil"
-        legal = here.legal[self.start.role]
-        self.last_legal = [*self.last_legal[-1:], legal]
-        thinking = self.thinking
+        move = self.chosen(here, until, idle)
+        if self.tree is not None:
+            self.look_ahead(self.tree, move)
+        return move
+
+    def chosen(self, here: Position, until: float, idle: float) -> str:
+        """The move in the position that was reached."""
+        legal, thinking = self.noted(here), self.thinking
         if thinking is None or thinking.question.turns != self.turns or not thinking.is_of_use():
             thinking = self.think(here, idle)
         thinking.stop.until = idle
@@ -265,17 +274,27 @@ class Match:
         self.tell_choice(choice)
         return choice.move
 
-    def guess(self) -> str:
-        """A move where nothing is told of the position: one that was legal two turns before."""
-        self.tell(guess=True)
-        return self.last_legal[0][0] if self.last_legal else "nil"
+    def noted(self, here: Position) -> tuple[str, ...]:
+        """The own legal moves in the position that was reached, which are kept for a guess in later turns."""
+        turn, legal = len(self.turns), here.legal[self.start.role]
+        self.seen[turn] = legal
+        self.seen.pop(turn - MOST_SEEN, None)
+        return legal
 
-    def recover(self, turns: tuple[Turn, ...], until: float) -> None:
-        """Has the solver find out how play stands where that was not told in time, so that it has read the rules when it is asked next."""
-        here = self.quick.moves(turns, Limit(until))
+    def guess(self) -> str:
+        """A move where nothing is told of the position; none where the match was not begun."""
+        self.tell(guess=True)
+        own = [place for place, role in enumerate(self.roles) if role == self.start.role]
+        made = {turn[place] for turn in self.turns for place in own}
+        return likely(len(self.turns), self.beside, self.seen, made) or "nil"
+
+    def recover(self, turns: tuple[Turn, ...], asked: Future[Position], until: float) -> None:
+        """Waits until it is found out how play stands, where that was not told in time, and goes on from there."""
+        here = asked.result(max(until - time.monotonic(), 0))
         with self.lock:
             if self.turns == turns and self.tree is None and here.state is State.OPEN:
                 self.tree = Node(here)
+                self.noted(here)
                 self.think(here, until)
 
     def tell(self, **what: Any) -> None:
@@ -298,5 +317,5 @@ class Match:
         """Ends all work for the match at once, also that for an answer which is waited for."""
         if self.thinking is not None:
             self.thinking.stop.set()
-        for engine in (self.quick, self.deep, self.gates.engine):
+        for engine in self.engines():
             engine.close()

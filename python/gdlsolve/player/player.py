@@ -14,13 +14,16 @@ from collections.abc import Callable, Sequence
 from functools import partial
 
 from gdlsolve.player import child
-from gdlsolve.player.match import NO_ANSWER, Match, Options, Start
+from gdlsolve.player.match import Match, Options, Start
 from gdlsolve.player.messages import Crowded, Message, turn
+from gdlsolve.player.umpire import NO_ANSWER
 from gdlsolve.solver.engine import Children
 from gdlsolve.solver.faults import Refusal
 from gdlsolve.solver.history import Turn
 from gdlsolve.solver.terms import Malformed
 
+# By so much the priority of a process that tells how play stands is greater than that of those that think, where that is not above the player's.
+BEFORE = 5
 # A message of more letters is a long one, of which so many are read or wait for that.
 LONG, MOST_LONG = 1 << 16, 8
 
@@ -31,6 +34,8 @@ class Player:
     def __init__(self, options: Options, command: Sequence[str] | None = None):
         self.options = options
         self.children = Children(2 * options.matches + 2, command or child.command(options.memory, options.nice))
+        # Those that tell how play stands come before those that think.
+        self.umpires = Children(options.matches, command or child.command(options.memory, max(options.nice - BEFORE, 0)), spare=1)
         self.matches: dict[str, Match] = {}
         self.lock = threading.Lock()
         self.reading = threading.Lock()
@@ -92,7 +97,7 @@ class Player:
             self.forget()
             if len(self.matches) >= self.options.matches:
                 return None, False
-            made = Match(name, start, self.options, self.children)
+            made = Match(name, start, self.options, self.children, self.umpires)
             made.lock.acquire()
             self.matches[name] = made
             return made, True
@@ -148,3 +153,4 @@ class Player:
         for name in list(self.matches):
             self.end(name)
         self.children.close()
+        self.umpires.close()
