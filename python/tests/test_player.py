@@ -527,6 +527,15 @@ class Clocks(unittest.TestCase):
         self.held.at("")
         self.assertEqual(self.served.start("m", "hexapawn", "white", clocks(60, 1)), "ready")
 
+    def test_a_message_that_waits_for_a_match_that_is_not_begun(self) -> None:
+        for command in ("check", "moves"):
+            self.held.at(command)
+            with self.subTest(command=command), ThreadPoolExecutor(1) as threads:
+                said = threads.submit(self.served.start, "m", "hexapawn", "white", clocks(2, 1))
+                self.assertTrue(until(self.held.hung))
+                self.assertEqual(self.served.says("(PLAY m NIL)"), "busy")
+                self.assertEqual(said.result(LONG), "busy")
+
     def test_a_search_that_hangs(self) -> None:
         self.held.at("solve")
         self.assertEqual(self.timed(f"(START m white {BOARD} {clocks(4, 2)})"), "ready")

@@ -174,6 +174,9 @@ class Match:
         if behind is not None and len(behind) != len(self.roles):
             raise Malformed(f"a turn has {len(self.roles)} moves, and not {len(behind)}")
         with self.lock:
+            if self.tree is None and self.answer is None:
+                # It could not be begun.
+                return "busy"
             self.heard = time.monotonic()
             is_equal, before = self.is_equal(behind), self.turns
             if self.answer and self.is_repeated(behind, arrived):
@@ -282,11 +285,10 @@ class Match:
         return legal
 
     def guess(self) -> str:
-        """A move where nothing is told of the position; none where the match was not begun."""
+        """A move where nothing is told of the position."""
         self.tell(guess=True)
-        own = [place for place, role in enumerate(self.roles) if role == self.start.role]
-        made = {turn[place] for turn in self.turns for place in own}
-        return likely(len(self.turns), self.beside, self.seen, made) or "nil"
+        own = self.roles.index(self.start.role)
+        return likely(len(self.turns), self.beside, self.seen, {turn[own] for turn in self.turns}) or "nil"
 
     def recover(self, turns: tuple[Turn, ...], asked: Future[Position], until: float) -> None:
         """Waits until it is found out how play stands, where that was not told in time, and goes on from there."""
