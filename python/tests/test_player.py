@@ -630,22 +630,22 @@ class Clocks(unittest.TestCase):
 
     def test_a_solver_that_is_late_is_not_ended(self) -> None:
         match, turn = self.settled(4)
-        umpire, gates = match.umpire.engine, match.gates.engine
-        self.assertTrue(until(lambda: umpire.child and gates.child, LONG))
-        known = umpire.child, gates.child
+        umpire = match.umpire.engine
+        self.assertTrue(until(lambda: umpire.child, LONG))
+        known = umpire.child
         self.held.at(f"moves~{5 * PACE} legal~{5 * PACE}")
         move = self.timed(turn)
         self.assertIn(move, OPENINGS)
         # What it finds out in the end counts.
         self.assertTrue(until(lambda: match.tree, LONG))
         self.held.at("")
-        self.assertTrue(until(lambda: (umpire.child, gates.child) == known, LONG))
+        self.assertTrue(until(lambda: umpire.child == known, LONG))
         assert match.tree is not None
         self.assertEqual(match.tree.here.legal["white"], ("noop",))
 
     def test_turns_that_may_come_next_are_gone_through_ahead(self) -> None:
         # The tree of matches at random keeps none of them.
-        with patch("gdlsolve.simulation.MOST_NODES", 0):
+        with patch("gdlsolve.player.tree_search.MOST_NODES", 0):
             self.assertEqual(self.served.start("m", "tic_tac_toe", "oplayer", LONG_CLOCKS), "ready")
             self.assertEqual(self.served.says("(PLAY m NIL)"), "noop")
             match, openings = self.served.player.matches["m"], legal(MARKS, "xplayer", [])
