@@ -35,7 +35,7 @@ class Types(unittest.TestCase):
         others = [file for folder in ("examples", "bench", "tests", "tools", "tools/lint", "tools/tests") for file in scripts(TOP / folder)]
         with tempfile.TemporaryDirectory() as kept:
             words = [str(MYPY), "--strict", "--scripts-are-modules", "--cache-dir", kept, *own, *others]
-            env = {**os.environ, "MYPYPATH": f"{TOP / 'python'}:{TOP / 'bench'}:{TOP / 'tests'}:{TOP / 'tools'}"}
+            env = {**os.environ, "MYPYPATH": f"{TOP / 'python'}:{TOP / 'bench'}:{TOP / 'tests'}:{TOP / 'tools'}:{TOP / 'tools/tests'}"}
             done = subprocess.run(words, cwd=TOP, env=env, capture_output=True, text=True)
         self.assertEqual(done.returncode, 0, done.stdout + done.stderr)
 

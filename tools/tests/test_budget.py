@@ -2,32 +2,18 @@
 
 from __future__ import annotations
 
-import importlib.machinery
-import importlib.util
 import subprocess
 import sys
 import tempfile
 import unittest
 from pathlib import Path
-from types import ModuleType
 
-TOOLS = Path(__file__).resolve().parent.parent
-sys.path.insert(0, str(TOOLS))
-sys.dont_write_bytecode = True
+sys.path.insert(0, str(Path(__file__).resolve().parent))
+
+from scripts import TOOLS, script
 
 import weights
 from weights import Weights
-
-
-def script(name: str) -> ModuleType:
-    """A script of tools/ as a module."""
-    loader = importlib.machinery.SourceFileLoader(name, str(TOOLS / name))
-    spec = importlib.util.spec_from_loader(name, loader)
-    assert spec
-    made = importlib.util.module_from_spec(spec)
-    sys.modules[name] = made
-    loader.exec_module(made)
-    return made
 
 
 budget = script("budget")

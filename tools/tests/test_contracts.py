@@ -3,32 +3,19 @@
 from __future__ import annotations
 
 import contextlib
-import importlib.machinery
-import importlib.util
 import io
 import sys
 import tempfile
 import unittest
 from pathlib import Path
-from types import ModuleType
 from unittest import mock
 
-LINT = Path(__file__).resolve().parent.parent / "lint"
-sys.dont_write_bytecode = True
+sys.path.insert(0, str(Path(__file__).resolve().parent))
+
+from scripts import script
 
 
-def script(name: str) -> ModuleType:
-    """A script of tools/lint/ as a module."""
-    loader = importlib.machinery.SourceFileLoader(name, str(LINT / name))
-    spec = importlib.util.spec_from_loader(name, loader)
-    assert spec
-    made = importlib.util.module_from_spec(spec)
-    sys.modules[name] = made
-    loader.exec_module(made)
-    return made
-
-
-contracts = script("contracts")
+contracts = script("lint/contracts")
 
 LIB = """//! Counts.
 mod counts;
