@@ -3,6 +3,7 @@
 import io
 import json
 import math
+import os
 import random
 import signal
 import sqlite3
@@ -26,7 +27,8 @@ from gdlsolve.manager.schedule import Pairing, schedule
 from gdlsolve.manager.standings import HEAD, Judge, Standings, standings
 from gdlsolve.manager.tournament import Tournament, options, read
 from gdlsolve.page import records
-from tests import known, needs_program, package
+from gdlsolve.solver import program
+from tests import PROGRAM, known, needs_program, package
 from tests.serving import LONG, PACE
 from tests.test_manager import Odd, game
 
@@ -390,7 +392,9 @@ class Archives(Tournaments):
             "(<= (next (step ?n)) (true (step ?m)) (succ ?m ?n)) (<= terminal (true (step 1))) (goal a 60) (goal b 40)\n"
         file = self.file.with_name("found.kif")
         file.write_text(rules)
-        output = self.played(str(file), *AT_RANDOM)
+        # The library writes nothing out.
+        with patch.dict(os.environ, {program.VARIABLE: " ".join(PROGRAM)}):
+            output = self.played(str(file), *AT_RANDOM)
         self.assertEqual([row.split()[3:8] for row in output.splitlines()[1:3]], [["2", "1", "0", "1", "50.0"]] * 2)
 
     def test_one_at_a_time_and_of_one_kind(self) -> None:
