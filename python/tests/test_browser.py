@@ -679,28 +679,25 @@ class Texts(Browser):
         self.assertEqual(self.text("title"), "tic tac toe")
         self.assertTrue(self.element("game").is_displayed())
 
-    @needs_program
-    def test_a_file_as_games_are_found_is_written_out_by_itself(self) -> None:
-        # The library writes nothing out.
+    def go_by_program(self, address: str) -> None:
+        """Opens the page where the program answers, as the library writes nothing out."""
         pool = Pool(2, [*OWN_COMMAND, *PROGRAM])
         self.addCleanup(pool.close)
         instead = patch.object(self.desk, "pool", pool)
         instead.start()
         self.addCleanup(instead.stop)
-        self.go("game=tic_tac_toe")
+        self.go(address)
+
+    @needs_program
+    def test_a_file_as_games_are_found_is_written_out_by_itself(self) -> None:
+        self.go_by_program("game=tic_tac_toe")
         self.run_js(DROP, "five.kif", FOUND)
         self.wait(lambda: self.text("title") == "five" and "Your move, one" in self.text("status"))
         self.assertIn("written out", self.text("notes"))
 
     @needs_program
     def test_a_game_as_games_are_found_is_written_out_and_played(self) -> None:
-        # The library writes nothing out.
-        pool = Pool(2, [*OWN_COMMAND, *PROGRAM])
-        self.addCleanup(pool.close)
-        instead = patch.object(self.desk, "pool", pool)
-        instead.start()
-        self.addCleanup(instead.stop)
-        self.go("game=tic_tac_toe")
+        self.go_by_program("game=tic_tac_toe")
         self.element("write").click()
         self.put("text", FOUND)
         self.element("open").click()
