@@ -4,7 +4,7 @@ ghost use Rattle.statement.specs.declared.width.Width.TheVariants.{Plain};
 ghost use Rattle.program_words.specs.Requests.{IsCommandIn, IsRequestIn, IsRequestOver, IsText, width_of};
 
 use crate::command::{Command, Inquiry, Language};
-use crate::grammar::{RULES, Speaker, grammar};
+use crate::grammar::{RULES, SERVE, Speaker, grammar};
 use crate::searching::{Unfit, search_command};
 use clap::error::ErrorKind;
 use statement::Width;
@@ -206,7 +206,7 @@ fn file_of<'a>(matches: &clap::ArgMatches<'a>) -> Result<Option<&'a str>, Misnam
     let Some(file) = before.or(behind) else {
         return Ok(None);
     };
-    if matches.subcommand_name() == Some("serve") {
+    if matches.subcommand_name() == Some(SERVE) {
         return Err(Misnamed::OfSession);
     }
     if before.is_some() && behind.is_some() {

@@ -51,7 +51,10 @@ impl Unfit {
 /// What the options say that a state is worth where no turn is left and play goes on, or none where that is no text for it.
 fn worth_at_bound(options: &clap::ArgMatches) -> Option<AtBound> {
     match options.get_one("unfinished") {
-        Some(number) => Some(AtBound::Unfinished(Worth::of(number)?)),
+        Some(number) => {
+            let number: u32 = number;
+            Some(AtBound::Unfinished(Worth::of(u8::try_from(number).ok()?)?))
+        }
         None => AtBound::parse(options.get_str("at-bound")?.as_bytes()),
     }
 }
