@@ -77,6 +77,35 @@ def crates_named() -> list[str]:
     return [head.split()[0] for head, colon, _ in heads if colon]
 
 
+def below() -> dict[str, list[str]]:
+    """The crates that each crate stands on, which come before it, as crates.txt has them."""
+    heads = [line.partition(":") for line in lines_of((TOP / "crates.txt").read_text())]
+    named = {head.split()[0]: rest.split() for head, colon, rest in heads if colon}
+    left, ordered = dict(named), dict[str, list[str]]()
+    while left:
+        ready = [name for name, on in left.items() if not any(each in left for each in on)]
+        if not ready:
+            raise ValueError(f"crates stand on each other: {' '.join(left)}")
+        ordered |= {name: [each for each in left.pop(name) if each in named] for name in ready}
+    return ordered
+
+
+def slack(weights: Weights, on: dict[str, list[str]]) -> dict[tuple[str, str], float]:
+    """By how many seconds each proof, and the tests of each crate, may end later than they could without a longer chain. What is built
+    follows on a proof; the tests of a crate wait for what is below it alone."""
+    end: dict[str, float] = {}
+    for name, lower in on.items():
+        end[name] = max((end[each] for each in lower), default=0.0) + weights.of(name, "proof")
+    after = {name: weights.of(name, "builds") for name in on}
+    tested = {name: end[name] - weights.of(name, "proof") + weights.of(name, "tests") for name in on}
+    for name in reversed(on):
+        for each in on[name]:
+            after[each] = max(after[each], weights.of(name, "proof") + after[name], weights.of(name, "tests"))
+    whole = max([*(end[name] + after[name] for name in on), *tested.values()], default=0.0)
+    found = {(name, "proof"): whole - end[name] - after[name] for name in on}
+    return found | {(name, "tests"): whole - tested[name] for name in on}
+
+
 def keep(weights: Weights) -> None:
     """Writes the weights of the crates that are there, in the order of crates.txt, and of the parts."""
     crates = {name: weights.crates[name] for name in crates_named() if name in weights.crates}

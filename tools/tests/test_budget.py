@@ -26,8 +26,8 @@ def of_each_crate(seconds: float) -> Weights:
 
 
 class Lanes(unittest.TestCase):
-    def test_a_check_runs_on_each_processor_that_has_memory(self) -> None:
-        of_gigabytes = [(4, 23.0, 4), (2, 23.0, 2), (16, 14.0, 3), (4, 5.0, 1), (4, 0.0, 1), (1, 64.0, 1)]
+    def test_three_checks_share_two_processors_where_there_is_memory(self) -> None:
+        of_gigabytes = [(4, 64.0, 6), (4, 23.0, 5), (2, 23.0, 3), (16, 14.0, 3), (4, 5.0, 1), (4, 0.0, 1), (1, 64.0, 1)]
         for processors, gigabytes, lanes in of_gigabytes:
             with self.subTest(processors=processors, gigabytes=gigabytes):
                 self.assertEqual(budget.lanes(processors, int(gigabytes * 1e9)), lanes)
@@ -39,6 +39,28 @@ class Lanes(unittest.TestCase):
         told = subprocess.run([TOOLS / "budget", "lanes"], capture_output=True, text=True, check=True).stdout
         self.assertIn(int(told), range(1, 1025))
         self.assertIn("RT_JOBS=$(tools/budget lanes)", (TOOLS.parent / ".ci" / "run").read_text())
+
+
+class Chains(unittest.TestCase):
+    on = {"low": [], "side": [], "high": ["low", "side"], "trials": ["high"]}
+    taken = Weights({"low": {"proof": 300.0}, "side": {"proof": 100.0, "tests": 50.0}, "high": {"proof": 200.0}, "trials": {"tests": 400.0}})
+
+    def test_what_the_longest_chain_waits_for_gives_way_to_nothing(self) -> None:
+        slack = weights.slack(self.taken, self.on)
+        for sort, seconds in [(("low", "proof"), 0), (("high", "proof"), 0), (("trials", "tests"), 0), (("side", "proof"), 200), (("side", "tests"), 850)]:
+            with self.subTest(sort=sort):
+                self.assertEqual(slack[sort], seconds)
+        self.assertEqual(budget.yielding(("high", "proof"), slack), 0)
+        self.assertEqual(budget.yielding(("side", "proof"), slack), 2)
+        self.assertEqual(budget.yielding(("side", "edits"), slack), budget.MOST_YIELDING)
+
+    def test_each_crate_comes_behind_those_that_it_stands_on(self) -> None:
+        below = weights.below()
+        self.assertEqual(set(below), set(weights.crates_named()))
+        seen: set[str] = set()
+        for name, on in below.items():
+            self.assertLessEqual(set(on), seen)
+            seen.add(name)
 
 
 class Sorts(unittest.TestCase):
