@@ -1,7 +1,7 @@
-//! Growths that tests ask for: marks that bench/refuse counts between, and blocks that take all the memory there is.
+//! Growths that tests ask for: marks that tests/refuse counts between, and blocks that take all the memory there is.
 use std::alloc::{AllocError, Global};
 
-/// A growth of so many bytes is a mark for bench/refuse, which refuses what is asked for between two marks.
+/// A growth of so many bytes is a mark for tests/refuse, which refuses what is asked for between two marks.
 const MARK: usize = 4_242_421;
 
 /// Marks where a call begins, or where it has ended.

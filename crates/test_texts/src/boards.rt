@@ -4,9 +4,9 @@ ghost use Rattle.board.specs.Values.{task_count, most_tasks};
 ghost use Rattle.board.specs.Books.{all_shares};
 ghost use Rattle.board.specs.Boards.{kept};
 ghost use Rattle.board.specs.Windows.{Answers};
-ghost use Rattle.board.specs.Seats.{book, IsSeatOf};
+ghost use Rattle.board.specs.Seats.{book, task_number, task_own, task_reply, IsSeatOf};
 
-use board::{Board, Seat, Values};
+use board::{Board, Seat, Task, Values};
 use std::alloc::{AllocError, Global};
 use std::marker::Brand;
 use std::test::Fail;
@@ -58,7 +58,7 @@ fn play_step<V: Values>(
 {
     let ((number, own, reply), window, found) = step;
     let task = board.claim(&mut seat)?;
-    if task.number() != number || task.own() != own || task.reply() != reply {
+    if !is_task(&task, number, own, reply) {
         return None;
     }
     let now = board.window(&mut seat, &task);
@@ -203,6 +203,13 @@ impl Values for Refuted {
     ghost narrows = { false };
 }
 
+/// Whether a task has this number, this move and this reply.
+pub(crate) fn is_task<V: Values>(task: &Task<V>, number: usize, own: u32, reply: u32) -> bool
+    ensures { result ≡ true → (task_number task.now ≡ number) × (task_own task.now ≡ own) × (task_reply task.now ≡ reply) }
+{
+    task.number() == number && task.own() == own && task.reply() == reply
+}
+
 #[test]
 fn what_one_seat_reports_another_sees(rt: HostRuntime) -> Result<(), Fail> {
     let (board, seat) = Board::<Rising>::new(rt.alloc(), &[1, 1], -1, 101, true)?;
@@ -210,12 +217,12 @@ fn what_one_seat_reports_another_sees(rt: HostRuntime) -> Result<(), Fail> {
     let Some(early) = board.claim(&mut first) else {
         panic!(rt; "no task")
     };
-    assert!(rt; early.number() == 0 && early.own() == 0 && early.reply() == 0);
+    assert!(rt; is_task(&early, 0, 0, 0));
     assert!(rt; board.window(&mut first, &early) == Some((-2, 101)));
     let Some(late) = board.claim(&mut second) else {
         panic!(rt; "no task")
     };
-    assert!(rt; late.number() == 1 && late.own() == 1 && late.reply() == 0);
+    assert!(rt; is_task(&late, 1, 1, 0));
     assert!(rt; board.window(&mut second, &late) == Some((-2, 101)));
     board.report(&mut first, early, 40);
     assert!(rt; board.window(&mut second, &late) == Some((39, 101)));
@@ -246,19 +253,20 @@ fn results_of_narrower_windows(rt: HostRuntime) -> Result<(), Fail> {
     let Some(task) = board.claim(&mut seat) else {
         panic!(rt; "no task")
     };
-    assert!(rt; task.number() == 0 && task.own() == 0 && task.reply() == 0);
+    assert!(rt; is_task(&task, 0, 0, 0));
     assert!(rt; board.window(&mut seat, &task) == Some((-2, 101)));
     board.report_in(&mut seat, task, 89, 89, 101);
     let Some(task) = board.claim(&mut seat) else {
         panic!(rt; "no task")
     };
-    assert!(rt; task.number() == 1 && task.own() == 1 && task.reply() == 0);
+    assert!(rt; is_task(&task, 1, 1, 0));
     assert!(rt; board.look(&mut seat, &task) == (89, 101));
     assert!(rt; board.window(&mut seat, &task) == Some((89, 101)));
     board.report_in(&mut seat, task, 89, 89, 101);
     let Some(task) = board.claim(&mut seat) else {
         panic!(rt; "no task")
     };
+    assert!(rt; is_task(&task, 2, 1, 1));
     assert!(rt; board.look(&mut seat, &task) == (89, 89));
     let None = board.window(&mut seat, &task) else {
         panic!(rt; "a window")

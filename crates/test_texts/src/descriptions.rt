@@ -63,24 +63,23 @@ fn is_answered<A: Allocator + Clone>(
     Ok(got.as_slice() == want)
 }
 
+/// The place of the first row that is answered otherwise.
+fn first_other<A: Allocator + Clone>(alloc: Global, place: A) -> Result<Option<usize>, Fail> {
+    for (row, (text, want)) in ROWS.into_iter().enumerate() {
+        if !is_answered(alloc, place.clone()?, text, want)? {
+            return Ok(Some(row));
+        }
+    }
+    Ok(None)
+}
+
 #[test]
 fn each_fault_is_answered(rt: HostRuntime) -> Result<(), Fail> {
+    assert_eq!(rt; first_other(rt.alloc(), rt.alloc())?, None);
+    let bump = Bump::new(rt.alloc());
+    assert_eq!(rt; first_other(rt.alloc(), &bump)?, None);
     let heap = LocalHeap::new(rt.alloc(), 65536)?;
-    for (row, (text, want)) in ROWS.into_iter().enumerate() {
-        let bump = Bump::new(rt.alloc());
-        assert!(rt;
-            is_answered(rt.alloc(), rt.alloc(), text, want)?,
-            "row {row}"
-        );
-        assert!(rt;
-            is_answered(rt.alloc(), &bump, text, want)?,
-            "row {row} in an arena"
-        );
-        assert!(rt;
-            is_answered(rt.alloc(), &heap, text, want)?,
-            "row {row} in a heap"
-        );
-    }
+    assert_eq!(rt; first_other(rt.alloc(), &heap)?, None);
     assert_eq!(rt; heap.used(), 0);
     Ok(())
 }
@@ -146,10 +145,14 @@ fn told_of<A: Allocator>(alloc: Global, items: &[Expr<A>]) -> Result<Vec<u8>, Fa
 
 #[test]
 fn games_have_their_counts(rt: HostRuntime) -> Result<(), Fail> {
-    let matching = told_of(rt.alloc(), &read(rt.alloc(), MATCH)?)?;
-    assert_eq!(rt; matching.as_slice(), b"16 16 7 a b ".as_slice());
     let bump = Bump::new(rt.alloc());
-    let rows = told_of(rt.alloc(), &read(&bump, MARKS)?)?;
-    assert_eq!(rt; rows.as_slice(), b"47 48 14 xplayer oplayer ".as_slice());
+    let games: [(&[u8], &[u8]); 2] = [
+        (MATCH, b"16 16 7 a b "),
+        (MARKS, b"47 48 14 xplayer oplayer "),
+    ];
+    for (text, want) in games {
+        let told = told_of(rt.alloc(), &read(&bump, text)?)?;
+        assert!(rt; told.as_slice() == want, "of {text:?}");
+    }
     Ok(())
 }

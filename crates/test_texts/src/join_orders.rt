@@ -82,11 +82,10 @@ fn rows(alloc: Global, most: usize) -> Result<Option<Vec<u32>>, AllocError> {
 #[test]
 fn puts_rows_of_another_order_back(rt: HostRuntime) -> Result<(), Fail> {
     let values = rows(rt.alloc(), 70)?.ok_or("not found")?;
-    assert_eq!(rt; values.len(), 420);
-    let first = [0, 1_000, 168, 2_068, 3_068, 201];
-    let second = [0, 1_000, 169, 2_069, 3_069, 200];
-    assert_eq!(rt; values.get(..6), Some(first.as_slice()));
-    assert_eq!(rt; values.get(6..12), Some(second.as_slice()));
+    let front = [
+        0, 1_000, 168, 2_068, 3_068, 201, 0, 1_000, 169, 2_069, 3_069, 200,
+    ];
+    assert!(rt; values.len() == 420 && values.starts_with(&front));
     assert!(rt; rows(rt.alloc(), 69)?.is_none());
     Ok(())
 }

@@ -184,10 +184,13 @@ fn workers_see_what_the_others_tell(rt: HostRuntime) -> Result<(), Fail> {
     let history = SharedHistory::new(rt.alloc(), &[2])?;
     let marks = Marks::new(rt.alloc(), 16)?;
     notes_of_two(&rt, &history, &marks);
-    assert_eq!(rt; history.score(0, 0), 3);
-    assert_eq!(rt; history.score(0, 1), 4);
-    assert!(rt; marks.is_marked_by_another(0x0100_0000_0030_0000, 2));
-    assert!(rt; marks.is_marked_by_another(0x0200_0000_0040_0000, 2));
-    assert!(rt; marks.is_over());
+    let scores = [history.score(0, 0), history.score(0, 1)];
+    let seen = [
+        marks.is_marked_by_another(0x0100_0000_0030_0000, 2),
+        marks.is_marked_by_another(0x0200_0000_0040_0000, 2),
+        marks.is_over(),
+    ];
+    assert_eq!(rt; scores, [3, 4]);
+    assert_eq!(rt; seen, [true, true, true]);
     Ok(())
 }

@@ -7,6 +7,7 @@ ghost use Rattle.board.specs.Looks.{IsLastSeat};
 ghost use Rattle.board.specs.Windows.{BoundsWithin};
 ghost use Rattle.board.specs.Seats.{book, setup_on, task_own, task_reply, IsSeatOf, IsTaskOf, IsInHand};
 
+use super::boards::is_task;
 use board::{Board, Seat, Task, Values};
 use std::test::Fail;
 
@@ -102,7 +103,7 @@ fn an_inner_board_answers_for_a_task(rt: HostRuntime) -> Result<(), Fail> {
     let Some(task) = outer.claim(&mut seat) else {
         panic!(rt; "no task")
     };
-    assert!(rt; task.own() == 0 && task.reply() == 0);
+    assert!(rt; is_task(&task, 0, 0, 0));
     let Some((lo, hi)) = outer.window(&mut seat, &task) else {
         panic!(rt; "no window")
     };

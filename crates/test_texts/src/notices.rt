@@ -201,15 +201,25 @@ const HISTORIES: [(&[u8], &[u8], &str); 5] = [
 ];
 
 #[test]
-fn faults_are_told(rt: HostRuntime) -> Result<(), Fail> {
+fn faults_of_texts_are_told(rt: HostRuntime) -> Result<(), Fail> {
     for (text, fault, wanted) in TEXTS {
         let told = told_text(rt.alloc(), text, fault)?;
         assert_eq!(rt; from_utf8(&told)?, wanted);
     }
+    Ok(())
+}
+
+#[test]
+fn faults_of_rules_are_told(rt: HostRuntime) -> Result<(), Fail> {
     for (text, fault, wanted) in RULES {
         let told = told_rules(rt.alloc(), text, fault)?;
         assert_eq!(rt; from_utf8(&told)?, wanted);
     }
+    Ok(())
+}
+
+#[test]
+fn faults_of_histories_are_told(rt: HostRuntime) -> Result<(), Fail> {
     for (after, line, wanted) in HISTORIES {
         let told = told_history(rt.alloc(), after, line, LINES)?;
         assert_eq!(rt; from_utf8(&told)?, wanted);
@@ -229,19 +239,25 @@ const LIMITS: [(Option<usize>, Width, &[u8]); 4] = [
 const LIMITS_TOLD: &str =
     "--role: refused S1 NoSuchRole: the roles are x (o 2)\n<input>: refused N1 TooMany: more than 65536 base propositions\n<input>: refused N1 TooMany: more than 4096 moves of all roles together\n<input>: refused N1 TooMany: more than 65536 moves of all roles together\n<input>:2:1: refused N1 TooMany: more than 262144 instances of rules\n(q)\n^\n  with this item the limit is passed; the items that are instantiated before it pass none\n";
 
-#[test]
-fn roles_and_limits_are_told(rt: HostRuntime) -> Result<(), Fail> {
-    let mut output = Vec::new(rt.alloc());
+/// What is told of a role that is none, and of limits of rules.
+fn told_limits(alloc: Global, text: &[u8]) -> Result<Vec<u8>, Fail> {
+    let mut output = Vec::new(alloc);
     explain_role(b" x (o 2)", &mut output)?;
-    let items = read(rt.alloc(), b"(p)\n(q)")?;
+    let items = read(alloc, text)?;
     let source = Source {
         name: "<input>",
-        text: b"(p)\n(q)",
+        text,
         items: &items,
     };
     for (item, width, line) in LIMITS {
         explain_limit(&source, item, width, line, &mut output)?;
     }
-    assert_eq!(rt; from_utf8(&output)?, LIMITS_TOLD);
+    Ok(output)
+}
+
+#[test]
+fn roles_and_limits_are_told(rt: HostRuntime) -> Result<(), Fail> {
+    let told = told_limits(rt.alloc(), b"(p)\n(q)")?;
+    assert_eq!(rt; from_utf8(&told)?, LIMITS_TOLD);
     Ok(())
 }

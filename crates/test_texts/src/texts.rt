@@ -1,6 +1,8 @@
 //! Worked texts, over each allocator.
 use bumpalo::Bump;
-use kif::{KifFault, WriteFault, add_refusal, copy_to, count_parts, is_name, read, text_is, write};
+use kif::{
+    Expr, KifFault, WriteFault, add_refusal, copy_to, count_parts, is_name, read, text_is, write,
+};
 use linked_list_allocator::LocalHeap;
 use std::alloc::{AllocError, Allocator, Global};
 use std::io::Write;
@@ -8,16 +10,20 @@ use std::test::Fail;
 use test_games::memory::mark;
 use test_games::texts::MARKS;
 
+/// Adds the canonical text of each tree, each with a line end.
+fn add_lines<A: Allocator>(trees: &[Expr<A>], out: &mut Vec<u8>) -> Result<(), Fail> {
+    for tree in trees {
+        write(tree, out)?;
+        out.write_all(b"\n")?;
+    }
+    Ok(())
+}
+
 /// The canonical text of each tree of a text, each with a line end, or the line of its fault.
 fn shown<A: Allocator + Clone>(alloc: Global, place: A, text: &[u8]) -> Result<Vec<u8>, Fail> {
     let mut out = Vec::new(alloc);
     match read(place, text) {
-        Ok(trees) => {
-            for tree in &trees {
-                write(tree, &mut out)?;
-                out.write_all(b"\n")?;
-            }
-        }
+        Ok(trees) => add_lines(&trees, &mut out)?,
         Err(fault) => add_refusal(&fault, &mut out)?,
     }
     Ok(out)
@@ -73,13 +79,20 @@ const LIMITS: [(Pieces, Pieces); 6] = [
     ),
 ];
 
+/// Adds a text so often.
+fn add_often(piece: &[u8], count: usize, text: &mut Vec<u8>) -> Result<(), AllocError> {
+    for _ in 0..count {
+        text.extend_from_slice(piece)?;
+    }
+    Ok(())
+}
+
 /// The text of pieces.
 fn joined(alloc: Global, pieces: Pieces) -> Result<Vec<u8>, AllocError> {
     let mut text = Vec::new(alloc);
-    for (piece, count) in pieces {
-        for _ in 0..*count {
-            text.extend_from_slice(piece)?;
-        }
+    for place in 0..pieces.len() {
+        let (piece, count) = pieces[place];
+        add_often(piece, count, &mut text)?;
     }
     Ok(text)
 }
@@ -111,17 +124,33 @@ fn rows_are_shown_over_each_allocator(rt: HostRuntime) -> Result<(), Fail> {
     Ok(())
 }
 
+/// What is told of a copy of a tree in an arena: whether it is this text, a longer one, a shorter one, or a name, and how many parts it has.
+fn told_of_copy<A: Allocator>(alloc: Global, tree: &Expr<A>) -> Result<([bool; 4], usize), Fail> {
+    let bump = Bump::new(alloc);
+    let copy = copy_to(&bump, tree)?;
+    let told = [
+        text_is(&copy, b"(mark (x 1) ())"),
+        text_is(&copy, b"(mark (x 1) ()) "),
+        text_is(&copy, b"(mark (x 1)"),
+        is_name(&copy),
+    ];
+    Ok((told, count_parts(&copy)))
+}
+
 #[test]
 fn trees_are_copied_and_compared(rt: HostRuntime) -> Result<(), Fail> {
-    let bump = Bump::new(rt.alloc());
     for tree in &read(rt.alloc(), b"(mark (x 1) ())")? {
-        let copy = copy_to(&bump, tree)?;
-        assert!(rt; text_is(&copy, b"(mark (x 1) ())"));
-        assert!(rt; !text_is(&copy, b"(mark (x 1) ()) "));
-        assert!(rt; !text_is(&copy, b"(mark (x 1)"));
-        assert!(rt; !is_name(&copy));
-        assert_eq!(rt; count_parts(&copy), 3);
-        // A writer that gets full has a beginning.
+        assert_eq!(rt;
+            told_of_copy(rt.alloc(), tree)?,
+            ([true, false, false, false], 3)
+        );
+    }
+    Ok(())
+}
+
+#[test]
+fn a_writer_that_gets_full_has_a_beginning(rt: HostRuntime) -> Result<(), Fail> {
+    for tree in &read(rt.alloc(), b"(mark (x 1) ())")? {
         let mut bytes = [0; 8];
         let mut room = bytes.as_mut_slice();
         assert_eq!(rt; write(tree, &mut room), Err(WriteFault));

@@ -1,4 +1,4 @@
-//! Calls whose growths are refused: where all memory is taken, and one by one by bench/refuse, which counts those between two marks.
+//! Calls whose growths are refused: where all memory is taken, and one by one by tests/refuse, which counts those between two marks.
 use super::add_state;
 use crate::made::{net_game, rule_game, rules_of};
 use game::{Game, HistoryFault, replay};
