@@ -51,7 +51,7 @@ const SOLVE_EXAMPLE: &str = "Example:
 
 /// What an option takes.
 #[derive(Clone, Copy)]
-enum Takes {
+enum ValueKind {
     /// Nothing: it is given, or it is not.
     Nothing,
     /// A text.
@@ -81,7 +81,7 @@ enum Beside {
 #[derive(Clone, Copy)]
 struct Setting {
     name: &'static str,
-    takes: Takes,
+    takes: ValueKind,
     /// What stands for its value in texts for people.
     value: &'static str,
     /// Its value where it is not given.
@@ -102,7 +102,7 @@ struct Verb {
 
 const AFTER: Setting = Setting {
     name: "after",
-    takes: Takes::AnyText,
+    takes: ValueKind::AnyText,
     value: "TEXT",
     default: None,
     beside: Beside::Anything,
@@ -111,7 +111,7 @@ const AFTER: Setting = Setting {
 
 const ROLE: Setting = Setting {
     name: "role",
-    takes: Takes::AnyText,
+    takes: ValueKind::AnyText,
     value: "ROLE",
     default: None,
     beside: Beside::Itself,
@@ -120,7 +120,7 @@ const ROLE: Setting = Setting {
 
 const DEPTH: Setting = Setting {
     name: "depth",
-    takes: Takes::UpTo(64),
+    takes: ValueKind::UpTo(64),
     value: "TURNS",
     default: None,
     beside: Beside::Itself,
@@ -129,7 +129,7 @@ const DEPTH: Setting = Setting {
 
 const DEPTH_OR_ALL: Setting = Setting {
     name: "depth",
-    takes: Takes::UpTo(64),
+    takes: ValueKind::UpTo(64),
     value: "TURNS",
     default: None,
     beside: Beside::ItselfOr("deepen"),
@@ -138,7 +138,7 @@ const DEPTH_OR_ALL: Setting = Setting {
 
 const AT_BOUND: Setting = Setting {
     name: "at-bound",
-    takes: Takes::AnyText,
+    takes: ValueKind::AnyText,
     value: "WORTH",
     default: Some("zero"),
     beside: Beside::Anything,
@@ -147,7 +147,7 @@ const AT_BOUND: Setting = Setting {
 
 const UNFINISHED: Setting = Setting {
     name: "unfinished",
-    takes: Takes::UpTo(100),
+    takes: ValueKind::UpTo(100),
     value: "NUMBER",
     default: None,
     beside: Beside::Without("at-bound"),
@@ -156,7 +156,7 @@ const UNFINISHED: Setting = Setting {
 
 const WINDOW: Setting = Setting {
     name: "window",
-    takes: Takes::AnyText,
+    takes: ValueKind::AnyText,
     value: "LOW:HIGH",
     default: None,
     beside: Beside::Anything,
@@ -165,7 +165,7 @@ const WINDOW: Setting = Setting {
 
 const DEEPEN: Setting = Setting {
     name: "deepen",
-    takes: Takes::Nothing,
+    takes: ValueKind::Nothing,
     value: "",
     default: None,
     beside: Beside::Without("window"),
@@ -174,7 +174,7 @@ const DEEPEN: Setting = Setting {
 
 const LINES: Setting = Setting {
     name: "lines",
-    takes: Takes::Nothing,
+    takes: ValueKind::Nothing,
     value: "",
     default: None,
     beside: Beside::Anything,
@@ -183,7 +183,7 @@ const LINES: Setting = Setting {
 
 const CUT: Setting = Setting {
     name: "cut",
-    takes: Takes::AnyText,
+    takes: ValueKind::AnyText,
     value: "LEVELS",
     default: Some("1"),
     beside: Beside::Anything,
@@ -192,7 +192,7 @@ const CUT: Setting = Setting {
 
 const TABLE: Setting = Setting {
     name: "table",
-    takes: Takes::UpTo(65_536),
+    takes: ValueKind::UpTo(65_536),
     value: "MIB",
     default: Some("64"),
     beside: Beside::Anything,
@@ -201,7 +201,7 @@ const TABLE: Setting = Setting {
 
 const FILE: Setting = Setting {
     name: RULES,
-    takes: Takes::Text,
+    takes: ValueKind::Text,
     value: "FILE",
     default: None,
     beside: Beside::Anything,
@@ -210,7 +210,7 @@ const FILE: Setting = Setting {
 
 const WHOLE: Setting = Setting {
     name: "whole",
-    takes: Takes::Nothing,
+    takes: ValueKind::Nothing,
     value: "",
     default: None,
     beside: Beside::Anything,
@@ -219,7 +219,7 @@ const WHOLE: Setting = Setting {
 
 const TIGHTEN: Setting = Setting {
     name: "tighten",
-    takes: Takes::Nothing,
+    takes: ValueKind::Nothing,
     value: "",
     default: None,
     beside: Beside::With("whole"),
@@ -228,7 +228,7 @@ const TIGHTEN: Setting = Setting {
 
 const TIGHTEN_ALONE: Setting = Setting {
     name: "tighten",
-    takes: Takes::Nothing,
+    takes: ValueKind::Nothing,
     value: "",
     default: None,
     beside: Beside::Anything,
@@ -316,10 +316,10 @@ const VERBS: [Verb; 10] = [
 /// An option by what it takes.
 fn taking<'a>(option: clap::Arg<'a>, setting: Setting) -> clap::Arg<'a> {
     match setting.takes {
-        Takes::Nothing => option.action(clap::ArgAction::SetTrue),
-        Takes::Text => option.value_name(setting.value),
-        Takes::AnyText => option.value_name(setting.value).allow_hyphen_values(true),
-        Takes::UpTo(most) => option
+        ValueKind::Nothing => option.action(clap::ArgAction::SetTrue),
+        ValueKind::Text => option.value_name(setting.value),
+        ValueKind::AnyText => option.value_name(setting.value).allow_hyphen_values(true),
+        ValueKind::UpTo(most) => option
             .value_name(setting.value)
             .value_parser(clap::value_parser!(u32).range(0..=most)),
     }

@@ -1,4 +1,4 @@
-//! Worked texts, each by `run`, by `run_rules` and by words, over readers and writers in memory; and the replies of a single thread.
+//! Rows of each command, by `run`, by `run_rules`, by one thread and by words; and the program over readers and writers in memory that fail.
 //!
 //! `run_rules` is a second opinion: the game of the rules is played over their kept instances, and told of over their network where nothing is
 //! searched, each the other way round than in the program. Nothing of the program stands on it.
