@@ -31,6 +31,7 @@ LIBRARY = TOP / "c/out/libgdlsolve.so"
 # The clone, also where these sources are a copy of some of its folders.
 CLONE = (TOP / "c/build").resolve().parent.parent
 PROGRAM = CLONE / "out/gdlsolve"
+NO_KIT = "as there is no command rt: put the folder bin of the Rattle kit on the path, or install the wheel of a release (docs/INSTALL.md)"
 LICENCES = ("LICENSE-APACHE", "LICENSE-MIT", "COPYRIGHT")
 
 
@@ -52,6 +53,8 @@ class WithLibrary(build_py):
             return
         if not LIBRARY.exists():
             print("gdlsolve goes without its library: c/build builds it", file=sys.stderr)
+        elif shutil.which("rt") is None:
+            raise SystemExit(f"nobody can tell here whether {LIBRARY} is made of these sources, {NO_KIT}")
         elif not is_fresh(TOP / "c/build", "--fresh"):
             raise SystemExit(f"{LIBRARY} is older than what it is made of: run c/build first")
         else:

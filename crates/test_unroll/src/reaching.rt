@@ -3,6 +3,7 @@ use ground::instantiate_flat_alone;
 use kif::read;
 use rules::RuleSet;
 use statement::Width;
+use std::alloc::AllocGlobal;
 use std::test::Fail;
 use unroll::comes_to_all;
 
@@ -43,16 +44,21 @@ const TEXTS: [(&str, bool); 9] = [
     ),
 ];
 
+/// Whether play comes to all base propositions of rules that begin as each of the texts does.
+fn is_all_reached<R: AllocGlobal>(rt: &R, text: &str) -> Result<bool, Fail> {
+    let alloc = rt.alloc();
+    let mut whole = Vec::new(alloc);
+    whole.extend_from_slice(START.as_bytes())?;
+    whole.extend_from_slice(text.as_bytes())?;
+    let rules = RuleSet::check(alloc, &read(alloc, &whole)?)?;
+    let ground = instantiate_flat_alone(rt, &rules, Width::Plain)?;
+    Ok(comes_to_all(alloc, &ground)?)
+}
+
 #[test]
 fn play_comes_to_all_where_each_is_brought(rt: HostRuntime) -> Result<(), Fail> {
     for (text, wanted) in TEXTS {
-        let mut whole = Vec::new(rt.alloc());
-        whole.extend_from_slice(START.as_bytes())?;
-        whole.extend_from_slice(text.as_bytes())?;
-        let items = read(rt.alloc(), &whole)?;
-        let rules = RuleSet::check(rt.alloc(), &items)?;
-        let ground = instantiate_flat_alone(&rt, &rules, Width::Plain)?;
-        assert_eq!(rt; comes_to_all(rt.alloc(), &ground)?, wanted, "{text}");
+        assert_eq!(rt; is_all_reached(&rt, text)?, wanted, "{text}");
     }
     Ok(())
 }
