@@ -94,9 +94,14 @@ fn is_written<T: Threads + Sync + AllocGlobal>(
     let (mut input, words) = row;
     let mut output = Full::new(rt.alloc(), room, at_end);
     let (status, errors) = status_over(rt, words, &mut input, &mut output);
-    if room < want.len() || at_end == AtEnd::FailsToFlush {
+    if at_end == AtEnd::FailsToFlush {
+        // What is deepened is flushed behind each depth.
         status == 4
-            && output.taken.as_slice() == &want[..room.min(want.len())]
+            && want.starts_with(&output.taken)
+            && errors.as_slice() == b"write fault\n".as_slice()
+    } else if room < want.len() {
+        status == 4
+            && output.taken.as_slice() == &want[..room]
             && errors.as_slice() == b"write fault\n".as_slice()
     } else {
         status == 0 && output.taken.as_slice() == want && errors.is_empty()
