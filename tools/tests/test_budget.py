@@ -42,7 +42,7 @@ class Lanes(unittest.TestCase):
 
 
 class Chains(unittest.TestCase):
-    on = {"low": [], "side": [], "high": ["low", "side"], "trials": ["high"]}
+    on: dict[str, list[str]] = {"low": [], "side": [], "high": ["low", "side"], "trials": ["high"]}
     taken = Weights({"low": {"proof": 300.0}, "side": {"proof": 100.0, "tests": 50.0}, "high": {"proof": 200.0}, "trials": {"tests": 400.0}})
 
     def test_what_the_longest_chain_waits_for_gives_way_to_nothing(self) -> None:
