@@ -167,7 +167,8 @@ class Choices(Asking):
                 thinking.choice()
                 self.assertFalse(gates.are_none)
         self.assertGreater(questions, 1)
-        self.assertIs(gates.engine.child, child)
+        # Matches that were asked for may still be under way, and then it has its process in hand.
+        self.assertTrue(until(lambda: gates.engine.child is child, LONG))
         self.assertGreater(sum((gates.goals((), Playouts(32, 200, 50, 1)) or {}).values()), 0)
 
     def test_a_process_that_reads_the_rules_goes_on_with_that(self) -> None:
