@@ -7,6 +7,7 @@ and linked. A line `PART: SECONDS` has those of another part of .ci/run.
 from __future__ import annotations
 
 from dataclasses import dataclass, field
+from graphlib import TopologicalSorter
 from pathlib import Path
 
 TOP = Path(__file__).resolve().parent.parent
@@ -81,13 +82,8 @@ def below() -> dict[str, list[str]]:
     """The crates that each crate stands on, which come before it, as crates.txt has them."""
     heads = [line.partition(":") for line in lines_of((TOP / "crates.txt").read_text())]
     named = {head.split()[0]: rest.split() for head, colon, rest in heads if colon}
-    left, ordered = dict(named), dict[str, list[str]]()
-    while left:
-        ready = [name for name, on in left.items() if not any(each in left for each in on)]
-        if not ready:
-            raise ValueError(f"crates stand on each other: {' '.join(left)}")
-        ordered |= {name: [each for each in left.pop(name) if each in named] for name in ready}
-    return ordered
+    on = {name: [each for each in each_on if each in named] for name, each_on in named.items()}
+    return {name: on[name] for name in TopologicalSorter(on).static_order()}
 
 
 def slack(weights: Weights, on: dict[str, list[str]]) -> dict[tuple[str, str], float]:
