@@ -42,6 +42,17 @@ fn words_of_limit(line: &[u8], width: Width) -> &'static str {
     }
 }
 
+/// Adds a way out of a limit that a line of a refusal names, where there is one beside the limits of a width.
+fn add_way_out(line: &[u8], width: Width, output: &mut Vec<u8>) -> Result<(), AllocError> {
+    if width == Width::Wide || line.ends_with(b"text\n") {
+        return Ok(());
+    }
+    add_reason(
+        "with `--whole --tighten` there are only the moves and propositions that play can come to",
+        output,
+    )
+}
+
 /// Adds what is told of rules that pass a limit of a width where they are instantiated: with the item of this number, counted from 1, if it is known.
 pub fn explain_limit<A: Allocator>(
     source: &Source<A>,
@@ -56,16 +67,14 @@ pub fn explain_limit<A: Allocator>(
     };
     add_start(source.name, spot, "N1 TooMany", output)?;
     add_end(words_of_limit(line, width), output)?;
-    match spot {
-        Some(spot) => {
-            add_marked_line(source.text, spot.offset, output)?;
-            add_reason(
-                "with this item the limit is passed; the items that are instantiated before it pass none",
-                output,
-            )
-        }
-        None => Ok(()),
+    if let Some(spot) = spot {
+        add_marked_line(source.text, spot.offset, output)?;
+        add_reason(
+            "with this item the limit is passed; the items that are instantiated before it pass none",
+            output,
+        )?;
     }
+    add_way_out(line, width, output)
 }
 /// Whether a line of the reply to `moves` tells of a legal move of a role.
 pub fn is_legal_line(line: &[u8], role: &[u8]) -> bool {
@@ -141,6 +150,17 @@ fn name_of(fault: &PlayFault) -> &'static str {
     }
 }
 
+/// Says that nobody takes a quote away, where the turn at an offset of a history begins with one.
+fn add_quoted(after: &[u8], offset: usize, output: &mut Vec<u8>) -> Result<(), AllocError> {
+    if after.get(offset) != Some(&b'\'') {
+        return Ok(());
+    }
+    add_reason(
+        "this quote is a part of the text: write the turns without it",
+        output,
+    )
+}
+
 /// Adds what is told of the fault of a history whose text is read as turns: the place of the turn, the line with a mark, and for a move
 /// that is not legal those that are.
 pub fn explain_history<A: Allocator>(
@@ -155,6 +175,7 @@ pub fn explain_history<A: Allocator>(
     add_headline(fault, before.roles, output)?;
     if let Some(spot) = spot {
         add_marked_line(after, spot.offset, output)?;
+        add_quoted(after, spot.offset, output)?;
     }
     if let PlayFault::NotLegal(_, role) = fault {
         add_reason("the legal moves of the role there:", output)?;

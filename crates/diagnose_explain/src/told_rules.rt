@@ -157,7 +157,10 @@ fn tell_cycle<A: Allocator>(
 ) -> Result<(), AllocError> {
     let way = way_from(alloc, source.items, item, &[head_of(item)])?;
     tell_way(source, number, item, "G4 Recursive", way.as_deref(), output)?;
-    add_reason("no relation may rest on itself", output)
+    add_reason(
+        "no relation may rest on itself: with `--whole` one may",
+        output,
+    )
 }
 
 /// What is told of an item whose relation rests on what it may not.

@@ -51,16 +51,21 @@ fn add_words(finding: &Finding, output: &mut Vec<u8>) -> Result<(), AllocError> 
         ),
         Finding::Foreign(relation) => {
             add_relation(relation, output)?;
-            add_end(
-                " belongs to another notation; a rule is (<= head literal ..)",
-                output,
-            )
+            add_end(words_of_notation(relation.word), output)
         }
         Finding::Missing(word) => {
             output.extend_from_slice(b"no item states `")?;
             output.extend_from_slice(word.name())?;
             add_end("`", output)
         }
+    }
+}
+
+/// What is told of a name that belongs to another notation.
+fn words_of_notation(name: &[u8]) -> &'static str {
+    match name {
+        b":-" | b"\\+" => " is Prolog's notation; a rule is (<= head literal ..)",
+        _ => " belongs to another notation; a rule is (<= head literal ..)",
     }
 }
 

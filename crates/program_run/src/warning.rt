@@ -14,12 +14,12 @@ const SHOWN: usize = 3;
 fn add_lacking(sizes: &Sizes, output: &mut Vec<u8>) -> Result<(), AllocError> {
     if !sizes.has_base {
         output.extend_from_slice(
-            b"<input>: warning: there is no base proposition, so nothing holds in any state: state them by `base`\n",
+            b"<input>: warning: there is no base proposition, so nothing holds in any state: state them by `base`, or ask with `--whole`, which finds them\n",
         )?;
     }
     if !sizes.has_inputs {
         output.extend_from_slice(
-            b"<input>: warning: there is no input, so no role has a legal move: state them by `input`\n",
+            b"<input>: warning: there is no input, so no role has a legal move: state them by `input`, or ask with `--whole`, which finds them\n",
         )?;
     }
     Ok(())

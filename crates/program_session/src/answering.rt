@@ -23,6 +23,10 @@ const MISUSED: u8 = 1;
 /// The status of a refusal.
 const REFUSED: u8 = 2;
 
+/// What is told of a line of rules that names no size.
+const SIZE: &str =
+    "a size is the number of bytes of the rules that follow, as `rules 149`, and nothing behind it\n";
+
 /// What is told of a line.
 #[derive(Drop)]
 pub(crate) struct Told {
@@ -111,6 +115,10 @@ pub(crate) fn told_of_line<G: GroundGame, T: Threads + Sync + AllocGlobal>(
         let fault = Request::Misuse(format!(in rt.alloc(); "a word is no UTF-8\n")?);
         return told_of(rt, &fault, width, rules, made);
     };
+    if words.first() == Some(&"rules") {
+        let fault = Request::Misuse(format!(in rt.alloc(); "{SIZE}")?);
+        return told_of(rt, &fault, width, rules, made);
+    }
     let request = request_in(rt.alloc(), &words, width)?;
     told_of(rt, &request, width, rules, made)
 }
