@@ -12,8 +12,6 @@ mod cuts;
 #[cfg(test)]
 mod descriptions;
 #[cfg(test)]
-mod findings;
-#[cfg(test)]
 mod flushes;
 #[cfg(test)]
 mod graphs;
