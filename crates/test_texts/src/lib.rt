@@ -1,6 +1,6 @@
-//! Worked cases of texts: trees and their order, over each allocator, lines and places, what descriptions say as rules, what people are told of
-//! them, and what writers are flushed. And of parts that know no rules: graphs, literals, histories, windows and choices, joins in another order,
-//! hints, cuts of the work, and boards of its tasks.
+//! Worked cases of texts: trees and their order, over each allocator, lines and places, what descriptions say as rules, and what writers are
+//! flushed. And of parts that know no rules: graphs, literals, histories, windows and choices, joins in another order, hints, cuts of the work,
+//! and boards of its tasks.
 #![tactic(auto)]
 
 #[cfg(test)]
@@ -29,8 +29,6 @@ mod literals;
 mod marks_and_counts;
 #[cfg(test)]
 mod nested_boards;
-#[cfg(test)]
-mod notices;
 #[cfg(test)]
 mod orders;
 #[cfg(test)]
