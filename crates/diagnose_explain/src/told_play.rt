@@ -44,13 +44,18 @@ fn words_of_limit(line: &[u8], width: Width) -> &'static str {
 
 /// Adds a way out of a limit that a line of a refusal names, where there is one beside the limits of a width.
 fn add_way_out(line: &[u8], width: Width, output: &mut Vec<u8>) -> Result<(), AllocError> {
-    if width == Width::Wide || line.ends_with(b"text\n") {
+    if line.ends_with(b"text\n") {
         return Ok(());
     }
-    add_reason(
-        "with `--whole --tighten` there are only the moves and propositions that play can come to",
-        output,
-    )
+    let words = match width {
+        Width::Plain => {
+            "with `--whole --tighten` there are only the moves and propositions that play can come to"
+        }
+        Width::Wide => {
+            "with `--tighten` there are only the moves and propositions that play can come to"
+        }
+    };
+    add_reason(words, output)
 }
 
 /// Adds what is told of rules that pass a limit of a width where they are instantiated: with the item of this number, counted from 1, if it is known.
