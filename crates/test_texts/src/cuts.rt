@@ -1,4 +1,4 @@
-//! Texts of cuts, and answers over the table.
+//! Answers over the table by cuts of the work.
 use game::{AtBound, Game, Question};
 use search_split::Cut;
 use share::{Gate, solve};
@@ -111,46 +111,4 @@ fn each_cut_has_the_same_answer(rt: HostRuntime) -> Result<(), AllocError> {
         }
     }
     Ok(())
-}
-
-/// Texts, and the levels of the cuts that they name, none where a text is refused.
-const TEXTS: [(&[u8], Option<&[u8]>); 22] = [
-    (b"1", Some(&[1])),
-    (b"9", Some(&[9])),
-    (b"10", Some(&[10])),
-    (b"16", Some(&[16])),
-    (b"4x2", Some(&[4, 2])),
-    (b"16x4", Some(&[16, 4])),
-    (b"1x1x1", Some(&[1, 1, 1])),
-    (b"2x2x16", Some(&[2, 2, 16])),
-    (b"", None),
-    (b"x", None),
-    (b"4x", None),
-    (b"x4", None),
-    (b"4X2", None),
-    (b"04", None),
-    (b"0", None),
-    (b"17", None),
-    (b"20", None),
-    (b"100", None),
-    (b"16x4x2", None),
-    (b"5x4x4", None),
-    (b"1x1x1x1", None),
-    (b"4 x2", None),
-];
-
-/// Whether a text names the cut of these levels, or none.
-fn names(text: &[u8], levels: Option<&[u8]>) -> bool {
-    match (Cut::parse(text), levels) {
-        (Some(cut), Some(levels)) => Cut::new(levels) == Some(cut),
-        (None, None) => true,
-        _ => false,
-    }
-}
-
-#[test]
-fn lawful_cuts_are_read(rt: HostRuntime) {
-    for (text, levels) in TEXTS {
-        assert!(rt; names(text, levels), "{text:?}");
-    }
 }

@@ -1,6 +1,6 @@
 //! Worked cases of texts: trees and their order, over each allocator, lines and places, what descriptions say as rules, and what writers are
-//! flushed. And of parts that know no rules: graphs, literals, histories, windows and choices, joins in another order, hints, cuts of the work,
-//! and boards of its tasks.
+//! flushed. And of parts that know no rules: graphs, literals, windows and choices, joins in another order, hints, cuts of the work, and boards
+//! of its tasks.
 #![tactic(auto)]
 
 #[cfg(test)]
@@ -15,8 +15,6 @@ mod descriptions;
 mod flushes;
 #[cfg(test)]
 mod graphs;
-#[cfg(test)]
-mod histories;
 #[cfg(test)]
 mod join_orders;
 #[cfg(test)]
