@@ -1,13 +1,13 @@
 //! Values, choices and replies over the table.
-ghost use Rattle.std.specs.Prelude.{◌≡◌, ◌<◌, ◌≤◌};
+ghost use Rattle.std.specs.Prelude.{◌≡◌, ◌<◌};
 
 use game::AtBound::{Goal, Zero};
 use game::{AtBound, Game, Joint, Question};
-use maximin::{Room, choice, choice_by_value, first_reply, reply_by_value, value_in};
+use maximin::{Room, choice_by_value, first_reply, reply_by_value, value_in};
 use smallvec::SmallVec;
 use std::alloc::{AllocError, Global};
 use std::sync::atomic::{AtomicUsize, Ordering};
-use test_games::table::{Chosen, Table};
+use test_games::table::Table;
 use test_games::watched::Watched;
 
 /// What is asked of a state.
@@ -47,113 +47,6 @@ const EQUAL: Table = Table {
     worth: [70, 40, 90, 80, 60, 40, 50, 45],
     ends: [true; 8],
 };
-
-/// By its second side the row comes to a cell where the layer has no move, whatever is written there.
-const STUCK: Table = Table {
-    worth: [20, 20, 20, 20, 90, 90, 90, 90],
-    ends: [true, true, true, true, false, false, false, false],
-};
-
-/// The same, where the row has the goal 70 while nothing is chosen yet.
-const HOPEFUL: Table = Table {
-    worth: [70, 20, 20, 20, 90, 90, 90, 90],
-    ends: [true, true, true, true, false, false, false, false],
-};
-
-/// How many turns the room is for, a state, which is 0 at the start or the number of a cell, what is asked of it, and its value and choice.
-type Row = (u32, u8, (usize, u32, AtBound), i16, Option<u32>);
-
-const OF_LEVEL: [Row; 7] = [
-    (1, 0, (0, 1, Zero), 30, Some(1)),
-    (1, 0, (1, 1, Zero), 50, Some(0)),
-    (1, 0, (2, 1, Zero), 10, Some(0)),
-    // A state without a turn is worth nothing.
-    (1, 0, (0, 0, Zero), 0, None),
-    // A deep search of a short game.
-    (64, 0, (0, 64, Zero), 30, Some(1)),
-    (64, 8, (0, 64, Zero), 95, None),
-    (64, 8, (0, 0, Zero), 95, None),
-];
-
-const OF_STUCK: [Row; 2] = [
-    (3, 0, (0, 3, Zero), 20, Some(0)),
-    (3, 5, (0, 3, Zero), 0, None),
-];
-
-const OF_HOPEFUL: [Row; 6] = [
-    (1, 0, (0, 0, Goal), 70, None),
-    (1, 0, (1, 0, Goal), 30, None),
-    (1, 0, (0, 0, Zero), 0, None),
-    // A state without moves for some role is worth nothing at the bound either, and one that has ended its goal.
-    (1, 5, (0, 0, Goal), 0, None),
-    (1, 1, (0, 0, Zero), 70, None),
-    // A turn later the game has ended, or is stuck.
-    (1, 0, (0, 1, Goal), 20, Some(0)),
-];
-
-/// The value and the choice of a state, by a room for so many turns.
-fn told_of<G: Game>(
-    game: &G,
-    alloc: Global,
-    p: &G::Pos,
-    turns: u32,
-    asked: Question,
-) -> Result<(i16, Option<u32>), AllocError>
-    requires fits { G.fits game.now p.now }
-    requires role { asked.role < (G.rules game.now).roles }
-    requires deep { asked.depth ≤ turns }
-{
-    let mut room = Room::new(alloc, game, turns)?;
-    let value = value_in(game, p, asked, -1, 101, &mut room);
-    Ok((value, choice(game, p, asked, &mut room)))
-}
-
-/// Whether a state of a table has the value and the choice of a row.
-fn is_told(table: &Table, alloc: Global, row: Row) -> Result<bool, AllocError> {
-    let (turns, cell, (role, depth, at), value, choice) = row;
-    if cell > 8 || role > 2 || depth > turns {
-        return Ok(false);
-    }
-    let told = told_of(table, alloc, &Chosen { cell }, turns, ask(role, depth, at))?;
-    Ok(told == (value, choice))
-}
-
-/// The place of the first row that is not told of a table.
-fn first_untold(table: &Table, alloc: Global, rows: &[Row]) -> Result<Option<usize>, AllocError> {
-    for place in 0..rows.len() {
-        if !is_told(table, alloc, rows[place])? {
-            return Ok(Some(place));
-        }
-    }
-    Ok(None)
-}
-
-#[test]
-fn each_role_has_its_value_and_choice(rt: HostRuntime) -> Result<(), AllocError> {
-    assert_eq!(rt; first_untold(&LEVEL, rt.alloc(), &OF_LEVEL)?, None);
-    // The first of equal moves is chosen.
-    let equal = [(1, 0, (0, 1, Zero), 40, Some(0))];
-    assert_eq!(rt; first_untold(&EQUAL, rt.alloc(), &equal)?, None);
-    assert_eq!(rt; first_untold(&STUCK, rt.alloc(), &OF_STUCK)?, None);
-    assert_eq!(rt; STUCK.goal(&Chosen { cell: 5 }, 0), 90);
-    assert_eq!(rt; first_untold(&HOPEFUL, rt.alloc(), &OF_HOPEFUL)?, None);
-    Ok(())
-}
-
-/// Windows, and the ranges in which the answers lie.
-const WINDOWS: [((i16, i16), (i16, i16)); 3] = [
-    ((40, 60), (30, 40)),
-    ((10, 20), (20, 30)),
-    ((29, 31), (30, 30)),
-];
-
-#[test]
-fn answer_in_a_window(rt: HostRuntime) -> Result<(), AllocError> {
-    for (window, range) in WINDOWS {
-        assert!(rt; lies_in(&LEVEL, rt.alloc(), window, range)?, "{window:?}");
-    }
-    Ok(())
-}
 
 /// Windows, the ranges in which the answers lie, and how many states are stepped to.
 const NARROWED: [((i16, i16), (i16, i16), usize); 3] = [
