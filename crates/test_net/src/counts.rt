@@ -1,4 +1,4 @@
-//! Searches by one thread with windows, over games of rules, and how many steps they make.
+//! Searches by one thread with windows, over a game of rules, and how many steps they make.
 ghost use Rattle.std.specs.Prelude.{IfOk};
 
 use crate::made::rule_game;
@@ -8,7 +8,7 @@ use maximin::{Room, value_in};
 use std::alloc::{AllocError, Global};
 use std::sync::atomic::{AtomicUsize, Ordering};
 use std::test::Fail;
-use test_games::texts::{FOUR, LIVE};
+use test_games::texts::LIVE;
 use test_games::watched::{Watch, Watched};
 
 /// The state after a history. Any fault is told as want of memory.
@@ -91,24 +91,6 @@ fn one_reply_of_ten_is_enough_below_the_window(rt: HostRuntime) -> Result<(), Fa
         watch: &steps,
     };
     let other = first_other(rt.alloc(), &game, &steps, b"(y noop)", &NARROWED)?;
-    assert_eq!(rt; other, None);
-    Ok(())
-}
-
-/// Windows below, above and around the value 70, of a game whose steps are not counted.
-const WINDOWS: [Row; 3] = [
-    ((10, 60), (60, 70), 0),
-    ((80, 90), (70, 80), 0),
-    ((-1, 101), (70, 70), 0),
-];
-
-#[test]
-fn answer_stands_on_the_side_of_the_value(rt: HostRuntime) -> Result<(), Fail> {
-    let steps = Steps {
-        made: AtomicUsize::new(0),
-    };
-    let game = rule_game(&rt, FOUR)?;
-    let other = first_other(rt.alloc(), &game, &steps, b"", &WINDOWS)?;
     assert_eq!(rt; other, None);
     Ok(())
 }

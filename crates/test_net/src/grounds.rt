@@ -1,7 +1,7 @@
-//! What descriptions instantiate to: bodies that are shared, wide limits, the order of instances, and kinds of atoms. Counts and limits are rows of
+//! What descriptions instantiate to: bodies that are shared, the order of instances, and kinds of atoms. Counts and limits are rows of
 //! `tests/worked`.
 use crate::made::rules_of;
-use ground::{Excess, Ground, GroundFault, Kind, instantiate, instantiate_flat_alone};
+use ground::{Ground, GroundFault, Kind, instantiate, instantiate_flat_alone};
 use statement::Width;
 use std::alloc::AllocGlobal;
 use std::test::Fail;
@@ -28,55 +28,6 @@ fn instances_share_a_body(rt: HostRuntime) -> Result<(), Fail> {
     let ground = instantiate_flat_alone(&rt, &rules, Width::Plain)?;
     assert_eq!(rt; ground.many_kept(), 18);
     assert_eq!(rt; ground.many_bodies(), 13);
-    Ok(())
-}
-
-/// Eight terms, four of which make an input.
-const BROAD: &[u8] = b"(role a)(d 0)(d 1)(d 2)(d 3)(d 4)(d 5)(d 6)(d 7)
-    (<= (input a (n ?a ?b ?c ?d)) (d ?a) (d ?b) (d ?c) (d ?d))";
-
-const BROADER: &[u8] = b"(role a)(d 0)(d 1)(d 2)(d 3)(d 4)(d 5)(d 6)(d 7)(d 8)
-    (<= (input a (n ?a ?b ?c ?d)) (d ?a) (d ?b) (d ?c) (d ?d))";
-
-/// Sixteen terms, four of which make an input.
-const WIDE: &[u8] = b"(role a)(d 0)(d 1)(d 2)(d 3)(d 4)(d 5)(d 6)(d 7)
-    (d 8)(d 9)(d 10)(d 11)(d 12)(d 13)(d 14)(d 15)
-    (<= (input a (n ?a ?b ?c ?d)) (d ?a) (d ?b) (d ?c) (d ?d))";
-
-const WIDER: &[u8] = b"(role a)(d 0)(d 1)(d 2)(d 3)(d 4)(d 5)(d 6)(d 7)
-    (d 8)(d 9)(d 10)(d 11)(d 12)(d 13)(d 14)(d 15)
-    (<= (input a (n ?a ?b ?c ?d)) (d ?a) (d ?b) (d ?c) (d ?d))(input a last)";
-
-/// How many inputs all roles have by the limits of a width; none where they are too many.
-fn inputs_by<R: AllocGlobal>(rt: &R, text: &[u8], width: Width) -> Result<Option<usize>, Fail> {
-    let rules = rules_of(rt.alloc(), text)?;
-    match instantiate_flat_alone(rt, &rules, width) {
-        Ok(ground) => {
-            let mut inputs = 0usize;
-            for role in 0..ground.roles() {
-                inputs = inputs.wrapping_add(ground.inputs(role));
-            }
-            Ok(Some(inputs))
-        }
-        Err(GroundFault::TooMany(Excess::Inputs)) => Ok(None),
-        Err(fault) => Err(fault.into()),
-    }
-}
-
-/// Descriptions, and how many inputs there are by the limits of a width.
-const INPUTS: [(&[u8], Width, Option<usize>); 5] = [
-    (BROAD, Width::Plain, Some(4096)),
-    (BROADER, Width::Plain, None),
-    (BROADER, Width::Wide, Some(6561)),
-    (WIDE, Width::Wide, Some(65536)),
-    (WIDER, Width::Wide, None),
-];
-
-#[test]
-fn more_inputs_may_be_by_the_wide_limits(rt: HostRuntime) -> Result<(), Fail> {
-    for (place, (text, width, inputs)) in INPUTS.into_iter().enumerate() {
-        assert_eq!(rt; inputs_by(&rt, text, width)?, inputs, "row {place}");
-    }
     Ok(())
 }
 

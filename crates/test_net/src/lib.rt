@@ -9,8 +9,6 @@ mod crowds;
 #[cfg(test)]
 mod grounds;
 #[cfg(test)]
-mod helping;
-#[cfg(test)]
 mod made;
 #[cfg(test)]
 mod networks;
@@ -22,5 +20,3 @@ mod numbers;
 mod plays;
 #[cfg(test)]
 mod tapes;
-#[cfg(test)]
-mod threads;

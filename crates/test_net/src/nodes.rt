@@ -1,4 +1,4 @@
-//! How many nodes the networks of descriptions have, and the values of some.
+//! The values of nodes of networks.
 ghost use Rattle.std.specs.Prelude.{◌≡◌, length, IfOk};
 
 use crate::made::net_of;
@@ -8,32 +8,7 @@ use std::alloc::{AllocError, Global};
 use std::io::Write as _;
 use std::process::Abort;
 use std::test::Fail;
-use test_games::texts::{MARKS, MATCH, UNBASED};
-
-/// Descriptions, and how many nodes their networks have: none without inputs, base propositions and instances of relations
-/// that are not fixed, one for an input, and two for a base proposition.
-const COUNTED: [(&[u8], usize); 7] = [
-    (MATCH, 34),
-    (MARKS, 499),
-    (UNBASED, 13),
-    (b"(role a)(p a)(<= (q (f ?x ?x)) (p ?x))", 0),
-    (b"(role a)(input a go)", 1),
-    (b"(role a)(base p)", 2),
-    (
-        b"(role a)(d 0)(d 1)(d 2)(d 3)(d 4)(d 5)(d 6)(d 7)
-        (<= (base (n ?a ?b ?c ?d)) (d ?a) (d ?b) (d ?c) (d ?d))",
-        8192,
-    ),
-];
-
-#[test]
-fn networks_have_so_many_nodes(rt: HostRuntime) -> Result<(), Fail> {
-    for (text, nodes) in COUNTED {
-        let net = net_of(&rt, text)?;
-        assert_eq!(rt; net.nodes(), nodes);
-    }
-    Ok(())
-}
+use test_games::texts::{MATCH, UNBASED};
 
 /// The bits of the nodes in a state of one word, in room that was full of ones.
 fn bits_in(
