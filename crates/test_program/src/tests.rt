@@ -1,9 +1,7 @@
 //! The program over readers and writers in memory that fail or go on slowly, without memory, and with workers that are watched. And some rows of
 //! each command, each by `run`, by `run_rules`, by one thread and by words. All worked rows are asked of the built program by `tests/worked`.
 mod broken;
-mod commands;
 mod devices;
-mod files;
 mod program;
 mod rows;
 mod starved;

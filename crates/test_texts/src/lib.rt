@@ -1,16 +1,20 @@
-//! Worked cases of texts: trees and their order, over each allocator, lines and places, what descriptions say as rules, and what writers are
-//! flushed. And of parts that know no rules: graphs, literals, windows and choices, joins in another order, hints, cuts of the work, and boards
+//! Worked cases of texts: trees and their order, over each allocator, lines and places, what descriptions say as rules, the commands and files
+//! that words name, and what writers are flushed. And of parts that know no rules: graphs, literals, windows and choices, joins in another order, hints, cuts of the work, and boards
 //! of its tasks.
 #![tactic(auto)]
 
 #[cfg(test)]
 mod boards;
 #[cfg(test)]
+mod commands;
+#[cfg(test)]
 mod crowds;
 #[cfg(test)]
 mod cuts;
 #[cfg(test)]
 mod descriptions;
+#[cfg(test)]
+mod files;
 #[cfg(test)]
 mod flushes;
 #[cfg(test)]

@@ -1,5 +1,4 @@
 //! The option for a file of rules, among all other words.
-use super::words_of;
 use program_words::{Asked, Request, asked_of};
 use std::alloc::{AllocError, Global};
 
@@ -48,6 +47,15 @@ const NAMELESS: &str = "error: a value is required for '--rules <FILE>' but none
 const TWICE: &str = "error: the argument '--rules <FILE>' cannot be used multiple times\n";
 
 const OF_SESSION: &str = "error: the argument '--rules <FILE>' cannot be used with 'serve'\n";
+
+/// The words of a line, which stand with a bar between each two.
+fn words_of(alloc: Global, line: &str) -> Result<Vec<&str>, AllocError> {
+    let mut words = Vec::new(alloc);
+    for word in line.split('|') {
+        words.push(word)?;
+    }
+    Ok(words)
+}
 
 /// Whether the words of a row make a command, over the rules of its file.
 fn is_named(alloc: Global, row: Row) -> Result<bool, AllocError> {
