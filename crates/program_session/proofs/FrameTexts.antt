@@ -1,7 +1,7 @@
 -- The bytes of the frames that are always the same.
 use Rattle.std.proofs.Common.{ℕ, ◌≡◌, List, codes, refl}
 use Rattle.std.specs.Fmt.{digits}
-use Rattle.program_session.specs.Frames.{taken_frame, starved_frame, long_frame, cut_frame}
+use Rattle.program_requests.specs.Frames.{taken_frame, starved_frame, long_frame, cut_frame}
 
 pub taken_is : ◌≡◌ {A = List ℕ} (codes "0 0\n") taken_frame
 unfolding digits

@@ -7,8 +7,8 @@ use Rattle.statement.specs.Output.{AppendsFront}
 use Rattle.statement.specs.declared.status.Status.TheVariants.{Answer}
 use Rattle.program_streams.specs.declared.fault.RunFault.{RunFault}
 use Rattle.program_streams.specs.declared.fault.RunFault.TheVariants.{Memory, Read, Write}
-use Rattle.program_session.specs.Sessions.{IsSession, begun, further, IsWholeSession, IsExchange, IsLast}
-use Rattle.program_session.specs.Desks.{Stand}
+use Rattle.program_requests.specs.Sessions.{IsSession, begun, further, IsWholeSession, IsExchange, IsLast}
+use Rattle.program_requests.specs.Desks.{Stand}
 use Rattle.program_session.proofs.Facts.{whole_with, whole_to_end, read_too, read_all}
 use Rattle.program_words.specs.declared.command.Language.{Language}
 use Rattle.program_session.specs.Telling.{IsToldIn}

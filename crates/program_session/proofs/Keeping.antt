@@ -3,10 +3,10 @@ use Rattle.std.proofs.Common.{ℕ, ◌≡◌, List, subst, sym}
 use Rattle.std.specs.Prelude.{Option, None, Ok}
 use Rattle.statement.specs.declared.width.Width.{Width}
 use Rattle.program_searches.specs.declared.reply.Reply as made
-use Rattle.program_session.specs.declared.desk.Desk.{Desk}
-use Rattle.program_session.specs.declared.desk.Taken.{Taken}
-use Rattle.program_session.specs.declared.desk.Taken.TheVariants.{Line, Rules as Stated, Starved, LastLine, Cut, Nothing}
-use Rattle.program_session.specs.Desks.{IsTaken, rules_kept}
+use Rattle.program_requests.specs.declared.desk.Desk.{Desk}
+use Rattle.program_requests.specs.declared.desk.Taken.{Taken}
+use Rattle.program_requests.specs.declared.desk.Taken.TheVariants.{Line, Rules as Stated, Starved, LastLine, Cut, Nothing}
+use Rattle.program_requests.specs.Desks.{IsTaken, rules_kept}
 use Rattle.program_words.specs.declared.command.Language.{Language}
 use Rattle.program_words.specs.declared.command.Language.TheVariants.{Profile, Whole, Tightened}
 use Rattle.program_session.specs.Kept.{AreKept, kept_after}

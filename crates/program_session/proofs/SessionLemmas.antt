@@ -3,12 +3,12 @@ use Rattle.std.proofs.Common.{ℕ, zero, suc, ◌≡◌, true, false, inl, inr, 
 use Rattle.std.specs.Prelude.{Option, Some, None, Ok}
 use Rattle.std.specs.Io.KnownBytes.{Consumes, IsAtEnd, prepend_known}
 use Rattle.statement.specs.Input.{read_limit}
-use Rattle.program_session.specs.declared.desk.Desk.{Desk}
-use Rattle.program_session.specs.declared.desk.Taken.{Taken}
-use Rattle.program_session.specs.declared.desk.Taken.TheVariants.{Line, Rules, Starved, LastLine, Cut, Nothing}
-use Rattle.program_session.specs.Frames.{cut_frame}
-use Rattle.program_session.specs.Sessions.{IsExchange, asked, stated, IsLast, nothing, unended, bare, cut, IsSession, further, IsWholeSession}
-use Rattle.program_session.specs.Desks.{Stand, IsTaken, IsCutShort, IsFrameOf, goes_on}
+use Rattle.program_requests.specs.declared.desk.Desk.{Desk}
+use Rattle.program_requests.specs.declared.desk.Taken.{Taken}
+use Rattle.program_requests.specs.declared.desk.Taken.TheVariants.{Line, Rules, Starved, LastLine, Cut, Nothing}
+use Rattle.program_requests.specs.Frames.{cut_frame}
+use Rattle.program_requests.specs.Sessions.{IsExchange, asked, stated, IsLast, nothing, unended, bare, cut, IsSession, further, IsWholeSession}
+use Rattle.program_requests.specs.Desks.{Stand, IsTaken, IsCutShort, IsFrameOf, goes_on}
 
 take_nil : (n : ℕ) → ◌≡◌ {A = List ℕ} (take n []) []
 take_nil zero = refl

@@ -18,8 +18,8 @@ use Rattle.program_words.specs.declared.request.Request.TheVariants.{Run, Lint, 
 use Rattle.program_streams.specs.Input.{IsReadFrom}
 use Rattle.program_streams.proofs.Facts.{replies_to}
 use Rattle.program_unroll.proofs.Facts.{written_over, refuses_over}
-use Rattle.program_session.specs.Desks.{Stand}
-use Rattle.program_session.specs.Sessions.{Answers}
+use Rattle.program_requests.specs.Desks.{Stand}
+use Rattle.program_requests.specs.Sessions.{Answers}
 use Rattle.unroll_writer.specs.declared.written.Bounds.{Bounds}
 use Rattle.unroll_writer.specs.declared.written.Bounds.TheVariants as bounds
 use Rattle.program_session.specs.Telling.{IsToldOf, IsToldOfLint, IsTold, IsToldFound, IsToldIn}

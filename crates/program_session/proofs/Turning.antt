@@ -4,9 +4,9 @@ use Rattle.std.specs.Prelude.{Option, Ok, Err}
 use Rattle.std.specs.Io.KnownBytes.{Appends}
 use Rattle.statement.specs.Output.{AppendsFront}
 use Rattle.program_streams.specs.declared.fault.RunFault.TheVariants.{Write}
-use Rattle.program_session.specs.declared.desk.Desk.{Desk}
-use Rattle.program_session.specs.declared.desk.Taken.{Taken}
-use Rattle.program_session.specs.Desks.{IsTaken, IsFrameOf, goes_on, rules_kept}
+use Rattle.program_requests.specs.declared.desk.Desk.{Desk}
+use Rattle.program_requests.specs.declared.desk.Taken.{Taken}
+use Rattle.program_requests.specs.Desks.{IsTaken, IsFrameOf, goes_on, rules_kept}
 use Rattle.program_session.proofs.Facts.{exchanged, ended}
 use Rattle.program_words.specs.declared.command.Language.{Language}
 use Rattle.program_session.specs.Telling.{IsToldIn}

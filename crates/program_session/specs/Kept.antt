@@ -14,9 +14,9 @@ use Rattle.program_searches.specs.Replies.{reply_of}
 use Rattle.unroll_writer.specs.declared.written.Bounds.{Bounds}
 use Rattle.unroll_writer.specs.declared.written.Bounds.TheVariants as bounds
 use Rattle.program_unroll.specs.Unrolled.{IsUnrollReply}
-use Rattle.program_session.specs.declared.desk.Taken.{Taken}
+use Rattle.program_requests.specs.declared.desk.Taken.{Taken}
 use Rattle.program_session.specs.declared.game_kept.KeptGame.{KeptGame}
-use Rattle.program_session.specs.declared.desk.Taken.TheVariants.{Line, Rules as Stated, Starved, LastLine, Cut, Nothing}
+use Rattle.program_requests.specs.declared.desk.Taken.TheVariants.{Line, Rules as Stated, Starved, LastLine, Cut, Nothing}
 
 -- the game plays the rules with these bytes, which pass no limit of a width, and the memory of a search, if there is one, is of the game
 abbrev pub IsKeptGame : {G P W M : Type 0} → Ghosts G P W M → (G → FlatGround) → Width → List ℕ → KeptGame G P W M → Type 0

@@ -4,10 +4,3 @@ pub mod Telling
 pub mod Kept
 pub mod Turns
 pub mod Serving
-pub mod Feeds
-pub mod Sizes
-pub mod Lines
-pub mod Texts
-pub mod Frames
-pub mod Sessions
-pub mod Desks

@@ -9,7 +9,7 @@ use Rattle.program_streams.specs.declared.fault.RunFault.{RunFault}
 use Rattle.program_streams.specs.declared.fault.RunFault.TheVariants.{Memory, Read, Write}
 use Rattle.program_streams.specs.Exits.{exit_status, AreErrorsTold}
 use Rattle.program_streams.specs.Streams.{Streams}
-use Rattle.program_session.specs.Sessions.{IsSession, IsWholeSession}
+use Rattle.program_requests.specs.Sessions.{IsSession, IsWholeSession}
 use Rattle.program_words.specs.declared.command.Language.{Language}
 use Rattle.program_session.specs.Telling.{IsToldIn}
 

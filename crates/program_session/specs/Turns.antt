@@ -5,8 +5,8 @@ use Rattle.std.specs.Io.KnownBytes.{Consumes, Appends, Keeps, IsAtEnd}
 use Rattle.statement.specs.Output.{AppendsFront}
 use Rattle.program_streams.specs.declared.fault.RunFault.{RunFault}
 use Rattle.program_streams.specs.declared.fault.RunFault.TheVariants.{Memory, Read, Write}
-use Rattle.program_session.specs.Sessions.{IsExchange, IsLast}
-use Rattle.program_session.specs.Desks.{Stand}
+use Rattle.program_requests.specs.Sessions.{IsExchange, IsLast}
+use Rattle.program_requests.specs.Desks.{Stand}
 use Rattle.program_words.specs.declared.command.Language.{Language}
 use Rattle.program_session.specs.Telling.{IsToldIn}
 

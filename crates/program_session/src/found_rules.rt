@@ -8,10 +8,10 @@ ghost use Rattle.program_session.specs.Telling.{IsToldFound, IsToldIn};
 ghost use Rattle.program_session.specs.Kept.{AreKept, AreKeptFound, IsKeptGame, kept_after};
 
 use crate::answering::{Told, told_again, told_of_line};
-use crate::desk::Taken;
 use crate::game_kept::KeptGame;
 use game::Game;
 use game_rules::GroundGame;
+use program_requests::Taken;
 use program_searches::Reply;
 use program_unroll::unroll_reply;
 use program_words::Language;

@@ -1,16 +1,16 @@
 //! The frames that answer requests.
 ghost use Rattle.std.specs.Prelude.{◌≡◌, ◌++◌, ◌∷◌, [], IfOk, OnOk};
 ghost use Rattle.std.specs.Fmt.{decimal};
-ghost use Rattle.program_session.specs.Frames.{frame};
-ghost use Rattle.program_session.specs.Sessions.{Answers};
-ghost use Rattle.program_session.specs.Desks.{IsDesk, IsFrameOf, AnswersDesk, rules_kept};
+ghost use Rattle.program_requests.specs.Frames.{frame};
+ghost use Rattle.program_requests.specs.Sessions.{Answers};
+ghost use Rattle.program_requests.specs.Desks.{IsDesk, IsFrameOf, AnswersDesk, rules_kept};
 ghost use Rattle.program_session.specs.Telling.{IsToldIn, frame_bytes};
 ghost use Rattle.program_session.specs.Kept.{AreKept, IsKeptGame};
 
 use crate::answering::Told;
-use crate::desk::{Desk, Taken};
 use crate::found_rules::{Kept, told_in};
 use game_rules::GroundGame;
+use program_requests::{Desk, Taken};
 use program_words::Language;
 use std::alloc::{AllocError, Global};
 use std::io::Write;

@@ -3,21 +3,13 @@
 #![tactic(auto)]
 
 mod answering;
-mod desk;
-mod fault;
-mod feed;
 mod found;
 mod found_rules;
 mod framing;
 mod game_kept;
-mod gathered;
-mod lines;
 mod program;
 mod session;
-mod sizes;
 mod splitting;
-mod texts;
 
-pub use fault::ReadFault;
 pub use found::run_found;
 pub use program::main_program;

@@ -1,15 +1,15 @@
 //! A session: requests from the input, and their frames to the output.
 ghost use Rattle.std.specs.Prelude.{OnOk};
 ghost use Rattle.program_streams.specs.Streams.{streams};
-ghost use Rattle.program_session.specs.Desks.{IsDesk, rules_kept, to_come};
+ghost use Rattle.program_requests.specs.Desks.{IsDesk, rules_kept, to_come};
 ghost use Rattle.program_session.specs.Kept.{AreKept, IsKeptGame};
 ghost use Rattle.program_session.specs.Turns.{IsTurn};
 ghost use Rattle.program_session.specs.Serving.{HasServed, IsServed};
 
-use crate::desk::{Desk, Taken};
 use crate::found_rules::{Kept, forget};
 use crate::framing::frame_for;
 use game_rules::GroundGame;
+use program_requests::{Desk, Taken};
 use program_streams::{RunFault, status_of, write_out};
 use program_words::Language;
 use statement::Status;

@@ -1,11 +1,6 @@
-//! Rows of each command, by `run`, by `run_rules`, by one thread and by words; and the program over readers and writers in memory that fail.
-//!
-//! `run_rules` is a second opinion: the game of the rules is played over their kept instances, and told of over their network where nothing is
-//! searched, each the other way round than in the program. Nothing of the program stands on it.
+//! The program over readers and writers in memory that fail or go on slowly, and without memory. All worked rows are asked of the built program
+//! by `tests/worked`.
 #![tactic(auto)]
 
-mod second;
 #[cfg(test)]
 mod tests;
-
-pub use second::run_rules;

@@ -1,5 +1,5 @@
 use Rattle.std.proofs.Common.{inl, inr, sym, ◌∙◌}
-use Rattle.program_session.specs.Desks.{rules_kept}
+use Rattle.program_requests.specs.Desks.{rules_kept}
 use Rattle.program_session.specs.Telling.{frame_bytes}
 use Rattle.program_session.specs.Kept.{IsKeptGame}
 use Rattle.program_session.proofs.FrameTexts.{long_is}

@@ -1,5 +1,5 @@
-use Rattle.program_session.specs.Feeds.{left_in}
-use Rattle.program_session.specs.Desks.{rules_kept}
+use Rattle.program_requests.specs.Feeds.{left_in}
+use Rattle.program_requests.specs.Desks.{rules_kept}
 use Rattle.program_session.specs.Kept.{IsKeptGame}
 use Rattle.program_session.proofs.Holding.{held_at_first, held_further, held_to_end, held_to_fault, held_so_far}
 use Rattle.program_session.proofs.Keeping.{none_kept}

@@ -1,4 +1,4 @@
-use Rattle.program_session.specs.Desks.{IsDesk, rules_kept, to_come}
+use Rattle.program_requests.specs.Desks.{IsDesk, rules_kept, to_come}
 use Rattle.program_session.specs.Kept.{AreKept, IsKeptGame}
 use Rattle.program_session.proofs.Holding.{IsHeld}
 use Rattle.program_session.proofs.session.answer_all.Given as goal

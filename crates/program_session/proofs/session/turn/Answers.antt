@@ -1,5 +1,5 @@
 use Rattle.program_session.specs.Telling.{frame_bytes}
-use Rattle.program_session.specs.Desks.{to_come}
+use Rattle.program_requests.specs.Desks.{to_come}
 use Rattle.program_session.specs.Kept.{IsKeptGame}
 use Rattle.program_session.proofs.Keeping.{still_kept}
 use Rattle.program_session.proofs.Turning.{turned, broken}

@@ -1,0 +1,4 @@
+mod Feeding
+mod LineLemmas
+mod SizeLemmas
+mod DeskLemmas

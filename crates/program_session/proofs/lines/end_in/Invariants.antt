@@ -1,6 +1,0 @@
-use Rattle.std.proofs.Common.{take}
-use Rattle.program_session.specs.Lines.{IsLine}
-use Rattle.program_session.proofs.lines.end_in.Given as goal
-
-abbrev pub invariant-loop-at : goal.invariant-loop-at
-invariant-loop-at l = IsLine (take l.at l.bytes)
