@@ -7,3 +7,6 @@ returns-in_default-clause-told g c = told_some c.args.width (Misuse c.in_ok-form
 
 pub returns-clause-told : goal.returns-clause-told
 returns-clause-told g c = told_some c.args.width c.in_ok-request.request c.args.rules.now c.told_of-2.result c.in_ok-request.ensures c.told_of-2.ensures.told
+
+pub returns-then-eq-clause-told : goal.returns-then-eq-clause-told
+returns-then-eq-clause-told g c = told_some c.args.width (Misuse c.in_ok-format-2.field-0) c.args.rules.now c.told_of-then-eq.result tt c.told_of-then-eq.ensures.told
