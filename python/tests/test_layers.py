@@ -9,7 +9,7 @@ from tests import TOP
 
 PACKAGE = TOP / "python/gdlsolve"
 # From the lowest on.
-LAYERS = ("console", "solver", "player", "manager", "page", "cluster")
+LAYERS = ("console", "solver", "web", "player", "manager", "page", "cluster")
 # What may be asked for the functions that the package hands on.
 ABOVE_ALL = LAYERS[2:]
 

@@ -29,6 +29,7 @@ from gdlsolve.solver.answers import Worth
 from gdlsolve.solver.engine import Child, Children, Engine, Limit, Pool
 from gdlsolve.solver.faults import Refusal
 from gdlsolve.solver.replies import Reply
+from gdlsolve.web import guarded
 from tests import ENDLESS, ENDLESS_RULES, TOP, known, package
 from tests.serving import Held, processor_time, until
 
@@ -556,17 +557,17 @@ class Guards(Served):
     def test_a_request_comes_in_time_as_a_whole(self) -> None:
         head = f"POST /api/games HTTP/1.1\r\nHost: 127.0.0.1:{self.port}\r\nContent-Type: application/json\r\nContent-Length: 1000\r\n\r\n"
         begun = time.monotonic()
-        with patch.object(server, "COMING", 0.5):
+        with patch.object(guarded, "COMING", 0.5):
             # Each byte comes soon behind the last, and all together too late.
             self.assertEqual(self.heard(*[b"G"] * 20, pause=0.1), b"")
             self.assertIn(self.heard(head.encode(), *[b" "] * 20, pause=0.1)[:13], (b"", b"HTTP/1.1 408 "))
-        with patch.object(server, "SILENT", 0.1):
+        with patch.object(guarded, "SILENT", 0.1):
             self.assertEqual(self.heard(), b"")
         self.assertLess(time.monotonic() - begun, SOON)
 
     def small(self) -> int:
         """The port of a server for two connections."""
-        with patch.object(server, "MOST_CONNECTIONS", 2):
+        with patch.object(guarded, "MOST_CONNECTIONS", 2):
             made = Server(self.desk, 0)
         threading.Thread(target=made.serve_forever, daemon=True).start()
         self.addCleanup(made.server_close)

@@ -4,7 +4,6 @@ from __future__ import annotations
 
 import argparse
 import os
-import re
 import shlex
 import signal
 import sys
@@ -20,9 +19,9 @@ from gdlsolve.page.server import Server
 from gdlsolve.solver import program
 from gdlsolve.solver.calls import is_own
 from gdlsolve.solver.engine import OWN_COMMAND, SESSION_COMMAND, Broken, Late, Pool
+from gdlsolve.web.guarded import MOST_PORT, NAME
 
 PORT = 9160
-HOST = re.compile(r"[\w.-]+(:\d{1,5})?", re.ASCII)
 GAMES = program.CLONE / "games"
 
 
@@ -54,11 +53,11 @@ def options() -> argparse.Namespace:
         given.program = shlex.split(given.program)
     except ValueError as fault:
         words.error(f"--program is no command: {fault}")
-    if not 0 <= given.port <= 65_535:
+    if not 0 <= given.port <= MOST_PORT:
         words.error("--port is a number from 0 to 65535")
     if not 1 <= given.workers <= 64:
         words.error("--workers is a number from 1 to 64")
-    if not all(HOST.fullmatch(name) for name in given.allow_host):
+    if not all(NAME.fullmatch(name) for name in given.allow_host):
         words.error("--allow-host is a name, or a name and a port, as box.local:8080")
     return given
 
