@@ -9,12 +9,10 @@ import tempfile
 import threading
 import time
 import unittest
-from collections.abc import Callable, Sequence
+from collections.abc import Sequence
 from concurrent.futures import ThreadPoolExecutor
 from contextlib import suppress
-from http.server import BaseHTTPRequestHandler, ThreadingHTTPServer
 from pathlib import Path
-from typing import Any
 
 import gdlsolve
 from gdlsolve import State
@@ -24,6 +22,7 @@ from gdlsolve.manager.record import Record
 from gdlsolve.manager.referee import Referee
 from gdlsolve.page import records
 from tests import TOP, known, package
+from tests.odd import Odd
 from tests.serving import LONG, PACE, Served
 
 # Clocks at the pace of this machine.
@@ -57,40 +56,6 @@ def played(words: Sequence[str], seed: int = 1) -> Record:
     record = resumed(given) if given.resume else made(given)
     file = given.record or given.resume
     return Referee(record, random.Random(seed), given.slack, file).play(given.turns)
-
-
-class Odd:
-    """A server that answers in its own way, while a test runs."""
-
-    def __init__(self, test: unittest.TestCase, says: Callable[[str], str | None]):
-        heard = self.heard = list[str]()
-
-        class Handler(BaseHTTPRequestHandler):
-            def do_POST(self) -> None:
-                text = self.rfile.read(int(self.headers["Content-Length"])).decode()
-                heard.append(text)
-                told = says(text)
-                if told is None:
-                    self.send_error(500)
-                    return
-                self.send_response(200)
-                self.end_headers()
-                self.wfile.write(told.encode())
-
-            def log_message(self, format: str, *words: Any) -> None:
-                pass
-
-        class Server(ThreadingHTTPServer):
-            daemon_threads = True
-
-            def handle_error(self, request: Any, client_address: Any) -> None:
-                pass
-
-        self.server = Server(("127.0.0.1", 0), Handler)
-        self.url = f"http://127.0.0.1:{self.server.server_address[1]}"
-        threading.Thread(target=self.server.serve_forever, args=(0.05,), daemon=True).start()
-        test.addCleanup(self.server.server_close)
-        test.addCleanup(self.server.shutdown)
 
 
 class Raw:

@@ -20,17 +20,19 @@ from pathlib import Path
 from unittest.mock import patch
 
 from gdlsolve.manager.archive import Archive, Game, Stage, alone
+from gdlsolve.manager.leading import read
 from gdlsolve.manager.ratings import PRIOR, SCALE, Result, beats, inverse, likeliest, points, ratings
 from gdlsolve.manager.record import Record
 from gdlsolve.manager.referee import Referee
 from gdlsolve.manager.schedule import Pairing, schedule
 from gdlsolve.manager.standings import HEAD, Judge, Standings, standings
-from gdlsolve.manager.tournament import Tournament, options, read
+from gdlsolve.manager.tournament import Tournament, options
 from gdlsolve.page import records
 from gdlsolve.solver import program
 from tests import PROGRAM, known, needs_program, package
+from tests.odd import Odd
 from tests.serving import LONG, PACE
-from tests.test_manager import Odd, game
+from tests.test_manager import game
 
 MODULE = "gdlsolve.manager.tournament"
 # Clocks at the pace of this machine.

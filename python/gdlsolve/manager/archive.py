@@ -120,12 +120,14 @@ def alone(file: Path) -> Iterator[None]:
         yield
 
 
-def opened(file: Path, writes: bool) -> sqlite3.Connection:
-    """The base in a file, which is made where there is none and it is to be written."""
+def opened(file: Path, writes: bool, is_shared: bool) -> sqlite3.Connection:
+    """The base in a file, which is made where there is none and it is to be written. One that is shared is asked by several threads, of
+    which each waits for the others."""
     if not writes and not file.is_file():
         raise FileNotFoundError(2, "No such file or directory", str(file))
     # What a killed process has left half written is mended by who reads it next, so that one opens it for that too.
-    base = sqlite3.connect(f"file:{quote(str(file.absolute()))}?mode={'rwc' if writes else 'rw'}", uri=True)
+    place = f"file:{quote(str(file.absolute()))}?mode={'rwc' if writes else 'rw'}"
+    base = sqlite3.connect(place, uri=True, check_same_thread=not is_shared)
     try:
         if writes and base.execute("SELECT count(*) FROM sqlite_master").fetchone()[0] == 0:
             base.executescript(f"BEGIN; {SCHEMA} COMMIT;")
@@ -144,8 +146,8 @@ def opened(file: Path, writes: bool) -> sqlite3.Connection:
 class Archive:
     """The archive in a file. It is closed at the end of a `with`."""
 
-    def __init__(self, file: Path, writes: bool = False):
-        self.file, self.base = file, opened(file, writes)
+    def __init__(self, file: Path, writes: bool = False, is_shared: bool = False):
+        self.file, self.base = file, opened(file, writes, is_shared)
 
     def __enter__(self) -> Archive:
         return self
@@ -160,12 +162,16 @@ class Archive:
     def add(self, games: Sequence[Game], players: dict[str, str], pairings: Iterable[Pairing], seed: str) -> list[int]:
         """Puts in what is not there of games, players with their addresses, and matches. Gives the numbers of the matches, in order."""
         with self.base as base:
-            for game in games:
-                base.execute("INSERT OR IGNORE INTO games (name, sum, rules) VALUES (?, ?, ?)", (game.name, game.sum, game.rules))
+            keys = [self.key(game) for game in games]
             base.executemany("INSERT INTO players VALUES (?, ?) ON CONFLICT DO UPDATE SET url = excluded.url", players.items())
-            keys = dict(self.rows("SELECT sum, id FROM games"))
             there = self.pairings()
-            return [self._number(there, games[each.game], keys[games[each.game].sum], each, seed) for each in pairings]
+            return [self._number(there, games[each.game], keys[each.game], each, seed) for each in pairings]
+
+    def key(self, game: Game) -> int:
+        """The number of a game, which is put in where it is not there."""
+        self.base.execute("INSERT OR IGNORE INTO games (name, sum, rules) VALUES (?, ?, ?)", (game.name, game.sum, game.rules))
+        [(found,)] = self.rows("SELECT id FROM games WHERE sum = ?", game.sum)
+        return int(found)
 
     def pairings(self) -> dict[tuple[int, int, Seats], int]:
         """The number of each match by its round, its game and who takes which role."""
@@ -175,8 +181,10 @@ class Archive:
     def _number(self, there: dict[tuple[int, int, Seats], int], game: Game, key: int, pairing: Pairing, seed: str) -> int:
         """The number of a match, which is put in where it is not there."""
         known = there.get((pairing.round, key, pairing.seats))
-        if known is not None:
-            return known
+        return self.put_in(game, key, pairing, seed) if known is None else known
+
+    def put_in(self, game: Game, key: int, pairing: Pairing, seed: str) -> int:
+        """Puts in a match of a game with this number, and gives the number of the match."""
         own = f"{seed}.{game.sum[:16]}.{pairing.round}.{' '.join(pairing.seats)}"
         [(made,)] = self.rows("INSERT INTO matches (game, round, seed, state) VALUES (?, ?, ?, 'waiting') RETURNING id", key, pairing.round, own)
         seats = [(made, place, role, player) for place, (role, player) in enumerate(zip(game.roles, pairing.seats))]
@@ -215,6 +223,11 @@ class Archive:
 
     def note(self, number: int, record: Record, unready: dict[str, str]) -> None:
         """Puts down a match that is over, and which roles had players that were not ready, and why."""
+        with self.base:
+            self.put_down(number, record, unready)
+
+    def put_down(self, number: int, record: Record, unready: dict[str, str]) -> None:
+        """The same, as a part of what is written at once."""
         stage = Stage.PLAYED if record.isCompleted else Stage.BROKEN_OFF
         goals = dict(zip(record.roles, record.goalValues))
         seats = [(unready.get(role, ""), goals.get(role), number, place) for place, role in enumerate(record.roles)]
@@ -224,11 +237,10 @@ class Archive:
             for place, each in enumerate(zip(*lists))
         ]
         positions = [(number, turn, *each) for turn, each in enumerate(zip(record.stateTimes, record.states))]
-        with self.base as base:
-            base.execute("UPDATE matches SET state = ?, stands = ? WHERE id = ?", (stage.value, record.state, number))
-            base.executemany("UPDATE seats SET unready = ?, goal = ? WHERE match = ? AND place = ?", seats)
-            base.executemany("INSERT INTO turns VALUES (?, ?, ?, ?, ?, ?)", turns)
-            base.executemany("INSERT INTO positions VALUES (?, ?, ?, ?)", positions)
+        self.base.execute("UPDATE matches SET state = ?, stands = ? WHERE id = ?", (stage.value, record.state, number))
+        self.base.executemany("UPDATE seats SET unready = ?, goal = ? WHERE match = ? AND place = ?", seats)
+        self.base.executemany("INSERT INTO turns VALUES (?, ?, ?, ?, ?, ?)", turns)
+        self.base.executemany("INSERT INTO positions VALUES (?, ?, ?, ?)", positions)
 
     def played(self) -> list[int]:
         """The numbers of the matches that were played to their end, those of one game behind each other."""

@@ -2,6 +2,7 @@
 
 from __future__ import annotations
 
+import math
 from collections.abc import Iterable, Iterator, Sequence
 from dataclasses import dataclass, field
 from itertools import combinations
@@ -51,6 +52,26 @@ class Count:
         self.marked += any(errors) or bool(unready)
 
 
+@dataclass(frozen=True)
+class Played:
+    """What came of a player in a match: its goal, what was wrong with its moves, empty or not there where nothing was, and why it was not
+    ready, empty where it was."""
+
+    player: str
+    goal: int
+    errors: Sequence[str]
+    unready: str
+
+
+@dataclass(frozen=True)
+class Rank:
+    """A player of the table: its name, how strong it is where it has met another, and what came of it."""
+
+    name: str
+    rating: Rating | None
+    count: Count
+
+
 @dataclass
 class Standings:
     """What came of all players, and of all who have met."""
@@ -60,27 +81,36 @@ class Standings:
 
     def add(self, record: Record, unready: Sequence[str]) -> None:
         """Counts a match that was played to its end."""
-        own = list(zip(record.playerNamesFromHost, record.goalValues))
-        for place, (name, goal) in enumerate(own):
-            count = self.counts.setdefault(name, Count())
+        errors = list(zip(*record.errors)) or [()] * len(record.roles)
+        self.count([Played(*each) for each in zip(record.playerNamesFromHost, record.goalValues, errors, unready)])
+
+    def count(self, seats: Sequence[Played]) -> None:
+        """Counts a match that was played to its end, by what came of each player."""
+        own = [(each.player, each.goal) for each in seats]
+        for each in seats:
+            count = self.counts.setdefault(each.player, Count())
             count.matches += 1
-            count.goals += goal
-            count.mark([turn[place] for turn in record.errors], unready[place])
+            count.goals += each.goal
+            count.mark(each.errors, each.unready)
         for (one, goal), (other, others) in combinations(own, 2):
             self.counts[one].meet(goal, others)
             self.counts[other].meet(others, goal)
             self.results.append(Result(one, other, (1 + (goal > others) - (goal < others)) / 2))
 
-    def rows(self) -> Iterator[tuple[str, ...]]:
-        """The rows of the table, the strongest first."""
+    def ranks(self) -> list[Rank]:
+        """The players, the strongest first, and those who have met none last."""
         rated = ratings(self.results)
-        lowest = Rating(float("-inf"), 0.0)
-        for name, count in sorted(self.counts.items(), key=lambda each: (-rated.get(each[0], lowest).rating, each[0])):
-            rating = rated.get(name)
+        found = [Rank(name, rated.get(name), count) for name, count in self.counts.items()]
+        return sorted(found, key=lambda each: (-each.rating.rating if each.rating else math.inf, each.name))
+
+    def rows(self) -> Iterator[tuple[str, ...]]:
+        """The rows of the table."""
+        for each in self.ranks():
+            rating, count = each.rating, each.count
             told = (f"{rating.rating:.0f}", f"{rating.error:.0f}") if rating else (NONE, NONE)
             met = (count.matches, count.wins, count.draws, count.losses)
             failed = (count.late, count.illegal, count.silent, count.marked)
-            yield (name, *told, *map(str, met), f"{count.goals / count.matches:.1f}", *map(str, failed))
+            yield (each.name, *told, *map(str, met), f"{count.goals / count.matches:.1f}", *map(str, failed))
 
     def table(self) -> str:
         """The table as people read it."""

@@ -10,7 +10,6 @@ from __future__ import annotations
 import argparse
 import json
 import math
-import random
 import secrets
 import sqlite3
 import sys
@@ -26,33 +25,15 @@ from pathlib import Path
 import gdlsolve
 from gdlsolve.console import keys
 from gdlsolve.console.streams import put, say
-from gdlsolve.manager.archive import Archive, Entry, Game, Match, alone
-from gdlsolve.manager.client import checked, post
+from gdlsolve.manager.archive import Archive, Entry, alone
+from gdlsolve.manager.client import checked
 from gdlsolve.manager.command import FAULTS, hear_signals, line_of
-from gdlsolve.manager.record import Record, name_of, now
-from gdlsolve.manager.referee import BEAT, FAREWELL, RANDOM, Referee, roles_of
+from gdlsolve.manager.leading import lead, outcome, read
+from gdlsolve.manager.record import name_of, now
+from gdlsolve.manager.referee import BEAT, FAREWELL, RANDOM, Referee
 from gdlsolve.manager.schedule import schedule
 from gdlsolve.manager.standings import Judge, standings
 from gdlsolve.player.background import begun
-from gdlsolve.solver.faults import Refusal
-
-
-def read(file: Path) -> Game:
-    """The game in a file."""
-    rules = file.read_bytes().decode(errors="replace")
-    try:
-        return Game(file.name, rules, tuple(roles_of(rules)))
-    except Refusal as refusal:
-        raise ValueError(line_of(refusal, file).rstrip()) from None
-
-
-def outcome(number: int, record: Record, unready: dict[str, str]) -> str:
-    """What came of a match, in a line."""
-    goals = [str(goal) for goal in record.goalValues] or ["-"] * len(record.roles)
-    seats = ", ".join(f"{name} as {role} {goal}" for name, role, goal in zip(record.playerNamesFromHost, record.roles, goals))
-    wrong = sum(bool(error) for turn in record.errors for error in turn)
-    marks = [f"{wrong} failed moves"] * bool(wrong) + [f"{role} was not ready: {why}" for role, why in unready.items()]
-    return "; ".join([f"match {number}, {record.game}: {seats}, {record.state} after {len(record.moves)} turns", *marks])
 
 
 class Tournament:
@@ -64,19 +45,10 @@ class Tournament:
         self.going: dict[Future[Referee], int] = {}
         self.failed = 0
 
-    def lead(self, match: Match) -> Referee:
-        """Leads a match to its end. At players who may know it from before, from a process that was killed, it is ended first."""
-        for url in dict.fromkeys(match.last_urls):
-            if url not in ("", RANDOM):
-                post(url, f"(ABORT {match.last_name})", FAREWELL)
-        referee = Referee(match.record, random.Random(match.seed), self.given.slack, None, self.stopped)
-        referee.play(self.given.turns)
-        return referee
-
     def begin(self, number: int) -> None:
         """Begins a match."""
         match = self.archive.begin(number, now(), (self.given.start, self.given.play))
-        self.going[begun(partial(self.lead, match))] = number
+        self.going[begun(partial(lead, match, self.given.slack, self.given.turns, self.stopped))] = number
 
     def note(self, number: int, found: Future[Referee]) -> str:
         """Puts down what came of a match, and tells it."""
