@@ -9,7 +9,9 @@ import argparse
 import math
 import random
 import signal
+import sys
 from collections.abc import Sequence
+from importlib import import_module
 from pathlib import Path
 from typing import NoReturn
 
@@ -23,6 +25,8 @@ from gdlsolve.manager.referee import FAREWELL, RANDOM, Referee, roles_of
 from gdlsolve.solver.engine import Broken
 from gdlsolve.solver.faults import Ended, Refusal
 
+# The word that has matches served, in place of rules.
+SERVE = "serve"
 # These end a match as a key does.
 SIGNALS = (signal.SIGTERM, signal.SIGHUP)
 # These are told in a line.
@@ -63,7 +67,8 @@ def resumed(given: argparse.Namespace) -> Record:
 def options(words: Sequence[str] | None) -> argparse.Namespace:
     """What the command line asks for."""
     own = keys.name("gdlsolve-manager", "gdlsolve.manager")
-    known = argparse.ArgumentParser(prog=own, description="Referees a match.")
+    more = f"{own} {SERVE} --help tells of a server of matches between players who sign up."
+    known = argparse.ArgumentParser(prog=own, description="Referees a match.", epilog=more)
     known.add_argument("--version", action="version", version=f"gdlsolve {gdlsolve.__version__}")
     known.add_argument("rules", type=Path, nargs="?", help="the rules of the game")
     known.add_argument("--resume", type=Path, help="go on with the match of this record")
@@ -123,7 +128,11 @@ def line_of(fault: Exception, file: object) -> str:
 @keys.quiet
 def main(words: Sequence[str] | None = None) -> int:
     """The command `gdlsolve-manager`."""
-    given = options(words)
+    own = sys.argv[1:] if words is None else list(words)
+    if own[:1] == [SERVE]:
+        # A match alone does without what a server takes.
+        return int(import_module("gdlsolve.manager.serve.command").main(own[1:]))
+    given = options(own)
     hear_signals()
     try:
         record = resumed(given) if given.resume else made(given)

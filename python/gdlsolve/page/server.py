@@ -63,7 +63,7 @@ class Handler(guarded.Handler):
     """Answers the requests of a connection."""
 
     server: Server
-    told = HEADERS
+    says = HEADERS
 
     def _is_gone(self) -> bool:
         """Whether nobody is at the other end any more."""

@@ -149,7 +149,7 @@ class Handler(BaseHTTPRequestHandler):
     server_version = "gdlsolve"
     sys_version = ""
     # What each answer says to a browser.
-    told: Mapping[str, str] = HEADERS
+    says: Mapping[str, str] = HEADERS
 
     def setup(self) -> None:
         """Has what comes be read in time."""
@@ -182,7 +182,7 @@ class Handler(BaseHTTPRequestHandler):
         self.send_response(answer.status)
         self.send_header("Content-Type", f"{answer.kind}; charset=utf-8")
         self.send_header("Content-Length", str(len(answer.body)))
-        for name, value in self.told.items():
+        for name, value in self.says.items():
             self.send_header(name, value)
         if self.close_connection:
             self.send_header("Connection", "close")
