@@ -221,6 +221,13 @@ class Archive:
         with self.base as base:
             base.execute("UPDATE matches SET state = 'waiting' WHERE id = ?", (number,))
 
+    def undo(self, match: Match) -> None:
+        """Has a match wait again whose players were told nothing of it: under its last name they may know it still."""
+        with self.base as base:
+            base.execute("UPDATE matches SET state = 'waiting', name = ? WHERE id = ?", (match.last_name, match.number))
+            urls = [(url, match.number, place) for place, url in enumerate(match.last_urls)]
+            base.executemany("UPDATE seats SET url = ? WHERE match = ? AND place = ?", urls)
+
     def note(self, number: int, record: Record, unready: dict[str, str]) -> None:
         """Puts down a match that is over, and which roles had players that were not ready, and why."""
         with self.base:

@@ -52,10 +52,10 @@ def is_status(text: str) -> bool:
     return tree in STATES or any(f"(status {each})" in parts for each in STATES)
 
 
-def is_player(url: str, seconds: float = PATIENCE) -> bool:
+def is_player(url: str) -> bool:
     """Whether a player answers at an address. Some know the one word, some the other."""
     for question in QUESTIONS:
-        told = post(url, question, seconds)
+        told = post(url, question, PATIENCE)
         if told.error == "late":
             return False
         if told.text is not None and is_status(told.text):

@@ -35,11 +35,11 @@ LONGEST_LINE = 1000
 
 
 class Absent(Exception):
-    """Players of a match do not answer. It was not begun."""
+    """Players of a match do not answer. They were told nothing of it."""
 
-    def __init__(self, names: Sequence[str]):
+    def __init__(self, match: Match, names: Sequence[str]):
         super().__init__(f"{', '.join(names)} did not answer")
-        self.names = names
+        self.match, self.names = match, names
 
 
 @dataclass(frozen=True)
@@ -152,7 +152,7 @@ class Hall:
         both = zip(match.record.playerNamesFromHost, match.record.players)
         asked = {name: begun(partial(is_player, url)) for name, url in both if url != RANDOM}
         if silent := [name for name, found in asked.items() if not found.result()]:
-            raise Absent(silent)
+            raise Absent(match, silent)
         return lead(match, self.terms.slack, self.terms.turns, self.stopped)
 
     def hear(self) -> None:
@@ -185,10 +185,11 @@ class Hall:
             return
         if not isinstance(fault, Exception):
             raise fault
-        self.store.give_back(each.number)
         if isinstance(fault, Absent):
+            self.store.undo(fault.match)
             self.absent.update(dict.fromkeys(fault.names, until))
         else:
+            self.store.give_back(each.number)
             self.rests[each.meeting.game] = until
         self.tell(f"match {each.number} could not be played: {line_of(fault, 'its rules')}")
 

@@ -32,7 +32,8 @@ FORM = """<section><h2>{head}</h2><p class="quiet">{about}</p>
 <button>{does}</button>
 </form></section>"""
 NAME = ("name", "Name", LONGEST_NAME, "required")
-SIGN_UP = (NAME, ("address", "Address, as http://127.0.0.1:9147", LONGEST_ADDRESS, "required"), ("token", "Token, of one who was here before", LONGEST_TOKEN, ""))
+ADDRESS = ("address", "Address, as http://127.0.0.1:9147", LONGEST_ADDRESS, "required")
+SIGN_UP = (NAME, ADDRESS, ("token", "Token, of one who was here before", LONGEST_TOKEN, ""))
 LEAVE = (NAME, ("token", "Token", LONGEST_TOKEN, "required"))
 
 
@@ -116,11 +117,13 @@ def state(listed: Listed) -> Markup:
 
 def matches_table(matches: Sequence[Listed]) -> Markup:
     """A list of matches."""
-    rows = [
-        (link(f"/matches/{each.entry.number}", each.entry.number), each.entry.game, seats(each), state(each), each.entry.failed or "", date(each.entry.begun))
-        for each in matches
-    ]
-    return table(("Match", "Game", "Players", "State", "Failed moves", "Begun, UTC"), rows)
+    return table(("Match", "Game", "Players", "State", "Failed moves", "Begun, UTC"), map(match_row, matches))
+
+
+def match_row(listed: Listed) -> Sequence[object]:
+    """A match for a list."""
+    entry = listed.entry
+    return link(f"/matches/{entry.number}", entry.number), entry.game, seats(listed), state(listed), entry.failed or "", date(entry.begun)
 
 
 def ratings_page(players: Sequence[Mapping[str, Any]], last: Sequence[Listed]) -> bytes:
@@ -172,7 +175,9 @@ def move_cell(move: str, error: str) -> Markup:
 
 def form(head: str, about: str, action: str, does: str, fields: Iterable[tuple[str, str, int, str]]) -> Markup:
     """A form."""
-    told = "\n".join(f'<label>{label}<input name="{name}" maxlength="{most}" autocomplete="off" {more}></label>' for name, label, most, more in fields)
+    told = "\n".join(
+        f'<label>{label}<input name="{name}" maxlength="{most}" autocomplete="off" {more}></label>' for name, label, most, more in fields
+    )
     return Markup(FORM.format(head=head, about=about, action=action, does=does, fields=told))
 
 
@@ -186,7 +191,8 @@ def players_page() -> bytes:
 def taken_page(name: str, token: str) -> bytes:
     """What is told to one who has signed up."""
     told = Markup(f"{html(name)} has signed up. Its token is <code>{html(token)}</code>.")
-    return page("Signed up", section("Signed up", paragraph(told), paragraph("Keep it: it is not told again, and who has it may leave or come again.")))
+    keep = "Keep it: it is not told again, and who has it may leave or come again."
+    return page("Signed up", section("Signed up", paragraph(told), paragraph(keep)))
 
 
 def told_page(title: str, text: str, kind: str = "") -> bytes:

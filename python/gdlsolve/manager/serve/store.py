@@ -8,7 +8,6 @@ from __future__ import annotations
 import hashlib
 import hmac
 import threading
-from collections.abc import Sequence
 from dataclasses import dataclass
 from itertools import groupby
 from pathlib import Path
@@ -139,7 +138,8 @@ class Store:
         """The matches so far, in the order in which they were begun."""
         with self.lock:
             rows = self.archive.rows(
-                "SELECT matches.id, sum, player FROM seats JOIN matches ON matches.id = match JOIN games ON games.id = game ORDER BY begun, matches.id, place"
+                "SELECT matches.id, sum, player FROM seats JOIN matches ON matches.id = match JOIN games ON games.id = game"
+                " ORDER BY begun, matches.id, place"
             )
         return [Meeting(key[1], tuple(row[2] for row in each)) for key, each in groupby(rows, first_of(2))]
 
@@ -166,6 +166,11 @@ class Store:
         """Has a match wait again."""
         with self.lock:
             self.archive.give_back(number)
+
+    def undo(self, match: Match) -> None:
+        """Has a match wait again whose players were told nothing of it."""
+        with self.lock:
+            self.archive.undo(match)
 
     def note(self, number: int, record: Record, unready: dict[str, str], fault: str | None) -> None:
         """Puts down a match that is over, and why it does not count: empty where it does, and none where nobody knows yet."""
@@ -217,8 +222,8 @@ class Store:
         """So many matches that were begun, with lesser numbers than this one, the last first."""
         with self.lock:
             rows = self.archive.rows(
-                "SELECT matches.id, games.name, state, begun, fault FROM matches JOIN games ON games.id = game LEFT JOIN verdicts ON match = matches.id"
-                " WHERE state <> 'waiting' AND matches.id < ? ORDER BY matches.id DESC LIMIT ?", before, most,
+                "SELECT matches.id, games.name, state, begun, fault FROM matches JOIN games ON games.id = game"
+                " LEFT JOIN verdicts ON match = matches.id WHERE state <> 'waiting' AND matches.id < ? ORDER BY matches.id DESC LIMIT ?", before, most,
             )
             return [self._listed(*row) for row in rows]
 
@@ -228,9 +233,9 @@ class Store:
 
     def _listed(self, number: int, game: str, state: str, begun: int, fault: str | None) -> Listed:
         """A match for a list."""
-        seats: Sequence[tuple[str, str, int | None]] = self.archive.rows("SELECT role, player, goal FROM seats WHERE match = ? ORDER BY place", number)
+        seats = tuple(self.archive.rows("SELECT role, player, goal FROM seats WHERE match = ? ORDER BY place", number))
         [(failed,)] = self.archive.rows("SELECT count(*) FROM turns WHERE match = ? AND error <> ''", number)
-        return Listed(Entry(number, game, Stage(state), begun, tuple(seats), failed), fault)
+        return Listed(Entry(number, game, Stage(state), begun, seats, failed), fault)
 
     def played_of(self) -> dict[str, int]:
         """How many matches of each game were played to their end, by the sum of its rules."""
