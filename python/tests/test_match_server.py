@@ -92,6 +92,33 @@ def polite(move: str = "(say 1)") -> Callable[[str], str]:
     return lambda text: told.get(text.split()[0].rstrip(")"), "nil")
 
 
+def with_other_goals(record: Record) -> None:
+    """Changes a record."""
+    record.goalValues = [60, 20]
+
+
+def with_a_turn_less(record: Record) -> None:
+    """Changes a record."""
+    record.moves.pop()
+
+
+def with_another_move(record: Record) -> None:
+    """Changes a record."""
+    record.moves[1][0] = "(say 9)"
+
+
+def with_a_turn_more(record: Record) -> None:
+    """Changes a record."""
+    record.moves.append(["(say 1)", "(say 1)"])
+
+
+NOTED = "it notes ended .*, and the solver tells"
+# What is done to records, and why they are refused.
+CHANGES: list[tuple[Callable[[Record], None], str]] = [
+    (with_other_goals, f"{NOTED} ended"), (with_a_turn_less, f"{NOTED} open"), (with_another_move, ".*H2 NotLegal 2 a"), (with_a_turn_more, ".*H3 Over 3"),
+]
+
+
 class Fair(unittest.TestCase):
     def matches(self, players: str, roles: Sequence[int], many: int) -> list[Meeting]:
         """So many matches of players with names of one letter, in games with so many roles."""
@@ -148,8 +175,8 @@ class Texts(unittest.TestCase):
             self.assertEqual(address_in(text), want)
         for text in (
             "", "127.0.0.1:9147", "http://127.0.0.1", "http://127.0.0.1:0", "http://127.0.0.1:70000", "https://a:1", "http://a:1/b/c",
-            "http://a:1/?q", "http://user@a:1", "http://a:1#x", "http://a b:1", "http://a:1\n", f"http://{'a' * 200}:1", "http://é:1", "http://[x]:1",
-            "file:///etc/passwd",
+            "http://a:1/?q", "http://user@a:1", "http://a:1#x", "http://a b:1", "http://a:1\n", f"http://{'a' * 200}:1", "http://é:1",
+            "http://[x]:1", "file:///etc/passwd",
         ):
             with self.subTest(text=text), self.assertRaises(Turned):
                 address_in(text)
@@ -244,26 +271,13 @@ class Matches(Running):
         self.assertIn("match 1, saying.kif: one as a 60, two as b 20, ended after 2 turns\n", self.lines.getvalue())
 
     def test_what_was_changed_is_kept_and_refused(self) -> None:
-        def goals(record: Record) -> None:
-            record.goalValues = [60, 20]
-
-        def shorter(record: Record) -> None:
-            record.moves.pop()
-
-        def illegal(record: Record) -> None:
-            record.moves[1][0] = "(say 9)"
-
-        def further(record: Record) -> None:
-            record.moves.append(["(say 1)", "(say 1)"])
-
-        changes = [goals, shorter, illegal, further]
         play = Referee.play
 
         def changed(referee: Referee, most_turns: int) -> Record:
             record = play(referee, most_turns)
             number = int(record.matchId.split(".")[1])
-            if number <= len(changes):
-                changes[number - 1](record)
+            if number <= len(CHANGES):
+                CHANGES[number - 1][0](record)
             return record
 
         kept = self.opened()
@@ -272,19 +286,17 @@ class Matches(Running):
         made = self.hall(kept)
         with patch.object(Referee, "play", changed):
             end = self.begin(made)
-            self.played(kept, len(changes) + 1)
+            self.played(kept, len(CHANGES) + 1)
             self.assertTrue(until(lambda: made.view.ranks))
             end()
-        faults = [kept.one(number) for number in range(1, len(changes) + 2)]
-        noted = "it notes ended .*, and the solver tells"
-        wanted = [f"{noted} ended", f"{noted} open", ".*H2 NotLegal 2 a", ".*H3 Over 3", "$"]
-        for each, want in zip(faults, wanted):
-            assert each is not None and each.fault is not None
-            self.assertEqual(each.entry.stage, Stage.PLAYED)
-            self.assertRegex(each.fault, f"^{want}")
+        for number, (_, want) in enumerate([*CHANGES, (None, "$")], 1):
+            found = kept.one(number)
+            assert found is not None and found.fault is not None
+            self.assertEqual(found.entry.stage, Stage.PLAYED)
+            self.assertRegex(found.fault, f"^{want}")
         over = len([each for each in kept.listed(1 << 53, 500) if each.entry.stage is Stage.PLAYED])
-        self.assertEqual(made.view.ranks[0].count.matches, over - len(changes))
-        self.assertEqual(len(kept.results()), over - len(changes))
+        self.assertEqual(made.view.ranks[0].count.matches, over - len(CHANGES))
+        self.assertEqual(len(kept.results()), over - len(CHANGES))
         self.assertIn("; it does not count: it notes ended ", self.lines.getvalue())
 
     def test_a_player_that_is_killed_does_not_stop_it_and_comes_back(self) -> None:
@@ -320,12 +332,14 @@ class Matches(Running):
         kept, asked, goes_on = self.opened(), threading.Event(), threading.Event()
         self.addCleanup(goes_on.set)
 
-        def waits(text: str) -> str:
+        def waits(text: str) -> str | None:
             if text.startswith("(PLAY saying.2"):
                 asked.set()
                 goes_on.wait(LONG)
-            return polite()(text)
+            # At first it does not answer the one that comes behind.
+            return None if text in silent and silent.pop() else polite()(text)
 
+        silent = list[str]()
         odd = self.signed_up(kept, "waits", waits)
         self.signed_up(kept, "other")
         end = self.begin(self.hall(kept))
@@ -335,8 +349,9 @@ class Matches(Running):
         self.assertEqual((running.entry.stage, kept.results()[0][0].player), (Stage.RUNNING, "other"))
         end()
         [name] = {text.split()[1] for text in odd.heard if text.startswith("(START saying.2")}
-        self.assertIn(f"(ABORT {name})", odd.heard)
+        self.assertEqual(odd.heard.count(f"(ABORT {name})"), 1)
         goes_on.set()
+        silent += entry.QUESTIONS[1:] + entry.QUESTIONS[:1]
         before = kept.record(1)
         again = self.opened()
         made = self.hall(again)
@@ -345,6 +360,9 @@ class Matches(Running):
         self.assertEqual(again.record(1), before)
         self.assertEqual([each.entry.number for each in again.listed(4, 9)], [3, 2, 1])
         self.assertNotEqual(again.record(2).matchId, name)
+        # It may still know the match.
+        self.assertEqual((odd.heard.count(f"(ABORT {name})"), silent), (2, []))
+        self.assertIn("match 2 could not be played: waits did not answer\n", self.lines.getvalue())
         self.assertEqual(len({text.split()[1] for text in odd.heard if text.startswith("(START saying.2")}), 2)
         self.assertTrue(until(lambda: made.view.ranks[0].count.matches >= 3))
 
@@ -426,8 +444,8 @@ class Kept(Running):
         self.assertEqual(kept.sign_up("bob", "http://bob:1", "other"), "")
 
     def test_the_archive_of_a_tournament_is_taken_and_replayed(self) -> None:
-        lists: tuple[Any, ...] = [["(say 1)", "(say 2)"]] * 2, [["", "late"]] * 2, [[0.1, 1.0]] * 2, ["(x)"] * 3, [0] * 3
-        record = Record("m", GAME.name, SAYING, ["a", "b"], [RANDOM] * 2, 1.0, 1.0, 0, *lists, ["x", "y"], True, False, "ended", [20, 40])
+        lists = [["(say 1)", "(say 2)"]] * 2, [["", "late"]] * 2, [[0.1, 1.0]] * 2, ["(x)"] * 3, [0] * 3, ["x", "y"]
+        record = Record("m", GAME.name, SAYING, ["a", "b"], [RANDOM] * 2, 1.0, 1.0, 0, *lists, isCompleted=True, state="ended", goalValues=[20, 40])
         with Archive(self.file, writes=True) as archive:
             numbers = archive.add([GAME], {"x": RANDOM, "y": RANDOM}, [Pairing(0, 0, ("x", "y")), Pairing(1, 0, ("x", "y"))], "1")
             for number in numbers:

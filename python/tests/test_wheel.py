@@ -81,6 +81,7 @@ class Wheel(unittest.TestCase):
         package = TOP / "python/gdlsolve"
         sources = {str(file.relative_to(package.parent)) for file in package.rglob("*.py")}
         pages = {f"gdlsolve/page/{name}" for name in ("page.html", "page.css", "icon.svg")}
+        pages.add("gdlsolve/manager/serve/match.css")
         scripts = {str(file.relative_to(package.parent)) for file in package.rglob("*.js")}
         self.assertIn("gdlsolve/page/scripts/page.js", scripts)
         self.assertLessEqual(sources | pages | scripts | {"gdlsolve/py.typed"}, names)

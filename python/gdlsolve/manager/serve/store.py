@@ -223,7 +223,8 @@ class Store:
         with self.lock:
             rows = self.archive.rows(
                 "SELECT matches.id, games.name, state, begun, fault FROM matches JOIN games ON games.id = game"
-                " LEFT JOIN verdicts ON match = matches.id WHERE state <> 'waiting' AND matches.id < ? ORDER BY matches.id DESC LIMIT ?", before, most,
+                " LEFT JOIN verdicts ON match = matches.id WHERE state <> 'waiting' AND matches.id < ? ORDER BY matches.id DESC LIMIT ?",
+                before, most,
             )
             return [self._listed(*row) for row in rows]
 
