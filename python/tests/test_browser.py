@@ -17,6 +17,7 @@ import threading
 import time
 import unittest
 from collections.abc import Callable
+from contextlib import redirect_stderr
 from http.server import BaseHTTPRequestHandler, ThreadingHTTPServer
 from pathlib import Path
 from typing import Any
@@ -24,12 +25,18 @@ from unittest.mock import patch
 
 from gdlsolve.manager.archive import Archive, Game
 from gdlsolve.manager.schedule import Pairing
+from gdlsolve.manager.serve import server as match_server
+from gdlsolve.manager.serve.fair import Meeting
+from gdlsolve.manager.serve.hall import Hall, Terms
+from gdlsolve.manager.serve.store import Store
+from gdlsolve.manager.standings import Judge
 from gdlsolve.page.desk import Desk
 from gdlsolve.page.matches import Matches
 from gdlsolve.page.server import QUESTIONS, Server
 from gdlsolve.solver.engine import OWN_COMMAND, Pool
 from tests import ENDLESS, ENDLESS_RULES, PROGRAM, TOP, needs_program
 from tests.found import FOUND, LISTED
+from tests.odd import Odd
 from tests.serving import until
 
 PICTURES = os.environ.get("GDLSOLVE_PICTURES", "")
@@ -862,6 +869,87 @@ class Texts(Browser):
         self.wait(lambda: "refused H2 NotLegal 1 b" in self.text("status"))
         self.assertTrue(self.element("game").is_displayed())
         self.assertEqual(len(self.all("#rows button")), 2)
+
+
+class MatchServer(Browser):
+    """The pages of the match server."""
+
+    def setUp(self) -> None:
+        super().setUp()
+        room = tempfile.TemporaryDirectory()
+        self.addCleanup(room.cleanup)
+        rules = (TOP / "games/matching_pennies.kif").read_text()
+        game = Game("matching_pennies.kif", rules, ("a", "b"))
+        self.store = Store(Path(room.name) / "matches.sqlite")
+        self.addCleanup(self.store.__exit__)
+        judge = Judge()
+        self.addCleanup(judge.__exit__)
+        hall = Hall(self.store, judge, [game], Terms(1.0, 1.0, 1.0, 9, 1, "1"))
+        for name in "ann", "bob":
+            self.store.sign_up(name, f"http://{name}:1", name)
+        record = self.store.begin(self.store.put_in(game, Meeting(game.sum, ("ann", "bob")), 0, "1"), (1.0, 1.0)).record
+        record.moves, record.errors, record.seconds = [["h", "t"]], [["", f"not legal: <b>{'x' * 400}"]], [[0.1, 0.1]]
+        record.states, record.stateTimes, record.goalValues, record.state, record.isCompleted = ["()"] * 2, [0] * 2, [0, 100], "ended", True
+        with redirect_stderr(io.StringIO()):
+            hall.count(1, record, {})
+        hall.show()
+        made = match_server.Server(self.store, hall, 0)
+        threading.Thread(target=made.serve_forever, daemon=True).start()
+        self.addCleanup(made.server_close)
+        self.addCleanup(made.shutdown)
+        self.port = made.server_address[1]
+
+    def send(self, place: str, fields: dict[str, str], origin: str = "") -> str:
+        """What the page says behind a form with these fields."""
+        self.browser.get(f"{origin or f'http://127.0.0.1:{self.port}'}/players")
+        for name, value in fields.items():
+            self.all(f'form[action$="{place}"] [name={name}]')[0].send_keys(value)
+        self.all(f'form[action$="{place}"] button')[0].click()
+        self.wait(lambda: self.all("main p"))
+        return str(self.all("main")[0].text)
+
+    def test_a_player_signs_up_and_leaves_by_the_forms(self) -> None:
+        odd = Odd(self, lambda text: "available")
+        told = self.send("/players", {"name": "cid", "address": odd.url})
+        token = re.search(r"Its token is (\S+)\.", told)
+        assert token is not None
+        self.assertEqual(self.store.here()["cid"], odd.url)
+        self.assertIn("cid has left.", self.send("/leave", {"name": "cid", "token": token[1]}))
+        self.assertEqual(list(self.store.here()), ["ann", "bob"])
+
+    def test_each_page_is_read_on_a_phone_and_by_all(self) -> None:
+        self.addCleanup(self.browser.set_window_size, 1200, 1000)
+        for width in 1200, 500:
+            self.browser.set_window_size(width, 900)
+            for path in "/", "/matches", "/matches/1", "/games", "/players":
+                self.browser.get(f"http://127.0.0.1:{self.port}{path}")
+                with self.subTest(width=width, path=path):
+                    self.check_access()
+                    self.assertLessEqual(self.run_js("return document.documentElement.scrollWidth - innerWidth"), 0)
+                    self.assertEqual(self.all("main b, script"), [])
+
+    def test_the_form_of_another_page_is_not_heard(self) -> None:
+        fields = '<input name="name"><input name="token"><button>x</button>'
+        form = f'<main></main><form method="post" action="http://127.0.0.1:{self.port}/leave">{fields}</form>'
+
+        class Handler(BaseHTTPRequestHandler):
+            def do_GET(self) -> None:
+                self.send_response(200)
+                self.send_header("Content-Type", "text/html")
+                self.end_headers()
+                self.wfile.write(form.encode())
+
+            def log_message(self, format: str, *words: Any) -> None:
+                pass
+
+        other = ThreadingHTTPServer(("127.0.0.1", 0), Handler)
+        threading.Thread(target=other.serve_forever, daemon=True).start()
+        self.addCleanup(other.server_close)
+        self.addCleanup(other.shutdown)
+        told = self.send("/leave", {"name": "ann", "token": "ann"}, f"http://127.0.0.1:{other.server_address[1]}")
+        self.assertIn("This server answers its own page alone.", told)
+        self.assertEqual([" 403 " in line["message"] for line in self.browser.get_log("browser")], [True])
+        self.assertEqual(list(self.store.here()), ["ann", "bob"])
 
 
 del Browser

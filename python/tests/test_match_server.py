@@ -8,7 +8,7 @@ import io
 import json
 import re
 import shlex
-import signal
+import socket
 import sqlite3
 import subprocess
 import sys
@@ -25,13 +25,13 @@ from typing import Any
 from unittest.mock import patch
 from urllib.parse import urlencode
 
-from gdlsolve.manager.archive import Archive, Game, Stage
+from gdlsolve.manager.archive import Archive, Game, Stage, alone
 from gdlsolve.manager.record import Record
 from gdlsolve.manager.referee import RANDOM, Referee
 from gdlsolve.manager.schedule import Pairing
 from gdlsolve.manager.serve import entry, hall, pages, server, store
-from gdlsolve.manager.serve.command import games_of, options
-from gdlsolve.manager.serve.entry import Turned, address_in, is_status, name_in
+from gdlsolve.manager.serve.command import games_of, options, serve
+from gdlsolve.manager.serve.entry import Turned, address_in, name_in, status_in
 from gdlsolve.manager.serve.fair import Meeting, Past, Slot, chosen
 from gdlsolve.manager.serve.hall import Hall, Terms
 from gdlsolve.manager.serve.server import Server
@@ -41,6 +41,7 @@ from gdlsolve.page import records
 from gdlsolve.player.background import begun
 from gdlsolve.solver import calls
 from gdlsolve.solver.answers import Position
+from gdlsolve.solver.engine import Broken
 from gdlsolve.solver.history import history_text
 from gdlsolve.solver.replies import Reply, Status
 from tests import known, package, toy_engine
@@ -56,11 +57,11 @@ TERMS = Terms(LONG, LONG, 0.0, 9, 1, "1")
 TOY = shlex.join([sys.executable, "-I", "-S", toy_engine.__file__])
 
 
-def until(test: Callable[[], object], pause: float = 0.01) -> bool:
+def until(test: Callable[[], object]) -> bool:
     """Whether something comes to be in time."""
     end = time.monotonic() + LONG
     while not test() and time.monotonic() < end:
-        time.sleep(pause)
+        time.sleep(0.01)
     return bool(test())
 
 
@@ -115,7 +116,10 @@ def with_a_turn_more(record: Record) -> None:
 NOTED = "it notes ended .*, and the solver tells"
 # What is done to records, and why they are refused.
 CHANGES: list[tuple[Callable[[Record], None], str]] = [
-    (with_other_goals, f"{NOTED} ended"), (with_a_turn_less, f"{NOTED} open"), (with_another_move, ".*H2 NotLegal 2 a"), (with_a_turn_more, ".*H3 Over 3"),
+    (with_other_goals, f"{NOTED} ended"),
+    (with_a_turn_less, f"{NOTED} open"),
+    (with_another_move, ".*H2 NotLegal 2 a"),
+    (with_a_turn_more, ".*H3 Over 3"),
 ]
 
 
@@ -188,10 +192,12 @@ class Texts(unittest.TestCase):
                 name_in(text)
 
     def test_what_a_player_says_of_itself(self) -> None:
-        for text in "available", " BUSY\n", "((name x) (status available) (species alien))", "((status busy))", "( ( Status Available ) )":
-            self.assertTrue(is_status(text), text)
+        for text in "available", " AVAILABLE\n", "((name x) (status available) (species alien))", "( ( Status Available ) )":
+            self.assertEqual(status_in(text), entry.FREE, text)
+        for text in "busy", "((status busy))":
+            self.assertEqual(status_in(text), entry.BUSY, text)
         for text in "", "ready", "<html>", "(available)", "((status", "available available", "((state available))", "{}", "\x00":
-            self.assertFalse(is_status(text), text)
+            self.assertEqual(status_in(text), "", text)
 
     def test_what_pages_show_is_escaped_and_cut(self) -> None:
         self.assertEqual(pages.html("<b>&\"'"), "&lt;b&gt;&amp;&quot;&#x27;")
@@ -319,7 +325,7 @@ class Matches(Running):
         self.assertEqual((record.state, [bool(errors[0]) for errors in record.errors], first.fault), ("ended", [False, True], ""))
         # It does not answer, so no further match is begun, and it is asked again from time to time.
         self.assertTrue(until(lambda: made.view.absent == {"dies"}))
-        self.assertIn("match 2 could not be played: dies did not answer\n", self.lines.getvalue())
+        self.assertIn("match 2 could not be played: not available: dies\n", self.lines.getvalue())
         self.signed_up(kept, "third")
         self.played(kept, 3)
         self.assertEqual({"dies"} & {name for each in kept.listed(1 << 53, 2) for _, name, _ in each.entry.seats}, set())
@@ -327,6 +333,18 @@ class Matches(Running):
         self.assertTrue(until(lambda: (found := kept.one(2)) and found.entry.stage.is_over), self.lines.getvalue())
         [row] = [each for each in made.view.ranks if each.name == "dies"]
         self.assertGreaterEqual((row.count.silent, row.count.marked), (1, 1))
+
+    def test_a_player_that_is_busy_is_left_alone(self) -> None:
+        kept, states = self.opened(), ["busy"]
+        odd = self.signed_up(kept, "busy", lambda text: states[0] if text == "(INFO)" else polite()(text))
+        self.signed_up(kept, "free")
+        made = self.hall(kept)
+        self.begin(made)
+        self.assertTrue(until(lambda: odd.heard.count("(INFO)") >= 3 and made.view.absent == {"busy"}))
+        self.assertEqual({*odd.heard}, {"(INFO)"})
+        states[0] = "available"
+        self.played(kept, 1)
+        self.assertEqual((kept.record(1).errors, made.view.absent), ([["", ""]] * 2, frozenset()))
 
     def test_one_that_is_ended_goes_on_with_the_match_that_was_in_play(self) -> None:
         kept, asked, goes_on = self.opened(), threading.Event(), threading.Event()
@@ -361,8 +379,11 @@ class Matches(Running):
         self.assertEqual([each.entry.number for each in again.listed(4, 9)], [3, 2, 1])
         self.assertNotEqual(again.record(2).matchId, name)
         # It may still know the match.
-        self.assertEqual((odd.heard.count(f"(ABORT {name})"), silent), (2, []))
-        self.assertIn("match 2 could not be played: waits did not answer\n", self.lines.getvalue())
+        self.assertEqual((odd.heard.count(f"(ABORT {name})"), silent), (3, []))
+        # And it may be busy with that, so it is told of its end first.
+        again_from = odd.heard.index(f"(ABORT {name})") + 1
+        self.assertEqual(odd.heard[again_from : again_from + 3], [f"(ABORT {name})", *entry.QUESTIONS])
+        self.assertIn("match 2 could not be played: not available: waits\n", self.lines.getvalue())
         self.assertEqual(len({text.split()[1] for text in odd.heard if text.startswith("(START saying.2")}), 2)
         self.assertTrue(until(lambda: made.view.ranks[0].count.matches >= 3))
 
@@ -471,6 +492,20 @@ class Kept(Running):
         self.file.write_bytes(b"no archive" * 100)
         with self.assertRaisesRegex(ValueError, "is no archive of matches"):
             Store(self.file)
+
+    @needs_client
+    def test_what_is_wrong_is_told_before_it_serves(self) -> None:
+        (self.file.parent / "saying.kif").write_text(SAYING)
+        given = options([str(self.file.parent), "--archive", str(self.file)])
+        other = Reply(Status.ANSWER, b"something else")
+        with patch.object(calls, "reply", lambda words, rules: other), self.assertRaisesRegex(Broken, "is another one"):
+            serve(given)
+        with alone(self.file), self.assertRaisesRegex(ValueError, "another tournament or a match server goes on over it"):
+            serve(given)
+        with socket.create_server(("127.0.0.1", 0)) as taken:
+            given.port = taken.getsockname()[1]
+            with self.assertRaisesRegex(ValueError, f"^port {given.port}: Address already in use$"):
+                serve(given)
 
     def test_the_games_of_a_folder(self) -> None:
         folder = self.file.with_name("games")
@@ -687,62 +722,52 @@ class Guards(Served):
             self.assertEqual(self.told("/ratings.json", 503), {"error": "The archive fails: disk I/O error."})
 
 
-class Command(unittest.TestCase):
-    def setUp(self) -> None:
-        room = tempfile.TemporaryDirectory()
-        self.addCleanup(room.cleanup)
-        self.room = Path(room.name)
-        (self.room / "saying.kif").write_text(toy_engine.rules_of("a b", 1))
-
-    def started(self) -> tuple[subprocess.Popen[str], int]:
-        """The command, and the port at which it serves."""
-        words = package("gdlsolve.manager", "serve", self.room, "--archive", self.room / "m.sqlite", "--port", 0, "--play", 600, "--program", TOY)
-        child = subprocess.Popen(words, env=known(), stdout=subprocess.PIPE, stderr=subprocess.DEVNULL, text=True)
-        self.addCleanup(child.wait)
-        self.addCleanup(child.kill)
-        assert child.stdout is not None
-        self.addCleanup(child.stdout.close)
-        place = re.fullmatch(r"The match server is at http://127\.0\.0\.1:(\d+)/\n", child.stdout.readline())
-        assert place is not None
-        return child, int(place[1])
-
-    def asked(self, port: int, path: str, fields: dict[str, str] | None = None) -> Any:
-        """What is told as JSON."""
+class Command(Running):
+    def asked(self, port: int, path: str, fields: dict[str, str]) -> Any:
+        """What is answered to JSON."""
         with closing(http.client.HTTPConnection("127.0.0.1", port, timeout=LONG)) as link:
-            body = None if fields is None else json.dumps(fields)
-            link.request("GET" if fields is None else "POST", path, body, {"Content-Type": "application/json"})
+            link.request("POST", path, json.dumps(fields), {"Content-Type": server.JSON})
             return json.loads(link.getresponse().read())
 
     @needs_client
-    def test_one_that_is_killed_and_started_again_goes_on(self) -> None:
+    def test_one_that_is_killed_goes_on_where_it_was(self) -> None:
         asked, goes_on = threading.Event(), threading.Event()
         self.addCleanup(goes_on.set)
 
         def waits(text: str) -> str:
-            if text.startswith("(PLAY saying.1") and not goes_on.is_set():
+            if text.startswith("(PLAY"):
                 asked.set()
                 goes_on.wait(LONG)
-            return polite("(say 2)")(text)
+            return polite()(text)
 
+        (self.file.parent / "saying.kif").write_text(SAYING)
         players = {"waits": Odd(self, waits), "other": Odd(self, polite())}
-        child, port = self.started()
-        for name, odd in players.items():
-            self.assertIn("token", self.asked(port, "/players", {"name": name, "address": odd.url}))
-        self.assertTrue(asked.wait(LONG))
-        child.kill()
-        child.wait()
+        words = package("gdlsolve.manager", "serve", self.file.parent, "--archive", self.file, "--port", 0, "--play", 600, "--program", TOY)
+        with subprocess.Popen(words, env=known(), stdout=subprocess.PIPE, stderr=subprocess.DEVNULL, text=True) as child:
+            try:
+                assert child.stdout is not None
+                place = re.fullmatch(r"The match server is at http://127\.0\.0\.1:(\d+)/\n", child.stdout.readline())
+                assert place is not None
+                for name, odd in players.items():
+                    self.assertIn("token", self.asked(int(place[1]), "/players", {"name": name, "address": odd.url}))
+                self.assertTrue(asked.wait(LONG))
+                with self.assertRaisesRegex(ValueError, "or a match server goes on over it"), alone(self.file):
+                    pass
+            finally:
+                child.kill()
         goes_on.set()
-        child, port = self.started()
-        self.assertTrue(until(lambda: [each["number"] for each in self.asked(port, "/matches.json")["matches"] if each["counts"]][-1:] == [1], 0.2))
-        names = list(dict.fromkeys(text.split()[1] for text in players["waits"].heard if text.startswith("(START saying.1")))
-        self.assertEqual(len(names), 2)
+        with alone(self.file):
+            kept = self.opened()
+            self.assertEqual(list(kept.here()), ["other", "waits"])
+            self.begin(self.hall(kept))
+            self.played(kept, 1)
         heard = players["waits"].heard
-        self.assertLess(heard.index(f"(ABORT {names[0]})"), next(place for place, text in enumerate(heard) if names[1] in text))
-        child.send_signal(signal.SIGTERM)
-        self.assertEqual(child.wait(LONG), 128 + signal.SIGTERM)
+        first, second = list(dict.fromkeys(text.split()[1] for text in heard if text.startswith("(START saying.1")))
+        self.assertEqual((kept.record(1).matchId, kept.results()[0][0].player), (second, "other"))
+        self.assertLess(heard.index(f"(ABORT {first})"), next(place for place, text in enumerate(heard) if second in text))
 
     def test_words_that_are_none(self) -> None:
-        own = [str(self.room), "--archive", "x"]
+        own = [str(self.file.parent), "--archive", "x"]
         further = ["--port 65536", "--play nan", "--turns -1", "--at-once 0", "--allow-host http://box", "--player random"]
         for words in [list[str](), own[:1], ["no folder", *own[1:]], *([*own, *each.split()] for each in further)]:
             with self.subTest(words=words), redirect_stderr(io.StringIO()), self.assertRaises(SystemExit) as ended:

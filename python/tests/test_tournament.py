@@ -312,7 +312,7 @@ class Archives(Tournaments):
         with self.going(*words) as child:
             self.assertTrue(is_asked.wait(LONG))
             status, _, errors = self.ran(*words)
-            self.assertEqual((status, errors), (1, f"{self.file}: another tournament goes on over it\n"))
+            self.assertEqual((status, errors), (1, f"{self.file}: another tournament or a match server goes on over it\n"))
             self.assertIn(" played, 1 running, ", self.played("--table"))
             child.send_signal(signal.SIGKILL)
         with Archive(self.file) as archive:
@@ -400,7 +400,7 @@ class Archives(Tournaments):
         self.assertEqual([row.split()[3:8] for row in output.splitlines()[1:3]], [["2", "1", "0", "1", "50.0"]] * 2)
 
     def test_one_at_a_time_and_of_one_kind(self) -> None:
-        with alone(self.file), self.assertRaisesRegex(ValueError, "another tournament goes on over it"), alone(self.file):
+        with alone(self.file), self.assertRaisesRegex(ValueError, "another tournament or a match server goes on over it"), alone(self.file):
             pass
         for text in b"this is no base" * 100, b"":
             self.file.write_bytes(text)

@@ -111,12 +111,12 @@ def first_of(count: int) -> Callable[[Any], Any]:
 
 @contextmanager
 def alone(file: Path) -> Iterator[None]:
-    """Holds that no other tournament writes to an archive. The mark goes with the process, however that ends."""
+    """Holds that no other tournament, and no match server, writes to an archive. The mark goes with the process, however that ends."""
     with file.open("ab") as mark:
         try:
             fcntl.flock(mark, fcntl.LOCK_EX | fcntl.LOCK_NB)
         except BlockingIOError:
-            raise ValueError(f"{file}: another tournament goes on over it") from None
+            raise ValueError(f"{file}: another tournament or a match server goes on over it") from None
         yield
 
 

@@ -23,12 +23,15 @@ def read(file: Path) -> Game:
         raise ValueError(line_of(refusal, file).rstrip()) from None
 
 
-def lead(match: Match, slack: float, turns: int, stopped: threading.Event) -> Referee:
-    """Leads a match to its end, or to so many turns. At players who may know it from before, from a process that was killed, it is ended
-    first."""
+def forget(match: Match) -> None:
+    """Ends a match at players who may know it from before, from a process that was killed."""
     for url in dict.fromkeys(match.last_urls):
         if url not in ("", RANDOM):
             post(url, f"(ABORT {match.last_name})", FAREWELL)
+
+
+def lead(match: Match, slack: float, turns: int, stopped: threading.Event) -> Referee:
+    """Leads a match to its end, or to so many turns."""
     referee = Referee(match.record, random.Random(match.seed), slack, None, stopped)
     referee.play(turns)
     return referee

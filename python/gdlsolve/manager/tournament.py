@@ -25,10 +25,10 @@ from pathlib import Path
 import gdlsolve
 from gdlsolve.console import keys
 from gdlsolve.console.streams import put, say
-from gdlsolve.manager.archive import Archive, Entry, alone
+from gdlsolve.manager.archive import Archive, Entry, Match, alone
 from gdlsolve.manager.client import checked
 from gdlsolve.manager.command import FAULTS, hear_signals, line_of
-from gdlsolve.manager.leading import lead, outcome, read
+from gdlsolve.manager.leading import forget, lead, outcome, read
 from gdlsolve.manager.record import name_of, now
 from gdlsolve.manager.referee import BEAT, FAREWELL, RANDOM, Referee
 from gdlsolve.manager.schedule import schedule
@@ -45,10 +45,15 @@ class Tournament:
         self.going: dict[Future[Referee], int] = {}
         self.failed = 0
 
+    def led(self, match: Match) -> Referee:
+        """Leads a match to its end."""
+        forget(match)
+        return lead(match, self.given.slack, self.given.turns, self.stopped)
+
     def begin(self, number: int) -> None:
         """Begins a match."""
         match = self.archive.begin(number, now(), (self.given.start, self.given.play))
-        self.going[begun(partial(lead, match, self.given.slack, self.given.turns, self.stopped))] = number
+        self.going[begun(partial(self.led, match))] = number
 
     def note(self, number: int, found: Future[Referee]) -> str:
         """Puts down what came of a match, and tells it."""

@@ -11,6 +11,7 @@ import os
 import secrets
 import sqlite3
 from collections.abc import Iterator, Sequence
+from concurrent.futures import wait
 from contextlib import contextmanager
 from importlib import import_module
 from pathlib import Path
@@ -26,12 +27,12 @@ from gdlsolve.manager.serve.server import Server
 from gdlsolve.manager.serve.store import Store
 from gdlsolve.manager.standings import Judge
 from gdlsolve.player.background import begun
-from gdlsolve.solver import program
-from gdlsolve.solver.calls import is_own, reply
+from gdlsolve.solver import calls, program
 from gdlsolve.solver.engine import Broken
 from gdlsolve.web.guarded import MOST_PORT, NAME
 
 PORT = 9170
+# So many seconds it may take at the end until all players were told.
 ENDS = 20.0
 
 
@@ -81,8 +82,6 @@ def games_of(folder: Path) -> list[Game]:
             found.setdefault(game.sum, game)
         except (ValueError, OSError) as fault:
             say(f"passed over: {line_of(fault, file)}")
-            if not str(fault).endswith("\n"):
-                say("\n")
     return list(found.values())
 
 
@@ -94,7 +93,15 @@ def going(hall: Hall, server: Server) -> Iterator[None]:
         yield
     finally:
         hall.stopped.set()
-        server.work.exception(ENDS)
+        wait([server.work], ENDS)
+
+
+def bound(store: Store, hall: Hall, given: argparse.Namespace) -> Server:
+    """The server, at its port."""
+    try:
+        return Server(store, hall, given.port, given.allow_host)
+    except OSError as fault:
+        raise ValueError(f"port {given.port}: {fault.strerror}") from None
 
 
 def serve(given: argparse.Namespace) -> int:
@@ -103,12 +110,12 @@ def serve(given: argparse.Namespace) -> int:
         os.environ[program.VARIABLE] = given.program
     # Where it is not there that is told before a player signs up.
     import_module("httpx")
-    if not is_own(reply(["--version"], b"")):
+    if not calls.is_own(calls.reply(["--version"], b"")):
         raise Broken("the program that is named is another one")
     terms = Terms(given.start, given.play, given.slack, given.turns, given.at_once, given.seed or secrets.token_hex(8))
     with alone(given.archive), Store(given.archive) as store, Judge() as judge:
         hall = Hall(store, judge, games_of(given.folder), terms)
-        with Server(store, hall, given.port, given.allow_host) as server, going(hall, server):
+        with bound(store, hall, given) as server, going(hall, server):
             return served(f"The match server is at http://127.0.0.1:{server.server_address[1]}/", server.serve_forever)
 
 

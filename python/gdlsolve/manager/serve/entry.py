@@ -23,9 +23,9 @@ PATIENCE = 5.0
 ASKED_AT_ONCE = 8
 # A name or a number of a machine, a port, and the word that a player may want behind it.
 ADDRESS = re.compile(r"http://([a-z0-9.-]+|\[[0-9a-f:.]+\]):[0-9]{1,5}(/[\w.~-]*)?", re.ASCII | re.IGNORECASE)
-# What asks a player whether it is there, and what it may answer, alone or as its status. One that is busy is there.
+# What asks a player whether it is there, and what it may answer, alone or as its status.
 QUESTIONS = ("(INFO)", "(PING)")
-STATES = ("available", "busy")
+FREE, BUSY = "available", "busy"
 
 NO_NAME = f"A name has from 1 to {LONGEST_NAME} letters, digits, and the signs _ . + -"
 NO_ADDRESS = f"An address is http://HOST:PORT, with at most {LONGEST_ADDRESS} letters."
@@ -42,25 +42,30 @@ class Turned(Exception):
         self.status = status
 
 
-def is_status(text: str) -> bool:
-    """Whether a text tells the status of a player: as one name, or as a part of what it tells of itself."""
+def status_in(text: str) -> str:
+    """The status of a player that a text tells, as one name or as a part of what it tells of itself; empty where it tells none."""
     try:
         [tree] = trees(text)
         parts = terms(tree[1:-1]) if tree.startswith("(") else []
     except (Malformed, ValueError):
-        return False
-    return tree in STATES or any(f"(status {each})" in parts for each in STATES)
+        return ""
+    return next((each for each in (FREE, BUSY) if tree == each or f"(status {each})" in parts), "")
 
 
-def is_player(url: str) -> bool:
-    """Whether a player answers at an address. Some know the one word, some the other."""
+def status_at(url: str) -> str:
+    """What the player at an address says of itself; empty where none answers. Some know the one word, some the other."""
     for question in QUESTIONS:
         told = post(url, question, PATIENCE)
         if told.error == "late":
-            return False
-        if told.text is not None and is_status(told.text):
-            return True
-    return False
+            return ""
+        if found := status_in(told.text or ""):
+            return found
+    return ""
+
+
+def is_free(url: str) -> bool:
+    """Whether the player at an address may begin a match."""
+    return status_at(url) == FREE
 
 
 def name_in(text: str) -> str:
@@ -96,7 +101,8 @@ class Entry:
         if not self.places.acquire(blocking=False):
             raise Turned(HTTPStatus.SERVICE_UNAVAILABLE, LATER)
         try:
-            if not is_player(url):
+            # One that is busy now is taken too.
+            if not status_at(url):
                 raise Turned(HTTPStatus.BAD_REQUEST, NO_ANSWER)
         finally:
             self.places.release()

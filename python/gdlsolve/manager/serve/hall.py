@@ -17,10 +17,10 @@ from gdlsolve.console.notes import shown
 from gdlsolve.console.streams import say
 from gdlsolve.manager.archive import Game, Match
 from gdlsolve.manager.command import line_of
-from gdlsolve.manager.leading import lead, outcome
+from gdlsolve.manager.leading import forget, lead, outcome
 from gdlsolve.manager.record import Record
 from gdlsolve.manager.referee import BEAT, FAREWELL, RANDOM, Referee
-from gdlsolve.manager.serve.entry import is_player
+from gdlsolve.manager.serve.entry import is_free
 from gdlsolve.manager.serve.fair import Meeting, Past, Slot, chosen
 from gdlsolve.manager.serve.store import Store, Waiting
 from gdlsolve.manager.standings import Judge, Rank, Standings
@@ -28,17 +28,17 @@ from gdlsolve.player.background import begun
 from gdlsolve.solver.engine import Broken
 from gdlsolve.solver.faults import Ended
 
-# A player that does not answer is asked again after so many seconds, and a game that could not be played is left alone for so long.
+# A player that does not answer, or is busy, is asked again after so many seconds, and a game that could not be played is left alone for so long.
 REST = 30.0
 # A line that is told is cut behind so many letters.
 LONGEST_LINE = 1000
 
 
 class Absent(Exception):
-    """Players of a match do not answer. They were told nothing of it."""
+    """Players of a match do not answer, or are busy. They were told nothing of it."""
 
     def __init__(self, match: Match, names: Sequence[str]):
-        super().__init__(f"{', '.join(names)} did not answer")
+        super().__init__(f"not available: {', '.join(names)}")
         self.match, self.names = match, names
 
 
@@ -57,7 +57,7 @@ class Terms:
 
 @dataclass(frozen=True)
 class View:
-    """What the pages tell of it: the ratings, and who does not answer."""
+    """What the pages tell of it: the ratings, and who does not answer or is busy."""
 
     ranks: Sequence[Rank] = ()
     absent: frozenset[str] = frozenset()
@@ -70,11 +70,12 @@ class Hall:
         self.store, self.judge, self.games, self.terms = store, judge, {game.sum: game for game in games}, terms
         self.stopped = threading.Event()
         self.going: dict[Future[Referee], Waiting] = {}
-        # Who is asked whether it answers again, and from when on whom and which games are tried again.
+        # Who is asked whether it is free again, and from when on whom and which games are tried again.
         self.asked: dict[Future[bool], str] = {}
         self.rests: dict[str, float] = {}
         self.absent: dict[str, float] = {}
         self.past, self.standings = Past(), Standings()
+        self.ranks: Sequence[Rank] = ()
         self.view = View()
 
     def run(self) -> None:
@@ -98,6 +99,7 @@ class Hall:
             self.take_in(number)
         for each in self.store.results():
             self.standings.count(each)
+        self.ranks = self.standings.ranks()
         self.show()
 
     def take_in(self, number: int) -> None:
@@ -111,10 +113,10 @@ class Hall:
 
     def show(self) -> None:
         """Has the pages tell what has changed."""
-        self.view = View(self.standings.ranks(), frozenset(self.absent))
+        self.view = View(self.ranks, frozenset(self.absent))
 
     def free(self) -> set[str]:
-        """The players who are here, answer, and are in no match."""
+        """The players who are here, have answered, and are in no match."""
         busy = {name for each in self.going.values() for name in each.meeting.seats}
         return self.store.here().keys() - busy - self.absent.keys()
 
@@ -145,12 +147,13 @@ class Hall:
             if name not in here:
                 del self.absent[name]
             elif until <= now and name not in self.asked.values():
-                self.asked[begun(partial(is_player, here[name]))] = name
+                self.asked[begun(partial(is_free, here[name]))] = name
 
     def led(self, match: Match) -> Referee:
-        """Leads a match, once all of its players have answered."""
+        """Leads a match, once all of its players are free. One that knows it from before may be busy with it."""
+        forget(match)
         both = zip(match.record.playerNamesFromHost, match.record.players)
-        asked = {name: begun(partial(is_player, url)) for name, url in both if url != RANDOM}
+        asked = {name: begun(partial(is_free, url)) for name, url in both if url != RANDOM}
         if silent := [name for name, found in asked.items() if not found.result()]:
             raise Absent(match, silent)
         return lead(match, self.terms.slack, self.terms.turns, self.stopped)
@@ -170,7 +173,7 @@ class Hall:
             self.show()
 
     def answered(self, name: str, found: Future[bool]) -> None:
-        """Puts down whether a player answers again."""
+        """Puts down whether a player is free again."""
         if found.exception() is None and found.result():
             self.absent.pop(name, None)
         else:
@@ -199,6 +202,7 @@ class Hall:
         self.store.note(number, record, unready, fault)
         if fault == "":
             self.standings.add(record, [unready.get(role, "") for role in record.roles])
+            self.ranks = self.standings.ranks()
         self.tell(outcome(number, record, unready) + (f"; it does not count: {fault}" if fault else ""))
 
     def replayed(self, record: Record) -> str | None:

@@ -92,7 +92,7 @@ def presence(player: Mapping[str, Any]) -> Markup:
     """Whether a player is here."""
     if not player["here"]:
         return Markup('<span class="quiet">left</span>')
-    return Markup("here") if player["answers"] else Markup('<span class="bad">does not answer</span>')
+    return Markup("here") if player["available"] else Markup('<span class="bad">not available</span>')
 
 
 def rating(player: Mapping[str, Any]) -> tuple[object, object]:

@@ -12,7 +12,7 @@ from gdlsolve.manager.serve.hall import View
 from gdlsolve.manager.serve.store import Listed
 from gdlsolve.manager.standings import Rank
 
-# A player who has no match yet is told as one with the rating of nobody.
+# What is told of moves that failed, and of the matches with such.
 FAILED = ("late", "illegal", "silent", "marked")
 
 
@@ -21,7 +21,7 @@ def ranked(view: View, here: Iterable[str]) -> list[dict[str, Any]]:
     names = dict.fromkeys(here)
     rated = {each.name for each in view.ranks}
     told = [of_rank(each) for each in view.ranks] + [of_rank(None, name) for name in names if name not in rated]
-    return [{**each, "here": each["name"] in names, "answers": each["name"] not in view.absent} for each in told]
+    return [{**each, "here": each["name"] in names, "available": each["name"] not in view.absent} for each in told]
 
 
 def of_rank(rank: Rank | None, name: str = "") -> dict[str, Any]:
