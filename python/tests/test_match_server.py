@@ -717,6 +717,12 @@ class Guards(Served):
         self.assertEqual(self.request("POST", "/nothing", b"", Content_Type=server.FORM)[0], 404)
         self.assertEqual(self.request("PUT", "/players")[0], 501)
 
+    def test_where_no_match_can_go_on_it_ends(self) -> None:
+        with Server(self.kept, self.made, 0) as made, patch.object(self.kept, "go_on", side_effect=sqlite3.OperationalError("disk I/O error")):
+            made.work = begun(self.made.run)
+            with self.assertRaisesRegex(sqlite3.Error, "disk I/O error"):
+                made.serve_forever(0.01)
+
     def test_an_archive_that_fails_is_told(self) -> None:
         with patch.object(self.kept, "here", side_effect=sqlite3.OperationalError("disk I/O error")):
             self.assertEqual(self.told("/ratings.json", 503), {"error": "The archive fails: disk I/O error."})

@@ -82,7 +82,7 @@ class Handler(guarded.Handler):
         """What is answered to a request that is not heard."""
         if self.is_json():
             return super().refusal(fault)
-        return as_page(pages.told_page("Not heard", str(fault), "bad"), fault.status)
+        return as_page(pages.told_page(HTTPStatus(fault.status).phrase, str(fault), "bad"), fault.status)
 
     def is_json(self) -> bool:
         """Whether a request wants JSON: it is JSON itself, or its address ends so."""
