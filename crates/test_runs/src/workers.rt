@@ -15,13 +15,13 @@ use test_games::watched::{Watch, Watched};
 
 /// Steps, each of which waits until so many have begun, at most 2^30 turns.
 #[derive(Drop)]
-struct Crowd {
+struct StepsAtOnce {
     most: usize,
     begun: AtomicUsize,
     gave_up: AtomicBool,
 }
 
-impl Crowd {
+impl StepsAtOnce {
     /// Waits, and answers whether as many have begun.
     fn is_there(&self) -> bool {
         for _ in 0..1u32 << 30 {
@@ -34,7 +34,7 @@ impl Crowd {
     }
 }
 
-impl Watch for &Crowd {
+impl Watch for &StepsAtOnce {
     fn stepped(&self, _joint: &Joint) {
         self.begun.fetch_add(1, Ordering::SeqCst);
         if !self.gave_up.load(Ordering::SeqCst) && !self.is_there() {
@@ -71,7 +71,7 @@ fn step_at_once<T: Threads + Sync + AllocGlobal>(
     rt: &T,
     words: &[&str],
 ) -> Result<bool, AllocError> {
-    let crowd = Crowd {
+    let crowd = StepsAtOnce {
         most: 4,
         begun: AtomicUsize::new(0),
         gave_up: AtomicBool::new(false),

@@ -132,6 +132,11 @@ fn boards_of_one_reply_to_each_move(rt: HostRuntime) -> Result<(), AllocError> {
         &equal,
     )?;
     assert!(rt; answer == Some((70, 0)), "the first of two equal moves");
+    Ok(())
+}
+
+#[test]
+fn boards_that_are_opened_without_ties(rt: HostRuntime) -> Result<(), AllocError> {
     let above = [
         ((0, 0, 0), Some((80, 101)), 60),
         ((1, 1, 0), Some((80, 101)), 75),
@@ -247,35 +252,79 @@ impl Values for Narrowed {
     ghost narrows = { true };
 }
 
+/// Reports the first task in the window of a search that was narrower.
+fn report_first(board: &Board<Narrowed>, mut seat: Seat<Narrowed>) -> Option<Seat<Narrowed>>
+    requires seat { IsSeatOf board.now seat }
+    requires hand { (book seat).hand ≡ [] }
+    ensures seat { IfSome result (λ s. IsSeatOf board.now s) }
+    ensures hand { IfSome result (λ s. (book s).hand ≡ []) }
+    ensures shares { IfSome result (λ s. (book s).shares ≡ (book seat).shares) }
+{
+    let task = board.claim(&mut seat)?;
+    if !is_task(&task, 0, 0, 0) || board.window(&mut seat, &task) != Some((-2, 101)) {
+        return None;
+    }
+    board.report_in(&mut seat, task, 89, 89, 101);
+    Some(seat)
+}
+
+/// Reports the second task, whose window the first has made narrower.
+fn report_second(board: &Board<Narrowed>, mut seat: Seat<Narrowed>) -> Option<Seat<Narrowed>>
+    requires seat { IsSeatOf board.now seat }
+    requires hand { (book seat).hand ≡ [] }
+    ensures seat { IfSome result (λ s. IsSeatOf board.now s) }
+    ensures hand { IfSome result (λ s. (book s).hand ≡ []) }
+    ensures shares { IfSome result (λ s. (book s).shares ≡ (book seat).shares) }
+{
+    let task = board.claim(&mut seat)?;
+    if !is_task(&task, 1, 1, 0) || board.look(&mut seat, &task) != (89, 101) {
+        return None;
+    }
+    if board.window(&mut seat, &task) != Some((89, 101)) {
+        return None;
+    }
+    board.report_in(&mut seat, task, 89, 89, 101);
+    Some(seat)
+}
+
+/// Skips the third task, for which nothing is left.
+fn skip_third(board: &Board<Narrowed>, mut seat: Seat<Narrowed>) -> Option<Seat<Narrowed>>
+    requires seat { IsSeatOf board.now seat }
+    requires hand { (book seat).hand ≡ [] }
+    ensures seat { IfSome result (λ s. IsSeatOf board.now s) }
+    ensures hand { IfSome result (λ s. (book s).hand ≡ []) }
+    ensures shares { IfSome result (λ s. (book s).shares ≡ (book seat).shares) }
+{
+    let task = board.claim(&mut seat)?;
+    if !is_task(&task, 2, 1, 1) || board.look(&mut seat, &task) != (89, 89) {
+        return None;
+    }
+    if board.window(&mut seat, &task).is_some() {
+        return None;
+    }
+    board.skip(&mut seat, task);
+    Some(seat)
+}
+
+/// The answer of the board behind these three tasks, if there is no other.
+fn narrowed_answer(board: Board<Narrowed>, seat: Seat<Narrowed>) -> Option<(i16, u32)>
+    requires seat { IsSeatOf board seat }
+    requires hand { (book seat).hand ≡ [] }
+    requires shares { (book seat).shares ≡ all_shares }
+{
+    let seat = report_first(&board, seat)?;
+    let seat = report_second(&board, seat)?;
+    let mut seat = skip_third(&board, seat)?;
+    if board.claim(&mut seat).is_some() {
+        return None;
+    }
+    Some(board.finish(seat))
+}
+
 #[test]
 fn results_of_narrower_windows(rt: HostRuntime) -> Result<(), Fail> {
-    let (board, mut seat) = Board::<Narrowed>::new(rt.alloc(), &[1, 2], -2, 101, false)?;
-    let Some(task) = board.claim(&mut seat) else {
-        panic!(rt; "no task")
-    };
-    assert!(rt; is_task(&task, 0, 0, 0));
-    assert!(rt; board.window(&mut seat, &task) == Some((-2, 101)));
-    board.report_in(&mut seat, task, 89, 89, 101);
-    let Some(task) = board.claim(&mut seat) else {
-        panic!(rt; "no task")
-    };
-    assert!(rt; is_task(&task, 1, 1, 0));
-    assert!(rt; board.look(&mut seat, &task) == (89, 101));
-    assert!(rt; board.window(&mut seat, &task) == Some((89, 101)));
-    board.report_in(&mut seat, task, 89, 89, 101);
-    let Some(task) = board.claim(&mut seat) else {
-        panic!(rt; "no task")
-    };
-    assert!(rt; is_task(&task, 2, 1, 1));
-    assert!(rt; board.look(&mut seat, &task) == (89, 89));
-    let None = board.window(&mut seat, &task) else {
-        panic!(rt; "a window")
-    };
-    board.skip(&mut seat, task);
-    let None = board.claim(&mut seat) else {
-        panic!(rt; "a task too many")
-    };
-    assert!(rt; board.finish(seat) == (89, 0));
+    let (board, seat) = Board::<Narrowed>::new(rt.alloc(), &[1, 2], -2, 101, false)?;
+    assert_eq!(rt; narrowed_answer(board, seat), Some((89, 0)));
     Ok(())
 }
 
