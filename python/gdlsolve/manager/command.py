@@ -64,6 +64,20 @@ def resumed(given: argparse.Namespace) -> Record:
     return record
 
 
+def add_clocks(known: argparse.ArgumentParser) -> None:
+    """Adds the options of how long a match may take."""
+    known.add_argument("--start", type=float, default=10.0, help="the start clock, in seconds")
+    known.add_argument("--play", type=float, default=5.0, help="the play clock, in seconds")
+    known.add_argument("--slack", type=float, default=0.5, help="seconds beyond a clock")
+    known.add_argument("--turns", type=int, default=200, help="break a match off after so many")
+
+
+def check_clocks(known: argparse.ArgumentParser, found: argparse.Namespace) -> None:
+    """Refuses a clock that is no time."""
+    if not all(0 <= clock < math.inf for clock in (found.start, found.play, found.slack)):
+        known.error("a clock is no number of seconds from 0 on")
+
+
 def options(words: Sequence[str] | None) -> argparse.Namespace:
     """What the command line asks for."""
     own = keys.name("gdlsolve-manager", "gdlsolve.manager")
@@ -75,10 +89,7 @@ def options(words: Sequence[str] | None) -> argparse.Namespace:
     known.add_argument(
         "--player", action="append", default=[], help="a URL or random, for each role in order"
     )
-    known.add_argument("--start", type=float, default=10.0, help="the start clock, in seconds")
-    known.add_argument("--play", type=float, default=5.0, help="the play clock, in seconds")
-    known.add_argument("--slack", type=float, default=0.5, help="seconds beyond a clock")
-    known.add_argument("--turns", type=int, default=200, help="break off after so many")
+    add_clocks(known)
     known.add_argument("--seed", help="what moves at random come from")
     known.add_argument("--id", help="the name of the match")
     known.add_argument("--record", type=Path, help="where the record is written")
@@ -87,8 +98,7 @@ def options(words: Sequence[str] | None) -> argparse.Namespace:
         known.error("either rules or a record to go on with")
     if found.id is not None and (not found.id or name_of(found.id) != found.id):
         known.error("--id is one name of letters, digits, and the signs _ . + -")
-    if not all(0 <= clock < math.inf for clock in (found.start, found.play, found.slack)):
-        known.error("a clock is no number of seconds from 0 on")
+    check_clocks(known, found)
     if found.turns < 0:
         known.error("--turns is a number from 0 on")
     return found

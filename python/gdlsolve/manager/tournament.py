@@ -9,7 +9,6 @@ from __future__ import annotations
 
 import argparse
 import json
-import math
 import secrets
 import sqlite3
 import sys
@@ -27,7 +26,7 @@ from gdlsolve.console import keys
 from gdlsolve.console.streams import put, say
 from gdlsolve.manager.archive import Archive, Entry, Match, alone
 from gdlsolve.manager.client import checked
-from gdlsolve.manager.command import FAULTS, hear_signals, line_of
+from gdlsolve.manager.command import FAULTS, add_clocks, check_clocks, hear_signals, line_of
 from gdlsolve.manager.leading import forget, lead, outcome, read
 from gdlsolve.manager.record import name_of, now
 from gdlsolve.manager.referee import BEAT, FAREWELL, RANDOM, Referee
@@ -150,10 +149,7 @@ def words() -> argparse.ArgumentParser:
     known.add_argument("--archive", type=Path, required=True, metavar="FILE", help="where all matches are kept")
     known.add_argument("--player", type=player, action="append", default=[], metavar="NAME=URL", help="a player: a URL or random")
     known.add_argument("--rounds", type=int, default=1, help="each choice of players meets so often")
-    known.add_argument("--start", type=float, default=10.0, help="the start clock, in seconds")
-    known.add_argument("--play", type=float, default=5.0, help="the play clock, in seconds")
-    known.add_argument("--slack", type=float, default=0.5, help="seconds beyond a clock")
-    known.add_argument("--turns", type=int, default=200, help="break a match off after so many")
+    add_clocks(known)
     known.add_argument("--at-once", type=int, default=1, metavar="N", help="so many matches at once")
     known.add_argument("--seed", help="what moves at random come from")
     told = known.add_mutually_exclusive_group()
@@ -176,8 +172,7 @@ def options(given: Sequence[str] | None) -> argparse.Namespace:
     if len(dict(found.player)) < len(found.player) or len(set(urls)) < len(urls):
         known.error("two players have one name, or one address: a player takes one role of a match")
     found.player = dict(found.player)
-    if not all(0 <= clock < math.inf for clock in (found.start, found.play, found.slack)):
-        known.error("a clock is no number of seconds from 0 on")
+    check_clocks(known, found)
     if found.turns < 0 or found.rounds < 1 or found.at_once < 1:
         known.error("--turns is a number from 0 on, --rounds and --at-once from 1 on")
     return found

@@ -6,7 +6,6 @@
 from __future__ import annotations
 
 import argparse
-import math
 import os
 import secrets
 import sqlite3
@@ -20,7 +19,7 @@ import gdlsolve
 from gdlsolve.console import keys
 from gdlsolve.console.streams import say, served
 from gdlsolve.manager.archive import Game, alone
-from gdlsolve.manager.command import FAULTS, SERVE, hear_signals, line_of
+from gdlsolve.manager.command import FAULTS, SERVE, add_clocks, check_clocks, hear_signals, line_of
 from gdlsolve.manager.leading import read
 from gdlsolve.manager.serve.hall import Hall, Terms
 from gdlsolve.manager.serve.server import Server
@@ -44,10 +43,7 @@ def words() -> argparse.ArgumentParser:
     known.add_argument("folder", type=Path, metavar="FOLDER", help="the games that are played, files NAME.kif")
     known.add_argument("--archive", type=Path, required=True, metavar="FILE", help="where players and all matches are kept")
     known.add_argument("--port", type=int, default=PORT, help=f"{PORT} if not given; 0: a free one")
-    known.add_argument("--start", type=float, default=10.0, help="the start clock, in seconds")
-    known.add_argument("--play", type=float, default=5.0, help="the play clock, in seconds")
-    known.add_argument("--slack", type=float, default=0.5, help="seconds beyond a clock")
-    known.add_argument("--turns", type=int, default=200, help="break a match off after so many")
+    add_clocks(known)
     known.add_argument("--at-once", type=int, default=1, metavar="N", help="so many matches at once")
     known.add_argument("--seed", help="what moves at random come from")
     known.add_argument("--program", default="", help="the command of the program; if not given, the package answers")
@@ -64,8 +60,7 @@ def options(given: Sequence[str] | None) -> argparse.Namespace:
         known.error(f"{found.folder} is no folder")
     if not 0 <= found.port <= MOST_PORT:
         known.error("--port is a number from 0 to 65535")
-    if not all(0 <= clock < math.inf for clock in (found.start, found.play, found.slack)):
-        known.error("a clock is no number of seconds from 0 on")
+    check_clocks(known, found)
     if found.turns < 0 or found.at_once < 1:
         known.error("--turns is a number from 0 on, --at-once one from 1 on")
     if not all(NAME.fullmatch(name) for name in found.allow_host):
